@@ -1,0 +1,61 @@
+//! The program `ipx`: routers and endpoints of a Novell internetwork, from the command line.
+#![tactic(auto)]
+
+mod hop;
+mod input;
+mod line;
+mod output;
+mod words;
+
+use clap::error::ErrorKind;
+use std::process::ExitCode;
+use std::{env, io};
+use words::{Task, task_of};
+
+/// The words of the command line, or the status with which the program ends without them.
+fn given_words(rt: &HostRuntime) -> Result<Vec<String>, u8> {
+    match env::args(rt) {
+        Ok(given) => given
+            .collect::<Vec<String>>(rt.alloc())
+            .map_err(|_| output::tell_no_memory(&mut io::writer(rt))),
+        Err(error) if error.kind() == io::ErrorKind::OutOfMemory => {
+            Err(output::tell_no_memory(&mut io::writer(rt)))
+        }
+        Err(_) => {
+            let _ = eprintln!(rt; "error: an argument is no text");
+            Err(2)
+        }
+    }
+}
+
+fn do_task(rt: &HostRuntime, task: Task) -> Result<u8, u8> {
+    match task {
+        Task::Hop => hop::do_hop(rt.alloc(), &mut rt.stdin(), &mut io::writer(rt)),
+    }
+}
+
+/// Tells why the words ask for nothing, and answers the status that goes with it.
+fn tell_usage(rt: &HostRuntime, error: clap::Error) -> u8 {
+    if error.kind() == ErrorKind::OutOfMemory {
+        return output::tell_no_memory(&mut io::writer(rt));
+    }
+    let _ = eprintln!(rt; "{error}");
+    2
+}
+
+fn run(rt: &HostRuntime) -> Result<u8, u8> {
+    let words = given_words(rt)?;
+    match task_of(rt.alloc(), words.as_slice()) {
+        Ok(task) => do_task(rt, task),
+        Err(error) => Err(tell_usage(rt, error)),
+    }
+}
+
+fn main(rt: HostRuntime) -> ExitCode {
+    match run(&rt) {
+        Ok(status) | Err(status) => ExitCode::from(status),
+    }
+}
+
+#[cfg(test)]
+mod tests;

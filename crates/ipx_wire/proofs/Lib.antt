@@ -1,0 +1,5 @@
+pub mod Parts
+pub mod RoundTrip
+pub mod Spelled
+pub mod SpxBits
+pub mod SpxTrip
