@@ -17,9 +17,9 @@ pub use laws::{
 };
 pub use memory::OutOfMemory;
 pub use packet::{IpxHeader, Packet};
-pub use reading::decode;
+pub use reading::{address_at, decode};
 pub use spx::{
     Fragment, SpxFault, SpxHeader, bytes_are_one_spx_packet, decode_spx, encode_spx_into,
     spx_packet_has_bytes, spx_packet_is_one_list_of_bytes, spx_packet_is_read_back,
 };
-pub use writing::encode_into;
+pub use writing::{encode_into, put_address};

@@ -1,0 +1,67 @@
+-- RIP packets (Novell IPX Router Specification): which bytes hold one, and the first fault of bytes that hold none.
+use Rattle.std.specs.Prelude.{◌≡◌, ◌≤◌, ◌<◌, ◌^◌, ℕ, ◌+◌, ◌-◌, ◌*◌, ◌/◌, List, ◌++◌, length, drop, All, Option, Some, nat_lt, ◌==◌, ◌||◌, if◌then◌else◌}
+use Rattle.byteorder.specs.Endian.{big_bytes}
+use Rattle.ipx_wire.specs.Ipx.{number}
+use Rattle.ipx_control.specs.declared.fault.ControlFault.{ControlFault}
+use Rattle.ipx_control.specs.declared.fault.ControlFault.TheVariants.{NoOperation, UnknownOperation}
+use Rattle.ipx_control.specs.declared.rip.RipEntry.{RipEntry}
+use Rattle.ipx_control.specs.declared.rip.Rip.{Rip}
+use Rattle.ipx_control.specs.declared.rip.Rip.TheVariants as rips
+use Rattle.ipx_control.specs.Entries.{AreEntries, entries_fault}
+
+-- a RIP packet without where its entries lie in memory
+pub data RipMessage : Type 0 where
+  Request : List RipEntry → RipMessage
+  Response : List RipEntry → RipMessage
+
+abbrev pub rip_view : Rip → RipMessage
+rip_view (rips.Request entries) = Request entries.items
+rip_view (rips.Response entries) = Response entries.items
+
+abbrev pub rip_operation : RipMessage → ℕ
+rip_operation (Request entries) = 1
+rip_operation (Response entries) = 2
+
+abbrev pub rip_entries : RipMessage → List RipEntry
+rip_entries (Request entries) = entries
+rip_entries (Response entries) = entries
+
+-- the bytes begin with an entry: network 4, hops 2, ticks 2
+pub record IsRipEntry (e : RipEntry) (bytes : List ℕ) : Type 0 where
+  pub network : number 4 0 bytes ≡ e.network.0
+  pub hops : number 2 4 bytes ≡ e.hops
+  pub ticks : number 2 6 bytes ≡ e.ticks
+
+-- the bytes are the packet, operation 2 and then at most 50 entries, and a tail that is shorter than an entry
+pub record IsRip (m : RipMessage) (bytes tail : List ℕ) : Type 0 where
+  pub has_operation : 2 ≤ length bytes
+  pub operation : number 2 0 bytes ≡ rip_operation m
+  pub entries : AreEntries IsRipEntry 8 (rip_entries m) (drop 2 bytes) tail
+  pub limit : length (rip_entries m) ≤ 50
+  pub short_tail : length tail < 8
+
+-- the first condition that keeps bytes from being a RIP packet
+abbrev pub rip_fault : List ℕ → Option ControlFault
+rip_fault bytes =
+    if nat_lt (length bytes) 2 then Some NoOperation
+    else if (number 2 0 bytes == 1) || (number 2 0 bytes == 2) then entries_fault 50 ((length bytes - 2) / 8)
+    else Some (UnknownOperation (number 2 0 bytes))
+
+-- what an entry can hold
+pub record IsRipEntryInRange (e : RipEntry) : Type 0 where
+  pub network : e.network.0 < 2 ^ 32
+  pub hops : e.hops < 2 ^ 16
+  pub ticks : e.ticks < 2 ^ 16
+
+-- what a packet can hold
+pub record IsRipInRange (m : RipMessage) : Type 0 where
+  pub entries : All IsRipEntryInRange (rip_entries m)
+  pub limit : length (rip_entries m) ≤ 50
+
+-- how many bytes a packet takes
+abbrev pub rip_size : RipMessage → ℕ
+rip_size m = 2 + 8 * length (rip_entries m)
+
+-- the bytes of an entry
+abbrev pub rip_entry_bytes : RipEntry → List ℕ
+rip_entry_bytes e = big_bytes 4 e.network.0 ++ big_bytes 2 e.hops ++ big_bytes 2 e.ticks

@@ -1,0 +1,98 @@
+-- SAP packets (Novell IPX Router Specification): which bytes hold one, and the first fault of bytes that hold none.
+use Rattle.std.specs.Prelude.{◌≡◌, ◌≤◌, ◌<◌, ◌^◌, ℕ, ◌+◌, ◌-◌, ◌*◌, ◌/◌, Bool, List, ◌++◌, length, take, drop, All, Option, Some, None, nat_lt, ◌==◌, ◌||◌, if◌then◌else◌}
+use Rattle.byteorder.specs.Endian.{big_bytes}
+use Rattle.ipx_wire.specs.Ipx.{IsAddress, IsAddressInRange, address_bytes, number}
+use Rattle.ipx_control.specs.declared.fault.ControlFault.{ControlFault}
+use Rattle.ipx_control.specs.declared.fault.ControlFault.TheVariants.{NoOperation, UnknownOperation, QueryShort}
+use Rattle.ipx_control.specs.declared.sap.ServiceEntry.{ServiceEntry}
+use Rattle.ipx_control.specs.declared.sap.Sap.{Sap}
+use Rattle.ipx_control.specs.declared.sap.Sap.TheVariants as saps
+use Rattle.ipx_control.specs.Entries.{AreEntries, entries_fault}
+
+-- a SAP packet without where its services lie in memory; the flag says whether it is about the nearest service
+pub data SapMessage : Type 0 where
+  Query : Bool → ℕ → SapMessage
+  Response : Bool → List ServiceEntry → SapMessage
+
+abbrev pub sap_view : Sap → SapMessage
+sap_view (saps.Query nearest kind) = Query nearest kind
+sap_view (saps.Response nearest services) = Response nearest services.items
+
+-- the operation of a query, and that of a response
+abbrev pub query_operation : Bool → ℕ
+query_operation nearest = if nearest then 3 else 1
+
+abbrev pub response_operation : Bool → ℕ
+response_operation nearest = if nearest then 4 else 2
+
+-- the bytes begin with a service: type 2, name 48, address 12, hops 2
+pub record IsServiceEntry (e : ServiceEntry) (bytes : List ℕ) : Type 0 where
+  pub kind : number 2 0 bytes ≡ e.kind
+  pub name : take 48 (drop 2 bytes) ≡ e.name
+  pub at : IsAddress e.at (drop 50 bytes)
+  pub hops : number 2 62 bytes ≡ e.hops
+
+-- the bytes are a query, operation 2 and service type 2, and then the tail
+pub record IsSapQuery (nearest : Bool) (kind : ℕ) (bytes tail : List ℕ) : Type 0 where
+  pub has_query : 4 ≤ length bytes
+  pub operation : number 2 0 bytes ≡ query_operation nearest
+  pub service : number 2 2 bytes ≡ kind
+  pub rest : drop 4 bytes ≡ tail
+
+-- the bytes are a response, operation 2 and then at most 7 services, and a tail that is shorter than a service
+pub record IsSapResponse (nearest : Bool) (services : List ServiceEntry) (bytes tail : List ℕ) : Type 0 where
+  pub has_operation : 2 ≤ length bytes
+  pub operation : number 2 0 bytes ≡ response_operation nearest
+  pub entries : AreEntries IsServiceEntry 64 services (drop 2 bytes) tail
+  pub limit : length services ≤ 7
+  pub short_tail : length tail < 64
+
+-- the bytes are the packet, and then the tail
+abbrev pub IsSap : SapMessage → List ℕ → List ℕ → Type 0
+IsSap (Query nearest kind) bytes tail = IsSapQuery nearest kind bytes tail
+IsSap (Response nearest services) bytes tail = IsSapResponse nearest services bytes tail
+
+-- the first condition that keeps bytes from being a SAP packet
+abbrev pub sap_fault : List ℕ → Option ControlFault
+sap_fault bytes =
+    if nat_lt (length bytes) 2 then Some NoOperation
+    else if (number 2 0 bytes == 1) || (number 2 0 bytes == 3) then (
+    if nat_lt (length bytes) 4 then Some (QueryShort (length bytes)) else None
+    )
+    else if (number 2 0 bytes == 2) || (number 2 0 bytes == 4) then entries_fault 7 ((length bytes - 2) / 64)
+    else Some (UnknownOperation (number 2 0 bytes))
+
+-- what a service can hold
+pub record IsServiceEntryInRange (e : ServiceEntry) : Type 0 where
+  pub kind : e.kind < 2 ^ 16
+  pub name : length e.name ≡ 48
+  pub at : IsAddressInRange e.at
+  pub hops : e.hops < 2 ^ 16
+
+-- what a packet can hold
+pub record AreServicesInRange (services : List ServiceEntry) : Type 0 where
+  pub each : All IsServiceEntryInRange services
+  pub limit : length services ≤ 7
+
+abbrev pub IsSapInRange : SapMessage → Type 0
+IsSapInRange (Query nearest kind) = kind < 2 ^ 16
+IsSapInRange (Response nearest services) = AreServicesInRange services
+
+-- which tails may stand behind a packet: any behind a query, a short one behind a response
+abbrev pub IsSapTail : SapMessage → List ℕ → Type 0
+IsSapTail (Query nearest kind) tail = Unit {0}
+IsSapTail (Response nearest services) tail = length tail < 64
+
+-- how many services a packet may not pass
+abbrev pub IsSapWithinLimit : SapMessage → Type 0
+IsSapWithinLimit (Query nearest kind) = Unit {0}
+IsSapWithinLimit (Response nearest services) = length services ≤ 7
+
+-- how many bytes a packet takes
+abbrev pub sap_size : SapMessage → ℕ
+sap_size (Query nearest kind) = 4
+sap_size (Response nearest services) = 2 + 64 * length services
+
+-- the bytes of a service
+abbrev pub service_bytes : ServiceEntry → List ℕ
+service_bytes e = big_bytes 2 e.kind ++ e.name ++ address_bytes e.at ++ big_bytes 2 e.hops

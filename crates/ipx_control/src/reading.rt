@@ -1,0 +1,139 @@
+//! RIP and SAP packets out of bytes.
+
+ghost use Rattle.std.specs.Prelude.{◌≡◌, ◌≤◌, ◌<◌, ◌⊎◌, List, ℕ, length, take, drop, IfOk, IfErr, IsOkAnd, Some, None};
+ghost use Rattle.ipx_control.specs.Entries.{AreEntries};
+ghost use Rattle.ipx_control.specs.Rip.{IsRip, IsRipEntry, RipMessage, rip_fault, rip_view};
+ghost use Rattle.ipx_control.specs.Sap.{IsSap, IsServiceEntry, SapMessage, sap_fault, sap_view};
+
+use crate::fault::ControlFault;
+use crate::rip::{Rip, RipEntry};
+use crate::sap::{Sap, ServiceEntry};
+use byteorder::{BigEndian, ByteOrder};
+use ipx_wire::{Network, OutOfMemory, address_at};
+use std::alloc::Global;
+
+fn rip_entry_at(bytes: &[u8]) -> RipEntry
+    requires { 8 ≤ length bytes.now }
+    ensures { IsRipEntry result bytes.now }
+{
+    RipEntry {
+        network: Network(BigEndian::read_u32(bytes)),
+        hops: BigEndian::read_u16(&bytes[4..]),
+        ticks: BigEndian::read_u16(&bytes[6..]),
+    }
+}
+
+/// The entries that fit into the bytes.
+fn rip_entries_in(alloc: Global, bytes: &[u8]) -> Result<Vec<RipEntry>, OutOfMemory>
+    ensures { IfOk result (λ v. (tail : List ℕ) × AreEntries IsRipEntry 8 v.items bytes.now tail × (length tail < 8)) }
+{
+    let count = bytes.len() / 8;
+    let mut entries = Vec::with_capacity(alloc, count)?;
+    for place in 0..count {
+        entries.push(rip_entry_at(&bytes[8 * place..]))?;
+    }
+    Ok(entries)
+}
+
+/// The RIP packet that bytes are. Bytes behind the last whole entry are ignored.
+pub fn decode_rip(alloc: Global, bytes: &[u8]) -> Result<Rip, ControlFault>
+    // What is read is what the bytes are.
+    ensures found { IfOk result (λ v. (tail : List ℕ) × IsRip (rip_view v) bytes.now tail) }
+    // Each packet is read, unless memory ran out.
+    ensures only { (m : RipMessage) (tail : List ℕ) → IsRip m bytes.now tail
+        → IsOkAnd result (λ v. rip_view v ≡ m) ⊎ (result ≡ Err ControlFault.OutOfMemory) }
+    // Which fault it is, and that there is none. Want of memory is no answer to bytes of no packet.
+    ensures fault { IfErr result (λ f.
+        ((f ≡ ControlFault.OutOfMemory) × (rip_fault bytes.now ≡ None)) ⊎ (rip_fault bytes.now ≡ Some f)) }
+    ensures whole { IfOk result (λ _. rip_fault bytes.now ≡ None) }
+{
+    if bytes.len() < 2 {
+        return Err(ControlFault::NoOperation);
+    }
+    let operation = BigEndian::read_u16(bytes);
+    if operation != 1 && operation != 2 {
+        return Err(ControlFault::UnknownOperation(operation));
+    }
+    let count = (bytes.len() - 2) / 8;
+    if count > 50 {
+        return Err(ControlFault::TooManyEntries(count));
+    }
+    let entries = rip_entries_in(alloc, &bytes[2..])?;
+    if operation == 1 {
+        return Ok(Rip::Request(entries));
+    }
+    Ok(Rip::Response(entries))
+}
+
+fn name_at(bytes: &[u8]) -> [u8; 48]
+    requires { 48 ≤ length bytes.now }
+    ensures { take 48 bytes.now ≡ result }
+{
+    let mut name = [0; 48];
+    name.copy_from_slice(&bytes[..48]);
+    name
+}
+
+fn service_at(bytes: &[u8]) -> ServiceEntry
+    requires { 64 ≤ length bytes.now }
+    ensures { IsServiceEntry result bytes.now }
+{
+    ServiceEntry {
+        kind: BigEndian::read_u16(bytes),
+        name: name_at(&bytes[2..]),
+        at: address_at(&bytes[50..]),
+        hops: BigEndian::read_u16(&bytes[62..]),
+    }
+}
+
+/// The services that fit into the bytes.
+fn services_in(alloc: Global, bytes: &[u8]) -> Result<Vec<ServiceEntry>, OutOfMemory>
+    ensures { IfOk result (λ v. (tail : List ℕ) × AreEntries IsServiceEntry 64 v.items bytes.now tail × (length tail < 64)) }
+{
+    let count = bytes.len() / 64;
+    let mut services = Vec::with_capacity(alloc, count)?;
+    for place in 0..count {
+        services.push(service_at(&bytes[64 * place..]))?;
+    }
+    Ok(services)
+}
+
+/// The SAP packet that bytes are. Bytes behind a query, or behind the last whole service of a
+/// response, are ignored.
+pub fn decode_sap(alloc: Global, bytes: &[u8]) -> Result<Sap, ControlFault>
+    // What is read is what the bytes are.
+    ensures found { IfOk result (λ v. (tail : List ℕ) × IsSap (sap_view v) bytes.now tail) }
+    // Each packet is read, unless memory ran out.
+    ensures only { (m : SapMessage) (tail : List ℕ) → IsSap m bytes.now tail
+        → IsOkAnd result (λ v. sap_view v ≡ m) ⊎ (result ≡ Err ControlFault.OutOfMemory) }
+    // Which fault it is, and that there is none. Want of memory is no answer to bytes of no packet.
+    ensures fault { IfErr result (λ f.
+        ((f ≡ ControlFault.OutOfMemory) × (sap_fault bytes.now ≡ None)) ⊎ (sap_fault bytes.now ≡ Some f)) }
+    ensures whole { IfOk result (λ _. sap_fault bytes.now ≡ None) }
+{
+    if bytes.len() < 2 {
+        return Err(ControlFault::NoOperation);
+    }
+    let operation = BigEndian::read_u16(bytes);
+    if operation == 1 || operation == 3 {
+        if bytes.len() < 4 {
+            return Err(ControlFault::QueryShort(bytes.len()));
+        }
+        return Ok(Sap::Query {
+            nearest: operation == 3,
+            kind: BigEndian::read_u16(&bytes[2..]),
+        });
+    }
+    if operation != 2 && operation != 4 {
+        return Err(ControlFault::UnknownOperation(operation));
+    }
+    let count = (bytes.len() - 2) / 64;
+    if count > 7 {
+        return Err(ControlFault::TooManyEntries(count));
+    }
+    let services = services_in(alloc, &bytes[2..])?;
+    Ok(Sap::Response {
+        nearest: operation == 4,
+        services,
+    })
+}

@@ -1,0 +1,21 @@
+//! RIP packets: which networks are asked for, and which are reached at what cost.
+
+use ipx_wire::Network;
+
+/// A network of a RIP packet (Novell IPX Router Specification, RIP packet structure).
+///
+/// In a request network FFFFFFFF asks for all. Hops of 16 or more say that it is not reached.
+/// A tick is an eighteenth of a second.
+#[derive(Clone, Copy, Debug, PartialEq, Eq)]
+pub struct RipEntry {
+    pub network: Network,
+    pub hops: u16,
+    pub ticks: u16,
+}
+
+/// What a RIP packet says: operation 1 asks, operation 2 answers.
+#[derive(Debug, Drop)]
+pub enum Rip {
+    Request(Vec<RipEntry>),
+    Response(Vec<RipEntry>),
+}
