@@ -215,3 +215,25 @@ fn written_sap(rt: HostRuntime) -> Result<(), Fail> {
     );
     Ok(())
 }
+
+/// Passes as well where a request for memory in it is refused: then memory ran out, and bytes of no
+/// packet still get their fault.
+#[test]
+fn refused_memory_is_the_other_answer(rt: HostRuntime) {
+    match decode_rip(rt.alloc(), &TWO_NETWORKS) {
+        Ok(rip) => assert!(rt; matches!(&rip, Rip::Response(entries) if entries.len() == 2)),
+        Err(fault) => assert_eq!(rt; fault, ControlFault::OutOfMemory),
+    }
+    let mut body = [0; 66];
+    body[1] = 2;
+    match decode_sap(rt.alloc(), &body) {
+        Ok(sap) => assert!(rt;
+            matches!(&sap, Sap::Response { services, .. } if services.len() == 1)
+        ),
+        Err(fault) => assert_eq!(rt; fault, ControlFault::OutOfMemory),
+    }
+    let none = decode_rip(rt.alloc(), &[0]);
+    assert!(rt; matches!(none, Err(ControlFault::NoOperation)));
+    let short = decode_sap(rt.alloc(), &[0, 3, 0]);
+    assert!(rt; matches!(short, Err(ControlFault::QueryShort(3))));
+}
