@@ -1,0 +1,147 @@
+-- What an edit of a list of offers does to what the list says.
+use Rattle.std.proofs.Common.{◌≡◌, ℕ, zero, suc, ◌≤◌, Bool, true, false, cond, List, [], ◌∷◌, ◌++◌, length, set, Option, Some, None, refl, sym, ap, ◌∙◌, arith}
+use mathlib.Core.Bool.{true≢false}
+use Rattle.std.specs.Option.{is_some}
+use Rattle.std.specs.List.{remove, filter}
+use Rattle.std.specs.Cmp.{IsEquivalence, IsTotalOrder}
+use Rattle.std.specs.declared.cmp.Ordering.{Ordering}
+use Rattle.std.proofs.lemmas.Cmp.{eq_by_cmp_equiv, then_total, on_total, nat_cmp_total, nat_list_cmp_total}
+use Rattle.ipx_tables.specs.declared.source.Source.{Source}
+use Rattle.ipx_tables.specs.declared.offer.Offer.{Offer}
+use Rattle.ipx_tables.specs.Scan.{IsAt}
+use Rattle.ipx_tables.specs.Content.{said_of, found, IsApart, pair_of, is_young, still, source_cmp, pair_cmp, is_same, content}
+
+module _ {K M : Type 0} {same : K × Source → K × Source → Bool} (e : IsEquivalence same) where
+  at_tail : (o : Offer K M) (os : List (Offer K M)) (p : K × Source) (i : ℕ) → IsAt same (o ∷ os) p (suc i) → IsAt same os p i
+  at_tail o os p i h = record { in_range = omega (arith, h.in_range); here = λ d. h.here d }
+
+  -- what is not found has no place
+  not_same : (os : List (Offer K M)) (p q : K × Source) (i : ℕ) → IsAt same os p i → found same said_of os q ≡ None → same p q ≡ false
+  not_same [] p q i h n = absurd (omega (arith, h.in_range))
+  not_same (o ∷ os) p q zero h n = grind (arith, h.here o, e.congr (pair_of o) p q)
+  not_same (o ∷ os) p q (suc i) h n = grind (arith, not_same os p q i (at_tail o os p i h))
+
+  -- the same pair says the same
+  said_same : (os : List (Offer K M)) (p q : K × Source) → same p q ≡ true → found same said_of os p ≡ found same said_of os q
+  said_same [] p q h = refl
+  said_same (o ∷ os) p q h = grind (arith, said_same os p q h, e.congr p q (pair_of o) h, e.symm p (pair_of o), e.symm q (pair_of o))
+
+  module _ {B : Type 0} (told : Offer K M → B) where
+    -- where nothing is said nothing is told
+    pub none_told : (os : List (Offer K M)) (p : K × Source) → found same said_of os p ≡ None → found same told os p ≡ None
+    none_told [] p h = refl
+    none_told (o ∷ os) p h = grind (arith, none_told os p)
+
+    -- writing over the offer of p
+    pub found_set : (os : List (Offer K M)) (p : K × Source) (x : Offer K M) (i : ℕ) → IsApart same os → IsAt same os p i → same (pair_of x) p ≡ true → (q : K × Source) → found same told (set os i x) q ≡ cond (same p q) (Some (told x)) (found same told os q)
+    found_set [] p x i a h s q = absurd (omega (arith, h.in_range))
+    found_set (o ∷ os) p x zero a h s q = grind (arith, h.here o, e.congr (pair_of o) p q, e.congr (pair_of x) p q)
+    found_set (o ∷ os) p x (suc i) a h s q = grind (arith, found_set os p x i a.1 (at_tail o os p i h) s q, not_same os p (pair_of o) i (at_tail o os p i h) a.0, e.symm p (pair_of o), e.congr (pair_of o) q p, e.symm q p)
+
+    -- the same pair is found alike
+    pub found_same : (os : List (Offer K M)) (p q : K × Source) → same p q ≡ true → found same told os p ≡ found same told os q
+    found_same [] p q h = refl
+    found_same (o ∷ os) p q h = grind (arith, found_same os p q h, e.congr p q (pair_of o) h, e.symm p (pair_of o), e.symm q (pair_of o))
+
+    -- taking the offer of p out
+    pub found_remove : (os : List (Offer K M)) (p : K × Source) (i : ℕ) → IsApart same os → IsAt same os p i → (q : K × Source) → found same told (remove os i) q ≡ cond (same p q) None (found same told os q)
+    found_remove [] p i a h q = absurd (omega (arith, h.in_range))
+    found_remove (o ∷ os) p zero a h q =
+        let rest : found same told os q ≡ cond (same p q) None (found same told (o ∷ os) q) = grind (arith, h.here o, e.congr (pair_of o) p q, found_same os (pair_of o) q, none_told os (pair_of o) a.0) in
+        rest
+    found_remove (o ∷ os) p (suc i) a h q =
+        let rest : found same told (o ∷ remove os i) q ≡ cond (same p q) None (found same told (o ∷ os) q) = grind (arith, found_remove os p i a.1 (at_tail o os p i h) q, not_same os p (pair_of o) i (at_tail o os p i h) a.0, e.symm p (pair_of o), e.congr (pair_of o) q p, e.symm q p) in
+        rest
+
+    -- a new offer at the end
+    pub found_push : (os : List (Offer K M)) (x : Offer K M) → found same said_of os (pair_of x) ≡ None → (q : K × Source) → found same told (os ++ x ∷ []) q ≡ cond (same (pair_of x) q) (Some (told x)) (found same told os q)
+    found_push [] x n q = refl
+    found_push (o ∷ os) x n q = grind (arith, found_push os x, e.symm (pair_of o) (pair_of x), e.congr (pair_of o) q (pair_of x), e.symm q (pair_of x))
+
+    -- keeping what is young
+    pub told_filter : (os : List (Offer K M)) (now : ℕ) → IsApart same os → (q : K × Source) → found same told (filter (λ o. is_young now o.heard) os) q ≡ cond (is_some (still now (found same said_of os q))) (found same told os q) None
+    told_filter [] now a q = refl
+    told_filter (o ∷ os) now a q = grind (arith, told_filter os now a.1 q, found_same os (pair_of o) q, none_told os (pair_of o) a.0, said_same os (pair_of o) q, a.0)
+
+  -- keeping what is young
+  pub found_filter : (os : List (Offer K M)) (now : ℕ) → IsApart same os → (q : K × Source) → found same said_of (filter (λ o. is_young now o.heard) os) q ≡ still now (found same said_of os q)
+  found_filter [] now a q = refl
+  found_filter (o ∷ os) now a q = grind (arith, found_filter os now a.1 q, found_same said_of os (pair_of o) q, a.0)
+
+  -- what is not found stays so
+  pub apart_set : (os : List (Offer K M)) (p : K × Source) (x : Offer K M) (i : ℕ) → IsApart same os → IsAt same os p i → same (pair_of x) p ≡ true → IsApart same (set os i x)
+  apart_set [] p x i a h s = absurd (omega (arith, h.in_range))
+  apart_set (o ∷ os) p x zero a h s = (found_same said_of os (pair_of x) (pair_of o) (grind (arith, h.here o, e.congr (pair_of x) p (pair_of o), e.symm p (pair_of o))) ∙ a.0, a.1)
+  apart_set (o ∷ os) p x (suc i) a h s = (grind (arith, found_set said_of os p x i a.1 (at_tail o os p i h) s (pair_of o), not_same os p (pair_of o) i (at_tail o os p i h) a.0, a.0), apart_set os p x i a.1 (at_tail o os p i h) s)
+
+  pub apart_remove : (os : List (Offer K M)) (p : K × Source) (i : ℕ) → IsApart same os → IsAt same os p i → IsApart same (remove os i)
+  apart_remove [] p i a h = absurd (omega (arith, h.in_range))
+  apart_remove (o ∷ os) p zero a h = a.1
+  apart_remove (o ∷ os) p (suc i) a h = (grind (arith, found_remove said_of os p i a.1 (at_tail o os p i h) (pair_of o), a.0), apart_remove os p i a.1 (at_tail o os p i h))
+
+  pub apart_push : (os : List (Offer K M)) (x : Offer K M) → IsApart same os → found same said_of os (pair_of x) ≡ None → IsApart same (os ++ x ∷ [])
+  apart_push [] x a n = (refl, tt)
+  apart_push (o ∷ os) x a n = (grind (arith, found_push said_of os x, e.symm (pair_of o) (pair_of x), a.0), apart_push os x a.1 (grind (arith, e.symm (pair_of o) (pair_of x))))
+
+  pub apart_filter : (os : List (Offer K M)) (now : ℕ) → IsApart same os → IsApart same (filter (λ o. is_young now o.heard) os)
+  apart_filter [] now a = tt
+  apart_filter (o ∷ os) now a = elim (is_young now o.heard) as (λ b. IsApart same (cond b (o ∷ filter (λ o. is_young now o.heard) os) (filter (λ o. is_young now o.heard) os))) [
+    | true ↦ (grind (arith, found_filter os now a.1 (pair_of o), a.0), apart_filter os now a.1)
+    | false ↦ apart_filter os now a.1
+  ]
+
+pub source_total : IsTotalOrder source_cmp
+source_total = then_total (on_total (λ s. s.port) nat_cmp_total) (on_total (λ s. s.neighbour.0) nat_list_cmp_total)
+
+module _ {K : Type 0} {cmp : K → K → Ordering} (o : IsTotalOrder cmp) where
+  pub pair_total : IsTotalOrder (pair_cmp cmp)
+  pair_total = then_total (on_total (λ (p : K × Source). p.0) o) (on_total (λ (p : K × Source). p.1) source_total)
+
+  pub same_equiv : IsEquivalence (is_same cmp)
+  same_equiv = eq_by_cmp_equiv pair_total
+
+-- what hearing an offer does, as the list changes
+module _ {K M : Type 0} {cmp : K → K → Ordering} (o : IsTotalOrder cmp) (dead : M → Bool) (os : List (Offer K M)) (apart : IsApart (is_same cmp) os) (key : K) (source : Source) (metric : M) (now : ℕ) where
+  -- what is told of the pair is replaced
+  abbrev pub told_after : {B : Type 0} → (Offer K M → B) → K × Source → Option B
+  told_after told q = cond (is_same cmp (key, source) q) (cond (dead metric) None (Some (told (record { key = key; source = source; metric = metric; heard = now })))) (found (is_same cmp) told os q)
+
+  pub hear_none : {B : Type 0} (told : Offer K M → B) → content cmp os (key, source) ≡ None → dead metric ≡ true → (q : K × Source) → found (is_same cmp) told os q ≡ told_after told q
+  hear_none {B} told n d q =
+      let none = none_told (same_equiv o) told os (key, source) n in
+      let s = found_same (same_equiv o) told os (key, source) q in
+      elim (is_same cmp (key, source) q) as (λ b. is_same cmp (key, source) q ≡ b → found (is_same cmp) told os q ≡ cond b (cond (dead metric) None (Some (told (record { key = key; source = source; metric = metric; heard = now })))) (found (is_same cmp) told os q)) [
+        | true ↦ λ h. sym (s h) ∙ none ∙ ap (λ b. cond b None (Some (told (record { key = key; source = source; metric = metric; heard = now })))) (sym d)
+        | false ↦ λ h. refl
+      ] refl
+
+  module _ (i : ℕ) (here : IsAt (is_same cmp) os (key, source) i) where
+    pub hear_removed : {B : Type 0} (told : Offer K M → B) → dead metric ≡ true → (q : K × Source) → found (is_same cmp) told (remove os i) q ≡ told_after told q
+    hear_removed told d q = found_remove (same_equiv o) told os (key, source) i apart here q ∙ ap (λ b. cond (is_same cmp (key, source) q) (cond b None (Some (told (record { key = key; source = source; metric = metric; heard = now })))) (found (is_same cmp) told os q)) (sym d)
+
+    pub hear_set : {B : Type 0} (told : Offer K M → B) → dead metric ≡ false → (q : K × Source) → found (is_same cmp) told (set os i (record { key = key; source = source; metric = metric; heard = now })) q ≡ told_after told q
+    hear_set told d q = found_set (same_equiv o) told os (key, source) _ i apart here ((same_equiv o).refl (key, source)) q ∙ ap (λ b. cond (is_same cmp (key, source) q) (cond b None (Some (told (record { key = key; source = source; metric = metric; heard = now })))) (found (is_same cmp) told os q)) (sym d)
+
+    pub hear_set_apart : IsApart (is_same cmp) (set os i (record { key = key; source = source; metric = metric; heard = now }))
+    hear_set_apart = apart_set (same_equiv o) os (key, source) _ i apart here ((same_equiv o).refl (key, source))
+
+    pub hear_removed_apart : IsApart (is_same cmp) (remove os i)
+    hear_removed_apart = apart_remove (same_equiv o) os (key, source) i apart here
+
+    pub hear_there : content cmp os (key, source) ≡ None → ⊥
+    hear_there n = true≢false (sym ((same_equiv o).refl (key, source)) ∙ not_same (same_equiv o) os (key, source) (key, source) i here n)
+
+    pub hear_some : is_some (content cmp os (key, source)) ≡ true
+    hear_some = elim (content cmp os (key, source)) as (λ v. content cmp os (key, source) ≡ v → is_some v ≡ true) [ None ↦ λ e. absurd (hear_there e) | Some v ↦ λ e. refl ] refl
+
+  module _ (n : content cmp os (key, source) ≡ None) where
+    pub hear_pushed : {B : Type 0} (told : Offer K M → B) → dead metric ≡ false → (q : K × Source) → found (is_same cmp) told (os ++ (record { key = key; source = source; metric = metric; heard = now }) ∷ []) q ≡ told_after told q
+    hear_pushed told d q = found_push (same_equiv o) told os (record { key = key; source = source; metric = metric; heard = now }) n q ∙ ap (λ b. cond (is_same cmp (key, source) q) (cond b None (Some (told (record { key = key; source = source; metric = metric; heard = now })))) (found (is_same cmp) told os q)) (sym d)
+
+    pub hear_pushed_apart : IsApart (is_same cmp) (os ++ (record { key = key; source = source; metric = metric; heard = now }) ∷ [])
+    hear_pushed_apart = apart_push (same_equiv o) os _ apart n
+
+-- a filter keeps no more than there is
+pub filter_short : {X : Type 0} (p : X → Bool) (xs : List X) → length (filter p xs) ≤ length xs
+filter_short p [] = omega arith
+filter_short p (x ∷ xs) = grind (arith, filter_short p xs)

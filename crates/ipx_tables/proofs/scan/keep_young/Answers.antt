@@ -1,0 +1,7 @@
+use Rattle.std.proofs.Common.{rules}
+use Rattle.std.proofs.lemmas.Fn.{filter_same}
+use Rattle.ipx_tables.specs.Content.{is_young}
+use Rattle.ipx_tables.proofs.scan.keep_young.Goals as goal
+
+pub returns : goal.returns
+returns g c = filter_same _ (λ o. is_young c.args.now o.heard) _ (λ x b f h. search rules) _ _ c.retain.ensures.filtered

@@ -1,0 +1,9 @@
+pub mod Order
+pub mod Route
+pub mod Service
+pub mod Content
+pub mod Best
+pub mod Calls
+pub mod Sorted
+pub mod Listing
+pub mod Scan

@@ -1,0 +1,25 @@
+//! Why a table refused a call.
+
+ghost use Rattle.std.specs.Prelude.{◌≡◌};
+ghost use Rattle.ipx_tables.specs.declared.fault.TableFault.TheVariants.{OutOfMemory};
+
+use std::alloc::AllocFailed;
+use thiserror::Error;
+
+/// Why a table refused a call.
+#[derive(Clone, Copy, Debug, PartialEq, Eq, Error)]
+pub enum TableFault {
+    /// The table holds as many offers as it may, and none of this key and source.
+    #[error("the table is full")]
+    Full,
+    #[error("out of memory")]
+    OutOfMemory,
+}
+
+impl<T: Drop> From<AllocFailed<T>> for TableFault {
+    ghost from_gives = { λ _ e. e ≡ OutOfMemory };
+
+    fn from(_error: AllocFailed<T>) -> TableFault {
+        TableFault::OutOfMemory
+    }
+}

@@ -1,0 +1,27 @@
+//! What a router heard from its neighbours: offers of a way to a key, how old they are, and which is the best.
+#![tactic(auto)]
+
+mod fault;
+mod laws;
+mod listing;
+mod metric;
+mod offer;
+mod offers;
+mod route;
+mod scan;
+mod service;
+mod source;
+#[cfg(test)]
+mod tests;
+
+pub use fault::TableFault;
+pub use laws::{
+    content_counts, last_word_stands, one_best, one_listing, route_listing_is_one,
+    service_listing_is_one,
+};
+pub use metric::Metric;
+pub use offer::Offer;
+pub use offers::Offers;
+pub use route::{MOST_ROUTES, RouteMetric, RouteTable, route_table};
+pub use service::{MOST_SERVICES, ServiceKey, ServiceMetric, ServiceTable, service_table};
+pub use source::Source;

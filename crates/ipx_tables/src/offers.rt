@@ -1,0 +1,134 @@
+//! A table of offers, as one list that is scanned.
+
+ghost use Rattle.std.specs.Prelude.{◌≡◌, ◌≤◌, ◌<◌, ◌+◌, ◌↔◌, false, true, [], Some, None, Ok, Err, IsOk, IsSome, OnOk, OnErr, IfSome, IfNone, IfOk, IfErr, length, is_some, count_by, All, if◌then◌else◌};
+ghost use Rattle.ipx_tables.specs.Content.{IsTable, content, heard_key, after_hear, keys_after_hear, after_age, is_young};
+ghost use Rattle.ipx_tables.specs.Best.{IsBest, NoneCounts};
+ghost use Rattle.ipx_tables.specs.Listing.{IsListing};
+
+use crate::fault::TableFault;
+use crate::listing::add_best;
+use crate::metric::Metric;
+use crate::offer::Offer;
+use crate::scan::{best_of, keep_young, place_of};
+use crate::source::Source;
+use std::alloc::Global;
+use std::marker::Model;
+
+/// What each neighbour said last of each key, for as long as it counts.
+///
+/// Moments are milliseconds. They may go back: the time to an earlier moment is 0.
+#[derive(Drop)]
+pub struct Offers<K: Ord + Copy, M: Metric + Copy> {
+    most: usize,
+    offers: Vec<Offer<K, M>>,
+}
+
+impl<K: Ord + Copy, M: Metric + Copy> Model for Offers<K, M> {
+    ghost use Rattle.ipx_tables.specs.Content.{Table, IsTable};
+
+    ghost Value = { Table K M };
+
+    ghost view = { λ o. record { most = o.most; offers = o.offers.items } };
+
+    ghost invariant = { λ o. IsTable K.cmp (record { most = o.most; offers = o.offers.items }) };
+}
+
+impl<K: Ord + Copy, M: Metric + Copy> Offers<K, M> {
+    /// An empty table that may hold `most` offers. It takes no memory yet.
+    pub fn new(alloc: Global, most: usize) -> Self
+        ensures most { result.most ≡ most }
+        ensures empty { result.offers ≡ [] }
+    {
+        Offers {
+            most,
+            offers: Vec::new(alloc),
+        }
+    }
+
+    /// Replaces the offer of this key and source. A dead metric takes it out.
+    ///
+    /// Only a new key and source can be refused.
+    pub fn hear(
+        &mut self,
+        _alloc: Global,
+        key: K,
+        source: Source,
+        metric: M,
+        now: u64,
+    ) -> Result<(), TableFault>
+        ensures heard { OnOk result ((p : K × Source) → content K.cmp self.new.offers p ≡ after_hear K.cmp M.dead (content K.cmp self.old.offers) (key, source) metric now p) }
+        ensures keys { OnOk result ((p : K × Source) → heard_key K.cmp self.new.offers p ≡ keys_after_hear K.cmp M.dead (heard_key K.cmp self.old.offers) (key, source) metric p) }
+        ensures refused { OnErr result (self.new ≡ self.old) }
+        ensures most { self.new.most ≡ self.old.most }
+        ensures valid { IsTable K.cmp self.new }
+
+        // When each refusal comes.
+        ensures full { (result ≡ Err TableFault.Full) ↔ ((M.dead metric ≡ false) × (content K.cmp self.old.offers (key, source) ≡ None) × (self.old.most ≤ length self.old.offers)) }
+        ensures out_of_memory { result ≡ Err TableFault.OutOfMemory → (M.dead metric ≡ false) × (content K.cmp self.old.offers (key, source) ≡ None) × (length self.old.offers < self.old.most) }
+        ensures no_memory_if_dead { M.dead metric ≡ true → IsOk result }
+        ensures no_memory_if_there { IsSome (content K.cmp self.old.offers (key, source)) → IsOk result }
+
+        // How many offers there are then.
+        ensures many { OnOk result (length self.new.offers + (if is_some (content K.cmp self.old.offers (key, source)) then 1 else 0) ≡ length self.old.offers + (if M.dead metric then 0 else 1)) }
+    {
+        let place = place_of(&self.offers, key, source);
+        if metric.dead() {
+            if let Some(at) = place {
+                let _gone = self.offers.remove(at);
+            }
+            return Ok(());
+        }
+        let offer = Offer {
+            key,
+            source,
+            metric,
+            heard: now,
+        };
+        if let Some(at) = place {
+            self.offers[at] = offer;
+            return Ok(());
+        }
+        if self.offers.len() >= self.most {
+            return Err(TableFault::Full);
+        }
+        self.offers.push(offer)?;
+        Ok(())
+    }
+
+    /// Takes out for good each offer that is three minutes old.
+    pub fn age(&mut self, now: u64)
+        ensures aged { (p : K × Source) → content K.cmp self.new.offers p ≡ after_age (content K.cmp self.old.offers) now p }
+        ensures keys { (p : K × Source) → heard_key K.cmp self.new.offers p ≡ (if is_some (content K.cmp self.new.offers p) then heard_key K.cmp self.old.offers p else None) }
+        ensures many { length self.new.offers ≡ count_by (λ o. is_young now o.heard) self.old.offers }
+        ensures fewer { length self.new.offers ≤ length self.old.offers }
+        ensures most { self.new.most ≡ self.old.most }
+        ensures valid { IsTable K.cmp self.new }
+    {
+        keep_young(&mut self.offers, now);
+    }
+
+    /// The best of the offers of this key that count.
+    pub fn best(&self, key: &K, now: u64) -> Option<(Source, M)>
+        ensures least { IfSome result (IsBest M.before (content K.cmp self.now.offers) key.now now) }
+        ensures none { IfNone result (NoneCounts (content K.cmp self.now.offers) key.now now) }
+        ensures valid { IsTable K.cmp self.now }
+    {
+        let best = best_of(&self.offers, *key, now)?;
+        Some((best.source, best.metric))
+    }
+
+    /// Each key that has a best, with its best, by key. Its only fault is `OutOfMemory`.
+    pub fn list(&self, alloc: Global, now: u64) -> Result<Vec<(K, Source, M)>, TableFault>
+        ensures listed { IfOk result (λ v. IsListing K.cmp M.before (content K.cmp self.now.offers) now v.items) }
+        ensures keys { IfOk result (λ v. All (λ item. heard_key K.cmp self.now.offers (item.0, item.1) ≡ Some item.0) v.items) }
+        ensures fault { IfErr result (λ e. e ≡ TableFault.OutOfMemory) }
+        ensures valid { IsTable K.cmp self.now }
+    {
+        let offers = self.offers.as_slice();
+        let mut listed: Vec<(K, Source, M)> = Vec::new(alloc);
+        for at in 0..offers.len() {
+            add_best(&mut listed, offers, at, now)?;
+        }
+        Ok(listed)
+    }
+}

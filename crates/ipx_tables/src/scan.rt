@@ -1,0 +1,71 @@
+//! Reading a list of offers from its front to its end.
+
+ghost use Rattle.std.specs.Prelude.{◌≡◌, None, MatchOption};
+ghost use Rattle.std.specs.List.{filter};
+ghost use Rattle.ipx_tables.specs.Content.{content, is_same, is_young};
+ghost use Rattle.ipx_tables.specs.Scan.{IsAt, best_from, is_candidate, offer_beats};
+
+use crate::metric::Metric;
+use crate::offer::Offer;
+use crate::source::Source;
+
+/// How long an offer counts after it was heard, in milliseconds.
+const LIFE: u64 = 180_000;
+
+/// Whether an offer of this moment counts.
+fn counts(now: u64, moment: u64) -> bool
+    ensures { result ≡ is_young now moment }
+{
+    now.saturating_sub(moment) < LIFE
+}
+
+/// Whether the first is the better one: by metric, then by the lower port and the lower neighbour.
+fn better<K: Copy, M: Metric + Copy>(a: &Offer<K, M>, b: &Offer<K, M>) -> bool
+    ensures { result ≡ offer_beats M.before a.now b.now }
+{
+    a.metric.before(&b.metric) || !b.metric.before(&a.metric) && a.source.cmp(&b.source).is_lt()
+}
+
+/// The best of the offers of a key that count.
+pub fn best_of<K: Ord + Copy, M: Metric + Copy>(
+    offers: &[Offer<K, M>],
+    key: K,
+    now: u64,
+) -> Option<Offer<K, M>>
+    ensures { result ≡ best_from (is_candidate K.cmp key now) (offer_beats M.before) None offers.now }
+{
+    let mut best: Option<Offer<K, M>> = None;
+    for offer in offers {
+        if offer.key.cmp(&key).is_eq() && counts(now, offer.heard) {
+            best = match best {
+                None => Some(*offer),
+                Some(held) => Some(if better(offer, &held) { *offer } else { held }),
+            };
+        }
+    }
+    best
+}
+
+/// Where the offer of a key and a source stands.
+pub fn place_of<K: Ord + Copy, M: Copy>(
+    offers: &[Offer<K, M>],
+    key: K,
+    source: Source,
+) -> Option<usize>
+    ensures { MatchOption result (content K.cmp offers.now (key, source) ≡ None) (IsAt (is_same K.cmp) offers.now (key, source)) }
+{
+    for i in 0..offers.len() {
+        let offer = offers[i];
+        if offer.key.cmp(&key).then(offer.source.cmp(&source)).is_eq() {
+            return Some(i);
+        }
+    }
+    None
+}
+
+/// Takes out each offer that counts no more.
+pub fn keep_young<K: Copy, M: Copy>(offers: &mut Vec<Offer<K, M>>, now: u64)
+    ensures { offers.new.items ≡ filter (λ o. is_young now o.heard) offers.old.items }
+{
+    offers.retain(|offer| counts(now, offer.heard));
+}
