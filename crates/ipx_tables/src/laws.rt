@@ -15,36 +15,51 @@ use crate::service::{ServiceKey, ServiceMetric};
 use crate::source::Source;
 use ipx_wire::Network;
 
-/// After any accepted calls of one table an offer stands just where it is the last word of its key and source.
+/// After any accepted calls of one table an offer stands just where it is the last word of its key
+/// and source: heard last, not dead, and found old by no later `age`.
 pub fn last_word_stands<K: Ord + Copy, M: Metric + Copy>()
-    ensures { (calls : List (Call K M)) (p : K × Source) (metric : M) (moment : ℕ) → (after_calls K.cmp M.dead (λ q. None) calls p ≡ Some (metric, moment)) ↔ IsLastWord K.cmp M.dead calls p metric moment }
+    ensures { (calls : List (Call K M)) (p : K × Source) (metric : M) (moment : ℕ)
+        → (after_calls K.cmp M.dead (λ q. None) calls p ≡ Some (metric, moment))
+        ↔ IsLastWord K.cmp M.dead calls p metric moment }
 {}
 
 /// A key has one best at most.
 pub fn one_best<K: Ord + Copy, M: Metric + Copy>()
-    ensures { (c : Content K M) (key : K) (now : ℕ) (a b : Source × M) → IsBest M.before c key now a → IsBest M.before c key now b → a ≡ b }
+    ensures { (c : Content K M) (key : K) (now : ℕ) (a b : Source × M)
+        → IsBest M.before c key now a → IsBest M.before c key now b → a ≡ b }
 {}
 
 /// Where no two keys tie, what a table says has one listing.
 pub fn one_listing<K: Ord + Copy, M: Metric + Copy>()
-    ensures { TellsApart K.cmp → (c : Content K M) (now : ℕ) (a b : List (K × Source × M)) → IsListing K.cmp M.before c now a → IsListing K.cmp M.before c now b → a ≡ b }
+    ensures { TellsApart K.cmp
+        → (c : Content K M) (now : ℕ) (a b : List (K × Source × M))
+        → IsListing K.cmp M.before c now a → IsListing K.cmp M.before c now b → a ≡ b }
 {}
 
 /// What a table says of routes has one listing.
 pub fn route_listing_is_one()
-    ensures { (c : Content Network RouteMetric) (now : ℕ) (a b : List (Network × Source × RouteMetric)) → IsListing network_cmp route_before c now a → IsListing network_cmp route_before c now b → a ≡ b }
+    ensures { (c : Content Network RouteMetric) (now : ℕ) (a b : List (Network × Source × RouteMetric))
+        → IsListing network_cmp route_before c now a
+        → IsListing network_cmp route_before c now b
+        → a ≡ b }
 {
     one_listing::<Network, RouteMetric>();
 }
 
 /// What a table says of services has one listing.
 pub fn service_listing_is_one()
-    ensures { (c : Content ServiceKey ServiceMetric) (now : ℕ) (a b : List (ServiceKey × Source × ServiceMetric)) → IsListing service_key_cmp service_before c now a → IsListing service_key_cmp service_before c now b → a ≡ b }
+    ensures { (c : Content ServiceKey ServiceMetric) (now : ℕ)
+        (a b : List (ServiceKey × Source × ServiceMetric))
+        → IsListing service_key_cmp service_before c now a
+        → IsListing service_key_cmp service_before c now b
+        → a ≡ b }
 {
     one_listing::<ServiceKey, ServiceMetric>();
 }
 
 /// How many offers a table holds follows from what it says.
 pub fn content_counts<K: Ord + Copy, M: Metric + Copy>()
-    ensures { (a b : Table K M) → IsTable K.cmp a → IsTable K.cmp b → ((p : K × Source) → content K.cmp a.offers p ≡ content K.cmp b.offers p) → length a.offers ≡ length b.offers }
+    ensures { (a b : Table K M) → IsTable K.cmp a → IsTable K.cmp b
+        → ((p : K × Source) → content K.cmp a.offers p ≡ content K.cmp b.offers p)
+        → length a.offers ≡ length b.offers }
 {}

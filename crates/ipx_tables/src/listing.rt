@@ -22,7 +22,8 @@ pub fn add_best<K: Ord + Copy, M: Metric + Copy>(
     requires apart { IsApart (is_same K.cmp) offers.now }
     requires within { at < length offers.now }
     requires so_far { IsListedSoFar K.cmp M.before offers.now now at listed.old.items }
-    ensures so_far { OnOk result (IsListedSoFar K.cmp M.before offers.now now (at + 1) listed.new.items) }
+    ensures so_far { OnOk result
+        (IsListedSoFar K.cmp M.before offers.now now (at + 1) listed.new.items) }
     ensures fault { IfErr result (λ e. e ≡ TableFault.OutOfMemory) }
 {
     let key = offers[at].key;

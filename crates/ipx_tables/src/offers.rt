@@ -47,7 +47,9 @@ impl<K: Ord + Copy, M: Metric + Copy> Offers<K, M> {
 
     /// Replaces the offer of this key and source. A dead metric takes it out.
     ///
-    /// Only a new key and source can be refused.
+    /// Only a new key and source can be refused: `Full` where the table holds as many offers as it
+    /// may, `OutOfMemory` where it could not grow. A refusal leaves the table as it was. Where keys
+    /// differ and yet tie in their order, the table keeps the one heard last.
     pub fn hear(
         &mut self,
         _alloc: Global,
@@ -56,20 +58,33 @@ impl<K: Ord + Copy, M: Metric + Copy> Offers<K, M> {
         metric: M,
         now: u64,
     ) -> Result<(), TableFault>
-        ensures heard { OnOk result ((p : K × Source) → content K.cmp self.new.offers p ≡ after_hear K.cmp M.dead (content K.cmp self.old.offers) (key, source) metric now p) }
-        ensures keys { OnOk result ((p : K × Source) → heard_key K.cmp self.new.offers p ≡ keys_after_hear K.cmp M.dead (heard_key K.cmp self.old.offers) (key, source) metric p) }
+        ensures heard { OnOk result
+            ((p : K × Source) → content K.cmp self.new.offers p
+            ≡ after_hear K.cmp M.dead (content K.cmp self.old.offers) (key, source) metric now p) }
+        ensures keys { OnOk result
+            ((p : K × Source) → heard_key K.cmp self.new.offers p
+            ≡ keys_after_hear K.cmp M.dead (heard_key K.cmp self.old.offers) (key, source) metric p) }
         ensures refused { OnErr result (self.new ≡ self.old) }
         ensures most { self.new.most ≡ self.old.most }
         ensures valid { IsTable K.cmp self.new }
 
         // When each refusal comes.
-        ensures full { (result ≡ Err TableFault.Full) ↔ ((M.dead metric ≡ false) × (content K.cmp self.old.offers (key, source) ≡ None) × (self.old.most ≤ length self.old.offers)) }
-        ensures out_of_memory { result ≡ Err TableFault.OutOfMemory → (M.dead metric ≡ false) × (content K.cmp self.old.offers (key, source) ≡ None) × (length self.old.offers < self.old.most) }
+        ensures full { (result ≡ Err TableFault.Full)
+            ↔ ((M.dead metric ≡ false)
+            × (content K.cmp self.old.offers (key, source) ≡ None)
+            × (self.old.most ≤ length self.old.offers)) }
+        ensures out_of_memory { result ≡ Err TableFault.OutOfMemory
+            → (M.dead metric ≡ false)
+            × (content K.cmp self.old.offers (key, source) ≡ None)
+            × (length self.old.offers < self.old.most) }
         ensures no_memory_if_dead { M.dead metric ≡ true → IsOk result }
         ensures no_memory_if_there { IsSome (content K.cmp self.old.offers (key, source)) → IsOk result }
 
         // How many offers there are then.
-        ensures many { OnOk result (length self.new.offers + (if is_some (content K.cmp self.old.offers (key, source)) then 1 else 0) ≡ length self.old.offers + (if M.dead metric then 0 else 1)) }
+        ensures many { OnOk result
+            (length self.new.offers
+            + (if is_some (content K.cmp self.old.offers (key, source)) then 1 else 0)
+            ≡ length self.old.offers + (if M.dead metric then 0 else 1)) }
     {
         let place = place_of(&self.offers, key, source);
         if metric.dead() {
@@ -95,11 +110,15 @@ impl<K: Ord + Copy, M: Metric + Copy> Offers<K, M> {
         Ok(())
     }
 
-    /// Takes out for good each offer that is three minutes old.
+    /// Takes out for good each offer that was heard three minutes ago or earlier.
     pub fn age(&mut self, now: u64)
-        ensures aged { (p : K × Source) → content K.cmp self.new.offers p ≡ after_age (content K.cmp self.old.offers) now p }
-        ensures keys { (p : K × Source) → heard_key K.cmp self.new.offers p ≡ (if is_some (content K.cmp self.new.offers p) then heard_key K.cmp self.old.offers p else None) }
-        ensures many { length self.new.offers ≡ count_by (λ o. is_young now o.heard) self.old.offers }
+        ensures aged { (p : K × Source) → content K.cmp self.new.offers p
+            ≡ after_age (content K.cmp self.old.offers) now p }
+        ensures keys { (p : K × Source) → heard_key K.cmp self.new.offers p
+            ≡ (if is_some (content K.cmp self.new.offers p)
+            then heard_key K.cmp self.old.offers p else None) }
+        ensures many { length self.new.offers
+            ≡ count_by (λ o. is_young now o.heard) self.old.offers }
         ensures fewer { length self.new.offers ≤ length self.old.offers }
         ensures most { self.new.most ≡ self.old.most }
         ensures valid { IsTable K.cmp self.new }
@@ -107,9 +126,10 @@ impl<K: Ord + Copy, M: Metric + Copy> Offers<K, M> {
         keep_young(&mut self.offers, now);
     }
 
-    /// The best of the offers of this key that count.
+    /// The best of the offers of this key that count: those heard less than three minutes ago.
     pub fn best(&self, key: &K, now: u64) -> Option<(Source, M)>
-        ensures least { IfSome result (IsBest M.before (content K.cmp self.now.offers) key.now now) }
+        ensures least { IfSome result
+            (IsBest M.before (content K.cmp self.now.offers) key.now now) }
         ensures none { IfNone result (NoneCounts (content K.cmp self.now.offers) key.now now) }
         ensures valid { IsTable K.cmp self.now }
     {
@@ -119,8 +139,12 @@ impl<K: Ord + Copy, M: Metric + Copy> Offers<K, M> {
 
     /// Each key that has a best, with its best, by key. Its only fault is `OutOfMemory`.
     pub fn list(&self, alloc: Global, now: u64) -> Result<Vec<(K, Source, M)>, TableFault>
-        ensures listed { IfOk result (λ v. IsListing K.cmp M.before (content K.cmp self.now.offers) now v.items) }
-        ensures keys { IfOk result (λ v. All (λ item. heard_key K.cmp self.now.offers (item.0, item.1) ≡ Some item.0) v.items) }
+        ensures listed { IfOk result
+            (λ v. IsListing K.cmp M.before (content K.cmp self.now.offers) now v.items) }
+        ensures keys { IfOk result
+            (λ v. All
+            (λ item. heard_key K.cmp self.now.offers (item.0, item.1) ≡ Some item.0)
+            v.items) }
         ensures fault { IfErr result (λ e. e ≡ TableFault.OutOfMemory) }
         ensures valid { IsTable K.cmp self.now }
     {

@@ -32,7 +32,8 @@ pub fn best_of<K: Ord + Copy, M: Metric + Copy>(
     key: K,
     now: u64,
 ) -> Option<Offer<K, M>>
-    ensures { result ≡ best_from (is_candidate K.cmp key now) (offer_beats M.before) None offers.now }
+    ensures { result
+        ≡ best_from (is_candidate K.cmp key now) (offer_beats M.before) None offers.now }
 {
     let mut best: Option<Offer<K, M>> = None;
     for offer in offers {
@@ -52,7 +53,9 @@ pub fn place_of<K: Ord + Copy, M: Copy>(
     key: K,
     source: Source,
 ) -> Option<usize>
-    ensures { MatchOption result (content K.cmp offers.now (key, source) ≡ None) (IsAt (is_same K.cmp) offers.now (key, source)) }
+    ensures { MatchOption result
+        (content K.cmp offers.now (key, source) ≡ None)
+        (IsAt (is_same K.cmp) offers.now (key, source)) }
 {
     for i in 0..offers.len() {
         let offer = offers[i];
