@@ -1,7 +1,7 @@
 -- SAP packets (Novell IPX Router Specification): which bytes hold one, and the first fault of bytes that hold none.
-use Rattle.std.specs.Prelude.{◌≡◌, ◌≤◌, ◌<◌, ◌^◌, ℕ, ◌+◌, ◌-◌, ◌*◌, ◌/◌, Bool, List, ◌++◌, length, take, drop, All, Option, Some, None, nat_lt, ◌==◌, ◌||◌, if◌then◌else◌}
+use Rattle.std.specs.Prelude.{◌≡◌, ◌≤◌, ◌<◌, ◌^◌, ℕ, ◌+◌, ◌-◌, ◌*◌, ◌/◌, Bool, List, [], ◌++◌, length, take, drop, All, Option, Some, None, nat_lt, ◌==◌, ◌||◌, if◌then◌else◌}
 use Rattle.byteorder.specs.Endian.{big_bytes}
-use Rattle.ipx_wire.specs.Ipx.{IsAddress, IsAddressInRange, address_bytes, number}
+use Rattle.ipx_wire.specs.Ipx.{IsAddress, IsAddressInRange, IsBytes, address_bytes, number}
 use Rattle.ipx_control.specs.declared.fault.ControlFault.{ControlFault}
 use Rattle.ipx_control.specs.declared.fault.ControlFault.TheVariants.{NoOperation, UnknownOperation, QueryShort}
 use Rattle.ipx_control.specs.declared.sap.ServiceEntry.{ServiceEntry}
@@ -17,6 +17,11 @@ pub data SapMessage : Type 0 where
 abbrev pub sap_view : Sap → SapMessage
 sap_view (saps.Query nearest kind) = Query nearest kind
 sap_view (saps.Response nearest services) = Response nearest services.items
+
+-- the services that a packet names
+abbrev pub sap_services : SapMessage → List ServiceEntry
+sap_services (Query nearest kind) = []
+sap_services (Response nearest services) = services
 
 -- the operation of a query, and that of a response
 abbrev pub query_operation : Bool → ℕ
@@ -68,6 +73,11 @@ pub record IsServiceEntryInRange (e : ServiceEntry) : Type 0 where
   pub name : length e.name ≡ 48
   pub at : IsAddressInRange e.at
   pub hops : e.hops < 2 ^ 16
+
+-- what a service has as lists are bytes
+pub record HoldsBytes (e : ServiceEntry) : Type 0 where
+  pub name : IsBytes e.name
+  pub node : IsBytes e.at.node.0
 
 -- what a packet can hold
 pub record AreServicesInRange (services : List ServiceEntry) : Type 0 where

@@ -1,9 +1,9 @@
 //! Laws of RIP and SAP packets and their bytes, which follow from what a packet is.
 
-ghost use Rattle.std.specs.Prelude.{◌≡◌, ◌<◌, ◌++◌, ℕ, List, [], length, None};
+ghost use Rattle.std.specs.Prelude.{◌≡◌, ◌<◌, ◌++◌, ℕ, List, [], length, None, All};
 ghost use Rattle.ipx_wire.specs.Ipx.{IsBytes};
 ghost use Rattle.ipx_control.specs.Rip.{IsRip, IsRipInRange, RipMessage, rip_fault};
-ghost use Rattle.ipx_control.specs.Sap.{IsSap, IsSapInRange, IsSapTail, SapMessage, sap_fault};
+ghost use Rattle.ipx_control.specs.Sap.{HoldsBytes, IsSap, IsSapInRange, IsSapTail, SapMessage, sap_fault, sap_services};
 
 /// No bytes are two RIP packets.
 pub fn bytes_are_one_rip()
@@ -12,7 +12,7 @@ pub fn bytes_are_one_rip()
 
 /// Each RIP packet in range has bytes, which are read as it with any short tail behind them.
 pub fn rip_has_bytes()
-    ensures { (m : RipMessage) → IsRipInRange m → (bytes : List ℕ) × ((tail : List ℕ) → length tail < 8 → IsRip m (bytes ++ tail) tail) }
+    ensures { (m : RipMessage) → IsRipInRange m → (bytes : List ℕ) × ((tail : List ℕ) → length tail < 8 → IsRip m (bytes ++ tail) tail) × IsBytes bytes }
 {}
 
 /// Bytes that are a RIP packet with nothing behind it are that packet with any short tail behind it.
@@ -38,7 +38,7 @@ pub fn bytes_are_one_sap()
 
 /// Each SAP packet in range has bytes, which are read as it with any tail that may stand behind it.
 pub fn sap_has_bytes()
-    ensures { (m : SapMessage) → IsSapInRange m → (bytes : List ℕ) × ((tail : List ℕ) → IsSapTail m tail → IsSap m (bytes ++ tail) tail) }
+    ensures { (m : SapMessage) → IsSapInRange m → (bytes : List ℕ) × ((tail : List ℕ) → IsSapTail m tail → IsSap m (bytes ++ tail) tail) × (All HoldsBytes (sap_services m) → IsBytes bytes) }
 {}
 
 /// Bytes that are a SAP packet with nothing behind it are that packet with any tail that may stand behind it.

@@ -1,9 +1,9 @@
 //! RIP and SAP packets out of bytes.
 
-ghost use Rattle.std.specs.Prelude.{◌≡◌, ◌≤◌, ◌<◌, ◌⊎◌, List, ℕ, length, take, drop, IfOk, IfErr, IsOkAnd, Some, None};
+ghost use Rattle.std.specs.Prelude.{◌≡◌, ◌≤◌, ◌<◌, ◌⊎◌, List, [], ℕ, length, take, drop, IfOk, IfErr, IsOk, IsOkAnd, Some, None};
 ghost use Rattle.ipx_control.specs.Entries.{AreEntries};
-ghost use Rattle.ipx_control.specs.Rip.{IsRip, IsRipEntry, RipMessage, rip_fault, rip_view};
-ghost use Rattle.ipx_control.specs.Sap.{IsSap, IsServiceEntry, SapMessage, sap_fault, sap_view};
+ghost use Rattle.ipx_control.specs.Rip.{IsRip, IsRipEntry, RipMessage, rip_entries, rip_fault, rip_view};
+ghost use Rattle.ipx_control.specs.Sap.{IsSap, IsServiceEntry, SapMessage, sap_fault, sap_services, sap_view};
 
 use crate::fault::ControlFault;
 use crate::rip::{Rip, RipEntry};
@@ -25,7 +25,8 @@ fn rip_entry_at(bytes: &[u8]) -> RipEntry
 
 /// The entries that fit into the bytes.
 fn rip_entries_in(alloc: Global, bytes: &[u8]) -> Result<Vec<RipEntry>, OutOfMemory>
-    ensures { IfOk result (λ v. (tail : List ℕ) × AreEntries IsRipEntry 8 v.items bytes.now tail × (length tail < 8)) }
+    ensures found { IfOk result (λ v. (tail : List ℕ) × AreEntries IsRipEntry 8 v.items bytes.now tail × (length tail < 8)) }
+    ensures no_memory { length bytes.now < 8 → IsOk result }
 {
     let count = bytes.len() / 8;
     let mut entries = Vec::with_capacity(alloc, count)?;
@@ -46,6 +47,8 @@ pub fn decode_rip(alloc: Global, bytes: &[u8]) -> Result<Rip, ControlFault>
     ensures fault { IfErr result (λ f.
         ((f ≡ ControlFault.OutOfMemory) × (rip_fault bytes.now ≡ None)) ⊎ (rip_fault bytes.now ≡ Some f)) }
     ensures whole { IfOk result (λ _. rip_fault bytes.now ≡ None) }
+    // Only entries take memory.
+    ensures no_memory { (m : RipMessage) (tail : List ℕ) → IsRip m bytes.now tail → rip_entries m ≡ [] → IsOk result }
 {
     if bytes.len() < 2 {
         return Err(ControlFault::NoOperation);
@@ -88,7 +91,8 @@ fn service_at(bytes: &[u8]) -> ServiceEntry
 
 /// The services that fit into the bytes.
 fn services_in(alloc: Global, bytes: &[u8]) -> Result<Vec<ServiceEntry>, OutOfMemory>
-    ensures { IfOk result (λ v. (tail : List ℕ) × AreEntries IsServiceEntry 64 v.items bytes.now tail × (length tail < 64)) }
+    ensures found { IfOk result (λ v. (tail : List ℕ) × AreEntries IsServiceEntry 64 v.items bytes.now tail × (length tail < 64)) }
+    ensures no_memory { length bytes.now < 64 → IsOk result }
 {
     let count = bytes.len() / 64;
     let mut services = Vec::with_capacity(alloc, count)?;
@@ -110,6 +114,8 @@ pub fn decode_sap(alloc: Global, bytes: &[u8]) -> Result<Sap, ControlFault>
     ensures fault { IfErr result (λ f.
         ((f ≡ ControlFault.OutOfMemory) × (sap_fault bytes.now ≡ None)) ⊎ (sap_fault bytes.now ≡ Some f)) }
     ensures whole { IfOk result (λ _. sap_fault bytes.now ≡ None) }
+    // Only services take memory.
+    ensures no_memory { (m : SapMessage) (tail : List ℕ) → IsSap m bytes.now tail → sap_services m ≡ [] → IsOk result }
 {
     if bytes.len() < 2 {
         return Err(ControlFault::NoOperation);

@@ -1,89 +1,174 @@
--- What a router answers to the bytes that come in on a port (Novell IPX Router Specification: how a router
--- forwards). Packets of type 20 are not propagated, and no control packet is served yet.
-use Rattle.std.specs.Prelude.{◌≡◌, ◌≤◌, ◌<◌, ℕ, ◌+◌, ◌||◌, List, [], Option, Some, None, nat_le, ◌==◌, if◌then◌else◌, ◌-◌, position, slice_get, IfSome, MatchOption}
+-- What a router answers to the bytes that come in on a port, and what it holds then.
+use Rattle.std.specs.Prelude.{◌≡◌, ◌≤◌, ◌<◌, ◌⊎◌, ℕ, ◌+◌, ◌-◌, ◌==◌, ◌||◌, ◌&&◌, Bool, true, false, not, List, [], length, Option, Some, None, All, slice_get, IfSome, MatchOption, count_by, if◌then◌else◌}
 use Rattle.ipx_wire.specs.declared.address.Network.{Network}
 use Rattle.ipx_wire.specs.declared.address.Node.{Node}
 use Rattle.ipx_wire.specs.declared.packet.IpxHeader.{IpxHeader}
 use Rattle.ipx_wire.specs.Ipx.{Datagram, IsIpx, ipx_fault}
+use Rattle.ipx_control.specs.declared.rip.RipEntry.{RipEntry}
+use Rattle.ipx_control.specs.declared.sap.ServiceEntry.{ServiceEntry}
+use Rattle.ipx_control.specs.Rip.{RipMessage, IsRip, rip_fault}
+use Rattle.ipx_control.specs.Rip as rip
+use Rattle.ipx_control.specs.Sap.{SapMessage, IsSap, sap_fault}
+use Rattle.ipx_control.specs.Sap as sap
+use Rattle.ipx_tables.specs.declared.route.RouteMetric.{RouteMetric}
+use Rattle.ipx_tables.specs.declared.service.ServiceKey.{ServiceKey}
+use Rattle.ipx_tables.specs.declared.service.ServiceMetric.{ServiceMetric}
+use Rattle.ipx_tables.specs.declared.source.Source.{Source}
+use Rattle.ipx_tables.specs.Content.{Table}
 use Rattle.ipx_router.specs.declared.port.Port.{Port}
+use Rattle.ipx_router.specs.declared.port.PortNow.{PortNow}
+use Rattle.ipx_router.specs.declared.packets.Recipient.{Recipient}
 use Rattle.ipx_router.specs.declared.outcome.Outcome.{Outcome}
 use Rattle.ipx_router.specs.declared.outcome.Outcome.TheVariants as outcomes
-use Rattle.ipx_router.specs.declared.router.Fate.{Fate}
-use Rattle.ipx_router.specs.declared.router.Fate.TheVariants as fates
 use Rattle.ipx_router.specs.declared.reason.Reason.{Reason}
-use Rattle.ipx_router.specs.declared.reason.Reason.TheVariants.{Bad, Propagated, NotOurs, NoRoute, HopLimit}
+use Rattle.ipx_router.specs.declared.reason.Reason.TheVariants.{Bad, Propagated, NotOurs, BadControl, TableFull}
+use Rattle.ipx_router.specs.declared.control.Concern.{Concern}
+use Rattle.ipx_router.specs.declared.control.Concern.TheVariants as concerns
 use Rattle.ipx_router.specs.Routing.{Routing}
+use Rattle.ipx_router.specs.Ports.{AreOnPorts, IsPortNumber}
+use Rattle.ipx_router.specs.Knowledge.{Known, HoldsKnown, Routes, Services, HoldsRoutes, HoldsServices, Tables, known_at, tables}
+use Rattle.ipx_router.specs.declared.route.Route.{Route}
+use Rattle.ipx_router.specs.Route.{IsRouteOrNone}
+use Rattle.ipx_router.specs.Forward.{Decision, Leaves as LeavesBy, Stays, IsOneHopOn, by_route}
+use Rattle.ipx_router.specs.Packets.{Sending, AreRoutePackets, AreServicePackets, sendings, rip_socket, sap_socket}
+use Rattle.ipx_router.specs.Told.{AreToldRoutes, AreToldServices}
+use Rattle.ipx_router.specs.Asking.{AreServicesAsked, routes_asked}
+use Rattle.ipx_router.specs.Hearing.{HeardRoutes, HeardServices, StopsAtRoute, StopsAtService, is_heard}
+use Rattle.ipx_router.specs.Control.{concern_of, asker, source_of}
 
 -- an outcome without where it lies in memory
 pub data Answer : Type 0 where
   Sent : ℕ → Node → List ℕ → Answer
+  Replied : List Sending → Answer
+  Heard : ℕ → Answer
   Refused : Reason → Answer
 
 abbrev pub view : Outcome → Answer
 view (outcomes.Forward r) = Sent r.port r.next r.bytes.items
+view (outcomes.Replies rs) = Replied (sendings rs.items)
+view (outcomes.Heard n) = Heard n
 view (outcomes.Dropped reason) = Refused reason
 
--- what becomes of a packet, by its header: it leaves by a port for a node, or is dropped
-pub data Decision : Type 0 where
-  Leaves : ℕ → Node → Decision
-  Stays : Reason → Decision
-
-abbrev pub fate_of : Fate → Decision
-fate_of (fates.Leaves port next) = Leaves port next
-fate_of (fates.Stays reason) = Stays reason
-
-abbrev pub IfLeaves : Fate → Type 0 → Type 0
-IfLeaves (fates.Leaves port next) fact = fact
-IfLeaves (fates.Stays reason) fact = Unit {0}
-
--- where there is a direct route, its port's place in the list
-abbrev pub direct_route : List Port → Network → Option ℕ
-direct_route ports network = position (λ p. p.network.0 == network.0) ports
-
-abbrev pub by_route : IpxHeader → Option ℕ → Decision
-by_route h None = Stays (NoRoute h.to.network)
-by_route h (Some place) = if nat_le 15 h.hops then Stays HopLimit else Leaves (place + 1) h.to.node
-
-abbrev pub decision : List Port → Port → IpxHeader → Decision
-decision ports arrived h =
-    if h.kind == 20 then Stays Propagated
-    else if (h.to.network.0 == 0) || (h.to.network.0 == arrived.network.0) then Stays NotOurs
-    else by_route h (direct_route ports h.to.network)
-
--- a header one hop on, with the network that it came from
-abbrev pub one_hop_on : Port → IpxHeader → IpxHeader
-one_hop_on arrived h = record h {
-  hops = h.hops + 1;
-  from = record h.from { network = if h.from.network.0 == 0 then arrived.network else h.from.network };
-}
-
--- the bytes that leave are the packet one hop on, and nothing behind it
+-- a packet for another network leaves as the decision says
 abbrev pub Carries : Port → Datagram → Decision → Answer → Type 0
 Carries arrived d (Stays reason) a = a ≡ Refused reason
-Carries arrived d (Leaves port next) a =
-    (bytes : List ℕ) × (a ≡ Sent port next bytes) × IsIpx (record d { header = one_hop_on arrived d.header }) bytes []
+Carries arrived d (LeavesBy port next) a = (bytes : List ℕ) × (a ≡ Sent port next bytes) × IsOneHopOn arrived d bytes
 
-abbrev pub AnswersPacket : List Port → Port → List ℕ → Answer → Type 0
-AnswersPacket ports arrived bytes a =
-    (d : Datagram) × (tail : List ℕ) × IsIpx d bytes tail × Carries arrived d (decision ports arrived d.header) a
+abbrev pub PassesAlong : List Port → Routes → PortNow → Datagram → Answer → Type 0
+PassesAlong ports routes at d a = (route : Option Route) × IsRouteOrNone ports routes at.now d.header.to.network route
+    × Carries at.port d (by_route d.header route) a
 
--- what is answered to bytes that come in on a port
-abbrev pub AnswersBytes : Routing → Port → List ℕ → Answer → Type 0
-AnswersBytes r arrived bytes a = MatchOption (ipx_fault bytes) (AnswersPacket r.ports arrived bytes a) (λ f. a ≡ Refused (Bad f))
+-- a request for routes is answered by the told ones among them
+pub record RepliesRoutes (ports : List Port) (routes : Routes) (at : PortNow) (to : Recipient) (asked : List RipEntry) (sent : List Sending) : Type 0 where
+  pub told : List RipEntry
+  pub are : AreToldRoutes ports routes at told
+  pub packets : AreRoutePackets to (routes_asked told asked) sent
 
--- what a router answers to the bytes that come in on its port of a number at a moment, and what it holds afterwards:
--- what it held, as long as all its routes are its ports' own
+-- a query is answered by the told services that it asks for
+pub record RepliesServices (services : Services) (at : PortNow) (to : Recipient) (nearest : Bool) (kind : ℕ) (sent : List Sending) : Type 0 where
+  pub told : List ServiceEntry
+  pub are : AreToldServices services at told
+  pub entries : List ServiceEntry
+  pub asked : AreServicesAsked told nearest kind entries
+  pub packets : AreServicePackets to nearest entries sent
+
+-- all entries were heard, or as many as there was room for
+abbrev pub HearsRoutes : List Port → Routes → Source → ℕ → List RipEntry → Answer → Table Network RouteMetric → Type 0
+HearsRoutes ports routes source now entries (Heard n) new =
+    (n ≡ count_by (is_heard ports) entries) × HeardRoutes ports source now entries routes (length entries) new
+HearsRoutes ports routes source now entries (Refused reason) new = (reason ≡ TableFull)
+    × (n : ℕ) × HeardRoutes ports source now entries routes n new × StopsAtRoute ports source entries n new
+HearsRoutes ports routes source now entries (Sent port next bytes) new = ⊥
+HearsRoutes ports routes source now entries (Replied sent) new = ⊥
+
+abbrev pub HearsServices : Services → Source → ℕ → List ServiceEntry → Answer → Table ServiceKey ServiceMetric → Type 0
+HearsServices services source now entries (Heard n) new =
+    (n ≡ length entries) × HeardServices source now entries services (length entries) new
+HearsServices services source now entries (Refused reason) new = (reason ≡ TableFull)
+    × (n : ℕ) × HeardServices source now entries services n new × StopsAtService source entries n new
+HearsServices services source now entries (Sent port next bytes) new = ⊥
+HearsServices services source now entries (Replied sent) new = ⊥
+
+abbrev pub AnswersRipMessage : List Port → Routes → PortNow → IpxHeader → RipMessage → Answer → Table Network RouteMetric → Type 0
+AnswersRipMessage ports routes at h (rip.Request asked) a new =
+    (sent : List Sending) × (a ≡ Replied sent) × RepliesRoutes ports routes at (asker at h) asked sent × HoldsRoutes new routes
+AnswersRipMessage ports routes at h (rip.Response entries) a new =
+    HearsRoutes ports routes (source_of at h) at.now entries a new
+
+abbrev pub AnswersSapMessage : Services → PortNow → IpxHeader → SapMessage → Answer → Table ServiceKey ServiceMetric → Type 0
+AnswersSapMessage services at h (sap.Query nearest kind) a new =
+    (sent : List Sending) × (a ≡ Replied sent) × RepliesServices services at (asker at h) nearest kind sent × HoldsServices new services
+AnswersSapMessage services at h (sap.Response nearest entries) a new =
+    HearsServices services (source_of at h) at.now entries a new
+
+-- a body that is no RIP packet is dropped
+abbrev pub AnswersRip : List Port → Routes → PortNow → Datagram → Answer → Table Network RouteMetric → Type 0
+AnswersRip ports routes at d a new = MatchOption (rip_fault d.body)
+    ((m : RipMessage) × (tail : List ℕ) × IsRip m d.body tail × AnswersRipMessage ports routes at d.header m a new)
+    (λ f. (a ≡ Refused (BadControl f)) × HoldsRoutes new routes)
+
+abbrev pub AnswersSap : Services → PortNow → Datagram → Answer → Table ServiceKey ServiceMetric → Type 0
+AnswersSap services at d a new = MatchOption (sap_fault d.body)
+    ((m : SapMessage) × (tail : List ℕ) × IsSap m d.body tail × AnswersSapMessage services at d.header m a new)
+    (λ f. (a ≡ Refused (BadControl f)) × HoldsServices new services)
+
+-- what want of memory leaves: the entries before it were heard, and the others were not
+abbrev pub LeavesRoutes : List Port → Routes → PortNow → Datagram → Table Network RouteMetric → Type 0
+LeavesRoutes ports routes at d new = HoldsRoutes new routes ⊎ ((entries : List RipEntry) × (tail : List ℕ)
+    × IsRip (rip.Response entries) d.body tail × (n : ℕ) × HeardRoutes ports (source_of at d.header) at.now entries routes n new)
+
+abbrev pub LeavesServices : Services → PortNow → Datagram → Table ServiceKey ServiceMetric → Type 0
+LeavesServices services at d new = HoldsServices new services ⊎ ((nearest : Bool) × (entries : List ServiceEntry) × (tail : List ℕ)
+    × IsSap (sap.Response nearest entries) d.body tail × (n : ℕ) × HeardServices (source_of at d.header) at.now entries services n new)
+
+-- by what the packet is to the router
+abbrev pub AnswersByConcern : Known → PortNow → Datagram → Answer → Tables → Concern → Type 0
+AnswersByConcern k at d a new (concerns.Refused reason) = (a ≡ Refused reason) × HoldsKnown k new
+AnswersByConcern k at d a new concerns.Rip = AnswersRip k.ports k.routes at d a new.0 × HoldsServices new.1 k.services
+AnswersByConcern k at d a new concerns.Sap = AnswersSap k.services at d a new.1 × HoldsRoutes new.0 k.routes
+AnswersByConcern k at d a new concerns.Passing = PassesAlong k.ports k.routes at d a × HoldsKnown k new
+
+abbrev pub LeavesByConcern : Known → PortNow → Datagram → Tables → Concern → Type 0
+LeavesByConcern k at d new (concerns.Refused reason) = HoldsKnown k new
+LeavesByConcern k at d new concerns.Rip = LeavesRoutes k.ports k.routes at d new.0 × HoldsServices new.1 k.services
+LeavesByConcern k at d new concerns.Sap = LeavesServices k.services at d new.1 × HoldsRoutes new.0 k.routes
+LeavesByConcern k at d new concerns.Passing = HoldsKnown k new
+
+abbrev pub AnswersPacket : Known → PortNow → List ℕ → Answer → Tables → Type 0
+AnswersPacket k at bytes a new =
+    (d : Datagram) × (tail : List ℕ) × IsIpx d bytes tail × AnswersByConcern k at d a new (concern_of at.port d.header)
+
+-- bytes that are no packet are dropped
+abbrev pub AnswersBytes : Known → PortNow → List ℕ → Answer → Tables → Type 0
+AnswersBytes k at bytes a new =
+    MatchOption (ipx_fault bytes) (AnswersPacket k at bytes a new) (λ f. (a ≡ Refused (Bad f)) × HoldsKnown k new)
+
+-- what a router answers to the bytes that come in on its port of a number at a moment, and what it holds then
 abbrev pub Answers : Routing → ℕ → List ℕ → ℕ → Answer → Routing → Type 0
-Answers old port bytes now a new = IfSome (slice_get old.ports (port - 1)) (λ arrived. AnswersBytes old arrived bytes a) × (new ≡ old)
+Answers old port bytes now a new = IfSome (slice_get old.ports (port - 1)) (λ arrived.
+    AnswersBytes (known_at old now) (record { number = port; port = arrived; now = now }) bytes a (tables new))
+
+abbrev pub LeavesBytes : Known → PortNow → List ℕ → Tables → Type 0
+LeavesBytes k at bytes new =
+    (d : Datagram) × (tail : List ℕ) × IsIpx d bytes tail × LeavesByConcern k at d new (concern_of at.port d.header)
+
+-- what a router holds after want of memory
+abbrev pub Leaves : Routing → ℕ → List ℕ → ℕ → Routing → Type 0
+Leaves old port bytes now new = IfSome (slice_get old.ports (port - 1)) (λ arrived.
+    LeavesBytes (known_at old now) (record { number = port; port = arrived; now = now }) bytes (tables new))
 
 -- what leaves is the packet one hop on, and it had room for a hop
 abbrev pub Onward : Port → Datagram → Answer → Type 0
-Onward arrived d (Sent port next bytes) = (d.header.hops < 15) × IsIpx (record d { header = one_hop_on arrived d.header }) bytes []
+Onward arrived d (Sent port next bytes) = (d.header.hops < 15) × IsOneHopOn arrived d bytes
+Onward arrived d (Replied sent) = Unit {0}
+Onward arrived d (Heard n) = Unit {0}
 Onward arrived d (Refused reason) = Unit {0}
 
 -- what leaves came of bytes that are a packet
 abbrev pub HoldsPacket : List ℕ → Answer → Type 0
 HoldsPacket bytes (Sent port next out) = (d : Datagram) × (tail : List ℕ) × IsIpx d bytes tail
+HoldsPacket bytes (Replied sent) = Unit {0}
+HoldsPacket bytes (Heard n) = Unit {0}
 HoldsPacket bytes (Refused reason) = Unit {0}
 
 -- whatever packet the bytes are, what leaves is it one hop on
@@ -92,9 +177,12 @@ OnwardForEachReading arrived bytes a = (d : Datagram) (tail : List ℕ) → IsIp
 
 -- the same on the port of a number
 abbrev pub PassesOn : Routing → ℕ → List ℕ → Answer → Type 0
-PassesOn r port bytes a = (arrived : Port) × (slice_get r.ports (port - 1) ≡ Some arrived) × HoldsPacket bytes a × OnwardForEachReading arrived bytes a
+PassesOn r port bytes a =
+    (arrived : Port) × (slice_get r.ports (port - 1) ≡ Some arrived) × HoldsPacket bytes a × OnwardForEachReading arrived bytes a
 
 -- what is sent leaves by a port that is there
 abbrev pub IsOnPort : ℕ → Answer → Type 0
-IsOnPort count (Sent port next bytes) = (1 ≤ port) × (port ≤ count)
+IsOnPort count (Sent port next bytes) = IsPortNumber count port
+IsOnPort count (Replied sent) = AreOnPorts count sent
+IsOnPort count (Heard n) = Unit {0}
 IsOnPort count (Refused reason) = Unit {0}

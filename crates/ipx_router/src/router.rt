@@ -1,185 +1,54 @@
 //! The router.
 
-ghost use Rattle.std.specs.Prelude.{◌≡◌, ◌==◌, ◌≤◌, ◌<◌, ◌-◌, ◌⊎◌, ℕ, List, [], length, All, IfOk, IfErr, MatchResult, OnOk, slice_index_or, slice_get, Some, None, take, IsOk};
-ghost use Rattle.std.specs.List.{list_any};
-ghost use Rattle.ipx_wire.specs.Ipx.{IsIpx, view as packet_view};
-ghost use Rattle.ipx_router.specs.NewRouter.{IsOwnNetwork, first_twin, ports_fault, twin_fault};
-ghost use Rattle.ipx_router.specs.Answer.{Answers, AnswersBytes, Onward, OnwardForEachReading, HoldsPacket, PassesOn, IsOnPort, Carries, Decision, IfLeaves, decision, direct_route, fate_of, one_hop_on, view};
+ghost use Rattle.std.specs.Prelude.{◌≡◌, ◌≤◌, ◌-◌, List, [], length, All, IfOk, IfErr, OnOk, OnErr, Some, None};
+ghost use Rattle.ipx_router.specs.NewRouter.{IsOwnNetwork, ports_fault};
+ghost use Rattle.ipx_router.specs.Knowledge.{HoldsKnown, KeepsRest, known_at, tables};
+ghost use Rattle.ipx_router.specs.Packets.{sendings};
+ghost use Rattle.ipx_router.specs.Ports.{AreOnPorts};
+ghost use Rattle.ipx_router.specs.Answer.{Answers, IsOnPort, Leaves, PassesOn, view};
+ghost use Rattle.ipx_router.specs.Telling.{AreStarts, Tells};
 
+use crate::answering::receive_at;
 use crate::fault::NewFault;
+use crate::networks::twin_of;
 use crate::outcome::{Outcome, Reply};
-use crate::port::Port;
-use crate::reason::Reason;
-use ipx_wire::{Address, IpxHeader, Network, Node, OutOfMemory, Packet, decode, encode_into};
+use crate::port::{Port, PortNow};
+use crate::telling::{ask_all, tell_at};
+use ipx_tables::{RouteTable, ServiceTable, route_table, service_table};
+use ipx_wire::OutOfMemory;
 use std::alloc::Global;
 use std::marker::Model;
 
-/// A router: its ports, numbered from 1.
+/// A router: its ports, numbered from 1, and what it heard from its neighbours.
 #[derive(Drop)]
 pub struct Router {
     ports: Vec<Port>,
+    routes: RouteTable,
+    services: ServiceTable,
+    told: Option<u64>,
 }
 
 impl Model for Router {
-    ghost use Rattle.std.specs.Prelude.{◌≤◌, length};
     ghost use Rattle.ipx_router.specs.Routing.{Routing};
+    ghost use Rattle.ipx_router.specs.Ports.{IsSound};
 
     ghost Value = { Routing };
 
-    ghost view = { λ r. record { ports = r.ports.items } };
+    ghost view = { λ r. record { ports = r.ports.items; routes = r.routes; services = r.services; told = r.told } };
 
-    ghost invariant = { λ r. length r.ports.items ≤ 16 };
-}
-
-fn has_network(ports: &[Port], network: Network) -> bool
-    ensures { result ≡ list_any (λ p. p.network.0 == network.0) ports.now }
-{
-    ports.iter().any(|port| port.network == network)
-}
-
-/// The network of the first port that repeats the network of an earlier one.
-fn twin_of(ports: &[Port]) -> Option<Network>
-    ensures { result ≡ first_twin [] ports.now }
-{
-    for (i, port) in ports.iter().enumerate() {
-        if has_network(&ports[..i], port.network) {
-            return Some(port.network);
-        }
-    }
-    None
-}
-
-/// The place of the port whose own network it is.
-fn route_to(ports: &[Port], network: Network) -> Option<usize>
-    ensures { result ≡ direct_route ports.now network }
-{
-    ports.iter().position(|port| port.network == network)
-}
-
-fn header_one_hop_on(arrived: Port, header: IpxHeader) -> IpxHeader
-    requires { header.hops < 15 }
-    ensures { result ≡ one_hop_on arrived header }
-{
-    let network = if header.from.network.0 == 0 {
-        arrived.network
-    } else {
-        header.from.network
-    };
-    IpxHeader {
-        hops: header.hops + 1,
-        from: Address {
-            network,
-            ..header.from
-        },
-        ..header
-    }
-}
-
-/// What becomes of a packet, by its header.
-enum Fate {
-    Leaves { port: u8, next: Node },
-    Stays(Reason),
-}
-
-fn decide(ports: &[Port], arrived: Port, header: IpxHeader) -> Fate
-    requires { length ports.now ≤ 16 }
-    ensures fate { fate_of result ≡ decision ports.now arrived header }
-    ensures hops { IfLeaves result (header.hops < 15) }
-{
-    if header.kind == 20 {
-        return Fate::Stays(Reason::Propagated);
-    }
-    if header.to.network.0 == 0 || header.to.network == arrived.network {
-        return Fate::Stays(Reason::NotOurs);
-    }
-    let Some(place) = route_to(ports, header.to.network) else {
-        return Fate::Stays(Reason::NoRoute(header.to.network));
-    };
-    if header.hops >= 15 {
-        return Fate::Stays(Reason::HopLimit);
-    }
-    Fate::Leaves {
-        port: place as u8 + 1,
-        next: header.to.node,
-    }
-}
-
-/// The bytes of the packet one hop on.
-fn bytes_one_hop_on(
-    alloc: Global,
-    arrived: Port,
-    packet: Packet<'_>,
-) -> Result<Vec<u8>, OutOfMemory>
-    requires hops { packet.header.hops < 15 }
-    requires body { length packet.body.now ≤ 1470 }
-    ensures { IfOk result (λ v. IsIpx (record { header = one_hop_on arrived packet.entry.header; body = packet.entry.body.now }) v.items []) }
-{
-    let mut bytes = vec![in alloc; 0; 30 + packet.body.len()]?;
-    let header = header_one_hop_on(arrived, packet.header);
-    let onward = Packet {
-        header,
-        body: packet.body,
-    };
-    encode_into(&onward, &mut bytes);
-    Ok(bytes)
-}
-
-/// What becomes of a packet that came in on a port.
-fn carry(
-    alloc: Global,
-    ports: &[Port],
-    arrived: Port,
-    packet: Packet<'_>,
-) -> Result<Outcome, OutOfMemory>
-    requires ports { length ports.now ≤ 16 }
-    requires body { length packet.body.now ≤ 1470 }
-    ensures carries { IfOk result (λ o. Carries arrived (packet_view packet.entry) (decision ports.now arrived packet.entry.header) (view o)) }
-    ensures there { IfOk result (λ o. IsOnPort (length ports.now) (view o)) }
-    ensures onward { IfOk result (λ o. Onward arrived (packet_view packet.entry) (view o)) }
-{
-    match decide(ports, arrived, packet.header) {
-        Fate::Stays(reason) => return Ok(Outcome::Dropped(reason)),
-        Fate::Leaves { port, next } => {
-            let bytes = bytes_one_hop_on(alloc, arrived, packet)?;
-            return Ok(Outcome::Forward(Reply { port, next, bytes }));
-        }
-    }
-}
-
-/// What becomes of bytes that came in on a port.
-fn answer_to(
-    alloc: Global,
-    ports: &[Port],
-    arrived: Port,
-    bytes: &[u8],
-) -> Result<Outcome, OutOfMemory>
-    requires { length ports.now ≤ 16 }
-    ensures answer { IfOk result (λ o. AnswersBytes (record { ports = ports.now }) arrived bytes.now (view o)) }
-    ensures packet { IfOk result (λ o. HoldsPacket bytes.now (view o)) }
-    ensures onward { IfOk result (λ o. OnwardForEachReading arrived bytes.now (view o)) }
-    ensures there { IfOk result (λ o. IsOnPort (length ports.now) (view o)) }
-{
-    match decode(bytes) {
-        Err(fault) => return Ok(Outcome::Dropped(Reason::Bad(fault))),
-        Ok(packet) => return carry(alloc, ports, arrived, packet),
-    }
+    ghost invariant = { λ r. IsSound r.ports.items r.routes };
 }
 
 impl Router {
-    pub fn ports(&self) -> &[Port]
-        ensures { result.now ≡ self.now.ports }
-    {
-        &self.ports
-    }
-
     /// A router of these ports. Their networks are neither 0 nor FFFFFFFF.
     pub fn new(alloc: Global, ports: Vec<Port>) -> Result<Router, NewFault>
         requires { All IsOwnNetwork ports.items }
-        ensures ok { IfOk result (λ r. r.ports ≡ ports.items) }
+        ensures ports { IfOk result (λ r. r.ports ≡ ports.items) }
+        ensures knows_nothing { IfOk result (λ r. (r.routes.offers ≡ []) × (r.services.offers ≡ []) × (r.told ≡ None)) }
+        ensures room { IfOk result (λ r. (r.routes.most ≡ 1024) × (r.services.most ≡ 4096)) }
         ensures sound { OnOk result (ports_fault ports.items ≡ None) }
         ensures fault { IfErr result (λ f. ports_fault ports.items ≡ Some f) }
     {
-        let _ = alloc;
         if ports.is_empty() {
             return Err(NewFault::NoPorts);
         }
@@ -189,10 +58,23 @@ impl Router {
         if let Some(network) = twin_of(&ports) {
             return Err(NewFault::TwinNetwork(network));
         }
-        Ok(Router { ports })
+        Ok(Router {
+            ports,
+            routes: route_table(alloc),
+            services: service_table(alloc),
+            told: None,
+        })
     }
 
-    /// What becomes of bytes that come in on a port, at a moment. The port is one of the router's.
+    /// Its ports. The first is port 1.
+    pub fn ports(&self) -> &[Port]
+        ensures { result.now ≡ self.now.ports }
+    {
+        self.ports.as_slice()
+    }
+
+    /// What becomes of bytes that come in on a port, at a moment in milliseconds. The port is one of
+    /// the router's. Offers that are three minutes old go first, for good.
     pub fn receive(
         &mut self,
         alloc: Global,
@@ -203,12 +85,53 @@ impl Router {
         requires first { 1 ≤ port }
         requires last { port ≤ length self.old.ports }
         ensures answer { IfOk result (λ o. Answers self.old port bytes.now now (view o) self.new) }
+        // After want of memory the entries before it were heard, and the others were not.
+        ensures refused { OnErr result (Leaves self.old port bytes.now now self.new) }
         ensures onward { IfOk result (λ o. PassesOn self.old port bytes.now (view o)) }
         ensures there { IfOk result (λ o. IsOnPort (length self.old.ports) (view o)) }
-        ensures same { self.new ≡ self.old }
+        ensures rest { KeepsRest self.old self.new }
+        ensures told { self.new.told ≡ self.old.told }
     {
-        let _ = now;
         let arrived = self.ports[port as usize - 1];
-        answer_to(alloc, &self.ports, arrived, bytes)
+        let at = PortNow {
+            number: port,
+            port: arrived,
+            now,
+        };
+        receive_at(
+            alloc,
+            &self.ports,
+            &mut self.routes,
+            &mut self.services,
+            at,
+            bytes,
+        )
+    }
+
+    /// The packets by which it asks its neighbours for all routes and services, as it starts.
+    pub fn start(&self, alloc: Global) -> Result<Vec<Reply>, OutOfMemory>
+        ensures asks { IfOk result (λ v. AreStarts 1 self.now.ports (sendings v.items)) }
+        ensures there { IfOk result (λ v. AreOnPorts (length self.now.ports) (sendings v.items)) }
+    {
+        ask_all(alloc, &self.ports)
+    }
+
+    /// The packets by which it tells its neighbours routes and services, if it is time: at first, and
+    /// then when 60,000 milliseconds have passed. After want of memory it is still time.
+    pub fn tell(&mut self, alloc: Global, now: u64) -> Result<Vec<Reply>, OutOfMemory>
+        ensures tells { IfOk result (λ v. Tells (known_at self.old now) self.old.told now (sendings v.items) self.new.told) }
+        ensures refused { OnErr result (self.new.told ≡ self.old.told) }
+        ensures known { HoldsKnown (known_at self.old now) (tables self.new) }
+        ensures there { IfOk result (λ v. AreOnPorts (length self.old.ports) (sendings v.items)) }
+        ensures rest { KeepsRest self.old self.new }
+    {
+        tell_at(
+            alloc,
+            &self.ports,
+            &mut self.routes,
+            &mut self.services,
+            &mut self.told,
+            now,
+        )
     }
 }

@@ -1,5 +1,5 @@
 -- A listing in the making.
-use Rattle.std.proofs.Common.{◌≡◌, ℕ, zero, suc, ◌+◌, ◌-◌, ◌<◌, ◌≤◌, Bool, true, false, cond, List, [], ◌∷◌, Some, length, get_or, refl, sym, ap, ◌∙◌, inl, inr, arith}
+use Rattle.std.proofs.Common.{◌≡◌, ℕ, zero, suc, ◌+◌, ◌-◌, ◌<◌, ◌≤◌, Bool, true, false, cond, List, [], ◌∷◌, Some, length, get_or, refl, sym, ap, subst, ◌∙◌, inl, inr, arith}
 use mathlib.Core.Bool.{true≢false}
 use Rattle.std.specs.List.{All, insert}
 use Rattle.std.specs.Cmp.{IsTotalOrder, IsEquivalence}
@@ -78,6 +78,18 @@ module _ {K M : Type 0} {cmp : K → K → Ordering} (o : IsTotalOrder cmp) (bef
             let one = the_one j d lt high in
             let stands : content cmp os (pair_of x) ≡ Some (x.metric, x.heard) = ap (λ v. content cmp os (pair_of v)) is ∙ member_found (same_equiv o) os at x apart within ∙ ap (λ (v : Offer K M). Some (v.metric, v.heard)) (sym is) in
             absurd (true≢false (sym young ∙ ap (λ (v : Offer K M). is_young now v.heard) one ∙ none x.source x.metric x.heard stands))
+      ];
+    }
+
+    -- a key that is listed needs no listing
+    pub so_far_there : (i : ℕ) → IsAtKey cmp listed_key listed x.key i → IsListedSoFar cmp before os now (at + 1) listed
+    so_far_there i there = record {
+      in_order = s.in_order;
+      are_best = s.are_best;
+      as_heard = s.as_heard;
+      all_so_far = λ j d lt young. elim (cases_lt j at) [
+        | inl low ↦ s.all_so_far j d low young
+        | inr high ↦ (i, subst (λ (v : Offer K M). IsAtKey cmp listed_key listed v.key i) (sym (the_one j d lt high)) there)
       ];
     }
 

@@ -1,4 +1,4 @@
--- The best offer of a key: by metric, then by the lower port, then by the lower neighbour.
+-- The best offer of a key: by metric; where metrics are equal the lower port decides, and then the lower neighbour, which is our own choice.
 use Rattle.std.specs.Prelude.{◌≡◌, ℕ, Bool, true, false, cond, Some}
 use Rattle.std.specs.declared.cmp.Ordering.{Ordering}
 use Rattle.std.specs.declared.cmp.Ordering.TheVariants.{Less, Equal, Greater}

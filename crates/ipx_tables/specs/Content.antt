@@ -1,5 +1,6 @@
 -- What a table of offers says, and what hearing and ageing make of it.
--- A router keeps what each neighbour told last, and forgets it after three minutes without a word (Novell IPX Router Specification, RIP and SAP).
+-- A router keeps what each neighbour told last, and forgets it after some time without a word (Novell IPX Router Specification, RIP and SAP);
+-- that this time is three minutes is our own choice.
 use Rattle.std.specs.Prelude.{◌≡◌, ℕ, ◌-◌, ◌≤◌, Bool, cond, nat_lt, List, [], ◌∷◌, Option, Some, None, length}
 use Rattle.std.specs.declared.cmp.Ordering.{Ordering}
 use Rattle.std.specs.Ordering.{ordering_then, is_eq, nat_cmp, then_cmp, on}

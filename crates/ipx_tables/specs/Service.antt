@@ -1,4 +1,4 @@
--- How far a service is, as the Novell IPX Router Specification has it for SAP: hops first, then where it is; 16 hops mean down.
+-- How far a service is, by hops: 16 mean down (Novell IPX Router Specification, SAP). Where hops are equal its address decides, which is our own choice.
 use Rattle.std.specs.Prelude.{ℕ, ◌+◌, Bool, List, nat_le, min}
 use Rattle.std.proofs.Common.{ap}
 use Rattle.std.specs.declared.cmp.Ordering.{Ordering}

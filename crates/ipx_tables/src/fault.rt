@@ -12,6 +12,7 @@ pub enum TableFault {
     /// The table holds as many offers as it may, and none of this key and source.
     #[error("the table is full")]
     Full,
+    /// Memory ran out, which only a new key and source can find, or a listing.
     #[error("out of memory")]
     OutOfMemory,
 }

@@ -1,7 +1,8 @@
 //! Listing the best offer of each key, by key.
 
-ghost use Rattle.std.specs.Prelude.{◌≡◌, ◌+◌, ◌<◌, OnOk, IfOk, IfErr, length};
-ghost use Rattle.ipx_tables.specs.Content.{IsApart, is_same};
+ghost use Rattle.std.specs.Prelude.{◌≡◌, ◌+◌, ◌<◌, IsOk, OnOk, IfOk, IfErr, length};
+ghost use Rattle.ipx_tables.specs.Content.{IsApart, content, is_same};
+ghost use Rattle.ipx_tables.specs.Best.{NoneCounts};
 ghost use Rattle.ipx_tables.specs.Sorted.{IsRising, IsAtKey, IsGapFor};
 ghost use Rattle.ipx_tables.specs.Listing.{listed_key};
 ghost use Rattle.ipx_tables.specs.Scan.{IsListedSoFar};
@@ -25,6 +26,7 @@ pub fn add_best<K: Ord + Copy, M: Metric + Copy>(
     ensures so_far { OnOk result
         (IsListedSoFar K.cmp M.before offers.now now (at + 1) listed.new.items) }
     ensures fault { IfErr result (λ e. e ≡ TableFault.OutOfMemory) }
+    ensures no_memory { ((key : K) → NoneCounts (content K.cmp offers.now) key now) → IsOk result }
 {
     let key = offers[at].key;
     match place_of_key(listed, key) {

@@ -146,6 +146,7 @@ impl<K: Ord + Copy, M: Metric + Copy> Offers<K, M> {
             (λ item. heard_key K.cmp self.now.offers (item.0, item.1) ≡ Some item.0)
             v.items) }
         ensures fault { IfErr result (λ e. e ≡ TableFault.OutOfMemory) }
+        ensures no_memory_if_none { ((key : K) → NoneCounts (content K.cmp self.now.offers) key now) → IsOk result }
         ensures valid { IsTable K.cmp self.now }
     {
         let offers = self.offers.as_slice();

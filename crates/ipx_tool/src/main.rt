@@ -1,13 +1,10 @@
 //! The program `ipx`: routers and endpoints of a Novell internetwork, from the command line.
 #![tactic(auto)]
 
-mod hop;
-mod input;
-mod line;
-mod output;
 mod words;
 
 use clap::error::ErrorKind;
+use ipx_commands::{do_check, do_hop, do_show, tell_no_memory};
 use std::process::ExitCode;
 use std::{env, io};
 use words::{Task, task_of};
@@ -17,9 +14,9 @@ fn given_words(rt: &HostRuntime) -> Result<Vec<String>, u8> {
     match env::args(rt) {
         Ok(given) => given
             .collect::<Vec<String>>(rt.alloc())
-            .map_err(|_| output::tell_no_memory(&mut io::writer(rt))),
+            .map_err(|_| tell_no_memory(&mut io::writer(rt))),
         Err(error) if error.kind() == io::ErrorKind::OutOfMemory => {
-            Err(output::tell_no_memory(&mut io::writer(rt)))
+            Err(tell_no_memory(&mut io::writer(rt)))
         }
         Err(_) => {
             let _ = eprintln!(rt; "error: an argument is no text");
@@ -28,16 +25,18 @@ fn given_words(rt: &HostRuntime) -> Result<Vec<String>, u8> {
     }
 }
 
-fn do_task(rt: &HostRuntime, task: Task) -> Result<u8, u8> {
+fn do_task(rt: &HostRuntime, task: Task<'_>) -> Result<u8, u8> {
     match task {
-        Task::Hop => hop::do_hop(rt.alloc(), &mut rt.stdin(), &mut io::writer(rt)),
+        Task::Hop => do_hop(rt.alloc(), &mut rt.stdin(), &mut io::writer(rt)),
+        Task::Show(text) => do_show(rt.alloc(), text, &mut io::writer(rt)),
+        Task::Check => do_check(rt.alloc(), &mut rt.stdin(), &mut io::writer(rt)),
     }
 }
 
 /// Tells why the words ask for nothing, and answers the status that goes with it.
 fn tell_usage(rt: &HostRuntime, error: clap::Error) -> u8 {
     if error.kind() == ErrorKind::OutOfMemory {
-        return output::tell_no_memory(&mut io::writer(rt));
+        return tell_no_memory(&mut io::writer(rt));
     }
     let _ = eprintln!(rt; "{error}");
     2
@@ -56,6 +55,3 @@ fn main(rt: HostRuntime) -> ExitCode {
         Ok(status) | Err(status) => ExitCode::from(status),
     }
 }
-
-#[cfg(test)]
-mod tests;

@@ -1,3 +1,4 @@
+pub mod ByteLists
 pub mod Parts
 pub mod RoundTrip
 pub mod Spelled

@@ -12,7 +12,7 @@ pub returns-then-operation-eq1-clause-found : goal.returns-then-operation-eq1-cl
 returns-then-operation-eq1-clause-found c =
     let bytes = c.args.bytes.now in
     let entries = c.in_ok-entries.entries.items in
-    let got = subst (λ (b : List ℕ). (tail : List ℕ) × AreEntries IsRipEntry 8 entries b tail × (length tail < 8)) (take_rest bytes 2) c.in_ok-entries.ensures in
+    let got = subst (λ (b : List ℕ). (tail : List ℕ) × AreEntries IsRipEntry 8 entries b tail × (length tail < 8)) (take_rest bytes 2) c.in_ok-entries.ensures.found in
     (got.0, rip_found (Request entries) bytes got.0 c.if-bytes-lt2.false (sym c.read_u16-operation.ensures ∙ c.if-operation-eq1.true) got.1 got.2 c.if-count-gt50.false)
 
 pub returns-then-operation-eq1-clause-only : goal.returns-then-operation-eq1-clause-only
@@ -24,7 +24,7 @@ pub returns-clause-found : goal.returns-clause-found
 returns-clause-found c =
     let bytes = c.args.bytes.now in
     let entries = c.in_ok-entries.entries.items in
-    let got = subst (λ (b : List ℕ). (tail : List ℕ) × AreEntries IsRipEntry 8 entries b tail × (length tail < 8)) (take_rest bytes 2) c.in_ok-entries.ensures in
+    let got = subst (λ (b : List ℕ). (tail : List ℕ) × AreEntries IsRipEntry 8 entries b tail × (length tail < 8)) (take_rest bytes 2) c.in_ok-entries.ensures.found in
     let two : c.read_u16-operation.result ≡ 2 = elim c.else-operation-ne1.either [ inl ne ↦ ne.1 | inr one ↦ absurd (c.if-operation-eq1.false one) ] in
     (got.0, rip_found (Response entries) bytes got.0 c.if-bytes-lt2.false (sym c.read_u16-operation.ensures ∙ two) got.1 got.2 c.if-count-gt50.false)
 

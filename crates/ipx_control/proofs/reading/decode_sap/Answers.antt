@@ -16,7 +16,7 @@ returns-clause-found c =
     let bytes = c.args.bytes.now in
     let operation = c.read_u16-operation.result in
     let services = c.in_ok-services.services.items in
-    let got = subst (λ (b : List ℕ). (tail : List ℕ) × AreEntries IsServiceEntry 64 services b tail × (length tail < 64)) (take_rest bytes 2) c.in_ok-services.ensures in
+    let got = subst (λ (b : List ℕ). (tail : List ℕ) × AreEntries IsServiceEntry 64 services b tail × (length tail < 64)) (take_rest bytes 2) c.in_ok-services.ensures.found in
     let either : (operation ≡ 4) ⊎ (operation ≡ 2) = elim c.else-operation-ne2.either [ inl ne ↦ inl ne.1 | inr two ↦ inr two ] in
     (got.0, response_found (operation == 4) services bytes got.0 c.if-bytes-lt2.false (sym c.read_u16-operation.ensures ∙ response_operation_is operation either) got.1 got.2 c.if-count-gt7.false)
 

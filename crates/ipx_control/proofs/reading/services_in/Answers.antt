@@ -17,7 +17,7 @@ loop-place-preserved c =
     let behind : drop 64 (drop at bytes) ≡ drop (64 * (c.loop-place.place + 1)) bytes = drop-drop 64 at bytes ∙ ap (λ (n : ℕ). drop n bytes) (omega arith) in
     rw (c.in_ok-push.ensures.items, ← behind) pushed
 
-pub returns : goal.returns
-returns c =
+pub returns-clause-found : goal.returns-clause-found
+returns-clause-found c =
     let at = 64 * c.loop-place.place in
     (drop at c.args.bytes.now, c.loop-place.invariant, omega (arith, length-drop at c.args.bytes.now))

@@ -1,0 +1,32 @@
+-- The place of an element, and the part in front of it; and texts of a list, one behind the other.
+use Rattle.std.proofs.Common.{◌≡◌, ◌<◌, ◌≤◌, ℕ, ◌+◌, Bool, true, false, List, ◌++◌, ◌∷◌, [], length, take, get_or, Option, Some, None, arith, sym, ap, ◌∙◌, refl, inl, inr, lt-ltb}
+use Rattle.std.specs.Prelude.{position}
+use Rattle.std.specs.List.{before_first, flat_map, position_or_len}
+use Rattle.std.proofs.lemmas.Bool.{cases_lt, le-ltb}
+use Rattle.std.proofs.lemmas.List.{flat_map_more, take_all, take_more}
+
+position_found : {X : Type 0} (p : X → Bool) (xs : List X) (i : ℕ) → Some i ≡ position p xs → i ≡ position_or_len p xs
+position_found p xs i e =
+    elim (cases_lt (position_or_len p xs) (length xs)) [
+      | inl lt ↦ (let f : Some i ≡ Some (position_or_len p xs) = e ∙ rw (lt-ltb _ _ lt) refl in cc)
+      | inr le ↦ (let f : Some i ≡ None = e ∙ rw (le-ltb _ _ le) refl in cc)
+    ]
+
+position_missing : {X : Type 0} (p : X → Bool) (xs : List X) → None ≡ position p xs → length xs ≤ position_or_len p xs
+position_missing p xs e =
+    elim (cases_lt (position_or_len p xs) (length xs)) [
+      | inl lt ↦ (let f : None ≡ Some (position_or_len p xs) = e ∙ rw (lt-ltb _ _ lt) refl in cc)
+      | inr le ↦ le
+    ]
+
+pub take_to_first : {X : Type 0} (p : X → Bool) (xs : List X) (i : ℕ) → Some i ≡ position p xs → take i xs ≡ before_first p xs
+take_to_first p xs i e = ap (λ (k : ℕ). take k xs) (position_found p xs i e)
+
+pub all_before_first : {X : Type 0} (p : X → Bool) (xs : List X) → None ≡ position p xs → xs ≡ before_first p xs
+all_before_first p xs e = sym (take_all (position_or_len p xs) xs (position_missing p xs e))
+
+-- one more text behind those of the elements before
+pub texts_more : {X : Type 0} (f : X → List ℕ) (xs : List X) (i : ℕ) (d : X) (old part : List ℕ) → i < length xs → old ≡ flat_map f (take i xs) → part ≡ f (get_or xs i d)
+    → old ++ part ≡ flat_map f (take (i + 1) xs)
+texts_more f xs i d old part lt was is =
+    rw (was, is) (flat_map_more f [] (take i xs) (get_or xs i d) ∙ ap (flat_map f) (sym (take_more xs i d lt)))

@@ -1,0 +1,9 @@
+pub mod Text
+pub mod Line
+pub mod Hop
+pub mod Reading
+pub mod ShowLine
+pub mod Show
+pub mod CheckLine
+pub mod Check
+pub mod Tally

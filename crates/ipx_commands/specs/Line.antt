@@ -1,0 +1,64 @@
+-- The lines that are printed.
+use Rattle.std.specs.Prelude.{ℕ, List, [], ◌∷◌, ◌++◌, codes}
+use Rattle.std.specs.List.{flat_map}
+use Rattle.std.specs.Fmt.{decimal}
+use Rattle.hex.specs.Hex.{encode_lower}
+use Rattle.std.specs.Int.{w32, to_be_bytes}
+use Rattle.ipx_wire.specs.declared.fault.IpxFault.{IpxFault}
+use Rattle.ipx_wire.specs.declared.fault.IpxFault.TheVariants.{Short, Checksummed, LengthShort, Truncated, TooLong}
+use Rattle.ipx_control.specs.declared.fault.ControlFault.{ControlFault}
+use Rattle.ipx_control.specs.declared.fault.ControlFault.TheVariants as control
+use Rattle.ipx_router.specs.declared.reason.Reason.{Reason}
+use Rattle.ipx_router.specs.declared.reason.Reason.TheVariants.{Bad, Propagated, NotOurs, NoRoute, HopLimit, BadControl, TableFull}
+use Rattle.ipx_router.specs.Packets.{Sending}
+use Rattle.ipx_router.specs.Answer.{Answer, Sent, Replied, Heard, Refused}
+
+-- a fault's number and name, and its values
+abbrev pub fault_text : IpxFault → List ℕ
+fault_text (Short have) = codes "(1) Short " ++ decimal have
+fault_text (Checksummed value) = codes "(2) Checksummed " ++ decimal value
+fault_text (LengthShort value) = codes "(3) LengthShort " ++ decimal value
+fault_text (Truncated said have) = codes "(4) Truncated " ++ (decimal said ++ (codes " " ++ decimal have))
+fault_text (TooLong value) = codes "(5) TooLong " ++ decimal value
+
+abbrev pub control_fault_text : ControlFault → List ℕ
+control_fault_text control.NoOperation = codes "(8) NoOperation"
+control_fault_text (control.UnknownOperation operation) = codes "(9) UnknownOperation " ++ decimal operation
+control_fault_text (control.TooManyEntries count) = codes "(10) TooManyEntries " ++ decimal count
+control_fault_text (control.QueryShort have) = codes "(11) QueryShort " ++ decimal have
+control_fault_text control.OutOfMemory = codes "(12) OutOfMemory"
+
+abbrev pub reason_text : Reason → List ℕ
+reason_text (Bad fault) = fault_text fault
+reason_text Propagated = codes "(19) Propagated"
+reason_text NotOurs = codes "(20) NotOurs"
+reason_text (NoRoute network) = codes "(21) NoRoute " ++ encode_lower (to_be_bytes w32 network.0)
+reason_text HopLimit = codes "(22) HopLimit"
+reason_text (BadControl fault) = control_fault_text fault
+reason_text TableFull = codes "(24) TableFull"
+
+-- a packet that is sent: its port, the next node and its bytes
+abbrev pub sending_text : Sending → List ℕ
+sending_text s = decimal s.port ++ (codes " " ++ (encode_lower s.next.0 ++ (codes " " ++ encode_lower s.bytes)))
+
+abbrev pub sending_line : Sending → List ℕ
+sending_line s = codes "reply " ++ (sending_text s ++ 10 ∷ [])
+
+-- the lines of an answer: one for each reply
+abbrev pub lines_of : Answer → List ℕ
+lines_of (Sent port next bytes) =
+    codes "forward " ++ (sending_text (record { port = port; next = next; bytes = bytes }) ++ 10 ∷ [])
+lines_of (Replied sent) = flat_map sending_line sent
+lines_of (Heard count) = codes "heard " ++ (decimal count ++ 10 ∷ [])
+lines_of (Refused reason) = codes "dropped " ++ (reason_text reason ++ 10 ∷ [])
+
+-- the status that goes with them
+abbrev pub status_of : Answer → ℕ
+status_of (Sent port next bytes) = 0
+status_of (Replied sent) = 0
+status_of (Heard count) = 0
+status_of (Refused reason) = 1
+
+-- the line for a first line that is none
+abbrev pub bad_line : List ℕ
+bad_line = codes "line 1 bad" ++ 10 ∷ []

@@ -1,0 +1,73 @@
+-- The lines that `show` prints.
+use Rattle.std.specs.Prelude.{ℕ, Bool, ◌&&◌, List, [], ◌∷◌, ◌++◌, length, codes, nat_le, ◌==◌, not, if◌then◌else◌}
+use Rattle.std.specs.List.{before_first, flat_map}
+use Rattle.std.specs.Fmt.{decimal}
+use Rattle.std.specs.Int.{w16, w32, to_be_bytes}
+use Rattle.hex.specs.Hex.{encode_lower}
+use Rattle.ipx_wire.specs.declared.address.Address.{Address}
+use Rattle.ipx_wire.specs.Ipx.{Datagram}
+use Rattle.ipx_control.specs.declared.rip.RipEntry.{RipEntry}
+use Rattle.ipx_control.specs.declared.sap.ServiceEntry.{ServiceEntry}
+use Rattle.ipx_control.specs.Rip as rip
+use Rattle.ipx_control.specs.Sap as sap
+use Rattle.ipx_commands.specs.Line.{control_fault_text, fault_text}
+use Rattle.ipx_commands.specs.Reading.{Content, Plain, OfRip, OfSap, Datum, NoPacket, NoControl, Holds}
+
+-- a network in 8 hex digits, a node in 12 and a socket in 4
+abbrev pub address_text : Address → List ℕ
+address_text a =
+    encode_lower (to_be_bytes w32 a.network.0) ++ (codes " " ++ (encode_lower a.node.0 ++ (codes " " ++ encode_lower (to_be_bytes w16 a.socket.0))))
+
+-- the three lines of a packet's header
+abbrev pub header_lines : Datagram → List ℕ
+header_lines d =
+    codes "ipx hops " ++ (decimal d.header.hops ++ (codes " kind " ++ (decimal d.header.kind ++ (codes " body " ++ (decimal (length d.body)
+    ++ (codes "\nto " ++ (address_text d.header.to ++ (codes "\nfrom " ++ (address_text d.header.from ++ 10 ∷ [])))))))))
+
+-- a network of a RIP packet
+abbrev pub rip_entry_line : RipEntry → List ℕ
+rip_entry_line e =
+    codes "net " ++ (encode_lower (to_be_bytes w32 e.network.0) ++ (codes " hops " ++ (decimal e.hops ++ (codes " ticks " ++ (decimal e.ticks ++ 10 ∷ [])))))
+
+abbrev pub rip_lines : rip.RipMessage → List ℕ
+rip_lines (rip.Request entries) = codes "rip request " ++ (decimal (length entries) ++ (codes "\n" ++ flat_map rip_entry_line entries))
+rip_lines (rip.Response entries) = codes "rip response " ++ (decimal (length entries) ++ (codes "\n" ++ flat_map rip_entry_line entries))
+
+-- a byte of a name: printed as it is where it is a sign of ASCII, but for the blank and the backslash; else a backslash, an x and its two hex digits
+abbrev pub name_byte : ℕ → List ℕ
+name_byte b = if (nat_le 0x21 b && nat_le b 0x7e) && not (b == 0x5c) then b ∷ [] else 0x5c ∷ 0x78 ∷ encode_lower (b ∷ [])
+
+-- a name is what stands before its first zero byte; an empty one prints as `-`
+abbrev pub name_text : List ℕ → List ℕ
+name_text name = if length (before_first (λ b. b == 0) name) == 0 then codes "-" else flat_map name_byte (before_first (λ b. b == 0) name)
+
+-- a service of a SAP packet
+abbrev pub service_line : ServiceEntry → List ℕ
+service_line e =
+    codes "service " ++ (encode_lower (to_be_bytes w16 e.kind) ++ (codes " " ++ (name_text e.name ++ (codes " " ++ (address_text e.at ++ (codes " hops " ++ (decimal e.hops ++ 10 ∷ [])))))))
+
+abbrev pub reach : Bool → List ℕ
+reach nearest = if nearest then codes "nearest" else codes "general"
+
+abbrev pub sap_lines : sap.SapMessage → List ℕ
+sap_lines (sap.Query nearest kind) = codes "sap " ++ (reach nearest ++ (codes " query " ++ (encode_lower (to_be_bytes w16 kind) ++ 10 ∷ [])))
+sap_lines (sap.Response nearest services) =
+    codes "sap " ++ (reach nearest ++ (codes " response " ++ (decimal (length services) ++ (codes "\n" ++ flat_map service_line services))))
+
+-- the lines of what a body holds
+abbrev pub content_lines : Content → List ℕ
+content_lines Plain = []
+content_lines (OfRip m) = rip_lines m
+content_lines (OfSap m) = sap_lines m
+
+-- all the lines of a datagram
+abbrev pub reading_lines : Datum → List ℕ
+reading_lines (NoPacket f) = codes "refused " ++ (fault_text f ++ 10 ∷ [])
+reading_lines (NoControl f) = codes "refused " ++ (control_fault_text f ++ 10 ∷ [])
+reading_lines (Holds d c) = header_lines d ++ content_lines c
+
+-- the status that goes with them
+abbrev pub reading_status : Datum → ℕ
+reading_status (NoPacket f) = 1
+reading_status (NoControl f) = 1
+reading_status (Holds d c) = 0

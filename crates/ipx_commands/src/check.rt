@@ -1,0 +1,206 @@
+//! `ipx check`: vectors against their outcomes.
+
+ghost use Rattle.std.specs.Prelude.{◌≡◌, ◌≤◌, ◌<◌, ◌+◌, ◌++◌, ◌∷◌, [], true, false, IfErr, IfOk, IfSome, OnOk, MatchOption, ℕ, List, length, map, string_bytes};
+ghost use Rattle.std.specs.Io.KnownBytes.{Appends};
+ghost use Rattle.ipx_commands.specs.Reading.{reading_view};
+ghost use Rattle.ipx_commands.specs.CheckLine.{Malformed as no_line, Vector as vector, input_lines, line_form};
+ghost use Rattle.ipx_commands.specs.Check.{CheckWrites, ChecksLines, Failed as told_failed, IsVerdict, Verdict as Told, check_status, control_fault_number, failed_line, failed_lines, ipx_fault_number, last_line, outcome, verdict_view};
+ghost use Rattle.ipx_commands.specs.Tally.{IsTally};
+
+use crate::check_line::{Line, read_line};
+use crate::input::{InputFault, read_up_to};
+use crate::output::{tell_no_memory, write_lines};
+use crate::reading::{Reading, read_datagram};
+use ipx_control::ControlFault;
+use ipx_wire::{IpxFault, OutOfMemory};
+use std::alloc::{AllocError, Global};
+use std::io::{Read, Write};
+
+/// The longest input.
+const MOST: usize = 1_000_000;
+
+/// What a line tells.
+#[derive(Clone, Copy, Debug, PartialEq, Eq)]
+pub enum Verdict {
+    NoVector,
+    Passed,
+    Failed,
+}
+
+/// What was found so far: what is written for the vectors that failed, how many lines and vectors
+/// there were, and how many vectors failed.
+#[derive(Debug, Drop)]
+pub struct Tally {
+    text: String,
+    lines: usize,
+    vectors: usize,
+    failed: usize,
+}
+
+fn number_of_ipx_fault(fault: IpxFault) -> u8
+    ensures { result ≡ ipx_fault_number fault }
+{
+    match fault {
+        IpxFault::Short(_) => 1,
+        IpxFault::Checksummed(_) => 2,
+        IpxFault::LengthShort(_) => 3,
+        IpxFault::Truncated(_, _) => 4,
+        IpxFault::TooLong(_) => 5,
+    }
+}
+
+fn number_of_control_fault(fault: ControlFault) -> u8
+    ensures { result ≡ control_fault_number fault }
+{
+    match fault {
+        ControlFault::NoOperation => 8,
+        ControlFault::UnknownOperation(_) => 9,
+        ControlFault::TooManyEntries(_) => 10,
+        ControlFault::QueryShort(_) => 11,
+        ControlFault::OutOfMemory => 12,
+    }
+}
+
+/// The number of the fault that refuses a datagram, 0 where none does.
+fn outcome_of(reading: &Reading<'_>) -> u8
+    ensures { result ≡ outcome (reading_view reading.now) }
+{
+    match reading {
+        Reading::NoPacket(fault) => return number_of_ipx_fault(*fault),
+        Reading::NoControl(fault) => return number_of_control_fault(*fault),
+        Reading::Holds(_, _) => return 0,
+    }
+}
+
+fn verdict_on(alloc: Global, number: u8, bytes: &[u8]) -> Result<Verdict, OutOfMemory>
+    ensures { IfOk result (λ v. IsVerdict (vector number bytes.now) (verdict_view v)) }
+{
+    let reading = read_datagram(alloc, bytes)?;
+    if outcome_of(&reading) == number {
+        return Ok(Verdict::Passed);
+    }
+    Ok(Verdict::Failed)
+}
+
+/// What a line tells, if it is of a known form.
+fn verdict_of(alloc: Global, line: &[u8]) -> Result<Option<Verdict>, OutOfMemory>
+    ensures { IfOk result (λ o. MatchOption o (line_form line.now ≡ no_line) (λ v. IsVerdict (line_form line.now) (verdict_view v))) }
+{
+    match read_line(alloc, line)? {
+        Line::Malformed => return Ok(None),
+        Line::Skipped => return Ok(Some(Verdict::NoVector)),
+        Line::Vector { number, bytes } => {
+            let verdict = verdict_on(alloc, number, &bytes)?;
+            return Ok(Some(verdict));
+        }
+    }
+}
+
+fn failed_to_line(alloc: Global, place: usize) -> Result<String, AllocError>
+    ensures { IfOk result (λ t. string_bytes t ≡ failed_line place told_failed) }
+{
+    format!(in alloc; "line {place}\n")
+}
+
+/// One more verdict.
+fn note(alloc: Global, tally: &mut Tally, verdict: Verdict) -> Result<(), AllocError>
+    requires lines { tally.old.lines ≤ 1000001 }
+    requires vectors { tally.old.vectors ≤ tally.old.lines }
+    requires failed { tally.old.failed ≤ tally.old.lines }
+    ensures { OnOk result ((vs : List Told) → IsTally vs tally.old → IsTally (vs ++ verdict_view verdict ∷ []) tally.new) }
+{
+    let place = tally.lines + 1;
+    match verdict {
+        Verdict::NoVector => {
+            tally.lines = place;
+            return Ok(());
+        }
+        Verdict::Passed => {
+            tally.lines = place;
+            tally.vectors += 1;
+            return Ok(());
+        }
+        Verdict::Failed => {
+            let line = failed_to_line(alloc, place)?;
+            tally.text.push_str(&line)?;
+            tally.lines = place;
+            tally.vectors += 1;
+            tally.failed += 1;
+            return Ok(());
+        }
+    }
+}
+
+/// The lines and the status where a line of no known form comes next.
+fn lines_at_bad_line(alloc: Global, tally: &Tally) -> Result<(String, u8), OutOfMemory>
+    requires { tally.now.lines ≤ 1000001 }
+    ensures { IfOk result (λ r. (vs : List Told) → IsTally vs tally.now → (string_bytes r.0 ≡ failed_lines vs ++ last_line false vs) × (r.1 ≡ check_status false vs)) }
+{
+    let text = tally.text.as_str();
+    let place = tally.lines + 1;
+    Ok((format!(in alloc; "{text}line {place} bad\n")?, 2))
+}
+
+/// The lines and the status where all lines were read.
+fn lines_at_end(alloc: Global, tally: &Tally) -> Result<(String, u8), OutOfMemory>
+    ensures { IfOk result (λ r. (vs : List Told) → IsTally vs tally.now → (string_bytes r.0 ≡ failed_lines vs ++ last_line true vs) × (r.1 ≡ check_status true vs)) }
+{
+    let text = tally.text.as_str();
+    let vectors = tally.vectors;
+    let failed = tally.failed;
+    let lines = format!(in alloc; "{text}checked {vectors} failed {failed}\n")?;
+    if failed == 0 {
+        return Ok((lines, 0));
+    }
+    Ok((lines, 1))
+}
+
+/// The lines and the status for lines of vectors.
+fn check_lines(alloc: Global, input: &[u8]) -> Result<(String, u8), OutOfMemory>
+    requires { length input.now ≤ 1000000 }
+    ensures { IfOk result (λ r. ChecksLines (map line_form (input_lines input.now)) (string_bytes r.0) r.1) }
+{
+    let mut tally = Tally {
+        text: String::new(alloc),
+        lines: 0,
+        vectors: 0,
+        failed: 0,
+    };
+    for line in input.split(|byte| *byte == b'\n') {
+        match verdict_of(alloc, line)? {
+            Some(verdict) => note(alloc, &mut tally, verdict)?,
+            None => return lines_at_bad_line(alloc, &tally),
+        }
+    }
+    lines_at_end(alloc, &tally)
+}
+
+/// The lines and the status for an input.
+fn lines_for_input(alloc: Global, input: &[u8]) -> Result<(String, u8), OutOfMemory>
+    ensures { IfOk result (λ r. CheckWrites input.now (string_bytes r.0) r.1) }
+{
+    if input.len() > MOST {
+        return Ok((String::from_str(alloc, "line 0 bad\n")?, 2));
+    }
+    check_lines(alloc, input)
+}
+
+/// Reads lines of vectors, at most 1,000,000 bytes, and writes which of them have another outcome
+/// than they want, and how many vectors there were and how many failed.
+///
+/// `Ok` is the status that goes with the lines that were written: 0 where all vectors passed, 1
+/// where one failed, 2 for a line of no known form and for an input that is too long. `Err` is the
+/// status 1 of a read or write fault, after which nothing more is written, or of want of memory,
+/// which writes `fault (14) OutOfMemory`.
+pub fn do_check<R: Read, W: Write>(alloc: Global, reader: &mut R, writer: &mut W) -> Result<u8, u8>
+    ensures written { IfOk result (λ status. IfSome (R.remaining reader.old) (λ input. (lines : List ℕ)
+        × CheckWrites input lines status × Appends (W.contents writer.old) (W.contents writer.new) lines)) }
+    ensures fault { IfErr result (λ status. status ≡ 1) }
+{
+    let input = match read_up_to(alloc, reader, MOST + 1) {
+        Ok(input) => input,
+        Err(InputFault::Read) => return Err(1),
+        Err(InputFault::Memory) => return Err(tell_no_memory(writer)),
+    };
+    write_lines(writer, lines_for_input(alloc, &input))
+}

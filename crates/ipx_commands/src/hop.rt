@@ -1,0 +1,109 @@
+//! `ipx hop`: one packet through a router with two ports.
+
+ghost use Rattle.std.specs.Prelude.{◌≡◌, IfErr, IfOk, IfSome, ℕ, List, string_bytes};
+ghost use Rattle.std.specs.Option.{option_map};
+ghost use Rattle.std.specs.Io.KnownBytes.{Appends};
+ghost use Rattle.ipx_commands.specs.Text.{packet_of_text, without_line_end};
+ghost use Rattle.ipx_commands.specs.Hop.{HopAnswers, HopWrites, hop_routing};
+
+use crate::input::{InputFault, read_up_to};
+use crate::line::{outcome_lines, outcome_status};
+use crate::output::tell_no_memory;
+use hex::FromHexError;
+use ipx_router::{Port, Router};
+use ipx_wire::{Network, Node, OutOfMemory};
+use std::alloc::Global;
+use std::io::{Read, Write};
+
+/// The longest text.
+const MOST: usize = 4096;
+
+fn cut_line_end(text: &[u8]) -> &[u8]
+    ensures { result.now ≡ without_line_end text.now }
+{
+    match text {
+        [front @ .., b'\n'] => front,
+        _ => text,
+    }
+}
+
+/// The bytes that a text stands for, if it stands for any.
+fn bytes_of_text(alloc: Global, text: &[u8]) -> Result<Option<Vec<u8>>, OutOfMemory>
+    ensures { IfOk result (λ o. option_map (λ v. v.items) o ≡ packet_of_text text.now) }
+{
+    if text.len() > MOST {
+        return Ok(None);
+    }
+    match hex::decode(alloc, cut_line_end(text)) {
+        Ok(bytes) => Ok(Some(bytes)),
+        Err(FromHexError::OutOfMemory) => Err(OutOfMemory),
+        Err(_) => Ok(None),
+    }
+}
+
+fn hop_router(alloc: Global) -> Result<Router, OutOfMemory>
+    ensures { IfOk result (λ r. r ≡ hop_routing) }
+{
+    let first = Port {
+        network: Network(0x11),
+        node: Node([0, 0, 0x7f, 0, 0, 1]),
+        cost: 1,
+    };
+    let second = Port {
+        network: Network(0x22),
+        node: Node([0, 0, 0x7f, 0, 0, 2]),
+        cost: 1,
+    };
+    let ports = vec![in alloc; first, second]?;
+    match Router::new(alloc, ports) {
+        Ok(router) => Ok(router),
+        Err(_) => unreachable!(),
+    }
+}
+
+/// The lines and the status for bytes that come in on port 1.
+fn line_for_bytes(alloc: Global, bytes: &[u8]) -> Result<(String, u8), OutOfMemory>
+    ensures { IfOk result (λ r. HopAnswers bytes.now (string_bytes r.0) r.1) }
+{
+    let mut router = hop_router(alloc)?;
+    let outcome = router.receive(alloc, 1, bytes, 0)?;
+    let lines = outcome_lines(alloc, &outcome)?;
+    let status = outcome_status(&outcome);
+    Ok((lines, status))
+}
+
+/// The line and the status for a text.
+fn line_for_text(alloc: Global, text: &[u8]) -> Result<(String, u8), OutOfMemory>
+    ensures { IfOk result (λ r. HopWrites text.now (string_bytes r.0) r.1) }
+{
+    match bytes_of_text(alloc, text)? {
+        None => Ok((String::from_str(alloc, "line 1 bad\n")?, 2)),
+        Some(bytes) => line_for_bytes(alloc, &bytes),
+    }
+}
+
+/// Reads one packet in hex, at most 4,096 bytes of text with at most one line end, and writes what
+/// becomes of it on port 1 of a router with two ports.
+///
+/// `Ok` is the status that goes with the lines that were written: 0 for a packet that goes on, is
+/// answered or is heard, 1 for one that is dropped, 2 for text that is no packet in hex. `Err` is the status 1 of a read or
+/// write fault, after which nothing more is written, or of want of memory, which writes
+/// `fault (14) OutOfMemory`.
+pub fn do_hop<R: Read, W: Write>(alloc: Global, reader: &mut R, writer: &mut W) -> Result<u8, u8>
+    ensures written { IfOk result (λ status. IfSome (R.remaining reader.old) (λ input. (line : List ℕ)
+        × HopWrites input line status × Appends (W.contents writer.old) (W.contents writer.new) line)) }
+    ensures fault { IfErr result (λ status. status ≡ 1) }
+{
+    let text = match read_up_to(alloc, reader, MOST + 1) {
+        Ok(text) => text,
+        Err(InputFault::Read) => return Err(1),
+        Err(InputFault::Memory) => return Err(tell_no_memory(writer)),
+    };
+    let Ok((line, status)) = line_for_text(alloc, &text) else {
+        return Err(tell_no_memory(writer));
+    };
+    match writer.write_all(line.as_bytes()) {
+        Ok(()) => Ok(status),
+        Err(_) => Err(1),
+    }
+}

@@ -1,0 +1,113 @@
+//! The lines that are printed.
+
+ghost use Rattle.std.specs.Prelude.{◌≡◌, IfOk, string_bytes};
+ghost use Rattle.std.specs.List.{flat_map};
+ghost use Rattle.ipx_router.specs.Answer.{view};
+ghost use Rattle.ipx_router.specs.Packets.{sending_of, sendings};
+ghost use Rattle.ipx_commands.specs.Line.{control_fault_text, fault_text, lines_of, reason_text, sending_line, sending_text, status_of};
+
+use ipx_control::ControlFault;
+use ipx_router::{Outcome, Reason, Reply};
+use ipx_wire::IpxFault;
+use std::alloc::{AllocError, Global};
+
+pub fn fault_to_text(alloc: Global, fault: IpxFault) -> Result<String, AllocError>
+    ensures { IfOk result (λ t. string_bytes t ≡ fault_text fault) }
+{
+    match fault {
+        IpxFault::Short(have) => format!(in alloc; "(1) Short {have}"),
+        IpxFault::Checksummed(value) => format!(in alloc; "(2) Checksummed {value}"),
+        IpxFault::LengthShort(value) => format!(in alloc; "(3) LengthShort {value}"),
+        IpxFault::Truncated(said, have) => format!(in alloc; "(4) Truncated {said} {have}"),
+        IpxFault::TooLong(value) => format!(in alloc; "(5) TooLong {value}"),
+    }
+}
+
+pub fn control_fault_to_text(alloc: Global, fault: ControlFault) -> Result<String, AllocError>
+    ensures { IfOk result (λ t. string_bytes t ≡ control_fault_text fault) }
+{
+    match fault {
+        ControlFault::NoOperation => String::from_str(alloc, "(8) NoOperation"),
+        ControlFault::UnknownOperation(operation) => {
+            format!(in alloc; "(9) UnknownOperation {operation}")
+        }
+        ControlFault::TooManyEntries(count) => format!(in alloc; "(10) TooManyEntries {count}"),
+        ControlFault::QueryShort(have) => format!(in alloc; "(11) QueryShort {have}"),
+        ControlFault::OutOfMemory => String::from_str(alloc, "(12) OutOfMemory"),
+    }
+}
+
+pub fn reason_to_text(alloc: Global, reason: Reason) -> Result<String, AllocError>
+    ensures { IfOk result (λ t. string_bytes t ≡ reason_text reason) }
+{
+    match reason {
+        Reason::Bad(fault) => fault_to_text(alloc, fault),
+        Reason::Propagated => String::from_str(alloc, "(19) Propagated"),
+        Reason::NotOurs => String::from_str(alloc, "(20) NotOurs"),
+        Reason::NoRoute(network) => {
+            let digits = hex::encode(alloc, network.0.to_be_bytes())?;
+            format!(in alloc; "(21) NoRoute {digits}")
+        }
+        Reason::HopLimit => String::from_str(alloc, "(22) HopLimit"),
+        Reason::BadControl(fault) => control_fault_to_text(alloc, fault),
+        Reason::TableFull => String::from_str(alloc, "(24) TableFull"),
+    }
+}
+
+/// A packet that is sent: its port, the next node and its bytes.
+fn reply_to_text(alloc: Global, reply: &Reply) -> Result<String, AllocError>
+    ensures { IfOk result (λ t. string_bytes t ≡ sending_text (sending_of reply.now)) }
+{
+    let port = reply.port;
+    let next = hex::encode(alloc, reply.next.0)?;
+    let bytes = hex::encode(alloc, reply.bytes.as_slice())?;
+    format!(in alloc; "{port} {next} {bytes}")
+}
+
+fn reply_to_line(alloc: Global, reply: &Reply) -> Result<String, AllocError>
+    ensures { IfOk result (λ t. string_bytes t ≡ sending_line (sending_of reply.now)) }
+{
+    let text = reply_to_text(alloc, reply)?;
+    format!(in alloc; "reply {text}\n")
+}
+
+fn replies_to_lines(alloc: Global, replies: &[Reply]) -> Result<String, AllocError>
+    ensures { IfOk result (λ t. string_bytes t ≡ flat_map sending_line (sendings replies.now)) }
+{
+    let mut lines = String::new(alloc);
+    for reply in replies {
+        let line = reply_to_line(alloc, reply)?;
+        lines.push_str(&line)?;
+    }
+    Ok(lines)
+}
+
+/// The lines of an outcome, none for no replies.
+pub fn outcome_lines(alloc: Global, outcome: &Outcome) -> Result<String, AllocError>
+    ensures { IfOk result (λ t. string_bytes t ≡ lines_of (view outcome.now)) }
+{
+    match outcome {
+        Outcome::Forward(reply) => {
+            let text = reply_to_text(alloc, reply)?;
+            format!(in alloc; "forward {text}\n")
+        }
+        Outcome::Replies(replies) => replies_to_lines(alloc, replies),
+        Outcome::Heard(count) => format!(in alloc; "heard {count}\n"),
+        Outcome::Dropped(reason) => {
+            let text = reason_to_text(alloc, *reason)?;
+            format!(in alloc; "dropped {text}\n")
+        }
+    }
+}
+
+/// The status that goes with an outcome.
+pub fn outcome_status(outcome: &Outcome) -> u8
+    ensures { result ≡ status_of (view outcome.now) }
+{
+    match outcome {
+        Outcome::Forward(_) => 0,
+        Outcome::Replies(_) => 0,
+        Outcome::Heard(_) => 0,
+        Outcome::Dropped(_) => 1,
+    }
+}

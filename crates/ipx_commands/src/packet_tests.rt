@@ -1,0 +1,241 @@
+//! What no proof sees: the worked rows of `show` and `check`, and that their calls succeed and fail
+//! as they should.
+
+use crate::check::do_check;
+use crate::show::do_show;
+use crate::tests::{failing_after, failing_on};
+use std::alloc::{AllocError, Global};
+use std::test::Fail;
+
+const PACKET: &str = "ffff001e00000000002200007f00000540000000001100007f0000034001";
+
+const SHORT: &str = "ffff001d00000000002200007f00000540000000001100007f0000034001";
+
+/// From 00000022 00007f000002 0453 to every node of 00000022.
+const TWO_NETWORKS: &str = "ffff0030000100000022ffffffffffff04530000002200007f0000020453000200000011000100020000003300010002";
+
+const NEAREST_QUERY: &str =
+    "ffff0022000400000011ffffffffffff04520000001100007f000003400000030004";
+
+/// The lines that `show` writes, and its answer.
+fn shown(alloc: Global, text: &str) -> (Vec<u8>, Result<u8, u8>) {
+    let mut written = Vec::new(alloc);
+    let answer = do_show(alloc, text, &mut written);
+    (written, answer)
+}
+
+/// The lines that `check` writes, and its answer.
+fn checked(alloc: Global, text: &str) -> (Vec<u8>, Result<u8, u8>) {
+    let mut reader = text.as_bytes();
+    let mut written = Vec::new(alloc);
+    let answer = do_check(alloc, &mut reader, &mut written);
+    (written, answer)
+}
+
+#[test]
+fn show_rows(rt: HostRuntime) -> Result<(), Fail> {
+    let rows = [
+        (
+            PACKET,
+            "ipx hops 0 kind 0 body 0\nto 00000022 00007f000005 4000\nfrom 00000011 00007f000003 4001\n",
+            0,
+        ),
+        (
+            TWO_NETWORKS,
+            "ipx hops 0 kind 1 body 18\nto 00000022 ffffffffffff 0453\nfrom 00000022 00007f000002 0453\nrip response 2\nnet 00000011 hops 1 ticks 2\nnet 00000033 hops 1 ticks 2\n",
+            0,
+        ),
+        (
+            NEAREST_QUERY,
+            "ipx hops 0 kind 4 body 4\nto 00000011 ffffffffffff 0452\nfrom 00000011 00007f000003 4000\nsap nearest query 0004\n",
+            0,
+        ),
+        (
+            "ffff0021000400000011ffffffffffff04520000001100007f000003400000030004",
+            "refused (11) QueryShort 3\n",
+            1,
+        ),
+        (
+            "ffff0022000400000011ffffffffffff04520000001100007f000003400000050004",
+            "refused (9) UnknownOperation 5\n",
+            1,
+        ),
+        (SHORT, "refused (3) LengthShort 29\n", 1),
+        ("", "refused (1) Short 0\n", 1),
+        // Packet type 5 is SPX, whatever the socket.
+        (
+            "ffff0020000500000011ffffffffffff04530000001100007f00000340000009",
+            "ipx hops 0 kind 5 body 2\nto 00000011 ffffffffffff 0453\nfrom 00000011 00007f000003 4000\n",
+            0,
+        ),
+        (
+            "FFFF0020000100000011FFFFFFFFFFFF04530000001100007F00000340000001",
+            "ipx hops 0 kind 1 body 2\nto 00000011 ffffffffffff 0453\nfrom 00000011 00007f000003 4000\nrip request 0\n",
+            0,
+        ),
+        ("f", "line 1 bad\n", 2),
+        ("0x", "line 1 bad\n", 2),
+        ("ff\n", "line 1 bad\n", 2),
+        ("ff ", "line 1 bad\n", 2),
+    ];
+    for (text, lines, status) in rows {
+        let (written, answer) = shown(rt.alloc(), text);
+        assert_eq!(rt; answer, Ok(status), "{text}");
+        assert_eq!(rt; written.as_slice(), lines.as_bytes(), "{text}");
+    }
+    Ok(())
+}
+
+/// A nearest response of one service with a name in hex of 48 bytes.
+fn service_with(alloc: Global, name: &str) -> Result<String, AllocError> {
+    format!(in alloc; "ffff0060000400000011ffffffffffff04520000001100007f000003045200040004{name}0000004400000000000104510003")
+}
+
+#[test]
+fn names_of_services(rt: HostRuntime) -> Result<(), Fail> {
+    let names = [
+        (
+            "410000000000000000000000000000000000000000000000000000000000000000000000000000000000000000000000",
+            "A",
+        ),
+        (
+            "004200000000000000000000000000000000000000000000000000000000000000000000000000000000000000000000",
+            "-",
+        ),
+        (
+            "2d1b5b324a205c7e7f80ff210a00410000000000000000000000000000000000000000000000000000000000000000",
+            "",
+        ),
+        (
+            "2d1b5b324a205c7e7f80ff210a0041000000000000000000000000000000000000000000000000000000000000000000",
+            "-\\x1b[2J\\x20\\x5c~\\x7f\\x80\\xff!\\x0a",
+        ),
+        (
+            "616161616161616161616161616161616161616161616161616161616161616161616161616161616161616161616162",
+            "aaaaaaaaaaaaaaaaaaaaaaaaaaaaaaaaaaaaaaaaaaaaaaab",
+        ),
+    ];
+    for (name, text) in names {
+        let packet = service_with(rt.alloc(), name)?;
+        let (written, answer) = shown(rt.alloc(), packet.as_str());
+        if text == "" {
+            // A byte is missing.
+            assert_eq!(rt; answer, Ok(1));
+            assert_eq!(rt; written.as_slice(), b"refused (4) Truncated 96 95\n".as_slice());
+        } else {
+            let lines = format!(in rt.alloc(); "ipx hops 0 kind 4 body 66\nto 00000011 ffffffffffff 0452\nfrom 00000011 00007f000003 0452\nsap nearest response 1\nservice 0004 {text} 00000044 000000000001 0451 hops 3\n")?;
+            assert_eq!(rt; answer, Ok(0));
+            assert_eq!(rt; written.as_slice(), lines.as_bytes(), "{text}");
+        }
+    }
+    Ok(())
+}
+
+#[test]
+fn check_rows(rt: HostRuntime) -> Result<(), Fail> {
+    let rows = [
+        ("bad 4 ", SHORT, "", "line 1\nchecked 1 failed 1\n", 1),
+        ("bad 3 ", SHORT, "\n", "checked 1 failed 0\n", 0),
+        ("ok ", PACKET, "", "checked 1 failed 0\n", 0),
+        ("ok ", SHORT, "", "line 1\nchecked 1 failed 1\n", 1),
+        ("bad 11 ", PACKET, "", "line 1\nchecked 1 failed 1\n", 1),
+        ("# a comment\n\n  \nok ", PACKET, "\n\n", "checked 1 failed 0\n", 0),
+        ("bad 1 \nok \nok ", PACKET, "", "line 2\nchecked 3 failed 1\n", 1),
+        ("ok \nok ", PACKET, "\nbad 0 \nok ", "line 1\nline 3 bad\n", 2),
+        ("", "", "", "checked 0 failed 0\n", 0),
+        ("\n\n", "", "", "checked 0 failed 0\n", 0),
+        ("bad 39 ", PACKET, "", "line 1\nchecked 1 failed 1\n", 1),
+        ("bad 1 ", "ff", "", "checked 1 failed 0\n", 0),
+    ];
+    for (before, packet, after, lines, status) in rows {
+        let text = format!(in rt.alloc(); "{before}{packet}{after}")?;
+        let (written, answer) = checked(rt.alloc(), text.as_str());
+        assert_eq!(rt; answer, Ok(status), "{text}");
+        assert_eq!(rt; written.as_slice(), lines.as_bytes(), "{text}");
+    }
+    let text = format!(in rt.alloc(); "ok {PACKET}\nbad 3 {SHORT}\n")?;
+    let (written, answer) = checked(rt.alloc(), text.as_str());
+    assert_eq!(rt; answer, Ok(0));
+    assert_eq!(rt; written.as_slice(), b"checked 2 failed 0\n".as_slice());
+    Ok(())
+}
+
+#[test]
+fn malformed_lines(rt: HostRuntime) -> Result<(), Fail> {
+    let lines = [
+        "ok", "OK ff", "ok f", "ok  ff", "ok ff\r", " ok ff", "bad 4", "bad 0 ff", "bad 04 ff",
+        "bad 40 ff", "bad +4 ff", "bad  ff", "bad 4  ff", "bad 123 ff", "bad 4 xx", "bad", "x",
+        "\t",
+    ];
+    for line in lines {
+        let (written, answer) = checked(rt.alloc(), line);
+        assert_eq!(rt; answer, Ok(2), "{line}");
+        assert_eq!(rt; written.as_slice(), b"line 1 bad\n".as_slice(), "{line}");
+    }
+    Ok(())
+}
+
+#[test]
+fn longest_input(rt: HostRuntime) -> Result<(), Fail> {
+    let mut input = vec![in rt.alloc(); b'#'; 1_000_001]?;
+    let mut written = Vec::new(rt.alloc());
+    let answer = do_check(rt.alloc(), &mut input.as_slice(), &mut written);
+    assert_eq!(rt; answer, Ok(2));
+    assert_eq!(rt; written.as_slice(), b"line 0 bad\n".as_slice());
+    let _ = input.pop();
+    let mut written = Vec::new(rt.alloc());
+    let answer = do_check(rt.alloc(), &mut input.as_slice(), &mut written);
+    assert_eq!(rt; answer, Ok(0));
+    assert_eq!(rt; written.as_slice(), b"checked 0 failed 0\n".as_slice());
+    Ok(())
+}
+
+/// Vectors are bytes, not text: a comment may hold any.
+#[test]
+fn comments_of_any_bytes(rt: HostRuntime) {
+    let mut reader = b"#\xff\xfe\nok \nbad 1 ".as_slice();
+    let mut written = Vec::new(rt.alloc());
+    assert_eq!(rt; do_check(rt.alloc(), &mut reader, &mut written), Ok(1));
+    assert_eq!(rt; written.as_slice(), b"line 2\nchecked 2 failed 1\n".as_slice());
+}
+
+/// The lines of P have 87 bytes.
+#[test]
+fn faults_of_writer_in_show(rt: HostRuntime) {
+    for left in 0..87 {
+        assert_eq!(rt; do_show(rt.alloc(), PACKET, &mut failing_after(left)), Err(1));
+    }
+    assert_eq!(rt; do_show(rt.alloc(), PACKET, &mut failing_after(87)), Ok(0));
+}
+
+/// The vector is 6 bytes and one empty read; its lines have 19 bytes.
+#[test]
+fn faults_of_reader_and_writer_in_check(rt: HostRuntime) {
+    let vector = b"bad 1 ".as_slice();
+    for left in 0..7 {
+        let mut written = Vec::new(rt.alloc());
+        assert_eq!(rt;
+            do_check(rt.alloc(), &mut failing_on(vector, left), &mut written),
+            Err(1)
+        );
+        assert!(rt; written.is_empty());
+    }
+    let mut written = Vec::new(rt.alloc());
+    assert_eq!(rt;
+        do_check(rt.alloc(), &mut failing_on(vector, 7), &mut written),
+        Ok(0)
+    );
+    assert_eq!(rt; written.as_slice(), b"checked 1 failed 0\n".as_slice());
+    for left in 0..19 {
+        let mut reader = vector;
+        assert_eq!(rt;
+            do_check(rt.alloc(), &mut reader, &mut failing_after(left)),
+            Err(1)
+        );
+    }
+    let mut reader = vector;
+    assert_eq!(rt;
+        do_check(rt.alloc(), &mut reader, &mut failing_after(19)),
+        Ok(0)
+    );
+}

@@ -1,0 +1,164 @@
+-- From what is answered once old offers have gone to what the router answers.
+use Rattle.std.proofs.Common.{◌≡◌, ℕ, ◌+◌, ◌-◌, ◌≤◌, ◌<◌, Bool, List, length, take, Option, Some, None, Result, Ok, Err, refl, sym, ap, ◌∙◌, subst, inl, inr, arith}
+use Rattle.std.specs.Prelude.{slice_get, IfOk, IfErr, IfSome, OnErr, IsErr, MatchOption, MatchResult, count_by, ◌⊎◌}
+use Rattle.std.specs.List.{All}
+use Rattle.std.proofs.Math.Path.{fun_ext}
+use Rattle.std.proofs.lemmas.List.Elements.{All-weaker}
+use Rattle.ipx_wire.specs.declared.address.Network.{Network}
+use Rattle.ipx_wire.specs.declared.memory.OutOfMemory.{OutOfMemory}
+use Rattle.ipx_wire.specs.Ipx.{Datagram}
+use Rattle.ipx_control.specs.declared.fault.ControlFault.{ControlFault}
+use Rattle.ipx_control.specs.declared.rip.RipEntry.{RipEntry}
+use Rattle.ipx_control.specs.declared.sap.ServiceEntry.{ServiceEntry}
+use Rattle.ipx_control.specs.Rip.{RipMessage, IsRip, rip_fault}
+use Rattle.ipx_control.specs.Rip as rip
+use Rattle.ipx_control.specs.Sap.{SapMessage, IsSap, sap_fault}
+use Rattle.ipx_control.specs.Sap as sap
+use Rattle.ipx_tables.specs.declared.fault.TableFault.{TableFault}
+use Rattle.ipx_tables.specs.declared.fault.TableFault.TheVariants.{Full}
+use Rattle.ipx_tables.specs.declared.route.RouteMetric.{RouteMetric}
+use Rattle.ipx_tables.specs.declared.service.ServiceKey.{ServiceKey}
+use Rattle.ipx_tables.specs.declared.service.ServiceMetric.{ServiceMetric}
+use Rattle.ipx_tables.specs.declared.source.Source.{Source}
+use Rattle.ipx_tables.specs.Content.{Table, after_age}
+use Rattle.ipx_router.specs.declared.outcome.Outcome.{Outcome}
+use Rattle.ipx_router.specs.declared.port.Port.{Port}
+use Rattle.ipx_router.specs.declared.port.PortNow.{PortNow}
+use Rattle.ipx_router.specs.declared.reason.Reason.TheVariants.{BadControl, TableFull}
+use Rattle.ipx_router.specs.Routing.{Routing}
+use Rattle.ipx_router.specs.Knowledge.{Known, Routes, Services, HoldsRoutes, HoldsServices, Tables, known_aged, known_at, known_in, routes_in, services_in}
+use Rattle.ipx_router.specs.Control.{source_of, asker}
+use Rattle.ipx_router.specs.Hearing.{HeardRoutes, HeardServices, StopsAtRoute, StopsAtService, is_heard}
+use Rattle.ipx_router.specs.Packets.{Sending}
+use Rattle.ipx_router.specs.Ports.{AreOnPorts, IsPortNumber}
+use Rattle.ipx_router.specs.Answer.{Answer, Heard, Refused, Replied, Sent, AnswersBytes, AnswersRip, AnswersRipMessage, AnswersSap, AnswersSapMessage, HearsRoutes, HearsServices, HoldsPacket, IsOnPort, LeavesBytes, LeavesRoutes, LeavesServices, OnwardForEachReading, PassesOn, view}
+use Rattle.ipx_router.proofs.Cuts.{route_packets_port, service_packets_port}
+
+-- what tables say once old offers have gone is what is known then
+pub known_same : (ports : List Port) (now : ℕ) (old_routes routes : Table Network RouteMetric) (old_services services : Table ServiceKey ServiceMetric)
+    → ((p : Network × Source) → routes_in routes p ≡ after_age (routes_in old_routes) now p) → ((p : ServiceKey × Source) → services_in services p ≡ after_age (services_in old_services) now p)
+    → known_in ports routes services ≡ known_aged ports old_routes old_services now
+known_same ports now old_routes routes old_services services r s = λ i. record { ports = ports; routes = fun_ext r i; services = fun_ext s i }
+
+-- ---- on the port of a number
+
+module _ (old : Routing) (port now : ℕ) (bytes : List ℕ) (arrived : Port) (there : slice_get old.ports (port - 1) ≡ Some arrived) (new : Tables) where
+  pub answers_on : (o : Result Outcome OutOfMemory) → IfOk o (λ x. AnswersBytes (known_at old now) (record { number = port; port = arrived; now = now }) bytes (view x) new)
+      → IfOk o (λ x. IfSome (slice_get old.ports (port - 1)) (λ p. AnswersBytes (known_at old now) (record { number = port; port = p; now = now }) bytes (view x) new))
+  answers_on (Ok x) a =
+      subst (λ (m : Option Port). IfSome m (λ p. AnswersBytes (known_at old now) (record { number = port; port = p; now = now }) bytes (view x) new)) (sym there) a
+  answers_on (Err e) a = tt
+
+  pub leaves_on : (o : Result Outcome OutOfMemory) → OnErr o (LeavesBytes (known_at old now) (record { number = port; port = arrived; now = now }) bytes new)
+      → OnErr o (IfSome (slice_get old.ports (port - 1)) (λ p. LeavesBytes (known_at old now) (record { number = port; port = p; now = now }) bytes new))
+  leaves_on (Ok x) a = tt
+  leaves_on (Err e) a =
+      subst (λ (m : Option Port). IfSome m (λ p. LeavesBytes (known_at old now) (record { number = port; port = p; now = now }) bytes new)) (sym there) a
+
+pub passes_on : (r : Routing) (port : ℕ) (bytes : List ℕ) (arrived : Port) (o : Result Outcome OutOfMemory) → slice_get r.ports (port - 1) ≡ Some arrived
+    → IfOk o (λ x. HoldsPacket bytes (view x)) → IfOk o (λ x. OnwardForEachReading arrived bytes (view x)) → IfOk o (λ x. PassesOn r port bytes (view x))
+passes_on r port bytes arrived (Ok x) there found onward = (arrived, there, found, onward)
+passes_on r port bytes arrived (Err e) there found onward = tt
+
+-- ---- responses
+
+module _ (ports : List Port) (routes : Routes) (at : PortNow) (d : Datagram) (tail : List ℕ) (entries : List RipEntry) (source : Source) (from : source ≡ source_of at d.header)
+  (none : rip_fault d.body ≡ None) (is : IsRip (rip.Response entries) d.body tail) (new : Table Network RouteMetric) where
+  rip_answer : (a : Answer) → HearsRoutes ports routes source at.now entries a new → AnswersRip ports routes at d a new
+  rip_answer a h =
+      subst (λ (f : Option ControlFault). MatchOption f ((m : RipMessage) × (tail : List ℕ) × IsRip m d.body tail × AnswersRipMessage ports routes at d.header m a new) (λ f. (a ≡ Refused (BadControl f)) × HoldsRoutes new routes)) (sym none)
+      (rip.Response entries, tail, is, subst (λ (s : Source). HearsRoutes ports routes s at.now entries a new) from h)
+
+  pub rip_heard : (heard : Result ℕ TableFault) (o : Result Outcome OutOfMemory)
+      → IfOk heard (λ n. (n ≡ count_by (is_heard ports) entries) × HeardRoutes ports source at.now entries routes (length entries) new)
+      → IfErr heard (λ f. (n : ℕ) × HeardRoutes ports source at.now entries routes n new × (f ≡ Full → StopsAtRoute ports source entries n new))
+      → IfOk o (λ x. MatchResult heard (λ n. view x ≡ Heard n) (λ f. (f ≡ Full) × (view x ≡ Refused TableFull)))
+      → IfOk o (λ x. AnswersRip ports routes at d (view x) new)
+  rip_heard (Ok n) (Ok x) ok err says = subst (λ (a : Answer). AnswersRip ports routes at d a new) (sym says) (rip_answer (Heard n) ok)
+  rip_heard (Err f) (Ok x) ok err says = subst (λ (a : Answer). AnswersRip ports routes at d a new) (sym says.1) (rip_answer (Refused TableFull) (refl, err.0, err.1, err.2 says.0))
+  rip_heard (Ok n) (Err e) ok err says = tt
+  rip_heard (Err f) (Err e) ok err says = tt
+
+  pub rip_left : (heard : Result ℕ TableFault) (o : Result Outcome OutOfMemory)
+      → IfErr heard (λ f. (n : ℕ) × HeardRoutes ports source at.now entries routes n new × (f ≡ Full → StopsAtRoute ports source entries n new))
+      → OnErr o (IsErr heard) → OnErr o (LeavesRoutes ports routes at d new)
+  rip_left heard (Ok x) err says = tt
+  rip_left (Ok n) (Err e) err says = cc
+  rip_left (Err f) (Err e) err says = inr (entries, tail, is, err.0, subst (λ (s : Source). HeardRoutes ports s at.now entries routes err.0 new) from err.1)
+
+module _ (services : Services) (at : PortNow) (d : Datagram) (tail : List ℕ) (nearest : Bool) (entries : List ServiceEntry) (source : Source) (from : source ≡ source_of at d.header)
+  (none : sap_fault d.body ≡ None) (is : IsSap (sap.Response nearest entries) d.body tail) (new : Table ServiceKey ServiceMetric) where
+  sap_answer : (a : Answer) → HearsServices services source at.now entries a new → AnswersSap services at d a new
+  sap_answer a h =
+      subst (λ (f : Option ControlFault). MatchOption f ((m : SapMessage) × (tail : List ℕ) × IsSap m d.body tail × AnswersSapMessage services at d.header m a new) (λ f. (a ≡ Refused (BadControl f)) × HoldsServices new services)) (sym none)
+      (sap.Response nearest entries, tail, is, subst (λ (s : Source). HearsServices services s at.now entries a new) from h)
+
+  pub sap_heard : (heard : Result ℕ TableFault) (o : Result Outcome OutOfMemory)
+      → IfOk heard (λ n. (n ≡ length entries) × HeardServices source at.now entries services (length entries) new)
+      → IfErr heard (λ f. (n : ℕ) × HeardServices source at.now entries services n new × (f ≡ Full → StopsAtService source entries n new))
+      → IfOk o (λ x. MatchResult heard (λ n. view x ≡ Heard n) (λ f. (f ≡ Full) × (view x ≡ Refused TableFull)))
+      → IfOk o (λ x. AnswersSap services at d (view x) new)
+  sap_heard (Ok n) (Ok x) ok err says = subst (λ (a : Answer). AnswersSap services at d a new) (sym says) (sap_answer (Heard n) ok)
+  sap_heard (Err f) (Ok x) ok err says = subst (λ (a : Answer). AnswersSap services at d a new) (sym says.1) (sap_answer (Refused TableFull) (refl, err.0, err.1, err.2 says.0))
+  sap_heard (Ok n) (Err e) ok err says = tt
+  sap_heard (Err f) (Err e) ok err says = tt
+
+  pub sap_left : (heard : Result ℕ TableFault) (o : Result Outcome OutOfMemory)
+      → IfErr heard (λ f. (n : ℕ) × HeardServices source at.now entries services n new × (f ≡ Full → StopsAtService source entries n new))
+      → OnErr o (IsErr heard) → OnErr o (LeavesServices services at d new)
+  sap_left heard (Ok x) err says = tt
+  sap_left (Ok n) (Err e) err says = cc
+  sap_left (Err f) (Err e) err says = inr (nearest, entries, tail, is, err.0, subst (λ (s : Source). HeardServices s at.now entries services err.0 new) from err.1)
+
+-- ---- replies leave by the port that was asked on
+
+on_ports : (count number : ℕ) (sent : List Sending) → IsPortNumber count number → All (λ (s : Sending). s.port ≡ number) sent → AreOnPorts count sent
+on_ports count number sent is all = All-weaker (λ (s : Sending). s.port ≡ number) (λ (s : Sending). IsPortNumber count s.port) (λ s e. (omega (arith, e, is.0), omega (arith, e, is.1))) sent all
+
+heard_there : (count : ℕ) (ports : List Port) (routes : Routes) (source : Source) (now : ℕ) (entries : List RipEntry) (a : Answer) (new : Table Network RouteMetric) → HearsRoutes ports routes source now entries a new → IsOnPort count a
+heard_there count ports routes source now entries (Heard n) new h = tt
+heard_there count ports routes source now entries (Refused r) new h = tt
+heard_there count ports routes source now entries (Sent port next bytes) new h = absurd h
+heard_there count ports routes source now entries (Replied sent) new h = absurd h
+
+services_there : (count : ℕ) (services : Services) (source : Source) (now : ℕ) (entries : List ServiceEntry) (a : Answer) (new : Table ServiceKey ServiceMetric) → HearsServices services source now entries a new → IsOnPort count a
+services_there count services source now entries (Heard n) new h = tt
+services_there count services source now entries (Refused r) new h = tt
+services_there count services source now entries (Sent port next bytes) new h = absurd h
+services_there count services source now entries (Replied sent) new h = absurd h
+
+module _ (count : ℕ) (ports : List Port) (routes : Routes) (at : PortNow) (is : IsPortNumber count at.number) (d : Datagram) (a : Answer) (new : Table Network RouteMetric) where
+  rip_message_there : (m : RipMessage) → AnswersRipMessage ports routes at d.header m a new → IsOnPort count a
+  rip_message_there (rip.Request asked) h =
+      subst (IsOnPort count) (sym h.1) (on_ports count at.number h.0 is (route_packets_port (asker at d.header) _ h.0 h.2.packets))
+  rip_message_there (rip.Response entries) h = heard_there count ports routes (source_of at d.header) at.now entries a new h
+
+  rip_there_by : (f : Option ControlFault) → MatchOption f ((m : RipMessage) × (tail : List ℕ) × IsRip m d.body tail × AnswersRipMessage ports routes at d.header m a new) (λ f. (a ≡ Refused (BadControl f)) × HoldsRoutes new routes) → IsOnPort count a
+  rip_there_by None h = rip_message_there h.0 h.3
+  rip_there_by (Some f) h = subst (IsOnPort count) (sym h.0) tt
+
+  pub rip_there : AnswersRip ports routes at d a new → IsOnPort count a
+  rip_there h = rip_there_by (rip_fault d.body) h
+
+module _ (count : ℕ) (services : Services) (at : PortNow) (is : IsPortNumber count at.number) (d : Datagram) (a : Answer) (new : Table ServiceKey ServiceMetric) where
+  sap_message_there : (m : SapMessage) → AnswersSapMessage services at d.header m a new → IsOnPort count a
+  sap_message_there (sap.Query nearest kind) h =
+      subst (IsOnPort count) (sym h.1) (on_ports count at.number h.0 is (service_packets_port (asker at d.header) nearest _ h.0 h.2.packets))
+  sap_message_there (sap.Response nearest entries) h = services_there count services (source_of at d.header) at.now entries a new h
+
+  sap_there_by : (f : Option ControlFault) → MatchOption f ((m : SapMessage) × (tail : List ℕ) × IsSap m d.body tail × AnswersSapMessage services at d.header m a new) (λ f. (a ≡ Refused (BadControl f)) × HoldsServices new services) → IsOnPort count a
+  sap_there_by None h = sap_message_there h.0 h.3
+  sap_there_by (Some f) h = subst (IsOnPort count) (sym h.0) tt
+
+  pub sap_there : AnswersSap services at d a new → IsOnPort count a
+  sap_there h = sap_there_by (sap_fault d.body) h
+
+pub rip_there_ok : (count : ℕ) (ports : List Port) (routes : Routes) (at : PortNow) (is : IsPortNumber count at.number) (d : Datagram) (new : Table Network RouteMetric) (o : Result Outcome OutOfMemory)
+    → IfOk o (λ x. AnswersRip ports routes at d (view x) new) → IfOk o (λ x. IsOnPort count (view x))
+rip_there_ok count ports routes at is d new (Ok x) h = rip_there count ports routes at is d (view x) new h
+rip_there_ok count ports routes at is d new (Err e) h = tt
+
+pub sap_there_ok : (count : ℕ) (services : Services) (at : PortNow) (is : IsPortNumber count at.number) (d : Datagram) (new : Table ServiceKey ServiceMetric) (o : Result Outcome OutOfMemory)
+    → IfOk o (λ x. AnswersSap services at d (view x) new) → IfOk o (λ x. IsOnPort count (view x))
+sap_there_ok count services at is d new (Ok x) h = sap_there count services at is d (view x) new h
+sap_there_ok count services at is d new (Err e) h = tt

@@ -1,0 +1,20 @@
+use Rattle.std.proofs.Common.{List, subst}
+use Rattle.ipx_wire.specs.Ipx.{view as packet_view}
+use Rattle.ipx_router.specs.Knowledge.{services_in}
+use Rattle.ipx_router.proofs.Receiving.{sap_heard, sap_left}
+use Rattle.ipx_router.proofs.answering.answer_sap.Goals as goal
+
+pub returns-in-Ok-Response-clause-answer : goal.returns-in-Ok-Response-clause-answer
+returns-in-Ok-Response-clause-answer c =
+    let found = rw c.in-Ok-Response.field-0-is at c.in-Ok-Response.ensures.found in
+    let heard = rw c.deref.ensures.value at c.hear_services-heard.ensures.heard in
+    let refused = rw c.deref.ensures.value at c.hear_services-heard.ensures.refused in
+    sap_heard (services_in c.args.services.now) c.args.at (packet_view c.args.packet) found.0 c.in-Ok-Response.field-0-0 c.in-Ok-Response.entries.items c.neighbour_of-source.result c.neighbour_of-source.ensures c.in-Ok-Response.ensures.whole found.1 c.hear_services-heard.new.services
+    c.hear_services-heard.result c.outcome_of_hearing.result heard refused c.outcome_of_hearing.ensures.answer
+
+pub returns-in-Ok-Response-clause-refused : goal.returns-in-Ok-Response-clause-refused
+returns-in-Ok-Response-clause-refused c =
+    let found = rw c.in-Ok-Response.field-0-is at c.in-Ok-Response.ensures.found in
+    let refused = rw c.deref.ensures.value at c.hear_services-heard.ensures.refused in
+    sap_left (services_in c.args.services.now) c.args.at (packet_view c.args.packet) found.0 c.in-Ok-Response.field-0-0 c.in-Ok-Response.entries.items c.neighbour_of-source.result c.neighbour_of-source.ensures c.in-Ok-Response.ensures.whole found.1 c.hear_services-heard.new.services
+    c.hear_services-heard.result c.outcome_of_hearing.result refused c.outcome_of_hearing.ensures.refused

@@ -1,0 +1,11 @@
+use Rattle.std.proofs.Common.{◌≡◌}
+use Rattle.ipx_router.specs.Knowledge.{services_in}
+use Rattle.ipx_router.specs.Hearing.{HeardServices}
+use Rattle.ipx_router.proofs.hearing.hear_services.Given as goal
+
+abbrev pub invariant-loop-entry : goal.invariant-loop-entry
+invariant-loop-entry l = record {
+  count : l.heard ≡ l.entry-index;
+  heard : HeardServices l.source l.now l.entries (services_in l.fn.services) l.entry-index l.services;
+  most : l.services.most ≡ l.fn.services.most;
+}

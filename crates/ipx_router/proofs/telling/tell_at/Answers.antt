@@ -1,0 +1,26 @@
+use Rattle.std.proofs.Common.{◌≡◌, ◌∙◌, Bool, true, [], Some, length, refl, sym, subst}
+use Rattle.std.specs.Prelude.{MatchBool}
+use Rattle.ipx_router.specs.Knowledge.{Known, known_aged, routes_in}
+use Rattle.ipx_router.specs.Packets.{sendings}
+use Rattle.ipx_router.specs.Telling.{AreTellings, is_due}
+use Rattle.ipx_router.proofs.HearingLemmas.{sources_aged}
+use Rattle.ipx_router.proofs.Receiving.{known_same}
+use Rattle.ipx_router.proofs.telling.tell_at.Goals as goal
+
+pub returns-then-not-is_time-clause-sources : goal.returns-then-not-is_time-clause-sources
+returns-then-not-is_time-clause-sources c = sources_aged (length c.args.ports.now) (routes_in c.args.routes.now) (routes_in c.age.new.self) c.args.now c.requires.sources c.age.ensures.aged
+
+pub returns-in_err-replies-clause-sources : goal.returns-in_err-replies-clause-sources
+returns-in_err-replies-clause-sources c = sources_aged (length c.args.ports.now) (routes_in c.args.routes.now) (routes_in c.age.new.self) c.args.now c.requires.sources c.age.ensures.aged
+
+pub returns-clause-sources : goal.returns-clause-sources
+returns-clause-sources c = sources_aged (length c.args.ports.now) (routes_in c.args.routes.now) (routes_in c.age.new.self) c.args.now c.requires.sources c.age.ensures.aged
+
+pub returns-clause-tells : goal.returns-clause-tells
+returns-clause-tells c =
+    let same = known_same c.args.ports.now c.args.now c.args.routes.now c.age.new.self c.args.services.now c.age-2.new.self c.age.ensures.aged c.age-2.ensures.aged in
+    let sent = sendings c.in_ok-replies.replies.items in
+    let k = known_aged c.args.ports.now c.args.routes.now c.args.services.now c.args.now in
+    let due : is_due c.args.told.now c.args.now ≡ true = sym c.is_time.ensures ∙ c.if-not-is_time.false in
+    subst (λ (b : Bool). MatchBool b (AreTellings k.ports k.routes k.services c.args.now 1 k.ports sent × (Some c.args.now ≡ Some c.args.now)) ((sent ≡ []) × (Some c.args.now ≡ c.args.told.now))) (sym due)
+    (subst (λ (k : Known). AreTellings k.ports k.routes k.services c.args.now 1 k.ports sent) same c.in_ok-replies.ensures.tells, refl)

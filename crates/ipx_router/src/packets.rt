@@ -1,0 +1,135 @@
+//! The packets of a router's own.
+
+ghost use Rattle.std.specs.Prelude.{◌≡◌, ◌≤◌, ◌+◌, ◌++◌, ℕ, Bool, List, [], ◌∷◌, length, OnOk, IfOk, map};
+ghost use Rattle.ipx_wire.specs.Ipx.{IsIpx};
+ghost use Rattle.ipx_control.specs.Rip.{rip_entries, rip_view};
+ghost use Rattle.ipx_control.specs.Sap.{IsSapWithinLimit, sap_view};
+ghost use Rattle.ipx_router.specs.Packets.{AreRoutePackets, AreServicePackets, IsRipPacket, IsSapPacket, own_header, sending_of, sendings};
+ghost use Rattle.ipx_router.specs.Adding.{AddsPackets};
+
+use crate::outcome::Reply;
+use crate::port::Port;
+use ipx_control::{Rip, RipEntry, Sap, ServiceEntry, encode_rip_into, encode_sap_into};
+use ipx_wire::{Address, IpxHeader, Node, OutOfMemory, Packet, Socket, encode_into};
+use std::alloc::Global;
+
+pub const BROADCAST: Node = Node([0xff; 6]);
+pub const RIP_SOCKET: Socket = Socket(0x0453);
+pub const SAP_SOCKET: Socket = Socket(0x0452);
+
+/// How many entries a packet holds at most.
+const MOST_ROUTES_A_PACKET: usize = 50;
+const MOST_SERVICES_A_PACKET: usize = 7;
+
+/// Whom a packet of the router's own goes to: a node and socket of the network of a port.
+#[derive(Clone, Copy)]
+pub struct Recipient {
+    pub number: u8,
+    pub port: Port,
+    pub node: Node,
+    pub socket: Socket,
+}
+
+/// The bytes of a packet.
+pub fn packet_bytes(
+    alloc: Global,
+    header: IpxHeader,
+    body: &[u8],
+) -> Result<Vec<u8>, OutOfMemory>
+    requires { length body.now ≤ 1470 }
+    ensures { IfOk result (λ v. IsIpx (record { header = header; body = body.now }) v.items []) }
+{
+    let mut bytes = vec![in alloc; 0; 30 + body.len()]?;
+    encode_into(&Packet { header, body }, &mut bytes);
+    Ok(bytes)
+}
+
+fn header_to(to: Recipient, kind: u8, socket: Socket) -> IpxHeader
+    ensures { result ≡ own_header to kind socket.0 }
+{
+    let network = to.port.network;
+    IpxHeader {
+        hops: 0,
+        kind,
+        to: Address {
+            network,
+            node: to.node,
+            socket: to.socket,
+        },
+        from: Address {
+            network,
+            node: to.port.node,
+            socket,
+        },
+    }
+}
+
+pub fn rip_packet(alloc: Global, to: Recipient, message: &Rip) -> Result<Reply, OutOfMemory>
+    requires { length (rip_entries (rip_view message.now)) ≤ 50 }
+    ensures { IfOk result (λ r. IsRipPacket to (rip_view message.now) (sending_of r)) }
+{
+    let mut body = [0u8; 402];
+    let count = encode_rip_into(message, &mut body);
+    let bytes = packet_bytes(alloc, header_to(to, 1, RIP_SOCKET), &body[..count])?;
+    Ok(Reply {
+        port: to.number,
+        next: to.node,
+        bytes,
+    })
+}
+
+pub fn sap_packet(alloc: Global, to: Recipient, message: &Sap) -> Result<Reply, OutOfMemory>
+    requires { IsSapWithinLimit (sap_view message.now) }
+    ensures { IfOk result (λ r. IsSapPacket to (sap_view message.now) (sending_of r)) }
+{
+    let mut body = [0u8; 450];
+    let count = encode_sap_into(message, &mut body);
+    let bytes = packet_bytes(alloc, header_to(to, 4, SAP_SOCKET), &body[..count])?;
+    Ok(Reply {
+        port: to.number,
+        next: to.node,
+        bytes,
+    })
+}
+
+/// Adds the packets of a list of routes.
+pub fn add_route_packets(
+    alloc: Global,
+    replies: &mut Vec<Reply>,
+    to: Recipient,
+    entries: &[RipEntry],
+) -> Result<(), OutOfMemory>
+    ensures { OnOk result (AddsPackets (AreRoutePackets to entries.now) replies.old.items replies.new.items) }
+{
+    let mut rest = entries;
+    while !rest.is_empty() {
+        let (part, later) = rest.split_at(rest.len().min(MOST_ROUTES_A_PACKET));
+        let message = Rip::Response(Vec::from_slice(alloc, part)?);
+        replies.push(rip_packet(alloc, to, &message)?)?;
+        rest = later;
+    }
+    Ok(())
+}
+
+/// Adds the packets of a list of services.
+pub fn add_service_packets(
+    alloc: Global,
+    replies: &mut Vec<Reply>,
+    to: Recipient,
+    nearest: bool,
+    entries: &[ServiceEntry],
+) -> Result<(), OutOfMemory>
+    ensures { OnOk result (AddsPackets (AreServicePackets to nearest entries.now) replies.old.items replies.new.items) }
+{
+    let mut rest = entries;
+    while !rest.is_empty() {
+        let (part, later) = rest.split_at(rest.len().min(MOST_SERVICES_A_PACKET));
+        let message = Sap::Response {
+            nearest,
+            services: Vec::from_slice(alloc, part)?,
+        };
+        replies.push(sap_packet(alloc, to, &message)?)?;
+        rest = later;
+    }
+    Ok(())
+}

@@ -1,0 +1,55 @@
+//! The route to a network.
+
+ghost use Rattle.std.specs.Prelude.{◌≡◌, ◌≤◌, ℕ, length, None, IfSome, MatchOption};
+ghost use Rattle.ipx_tables.specs.Best.{NoneCounts};
+ghost use Rattle.ipx_router.specs.Ports.{AreFromPorts, IsPortNumber};
+ghost use Rattle.ipx_router.specs.Knowledge.{routes_in};
+ghost use Rattle.ipx_router.specs.Route.{IsHeardRoute, IsRouteOrNone, direct_route};
+
+use crate::networks::direct_port;
+use crate::port::Port;
+use ipx_tables::{RouteMetric, RouteTable};
+use ipx_wire::{Network, Node};
+
+/// The number of the port that it leaves by, the neighbour that is next unless the network is the
+/// port's own, and how far the network is.
+#[derive(Clone, Copy)]
+pub struct Route {
+    pub port: u8,
+    pub neighbour: Option<Node>,
+    pub metric: RouteMetric,
+}
+
+/// The best offer of a network, as a route.
+fn heard_route(routes: &RouteTable, network: Network, now: u64) -> Option<Route>
+    ensures port { (count : ℕ) → AreFromPorts count (routes_in routes.now) → IfSome result (λ r. IsPortNumber count r.port) }
+    ensures route { MatchOption result (NoneCounts (routes_in routes.now) network now) (IsHeardRoute (routes_in routes.now) now network) }
+{
+    match routes.best(&network, now) {
+        None => None,
+        Some(best) => Some(Route {
+            port: best.0.port,
+            neighbour: Some(best.0.neighbour),
+            metric: best.1,
+        }),
+    }
+}
+
+/// The route to a network: over a port on it, or else over the neighbour with the best offer.
+pub fn route_to(ports: &[Port], routes: &RouteTable, network: Network, now: u64) -> Option<Route>
+    requires { length ports.now ≤ 16 }
+    ensures port { AreFromPorts (length ports.now) (routes_in routes.now)
+        → IfSome result (λ r. IsPortNumber (length ports.now) r.port) }
+    ensures route { IsRouteOrNone ports.now (routes_in routes.now) now network result }
+{
+    match direct_port(ports, network) {
+        None => return heard_route(routes, network, now),
+        Some(place) => {
+            return Some(Route {
+                port: place as u8 + 1,
+                neighbour: None,
+                metric: RouteMetric { ticks: 0, hops: 0 },
+            });
+        }
+    }
+}

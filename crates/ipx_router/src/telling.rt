@@ -1,0 +1,157 @@
+//! What a router tells its neighbours of itself.
+
+ghost use Rattle.std.specs.Prelude.{◌≡◌, ◌≤◌, ℕ, [], length, OnErr, OnOk, IfOk};
+ghost use Rattle.ipx_router.specs.Telling.{AreAsked, AreStarts, AreTellings, AreTold, Tells, all_nodes, is_due};
+ghost use Rattle.ipx_router.specs.Knowledge.{HoldsKnown, known_aged, routes_in, services_in};
+ghost use Rattle.ipx_router.specs.Ports.{AreFromPorts, AreOnPorts};
+ghost use Rattle.ipx_router.specs.Packets.{sendings};
+ghost use Rattle.ipx_router.specs.Adding.{AddsPackets};
+
+use crate::outcome::Reply;
+use crate::packets::{
+    BROADCAST, RIP_SOCKET, Recipient, SAP_SOCKET, add_route_packets, add_service_packets,
+    rip_packet, sap_packet,
+};
+use crate::port::{Port, PortNow};
+use crate::told::{told_routes, told_services};
+use ipx_control::{Rip, RipEntry, Sap};
+use ipx_tables::{RouteTable, ServiceTable};
+use ipx_wire::{Network, OutOfMemory, Socket};
+use std::alloc::Global;
+
+/// How long routes and services are not told again, in milliseconds.
+const PERIOD: u64 = 60_000;
+
+/// Whether it is time to tell.
+fn is_time(told: Option<u64>, now: u64) -> bool
+    ensures { result ≡ is_due told now }
+{
+    match told {
+        None => true,
+        Some(last) => now.saturating_sub(last) >= PERIOD,
+    }
+}
+
+fn everyone(number: u8, port: Port, socket: Socket) -> Recipient
+    ensures { result ≡ all_nodes number port socket.0 }
+{
+    Recipient {
+        number,
+        port,
+        node: BROADCAST,
+        socket,
+    }
+}
+
+/// Adds a request for all routes and a query for all services.
+fn ask_on(
+    alloc: Global,
+    asked: &mut Vec<Reply>,
+    number: u8,
+    port: Port,
+) -> Result<(), OutOfMemory>
+    ensures { OnOk result (AddsPackets (AreAsked number port) asked.old.items asked.new.items) }
+{
+    let all = RipEntry {
+        network: Network(0xffff_ffff),
+        hops: 0xffff,
+        ticks: 0xffff,
+    };
+    let networks = vec![in alloc; all]?;
+    let routes = Rip::Request(networks);
+    let for_routes = rip_packet(alloc, everyone(number, port, RIP_SOCKET), &routes)?;
+    let services = Sap::Query {
+        nearest: false,
+        kind: 0xffff,
+    };
+    let for_services = sap_packet(alloc, everyone(number, port, SAP_SOCKET), &services)?;
+    asked.push(for_routes)?;
+    asked.push(for_services)?;
+    Ok(())
+}
+
+/// The packets by which a router asks on all its ports.
+pub fn ask_all(alloc: Global, ports: &[Port]) -> Result<Vec<Reply>, OutOfMemory>
+    requires { length ports.now ≤ 16 }
+    ensures asks { IfOk result (λ v. AreStarts 1 ports.now (sendings v.items)) }
+    ensures there { IfOk result (λ v. AreOnPorts (length ports.now) (sendings v.items)) }
+{
+    let mut asked = Vec::new(alloc);
+    for (i, port) in ports.iter().enumerate() {
+        ask_on(alloc, &mut asked, i as u8 + 1, *port)?;
+    }
+    Ok(asked)
+}
+
+/// Adds the packets that tell routes and services on a port.
+fn tell_on(
+    alloc: Global,
+    told: &mut Vec<Reply>,
+    ports: &[Port],
+    routes: &RouteTable,
+    services: &ServiceTable,
+    at: PortNow,
+) -> Result<(), OutOfMemory>
+    ensures { OnOk result (AddsPackets (AreTold ports.now (routes_in routes.now) (services_in services.now) at) told.old.items told.new.items) }
+{
+    let known_routes = told_routes(alloc, ports, routes, at)?;
+    let known_services = told_services(alloc, services, at)?;
+    let for_routes = everyone(at.number, at.port, RIP_SOCKET);
+    add_route_packets(alloc, told, for_routes, &known_routes)?;
+    let for_services = everyone(at.number, at.port, SAP_SOCKET);
+    add_service_packets(alloc, told, for_services, false, &known_services)?;
+    Ok(())
+}
+
+/// The packets that tell routes and services on all ports.
+fn tell_all(
+    alloc: Global,
+    ports: &[Port],
+    routes: &RouteTable,
+    services: &ServiceTable,
+    now: u64,
+) -> Result<Vec<Reply>, OutOfMemory>
+    requires { length ports.now ≤ 16 }
+    ensures tells { IfOk result (λ v. AreTellings ports.now (routes_in routes.now) (services_in services.now) now 1 ports.now (sendings v.items)) }
+    ensures there { IfOk result (λ v. AreOnPorts (length ports.now) (sendings v.items)) }
+{
+    let mut told = Vec::new(alloc);
+    for (i, port) in ports.iter().enumerate() {
+        let at = PortNow {
+            number: i as u8 + 1,
+            port: *port,
+            now,
+        };
+        tell_on(alloc, &mut told, ports, routes, services, at)?;
+    }
+    Ok(told)
+}
+
+/// The packets by which it tells its neighbours, if it is time, and when it told last. Offers that
+/// are old go first, for good.
+pub fn tell_at(
+    alloc: Global,
+    ports: &[Port],
+    routes: &mut RouteTable,
+    services: &mut ServiceTable,
+    told: &mut Option<u64>,
+    now: u64,
+) -> Result<Vec<Reply>, OutOfMemory>
+    requires count { length ports.now ≤ 16 }
+    requires sources { AreFromPorts (length ports.now) (routes_in routes.old) }
+    ensures tells { IfOk result (λ v. Tells (known_aged ports.now routes.old services.old now) told.old now (sendings v.items) told.new) }
+    ensures refused { OnErr result (told.new ≡ told.old) }
+    ensures known { HoldsKnown (known_aged ports.now routes.old services.old now) (routes.new, services.new) }
+    ensures there { IfOk result (λ v. AreOnPorts (length ports.now) (sendings v.items)) }
+    ensures most { (routes.new.most ≡ routes.old.most) × (services.new.most ≡ services.old.most) }
+    ensures sources { AreFromPorts (length ports.now) (routes_in routes.new) }
+{
+    routes.age(now);
+    services.age(now);
+    if !is_time(*told, now) {
+        return Ok(Vec::new(alloc));
+    }
+    let replies = tell_all(alloc, ports, routes, services, now)?;
+    *told = Some(now);
+    Ok(replies)
+}

@@ -1,0 +1,167 @@
+//! What a router tells on a port.
+
+ghost use Rattle.std.specs.Prelude.{◌≡◌, ◌≢◌, ◌⊎◌, ◌<◌, ℕ, List, Contains, OnOk, IfErr, IfOk, Some, None, length, slice_index_or, filter, map, not, ◌==◌};
+ghost use Rattle.ipx_tables.specs.Sorted.{IsAtKey, IsGapFor, IsRising};
+ghost use Rattle.ipx_tables.specs.Route.{network_cmp};
+ghost use Rattle.ipx_router.specs.Knowledge.{routes_in, services_in};
+ghost use Rattle.ipx_router.specs.Route.{direct_route};
+ghost use Rattle.ipx_router.specs.Told.{AreToldRoutes, AreToldServices, route_key, told_route, told_service};
+ghost use Rattle.ipx_router.specs.Placing.{AddsHeard, AreToldPorts, PutsEntry, is_told_item, is_told_port};
+
+use crate::networks::direct_port;
+use crate::port::{Port, PortNow};
+use ipx_control::{RipEntry, ServiceEntry};
+use ipx_tables::{Metric, RouteMetric, RouteTable, ServiceKey, ServiceMetric, ServiceTable, Source, one_best};
+use ipx_wire::{Network, OutOfMemory};
+use std::alloc::Global;
+
+/// A route as it is told on a port.
+fn told_entry(network: Network, metric: RouteMetric, at: PortNow) -> RipEntry
+    ensures { result ≡ told_route network metric at }
+{
+    let onward = metric.one_more();
+    RipEntry {
+        network,
+        hops: onward.hops,
+        ticks: onward.ticks.saturating_add(at.port.cost),
+    }
+}
+
+/// Where the entry of a network stands, or where it would go.
+fn place_of(told: &[RipEntry], network: Network) -> Result<usize, usize>
+    requires { IsRising network_cmp route_key told.now }
+    ensures found { IfOk result (IsAtKey network_cmp route_key told.now network) }
+    ensures absent { IfErr result (IsGapFor network_cmp route_key told.now network) }
+{
+    told.binary_search_by(|held| held.network.cmp(&network))
+}
+
+/// Puts an entry in at its place, unless there is one of its network.
+fn put_entry(told: &mut Vec<RipEntry>, entry: RipEntry) -> Result<(), OutOfMemory>
+    requires { IsRising network_cmp route_key told.old.items }
+    ensures { OnOk result (PutsEntry told.old.items entry told.new.items) }
+{
+    match place_of(told, entry.network) {
+        Ok(_) => Ok(()),
+        Err(place) => {
+            told.insert(place, entry)?;
+            Ok(())
+        }
+    }
+}
+
+/// Whether the route to a network leaves by another port that is on it.
+fn is_over_other_port(ports: &[Port], network: Network, at: PortNow) -> bool
+    ensures { result ≡ is_told_port ports.now at network }
+{
+    direct_port(ports, network).is_some_and(|place| place + 1 != at.number as usize)
+}
+
+/// The networks of the other ports, as they are told.
+fn told_ports(
+    alloc: Global,
+    ports: &[Port],
+    at: PortNow,
+) -> Result<Vec<RipEntry>, OutOfMemory>
+    ensures { IfOk result (λ v. AreToldPorts ports.now at (length ports.now) v.items) }
+{
+    let mut told = Vec::new(alloc);
+    for port in ports {
+        if is_over_other_port(ports, port.network, at) {
+            let metric = RouteMetric { ticks: 0, hops: 0 };
+            put_entry(&mut told, told_entry(port.network, metric, at))?;
+        }
+    }
+    Ok(told)
+}
+
+/// Whether the best offer of a network is its route, and came by another port.
+fn is_over_other_neighbour(
+    ports: &[Port],
+    item: (Network, Source, RouteMetric),
+    at: PortNow,
+) -> bool
+    ensures { result ≡ is_told_item ports.now at item }
+{
+    direct_port(ports, item.0).is_none() && item.1.port != at.number
+}
+
+/// Adds the best offers that came by another port.
+fn add_heard(
+    told: &mut Vec<RipEntry>,
+    ports: &[Port],
+    heard: &[(Network, Source, RouteMetric)],
+    at: PortNow,
+) -> Result<(), OutOfMemory>
+    requires { IsRising network_cmp route_key told.old.items }
+    ensures { OnOk result (AddsHeard ports.now at heard.now (length heard.now) told.old.items told.new.items) }
+{
+    for item in heard {
+        if is_over_other_neighbour(ports, *item, at) {
+            put_entry(told, told_entry(item.0, item.2, at))?;
+        }
+    }
+    Ok(())
+}
+
+/// The routes that are told on a port, by network.
+pub fn told_routes(
+    alloc: Global,
+    ports: &[Port],
+    routes: &RouteTable,
+    at: PortNow,
+) -> Result<Vec<RipEntry>, OutOfMemory>
+    ensures { IfOk result (λ v. AreToldRoutes ports.now (routes_in routes.now) at v.items) }
+{
+    let Ok(heard) = routes.list(alloc, at.now) else {
+        return Err(OutOfMemory);
+    };
+    let mut told = told_ports(alloc, ports, at)?;
+    add_heard(&mut told, ports, &heard, at)?;
+    one_best::<Network, RouteMetric>();
+    Ok(told)
+}
+
+fn told_service_of(item: &(ServiceKey, Source, ServiceMetric)) -> ServiceEntry
+    ensures { result ≡ told_service item.now }
+{
+    let onward = item.2.one_more();
+    ServiceEntry {
+        kind: item.0.kind,
+        name: item.0.name,
+        at: onward.at,
+        hops: onward.hops,
+    }
+}
+
+/// The services that came by another port, as they are told.
+fn services_as_told(
+    alloc: Global,
+    heard: &[(ServiceKey, Source, ServiceMetric)],
+    at: PortNow,
+) -> Result<Vec<ServiceEntry>, OutOfMemory>
+    ensures { IfOk result (λ v. v.items ≡ map told_service (filter (λ item. not (item.1.port == at.number)) heard.now)) }
+{
+    let told = heard
+        .iter()
+        .filter(|item| item.1.port != at.number)
+        .map(told_service_of)
+        .collect::<Vec<ServiceEntry>>(alloc)?;
+    Ok(told)
+}
+
+/// The services that are told on a port, by kind and name.
+pub fn told_services(
+    alloc: Global,
+    services: &ServiceTable,
+    at: PortNow,
+) -> Result<Vec<ServiceEntry>, OutOfMemory>
+    ensures { IfOk result (λ v. AreToldServices (services_in services.now) at v.items) }
+{
+    let Ok(heard) = services.list(alloc, at.now) else {
+        return Err(OutOfMemory);
+    };
+    let told = services_as_told(alloc, &heard, at)?;
+    one_best::<ServiceKey, ServiceMetric>();
+    Ok(told)
+}
