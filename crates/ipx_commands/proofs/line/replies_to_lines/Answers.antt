@@ -1,4 +1,6 @@
 use Rattle.std.proofs.Common.{◌≡◌, ◌∙◌, ◌++◌, List, ℕ, ap, sym, string_bytes}
+use Rattle.ipx_router.specs.Packets.{sending_of}
+use Rattle.ipx_commands.specs.Line.{sending_line}
 use Rattle.ipx_commands.proofs.Lines.{lines_more}
 use Rattle.ipx_commands.proofs.line.replies_to_lines.Goals as goal
 
@@ -6,4 +8,4 @@ pub loop-reply-preserved : goal.loop-reply-preserved
 loop-reply-preserved c =
     let more = lines_more c.args.replies.now c.loop-reply.reply-index c.reply-item.result c.loop-reply-test.true c.reply-item.is in
     let line = c.deref.ensures ∙ c.in_ok-line.ensures in
-    c.in_ok-push_str.ensures.bytes ∙ ap (λ (t : List ℕ). string_bytes c.loop-reply.lines ++ t) line ∙ ap (λ (t : List ℕ). t ++ _) c.loop-reply.invariant ∙ sym more
+    c.in_ok-push_str.ensures.bytes ∙ ap (λ (t : List ℕ). string_bytes c.loop-reply.lines ++ t) line ∙ ap (λ (t : List ℕ). t ++ sending_line (sending_of c.reply-item.result)) c.loop-reply.invariant ∙ sym more
