@@ -1,0 +1,15 @@
+pub mod Apart
+pub mod Calls
+pub mod Distances
+pub mod Found
+pub mod Keeping
+pub mod Lesser
+pub mod MachineAllowed
+pub mod MachineFresh
+pub mod MachineGrowth
+pub mod MachineSound
+pub mod Pigeons
+pub mod Receiving
+pub mod Rounds
+pub mod Samples
+pub mod Stands

@@ -1,0 +1,8 @@
+use Rattle.spx_link.proofs.MachineSound.{reached}
+use Rattle.spx_link.proofs.machine.packets.Goals as goal
+
+pub returns-clause-one : goal.returns-clause-one
+returns-clause-one c = λ steps a b m run. (reached steps a b m run).bag
+
+pub returns-clause-two : goal.returns-clause-two
+returns-clause-two c = λ steps a b m run. (reached steps a b m run).peer_bag

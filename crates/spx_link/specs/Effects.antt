@@ -1,0 +1,97 @@
+-- What the calls of a link do to its numbers and to the ends of its connection, apart from moments and marks.
+use Rattle.std.specs.Prelude.{◌≡◌, ⊤, ℕ, ◌+◌, ◌-◌, ◌<◌, nat_le, nat_lt, ◌&&◌, [], Option, Some, None, if◌then◌else◌}
+use Rattle.ipx_wire.specs.declared.spx.SpxHeader.{SpxHeader}
+use Rattle.spx_link.specs.declared.numbers.Numbers.{Numbers}
+use Rattle.spx_link.specs.declared.outgoing.Sent.{Sent}
+use Rattle.spx_link.specs.declared.outgoing.Sent.TheVariants as Sents
+use Rattle.spx_link.specs.declared.received.Received.{Received}
+use Rattle.spx_link.specs.declared.received.Received.TheVariants.{Joined, Kept, Repeat, Ahead, OverAllocation, System, PeerEnded, Confirmed, Stranger}
+use Rattle.spx_link.specs.declared.state.State.TheVariants.{Opening, Live}
+use Rattle.spx_link.specs.Limits.{most_room, no_id}
+use Rattle.spx_link.specs.LinkView.{LinkView}
+use Rattle.spx_link.specs.Marks.{mark, distance}
+use Rattle.spx_link.specs.Poll.{OutgoingView}
+
+-- ---- a poll
+
+-- a unit that is sent for the first time takes a number and its room, and is outstanding from then on
+abbrev pub numbers_after_sent : Sent → Numbers → Numbers
+numbers_after_sent Sents.Request n = n
+numbers_after_sent Sents.Reply n = n
+numbers_after_sent Sents.Confirm n = n
+numbers_after_sent Sents.Unit n = record n { next = mark (n.next + 1); out = n.out + 1; room = n.room - 1 }
+numbers_after_sent Sents.Again n = n
+numbers_after_sent Sents.Ack n = n
+numbers_after_sent Sents.Probe n = n
+
+abbrev pub numbers_after_poll : Option OutgoingView → Numbers → Numbers
+numbers_after_poll None n = n
+numbers_after_poll (Some o) n = numbers_after_sent o.what n
+
+-- ---- a packet
+
+-- how many outstanding units an acknowledge number takes away
+abbrev pub taken_away : ℕ → Numbers → ℕ
+taken_away ack n =
+    if nat_le (distance ack (distance n.next n.out)) n.out then distance ack (distance n.next n.out) else 0
+
+-- the room that an allocation leaves
+abbrev pub room_left : ℕ → Numbers → ℕ
+room_left limit n =
+    if nat_lt n.room (distance (limit + 1) n.next) && nat_le (distance (limit + 1) n.next) most_room
+    then distance (limit + 1) n.next
+    else n.room
+
+abbrev pub numbers_read : SpxHeader → Numbers → Numbers
+numbers_read h n = record n { out = n.out - taken_away h.ack n; room = room_left h.limit n }
+
+abbrev pub one_more_held : Numbers → Numbers
+one_more_held n = record n { expected = mark (n.expected + 1); held = n.held + 1 }
+
+abbrev pub numbers_after_received : Received → SpxHeader → Numbers → Numbers
+numbers_after_received Joined h n = numbers_read h n
+numbers_after_received Kept h n = one_more_held (numbers_read h n)
+numbers_after_received Repeat h n = numbers_read h n
+numbers_after_received Ahead h n = numbers_read h n
+numbers_after_received OverAllocation h n = numbers_read h n
+numbers_after_received System h n = numbers_read h n
+numbers_after_received PeerEnded h n = one_more_held (numbers_read h n)
+numbers_after_received Confirmed h n = numbers_read h n
+numbers_after_received Stranger h n = n
+
+-- ---- a take
+
+-- where a unit is held it goes
+abbrev pub numbers_after_take : Numbers → Numbers
+numbers_after_take n = record n { held = n.held - 1 }
+
+-- ---- the ends
+
+-- the id here, the socket here and the address there never change
+pub record SameEnds (old new : LinkView) : Type 0 where
+  pub own : new.own ≡ old.own
+  pub local : new.local ≡ old.local
+  pub remote : new.remote ≡ old.remote
+
+-- nor does the peer's id
+pub record SamePeer (old new : LinkView) : Type 0 where
+  pub ends : SameEnds old new
+  pub peer : new.peer ≡ old.peer
+
+-- a link that joined was opening before, and is live with the id that the reply came from
+pub record Joins (old new : LinkView) (h : SpxHeader) : Type 0 where
+  pub before : old.state ≡ Opening
+  pub after : new.state ≡ Live
+  pub peer : new.peer ≡ h.from_id
+  pub above : 0 < h.from_id
+  pub below : h.from_id < no_id
+
+-- a request, which names no id of a peer
+pub record IsRequest (o : OutgoingView) : Type 0 where
+  pub what : o.what ≡ Sents.Request
+  pub to : o.header.to_id ≡ no_id
+  pub body : o.body ≡ []
+
+abbrev pub IfRequest : Option OutgoingView → Type 0
+IfRequest None = ⊤
+IfRequest (Some o) = IsRequest o

@@ -1,0 +1,16 @@
+pub mod Chosen
+pub mod Effects
+pub mod Fresh
+pub mod Leasts
+pub mod Lending
+pub mod Limits
+pub mod LinkView
+pub mod Links
+pub mod LinksLending
+pub mod Machine
+pub mod Marks
+pub mod Offer
+pub mod Picked
+pub mod Poll
+pub mod Receive
+pub mod Sound

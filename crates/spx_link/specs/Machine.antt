@@ -1,0 +1,141 @@
+-- A connection whose numbers never wrap: its two ends, and every packet that either ever sent.
+-- Where the 16 bits of Novell SPX stand for one position only, they stand for those of this machine.
+use Rattle.std.specs.Prelude.{ℕ, ◌+◌, ◌<◌, ◌≤◌, ◌≡◌, ◌==◌, ◌&&◌, nat_lt, max, List, [], ◌∷◌, ◌++◌, length, Option, None, Some, Contains, if◌then◌else◌}
+use Rattle.spx_link.specs.declared.unit.Unit.{Unit}
+
+-- a packet that was sent: the position of its unit or none, and what its sender had read and allowed as it was sent.
+-- Beside them, which no step reads: how many units its sender and its receiver had sent then, its own among them.
+pub record Packet : Type 0 where
+  pub position : Option ℕ
+  pub read : ℕ
+  pub allows : ℕ
+  pub sender_sent : ℕ
+  pub receiver_sent : ℕ
+
+-- an end: the positions below `base` are acknowledged, those below `sent` sent, those below `limit` may be sent;
+-- of its peer's, those below `read` are read and those below `taken` taken. Its units, from position 0 on, and
+-- its bag: every packet that it ever sent
+pub record End : Type 0 where
+  pub base : ℕ
+  pub sent : ℕ
+  pub limit : ℕ
+  pub read : ℕ
+  pub taken : ℕ
+  pub buffers : ℕ
+  pub units : List Unit
+  pub bag : List Packet
+
+pub record Machine : Type 0 where
+  pub one : End
+  pub two : End
+
+abbrev pub new_end : ℕ → End
+new_end buffers = record { base = 0; sent = 0; limit = 0; read = 0; taken = 0; buffers = buffers; units = []; bag = [] }
+
+abbrev pub start : ℕ → ℕ → Machine
+start a b = record { one = new_end a; two = new_end b }
+
+-- ---- what an end c becomes, whose peer is d
+
+-- it sent a packet of this position, or of none
+abbrev pub mailed : Option ℕ → End → End → End
+mailed position c d =
+    record c {
+      bag = record { position = position; read = c.read; allows = c.taken + c.buffers; sender_sent = c.sent; receiver_sent = d.sent } ∷ c.bag;
+    }
+
+-- it sent its next unit
+abbrev pub sent_next : End → End → End
+sent_next c d = mailed (Some c.sent) (record c { sent = c.sent + 1 }) d
+
+-- it learned a packet's two numbers
+abbrev pub learned : Packet → End → End
+learned p c = record c { base = max c.base p.read; limit = max c.limit p.allows }
+
+-- it read the unit of this position, where that is the next one and there is a buffer
+abbrev pub read_unit : Option ℕ → End → End
+read_unit None c = c
+read_unit (Some n) c = if (n == c.read) && nat_lt c.read (c.taken + c.buffers) then record c { read = c.read + 1 } else c
+
+-- it got a packet
+abbrev pub got : Packet → End → End
+got p c = read_unit p.position (learned p c)
+
+-- ---- steps
+
+-- an end sends its next unit, sends one again, sends a packet without a unit, gets a packet of its peer (which stays
+-- in the bag), takes a unit that it read, or gains units to send
+pub data Act : Type 0 where
+  Sends : Act
+  SendsAgain : ℕ → Act
+  SendsNoUnit : Act
+  Gets : Packet → Act
+  Takes : Act
+  Gains : List Unit → Act
+
+-- the end c, whose peer is d, becomes c' by this act: where it may, and what it does
+abbrev pub Moves : Act → End → End → End → Type 0
+Moves Sends c d c' = (c.sent < c.limit) × (c.sent < length c.units) × (c' ≡ sent_next c d)
+Moves (SendsAgain n) c d c' = (c.base ≤ n) × (n < c.sent) × (c' ≡ mailed (Some n) c d)
+Moves SendsNoUnit c d c' = c' ≡ mailed None c d
+Moves (Gets p) c d c' = Contains d.bag p × (c' ≡ got p c)
+Moves Takes c d c' = (c.taken < c.read) × (c' ≡ record c { taken = c.taken + 1 })
+Moves (Gains more) c d c' = c' ≡ record c { units = c.units ++ more }
+
+-- which end moves, and how
+pub data Step : Type 0 where
+  One : Act → Step
+  Two : Act → Step
+
+abbrev pub IsStep : Step → Machine → Machine → Type 0
+IsStep (One act) m n = Moves act m.one m.two n.one × (n.two ≡ m.two)
+IsStep (Two act) m n = Moves act m.two m.one n.two × (n.one ≡ m.one)
+
+-- the steps lead from one machine to another
+abbrev pub IsRun : List Step → Machine → Machine → Type 0
+IsRun [] m n = n ≡ m
+IsRun (s ∷ steps) m n = (next : Machine) × IsStep s m next × IsRun steps next n
+
+-- ---- what is so after every list of steps
+
+-- c's numbers in line with those of the end d that reads it
+pub record IsChain (c d : End) : Type 0 where
+  pub base : c.base ≤ d.read
+  pub read : d.read ≤ c.sent
+  pub sent : c.sent ≤ c.limit
+  pub limit : c.limit ≤ d.taken + d.buffers
+
+-- what c has outstanding and may still send fits the buffers of its peer d, and what it holds fits its own; it sent
+-- no more units than it has, and read no more than its peer has
+pub record IsWithin (c d : End) : Type 0 where
+  pub limit : c.limit ≤ c.base + d.buffers
+  pub taken : c.taken ≤ c.read
+  pub held : c.read ≤ c.taken + c.buffers
+  pub sent : c.sent ≤ length c.units
+  pub read : c.read ≤ length d.units
+
+-- what a packet of the end c, sent to d, says
+pub record WasSent (c d : End) (p : Packet) : Type 0 where
+  -- no more than is so now
+  pub read : p.read ≤ c.read
+  pub allows : p.allows ≤ c.taken + c.buffers
+  pub sender_sent : p.sender_sent ≤ c.sent
+  pub receiver_sent : p.receiver_sent ≤ d.sent
+  -- what was so in line as it was sent
+  pub reads_sent : p.read ≤ p.receiver_sent
+  pub allows_sent : p.receiver_sent ≤ p.allows
+  pub spread : p.allows ≤ p.read + c.buffers
+  -- its unit was sent by then, and was outstanding
+  pub position : (n : ℕ) → p.position ≡ Some n → n < p.sender_sent
+  pub outstanding : (n : ℕ) → p.position ≡ Some n → p.sender_sent ≤ n + d.buffers
+
+-- an end after more steps: its numbers only grow, its units only gain, and its bag keeps every packet
+pub record Grows (old new : End) : Type 0 where
+  pub base : old.base ≤ new.base
+  pub sent : old.sent ≤ new.sent
+  pub limit : old.limit ≤ new.limit
+  pub read : old.read ≤ new.read
+  pub taken : old.taken ≤ new.taken
+  pub buffers : new.buffers ≡ old.buffers
+  pub units : (gained : List Unit) × (new.units ≡ old.units ++ gained)
+  pub bag : (newer : List Packet) × (new.bag ≡ newer ++ old.bag)

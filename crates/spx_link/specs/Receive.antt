@@ -1,0 +1,168 @@
+-- What a link answers to a packet and what it becomes (Novell SPX, and this project's profile): one function
+-- for each rule. Where units that come ahead of their turn are kept one day, `in_turn` and `out_of_turn` change.
+use Rattle.std.specs.Prelude.{ℕ, ◌+◌, ◌-◌, ◌==◌, nat_lt, nat_le, Bool, true, false, ◌&&◌, ◌||◌, not, List, [], ◌∷◌, ◌++◌, length, drop, if◌then◌else◌}
+use Rattle.ipx_wire.specs.declared.spx.SpxHeader.{SpxHeader}
+use Rattle.spx_link.specs.declared.state.State.{State}
+use Rattle.spx_link.specs.declared.state.State.TheVariants as States
+use Rattle.spx_link.specs.declared.received.Received.{Received}
+use Rattle.spx_link.specs.declared.received.Received.TheVariants.{Joined, Kept, Repeat, Ahead, OverAllocation, System, PeerEnded, Confirmed, Stranger}
+use Rattle.spx_link.specs.Limits.{most_room, end_stream, confirm_stream, no_id}
+use Rattle.spx_link.specs.LinkView.{LinkView, free, is_confirmed}
+use Rattle.spx_link.specs.Poll.{base}
+use Rattle.spx_link.specs.Marks.{mark, distance}
+
+-- the answers to a unit that is held from then on
+abbrev pub is_kept : Received → Bool
+is_kept Joined = false
+is_kept Kept = true
+is_kept Repeat = false
+is_kept Ahead = false
+is_kept OverAllocation = false
+is_kept System = false
+is_kept PeerEnded = true
+is_kept Confirmed = false
+is_kept Stranger = false
+
+-- ---- the numbers that every packet carries
+
+-- how many outstanding units an acknowledge number takes away: none where it is stale
+abbrev pub beyond_base : LinkView → ℕ → ℕ
+beyond_base l ack = distance ack (base l)
+
+abbrev pub acknowledged : LinkView → ℕ → ℕ
+acknowledged l ack = if nat_le (beyond_base l ack) l.out then beyond_base l ack else 0
+
+abbrev pub read_ack : ℕ → LinkView → LinkView
+read_ack ack l = record l { queue = drop (acknowledged l ack) l.queue; out = l.out - acknowledged l ack }
+
+-- the room that an allocation leaves: the old room where it is stale
+abbrev pub beyond_next : LinkView → ℕ → ℕ
+beyond_next l limit = distance (limit + 1) l.next
+
+abbrev pub room_after : LinkView → ℕ → ℕ
+room_after l limit =
+    if nat_lt l.room (beyond_next l limit) && nat_le (beyond_next l limit) most_room then beyond_next l limit else l.room
+
+abbrev pub read_limit : ℕ → LinkView → LinkView
+read_limit limit l = record l { room = room_after l limit }
+
+abbrev pub read_numbers : LinkView → SpxHeader → LinkView
+read_numbers l h = record (read_limit h.limit (read_ack h.ack l)) { probes = 0 }
+
+-- ---- a system packet
+
+abbrev pub is_system : SpxHeader → Bool
+is_system h = (h.system && not (h.stream == end_stream)) || (h.stream == confirm_stream)
+
+-- its end was asked for, all that it sent is acknowledged, and it was not confirmed before
+abbrev pub may_confirm : LinkView → SpxHeader → Bool
+may_confirm l h =
+    (h.stream == confirm_stream) && (l.end_queued && ((length l.queue == 0) && not (is_confirmed l.state)))
+
+abbrev pub with_ack_owed : LinkView → Bool → LinkView
+with_ack_owed l owed = record l { owes_ack = l.owes_ack || owed }
+
+abbrev pub read_system : LinkView → SpxHeader → Received × LinkView
+read_system l h =
+    if may_confirm l h
+    then (Confirmed, record (with_ack_owed l h.wants_ack) { state = States.Confirmed })
+    else (System, with_ack_owed l h.wants_ack)
+
+-- ---- a unit
+
+-- how far it stands above the next one that is expected
+abbrev pub beyond_expected : LinkView → SpxHeader → ℕ
+beyond_expected l h = distance h.seq l.expected
+
+-- it stands behind: an acknowledgement is owed, for an end that was kept a confirmation in its place
+abbrev pub repeated : LinkView → SpxHeader → LinkView
+repeated l h =
+    if (h.stream == end_stream) && l.peer_ended
+    then record l { owes_confirm = true }
+    else record l { owes_ack = true }
+
+abbrev pub after_end : State → State
+after_end States.Opening = States.PeerEnded
+after_end States.Live = States.PeerEnded
+after_end States.Ending = States.PeerEnded
+after_end States.PeerEnded = States.PeerEnded
+after_end States.Confirmed = States.Confirmed
+after_end States.Lost = States.Lost
+
+-- the end of the peer's units, kept without a body
+abbrev pub keep_end : LinkView → SpxHeader → LinkView
+keep_end l h =
+    record l {
+      held = l.held ++ record { stream = h.stream; last = h.last; body = record { items = [] } } ∷ [];
+      expected = mark (l.expected + 1);
+      peer_ended = true;
+      owes_confirm = true;
+      state = after_end l.state;
+    }
+
+abbrev pub keep_unit : LinkView → SpxHeader → List ℕ → LinkView
+keep_unit l h body =
+    record l {
+      held = l.held ++ record { stream = h.stream; last = h.last; body = record { items = body } } ∷ [];
+      expected = mark (l.expected + 1);
+      owes_ack = true;
+    }
+
+abbrev pub keep : LinkView → SpxHeader → List ℕ → Received × LinkView
+keep l h body = if h.stream == end_stream then (PeerEnded, keep_end l h) else (Kept, keep_unit l h body)
+
+-- it stands ahead of the next one: it is not kept
+abbrev pub out_of_turn : LinkView → SpxHeader → Received × LinkView
+out_of_turn l h =
+    if nat_lt (beyond_expected l h) (free l)
+    then (Ahead, record l { owes_ack = true })
+    else (OverAllocation, record l { owes_ack = true })
+
+abbrev pub is_next : LinkView → SpxHeader → Bool
+is_next l h = (beyond_expected l h == 0) && nat_lt 0 (free l)
+
+abbrev pub in_turn : LinkView → SpxHeader → List ℕ → Received × LinkView
+in_turn l h body = if is_next l h then keep l h body else out_of_turn l h
+
+abbrev pub not_behind : LinkView → SpxHeader → List ℕ → Received × LinkView
+not_behind l h body = if l.peer_ended then (Ahead, l) else in_turn l h body
+
+abbrev pub read_unit : LinkView → SpxHeader → List ℕ → Received × LinkView
+read_unit l h body =
+    if nat_le 32768 (beyond_expected l h) then (Repeat, repeated l h) else not_behind l h body
+
+-- ---- a packet
+
+abbrev pub read_packet : LinkView → SpxHeader → List ℕ → Received × LinkView
+read_packet l h body =
+    if is_system h then read_system (read_numbers l h) h else read_unit (read_numbers l h) h body
+
+-- a packet that is to the link and from its peer is read, any other one changes nothing
+abbrev pub is_own : LinkView → SpxHeader → Bool
+is_own l h = (h.to_id == l.own) && (h.from_id == l.peer)
+
+abbrev pub receive_joined : LinkView → SpxHeader → List ℕ → Received × LinkView
+receive_joined l h body = if is_own l h then read_packet l h body else (Stranger, l)
+
+-- a reply to the request, which joins
+abbrev pub is_reply : LinkView → SpxHeader → Bool
+is_reply l h =
+    h.system && ((h.stream == 0) && (not h.wants_ack && ((h.to_id == l.own) && (nat_lt 0 h.from_id && nat_lt h.from_id no_id))))
+
+abbrev pub joined : LinkView → SpxHeader → LinkView
+joined l h = record l { state = States.Live; peer = h.from_id }
+
+abbrev pub receive_reply : LinkView → SpxHeader → Received × LinkView
+receive_reply l h = if is_reply l h then (Joined, read_numbers (joined l h) h) else (Stranger, l)
+
+abbrev pub receive_at : State → LinkView → SpxHeader → List ℕ → Received × LinkView
+receive_at States.Opening l h body = receive_reply l h
+receive_at States.Live l h body = receive_joined l h body
+receive_at States.Ending l h body = receive_joined l h body
+receive_at States.PeerEnded l h body = receive_joined l h body
+receive_at States.Confirmed l h body = receive_joined l h body
+receive_at States.Lost l h body = (Stranger, l)
+
+-- the answer to a packet with a body, and the link after it
+abbrev pub receive_link : LinkView → SpxHeader → List ℕ → Received × LinkView
+receive_link l h body = receive_at l.state l h body

@@ -1,0 +1,39 @@
+//! One end of an SPX connection, as exact functions of its 16-bit numbers (Novell SPX).
+#![tactic(auto)]
+
+mod effects;
+mod fault;
+mod forwards;
+mod laws;
+mod limits;
+mod link;
+mod links;
+mod machine;
+mod numbers;
+mod offer;
+mod outgoing;
+mod places;
+mod poll;
+mod queue;
+mod receive;
+mod received;
+mod state;
+#[cfg(test)]
+mod tests;
+mod unit;
+
+pub use effects::{
+    accepted_owes_its_reply, opening_gives_requests, others_change_no_number, poll_changes,
+    receive_changes, take_changes,
+};
+pub use fault::{LinksFault, OfferFault};
+pub use laws::{acknowledgement, allocation, marks, sequence};
+pub use limits::{MOST_LINKS, MOST_UNITS};
+pub use link::Link;
+pub use links::Links;
+pub use machine::{allowances, chain, fresh_packets, growth, packets, within};
+pub use numbers::Numbers;
+pub use outgoing::{Outgoing, Sent};
+pub use received::Received;
+pub use state::State;
+pub use unit::Unit;

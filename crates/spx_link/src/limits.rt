@@ -1,0 +1,25 @@
+//! The limits of a link, which are this project's own.
+
+/// How many units may be outstanding, and how many buffers an end may have.
+pub const MOST_UNITS: u16 = 1024;
+
+/// How many links a host may hold.
+pub const MOST_LINKS: usize = 16;
+
+/// How often a unit, a request or a probe is sent.
+pub const MOST_SENDS: u8 = 10;
+
+/// After how many milliseconds it is sent again.
+pub const RESEND_AFTER: u64 = 500;
+
+/// How far ahead of the next unit an allocation may lie.
+pub const MOST_ROOM: u16 = 16383;
+
+/// The datastream type of the end of a connection.
+pub const END_STREAM: u8 = 0xfe;
+
+/// The datastream type of its confirmation.
+pub const CONFIRM_STREAM: u8 = 0xff;
+
+/// The connection id that stands for none.
+pub const NO_ID: u16 = 0xffff;

@@ -1,0 +1,186 @@
+//! One end of a connection: what it holds, and what it shows.
+
+ghost use Rattle.std.specs.Prelude.{◌≡◌, ◌≤◌, ◌<◌, length};
+ghost use Rattle.spx_link.specs.Limits.{most_units};
+ghost use Rattle.spx_link.specs.LinkView.{LinkView, numbers_of};
+ghost use Rattle.spx_link.specs.Offer as spec;
+
+use crate::limits::NO_ID;
+use crate::numbers::Numbers;
+use crate::queue::Queued;
+use crate::state::State;
+use crate::unit::Unit;
+use ipx_wire::{Address, Socket, SpxHeader};
+use std::alloc::Global;
+use std::collections::VecDeque;
+use std::marker::Model;
+
+/// One end of a connection.
+///
+/// The first `out` units of the queue are sent and not acknowledged. Moments are in milliseconds
+/// and are handed in. It gives its packets by `poll` and reads those of its peer by `receive`.
+#[derive(Drop)]
+pub struct Link {
+    pub(crate) state: State,
+    pub(crate) own: u16,
+    pub(crate) peer: u16,
+    pub(crate) local: Socket,
+    pub(crate) remote: Address,
+    pub(crate) queue: VecDeque<Queued>,
+    pub(crate) out: u16,
+    pub(crate) next: u16,
+    pub(crate) room: u16,
+    pub(crate) expected: u16,
+    pub(crate) held: VecDeque<Unit>,
+    pub(crate) buffers: u16,
+    pub(crate) asked_at: u64,
+    pub(crate) asked_count: u8,
+    pub(crate) spoke: u64,
+    pub(crate) probes: u8,
+    pub(crate) owes_reply: bool,
+    pub(crate) owes_confirm: bool,
+    pub(crate) owes_ack: bool,
+    pub(crate) accepted: bool,
+    pub(crate) end_queued: bool,
+    pub(crate) peer_ended: bool,
+}
+
+impl Model for Link {
+    ghost Value = { LinkView };
+
+    ghost view = { λ l. record {
+      state = l.state;
+      own = l.own;
+      peer = l.peer;
+      local = l.local;
+      remote = l.remote;
+      queue = l.queue.items;
+      out = l.out;
+      next = l.next;
+      room = l.room;
+      expected = l.expected;
+      held = l.held.items;
+      buffers = l.buffers;
+      asked_at = l.asked_at;
+      asked_count = l.asked_count;
+      spoke = l.spoke;
+      probes = l.probes;
+      owes_reply = l.owes_reply;
+      owes_confirm = l.owes_confirm;
+      owes_ack = l.owes_ack;
+      accepted = l.accepted;
+      end_queued = l.end_queued;
+      peer_ended = l.peer_ended;
+    } };
+
+    ghost invariant = { λ l. length l.held.items ≤ l.buffers };
+}
+
+impl Link {
+    /// A link that asks for a connection.
+    pub(crate) fn dial(
+        alloc: Global,
+        own: u16,
+        local: Socket,
+        remote: Address,
+        buffers: u16,
+        now: u64,
+    ) -> Link
+        ensures { result ≡ spec.dialed own local remote buffers now }
+    {
+        Link {
+            state: State::Opening,
+            own,
+            peer: NO_ID,
+            local,
+            remote,
+            queue: VecDeque::new(alloc),
+            out: 0,
+            next: 0,
+            room: 0,
+            expected: 0,
+            held: VecDeque::new(alloc),
+            buffers,
+            asked_at: 0,
+            asked_count: 0,
+            spoke: now,
+            probes: 0,
+            owes_reply: false,
+            owes_confirm: false,
+            owes_ack: false,
+            accepted: false,
+            end_queued: false,
+            peer_ended: false,
+        }
+    }
+
+    /// A link that a request asked for.
+    pub(crate) fn accept(
+        alloc: Global,
+        own: u16,
+        local: Socket,
+        remote: Address,
+        request: &SpxHeader,
+        buffers: u16,
+        now: u64,
+    ) -> Link
+        ensures { result ≡ spec.accepted_from own local remote request.now buffers now }
+    {
+        let mut link = Link::dial(alloc, own, local, remote, buffers, now);
+        link.state = State::Live;
+        link.peer = request.from_id;
+        link.owes_reply = true;
+        link.accepted = true;
+        link.read_limit(request.limit);
+        link
+    }
+
+    /// Its state.
+    pub fn state(&self) -> State
+        ensures { result ≡ self.now.state }
+    {
+        self.state
+    }
+
+    /// Its numbers.
+    pub fn numbers(&self) -> Numbers
+        ensures { result ≡ numbers_of self.now }
+    {
+        Numbers {
+            next: self.next,
+            out: self.out,
+            room: self.room,
+            expected: self.expected,
+            held: self.buffers - self.free(),
+            buffers: self.buffers,
+        }
+    }
+
+    /// The socket on this side.
+    pub fn local(&self) -> Socket
+        ensures { result ≡ self.now.local }
+    {
+        self.local
+    }
+
+    /// The address of the other side.
+    pub fn remote(&self) -> Address
+        ensures { result ≡ self.now.remote }
+    {
+        self.remote
+    }
+
+    /// How many more units it can hold.
+    pub(crate) fn free(&self) -> u16
+        ensures { result ≡ Rattle.spx_link.specs.LinkView.free self.now }
+    {
+        self.buffers - self.held.len() as u16
+    }
+
+    /// Whether units are sent in its state.
+    pub(crate) fn is_working(&self) -> bool
+        ensures { result ≡ Rattle.spx_link.specs.LinkView.is_working self.now.state }
+    {
+        matches!(self.state, State::Live | State::Ending)
+    }
+}

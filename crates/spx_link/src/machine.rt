@@ -1,0 +1,51 @@
+//! Laws of a connection whose numbers never wrap, after every list of steps from its start, with
+//! whatever buffers the two ends have. Packets may be read late, often, in any order or never.
+
+ghost use Rattle.std.specs.Prelude.{ℕ, ◌<◌, ◌≤◌, List, All, Contains};
+ghost use Rattle.spx_link.specs.Machine.{Machine, Packet, Step, IsRun, start, IsChain, IsWithin, WasSent, Grows};
+ghost use Rattle.spx_link.specs.Machine.Act.{Gets};
+ghost use Rattle.spx_link.specs.Machine.Step.{One, Two};
+ghost use Rattle.spx_link.specs.Fresh.{IsFresh, Tells};
+
+/// What an end takes as acknowledged was read by its peer, what was read was sent, and what was
+/// sent was allowed.
+pub fn chain()
+    ensures one { (steps : List Step) (a b : ℕ) (m : Machine) → IsRun steps (start a b) m → IsChain m.one m.two }
+    ensures two { (steps : List Step) (a b : ℕ) (m : Machine) → IsRun steps (start a b) m → IsChain m.two m.one }
+{}
+
+/// What is outstanding fits the peer's buffers, what is held fits one's own, and what is sent or
+/// read are units.
+pub fn within()
+    ensures one { (steps : List Step) (a b : ℕ) (m : Machine) → IsRun steps (start a b) m → IsWithin m.one m.two }
+    ensures two { (steps : List Step) (a b : ℕ) (m : Machine) → IsRun steps (start a b) m → IsWithin m.two m.one }
+{}
+
+/// Every packet says what was so as it was sent.
+pub fn packets()
+    ensures one { (steps : List Step) (a b : ℕ) (m : Machine) → IsRun steps (start a b) m → All (WasSent m.one m.two) m.one.bag }
+    ensures two { (steps : List Step) (a b : ℕ) (m : Machine) → IsRun steps (start a b) m → All (WasSent m.two m.one) m.two.bag }
+{}
+
+/// Numbers only grow, from any machine on.
+pub fn growth()
+    ensures one { (steps : List Step) (m n : Machine) → IsRun steps m n → Grows m.one n.one }
+    ensures two { (steps : List Step) (m n : Machine) → IsRun steps m n → Grows m.two n.two }
+{}
+
+/// A position that an end may send was allowed by a packet that it got before.
+pub fn allowances()
+    ensures one { (steps : List Step) (a b : ℕ) (m : Machine) (n : ℕ) → IsRun steps (start a b) m → n < m.one.limit
+        → (p : Packet) × Contains steps (One (Gets p)) × (n < p.allows) }
+    ensures two { (steps : List Step) (a b : ℕ) (m : Machine) (n : ℕ) → IsRun steps (start a b) m → n < m.two.limit
+        → (p : Packet) × Contains steps (Two (Gets p)) × (n < p.allows) }
+{}
+
+/// The 16-bit numbers of a fresh packet say what its positions are, where neither end has more than
+/// 16,383 buffers.
+pub fn fresh_packets()
+    ensures one { (steps : List Step) (a b : ℕ) (m : Machine) (p : Packet) → a ≤ 16383 → b ≤ 16383
+        → IsRun steps (start a b) m → Contains m.two.bag p → IsFresh m.one m.two p → Tells m.one p }
+    ensures two { (steps : List Step) (a b : ℕ) (m : Machine) (p : Packet) → a ≤ 16383 → b ≤ 16383
+        → IsRun steps (start a b) m → Contains m.one.bag p → IsFresh m.two m.one p → Tells m.two p }
+{}

@@ -1,0 +1,112 @@
+//! What a link is given to send, what is taken from it, and its other calls.
+
+ghost use Rattle.std.specs.Prelude.{◌≡◌, ◌<◌, [], All, Err, IsOk, IsOkUnless, None, OnErr, OnOk, Some, option_copied};
+ghost use Rattle.spx_link.specs.Limits.{end_stream};
+ghost use Rattle.spx_link.specs.Offer as spec;
+ghost use Rattle.spx_link.specs.declared.fault.OfferFault.{OfferFault};
+ghost use Rattle.spx_link.specs.declared.fault.OfferFault.TheVariants as OfferFaults;
+
+use crate::fault::OfferFault;
+use crate::limits::END_STREAM;
+use crate::link::Link;
+use crate::queue::{Queued, queue_all};
+use crate::state::State;
+use crate::unit::Unit;
+use ipx_wire::Fragment;
+use std::alloc::Global;
+
+/// Why units are not queued in a state.
+fn refusal(state: State) -> Option<OfferFault>
+    ensures { result ≡ spec.refusal state }
+{
+    match state {
+        State::Opening => Some(OfferFault::NotLive),
+        State::Live => None,
+        _ => Some(OfferFault::Ended),
+    }
+}
+
+/// The end of a connection, which was not sent yet.
+fn queued_end() -> Queued
+    ensures { result ≡ spec.queued spec.the_end }
+{
+    Queued {
+        unit: Unit {
+            stream: END_STREAM,
+            last: false,
+            body: Fragment::new(),
+        },
+        at: 0,
+        count: 0,
+    }
+}
+
+impl Link {
+    /// Queues the units, all or none. The caller owes streams under FE.
+    ///
+    /// It is refused as `NotLive` while the link is opening, as `Ended` in any other state but
+    /// Live, and where memory is.
+    pub fn offer(&mut self, alloc: Global, units: Vec<Unit>) -> Result<(), OfferFault>
+        requires { All (λ u. u.stream < end_stream) units.items }
+        ensures ok { OnOk result (self.new ≡ spec.offer_link self.old units.items) }
+        ensures refused { (f : OfferFault) → spec.refusal self.old.state ≡ Some f → result ≡ Err f }
+        ensures memory { spec.refusal self.old.state ≡ None → IsOkUnless result OfferFaults.OutOfMemory }
+        ensures empty { spec.refusal self.old.state ≡ None → units.items ≡ [] → IsOk result }
+        ensures unchanged { OnErr result (self.new ≡ self.old) }
+    {
+        if let Some(fault) = refusal(self.state) {
+            return Err(fault);
+        }
+        queue_all(alloc, &mut self.queue, units)?;
+        Ok(())
+    }
+
+    /// Queues the end of the connection. It is refused as `offer` is.
+    pub fn end(&mut self, _alloc: Global) -> Result<(), OfferFault>
+        ensures ok { OnOk result (self.new ≡ spec.end_link self.old) }
+        ensures refused { (f : OfferFault) → spec.refusal self.old.state ≡ Some f → result ≡ Err f }
+        ensures memory { spec.refusal self.old.state ≡ None → IsOkUnless result OfferFaults.OutOfMemory }
+        ensures unchanged { OnErr result (self.new ≡ self.old) }
+    {
+        if let Some(fault) = refusal(self.state) {
+            return Err(fault);
+        }
+        self.queue.push_back(queued_end())?;
+        self.end_queued = true;
+        self.state = State::Ending;
+        Ok(())
+    }
+
+    /// The first unit that was received and not taken. It takes no memory.
+    pub fn peek(&self) -> Option<&Unit>
+        ensures { option_copied result ≡ spec.peek_link self.now }
+    {
+        self.held.front()
+    }
+
+    /// Takes that unit. It takes no memory.
+    pub fn take(&mut self) -> Option<Unit>
+        ensures gives { result ≡ (spec.take_link self.old).0 }
+        ensures leaves { self.new ≡ (spec.take_link self.old).1 }
+    {
+        let unit = self.held.pop_front()?;
+        if self.is_working() {
+            self.owes_ack = true;
+        }
+        Some(unit)
+    }
+
+    /// It owes its reply again.
+    pub fn owe_reply(&mut self)
+        ensures { self.new ≡ spec.owe_reply_link self.old }
+    {
+        self.owes_reply = true;
+    }
+
+    /// It is given up.
+    pub fn lose(&mut self)
+        ensures { self.new ≡ spec.lose_link self.old }
+    {
+        self.state = State::Lost;
+    }
+}

@@ -1,0 +1,265 @@
+//! What a link makes of a packet.
+
+ghost use Rattle.std.specs.Prelude.{◌≡◌, ◌+◌, ◌≤◌, ◌<◌, ◌++◌, [], ◌∷◌, IfOk, IfErr, OnOk, OnErr, IsTrue, drop, length};
+ghost use Rattle.spx_link.specs.LinkView as view;
+ghost use Rattle.spx_link.specs.Marks.{mark};
+ghost use Rattle.spx_link.specs.Receive as spec;
+ghost use Rattle.spx_link.specs.declared.fault.OfferFault.TheVariants as OfferFaults;
+
+use crate::fault::OfferFault;
+use crate::limits::{CONFIRM_STREAM, END_STREAM, MOST_ROOM, NO_ID};
+use crate::link::Link;
+use crate::queue::drop_front;
+use crate::received::Received;
+use crate::state::State;
+use crate::unit::Unit;
+use ipx_wire::{Fragment, SpxHeader};
+use std::alloc::Global;
+
+/// Whether a packet carries no unit: its system bit says so, but an end is a unit, and its
+/// confirmation is none.
+fn is_system(header: &SpxHeader) -> bool
+    ensures { result ≡ spec.is_system header.now }
+{
+    header.system && header.stream != END_STREAM || header.stream == CONFIRM_STREAM
+}
+
+/// The state once the peer's end came.
+fn after_end(state: State) -> State
+    ensures { result ≡ spec.after_end state }
+{
+    match state {
+        State::Confirmed | State::Lost => state,
+        _ => State::PeerEnded,
+    }
+}
+
+fn fragment_of(body: &[u8]) -> Fragment
+    requires { length body.now ≤ 534 }
+    ensures { result.items ≡ body.now }
+{
+    let mut fragment = Fragment::new();
+    fragment.try_extend_from_slice(body).unwrap();
+    fragment
+}
+
+impl Link {
+    /// Reads a packet from the peer. The caller owes a body of at most 534 bytes.
+    ///
+    /// Memory is wanted where a unit is kept. Where it is refused, the link is as it was.
+    pub fn receive(
+        &mut self,
+        _alloc: Global,
+        header: &SpxHeader,
+        body: &[u8],
+        _now: u64,
+    ) -> Result<Received, OfferFault>
+        requires { length body.now ≤ 534 }
+        ensures gives { IfOk result (λ r. r ≡ (spec.receive_link self.old header.now body.now).0) }
+        ensures leaves { OnOk result (self.new ≡ (spec.receive_link self.old header.now body.now).1) }
+        ensures memory { IfErr result (λ f. f ≡ OfferFaults.OutOfMemory) }
+        ensures wanted { OnErr result (IsTrue (spec.is_kept (spec.receive_link self.old header.now body.now).0)) }
+        ensures unchanged { OnErr result (self.new ≡ self.old) }
+    {
+        match self.state {
+            State::Lost => Ok(Received::Stranger),
+            State::Opening => Ok(self.receive_reply(header)),
+            _ => self.receive_joined(header, body),
+        }
+    }
+
+    fn receive_reply(&mut self, header: &SpxHeader) -> Received
+        ensures gives { result ≡ (spec.receive_reply self.old header.now).0 }
+        ensures leaves { self.new ≡ (spec.receive_reply self.old header.now).1 }
+    {
+        if !self.is_reply(header) {
+            return Received::Stranger;
+        }
+        self.state = State::Live;
+        self.peer = header.from_id;
+        self.read_numbers(header);
+        Received::Joined
+    }
+
+    fn is_reply(&self, header: &SpxHeader) -> bool
+        ensures { result ≡ spec.is_reply self.now header.now }
+    {
+        header.system
+            && header.stream == 0
+            && !header.wants_ack
+            && header.to_id == self.own
+            && 0 < header.from_id
+            && header.from_id < NO_ID
+    }
+
+    fn receive_joined(&mut self, header: &SpxHeader, body: &[u8]) -> Result<Received, OfferFault>
+        requires { length body.now ≤ 534 }
+        ensures gives { IfOk result (λ r. r ≡ (spec.receive_joined self.old header.now body.now).0) }
+        ensures leaves { OnOk result (self.new ≡ (spec.receive_joined self.old header.now body.now).1) }
+        ensures memory { IfErr result (λ f. f ≡ OfferFaults.OutOfMemory) }
+        ensures wanted { OnErr result (IsTrue (spec.is_kept (spec.receive_joined self.old header.now body.now).0)) }
+        ensures unchanged { OnErr result (self.new ≡ self.old) }
+    {
+        if header.to_id != self.own || header.from_id != self.peer {
+            return Ok(Received::Stranger);
+        }
+        if is_system(header) {
+            self.read_numbers(header);
+            return Ok(self.read_system(header));
+        }
+        // The unit first, since room for it may be refused. The numbers beside it are others.
+        let received = self.read_unit(header, body)?;
+        self.read_numbers(header);
+        Ok(received)
+    }
+
+    /// Reads the numbers that every packet carries.
+    fn read_numbers(&mut self, header: &SpxHeader)
+        ensures { self.new ≡ spec.read_numbers self.old header.now }
+    {
+        self.read_ack(header.ack);
+        self.read_limit(header.limit);
+        self.probes = 0;
+    }
+
+    fn read_ack(&mut self, ack: u16)
+        ensures { self.new ≡ spec.read_ack ack self.old }
+    {
+        let count = self.acknowledged(ack);
+        drop_front(&mut self.queue, count);
+        self.out -= count;
+    }
+
+    fn acknowledged(&self, ack: u16) -> u16
+        ensures value { result ≡ spec.acknowledged self.now ack }
+        ensures within { result ≤ self.now.out }
+    {
+        let beyond = ack.wrapping_sub(self.base());
+        if beyond <= self.out { beyond } else { 0 }
+    }
+
+    pub(crate) fn read_limit(&mut self, limit: u16)
+        ensures { self.new ≡ spec.read_limit limit self.old }
+    {
+        let beyond = limit.wrapping_add(1).wrapping_sub(self.next);
+        if self.room < beyond && beyond <= MOST_ROOM {
+            self.room = beyond;
+        }
+    }
+
+    fn read_system(&mut self, header: &SpxHeader) -> Received
+        ensures gives { result ≡ (spec.read_system self.old header.now).0 }
+        ensures leaves { self.new ≡ (spec.read_system self.old header.now).1 }
+    {
+        self.owes_ack = self.owes_ack || header.wants_ack;
+        if self.may_confirm(header) {
+            self.state = State::Confirmed;
+            Received::Confirmed
+        } else {
+            Received::System
+        }
+    }
+
+    fn may_confirm(&self, header: &SpxHeader) -> bool
+        ensures { result ≡ spec.may_confirm self.now header.now }
+    {
+        header.stream == CONFIRM_STREAM
+            && self.end_queued
+            && self.queue.is_empty()
+            && !matches!(self.state, State::Confirmed)
+    }
+
+    fn read_unit(&mut self, header: &SpxHeader, body: &[u8]) -> Result<Received, OfferFault>
+        requires { length body.now ≤ 534 }
+        ensures gives { IfOk result (λ r. r ≡ (spec.read_unit self.old header.now body.now).0) }
+        ensures leaves { OnOk result (self.new ≡ (spec.read_unit self.old header.now body.now).1) }
+        ensures memory { IfErr result (λ f. f ≡ OfferFaults.OutOfMemory) }
+        ensures wanted { OnErr result (IsTrue (spec.is_kept (spec.read_unit self.old header.now body.now).0)) }
+        ensures unchanged { OnErr result (self.new ≡ self.old) }
+    {
+        if self.beyond_expected(header) >= 32768 {
+            self.repeat(header);
+            return Ok(Received::Repeat);
+        }
+        if self.peer_ended {
+            return Ok(Received::Ahead);
+        }
+        self.in_turn(header, body)
+    }
+
+    /// A unit that stands behind.
+    fn repeat(&mut self, header: &SpxHeader)
+        ensures { self.new ≡ spec.repeated self.old header.now }
+    {
+        if header.stream == END_STREAM && self.peer_ended {
+            self.owes_confirm = true;
+        } else {
+            self.owes_ack = true;
+        }
+    }
+
+    fn in_turn(&mut self, header: &SpxHeader, body: &[u8]) -> Result<Received, OfferFault>
+        requires { length body.now ≤ 534 }
+        ensures gives { IfOk result (λ r. r ≡ (spec.in_turn self.old header.now body.now).0) }
+        ensures leaves { OnOk result (self.new ≡ (spec.in_turn self.old header.now body.now).1) }
+        ensures memory { IfErr result (λ f. f ≡ OfferFaults.OutOfMemory) }
+        ensures wanted { OnErr result (IsTrue (spec.is_kept (spec.in_turn self.old header.now body.now).0)) }
+        ensures unchanged { OnErr result (self.new ≡ self.old) }
+    {
+        let beyond = self.beyond_expected(header);
+        if beyond == 0 && 0 < self.free() {
+            return self.keep(header, body);
+        }
+        self.owes_ack = true;
+        if beyond < self.free() {
+            Ok(Received::Ahead)
+        } else {
+            Ok(Received::OverAllocation)
+        }
+    }
+
+    fn keep(&mut self, header: &SpxHeader, body: &[u8]) -> Result<Received, OfferFault>
+        requires free { 0 < view.free self.old }
+        requires fits { length body.now ≤ 534 }
+        ensures gives { IfOk result (λ r. r ≡ (spec.keep self.old header.now body.now).0) }
+        ensures leaves { OnOk result (self.new ≡ (spec.keep self.old header.now body.now).1) }
+        ensures memory { IfErr result (λ f. f ≡ OfferFaults.OutOfMemory) }
+        ensures unchanged { OnErr result (self.new ≡ self.old) }
+    {
+        if header.stream != END_STREAM {
+            self.hold(header, body)?;
+            self.owes_ack = true;
+            return Ok(Received::Kept);
+        }
+        self.hold(header, &[])?;
+        self.peer_ended = true;
+        self.owes_confirm = true;
+        self.state = after_end(self.state);
+        Ok(Received::PeerEnded)
+    }
+
+    /// Holds the unit that was expected.
+    fn hold(&mut self, header: &SpxHeader, body: &[u8]) -> Result<(), OfferFault>
+        requires free { 0 < view.free self.old }
+        requires fits { length body.now ≤ 534 }
+        ensures ok { OnOk result (self.new ≡ record self.old { held = self.old.held ++ record { stream = header.now.stream; last = header.now.last; body = record { items = body.now } } ∷ []; expected = mark (self.old.expected + 1) }) }
+        ensures memory { IfErr result (λ f. f ≡ OfferFaults.OutOfMemory) }
+        ensures unchanged { OnErr result (self.new ≡ self.old) }
+    {
+        let unit = Unit {
+            stream: header.stream,
+            last: header.last,
+            body: fragment_of(body),
+        };
+        self.held.push_back(unit)?;
+        self.expected = self.expected.wrapping_add(1);
+        Ok(())
+    }
+
+    /// How far a unit stands above the one that is expected.
+    fn beyond_expected(&self, header: &SpxHeader) -> u16
+        ensures { result ≡ spec.beyond_expected self.now header.now }
+    {
+        header.seq.wrapping_sub(self.expected)
+    }
+}
