@@ -99,8 +99,7 @@ checked_to_bad_line (Ok l) text status lines n line t vs lt there bad are is tol
     ap (map line_form) cut ∙ map-append line_form (take n lines) (line ∷ drop (n + 1) lines) ∙ ap (λ (x : LineForm). front ++ (x ∷ behind)) bad in
     let until = known_until front behind vs are in
     let said = told vs is in
-    let checks : ChecksLines (front ++ (Malformed ∷ behind)) (text l) (status l) =
-    (
+    let checks : ChecksLines (front ++ (Malformed ∷ behind)) (text l) (status l) = (
       vs,
       subst (λ (ls : List LineForm). AllZip IsVerdict ls vs) (sym until.0) are,
       subst (λ (b : Bool). text l ≡ failed_lines vs ++ last_line b vs) (sym until.1) said.0,
@@ -117,8 +116,7 @@ checked_to_end (Err e) text status lines n t vs le are is told = tt
 checked_to_end (Ok l) text status lines n t vs le are is told =
     let all = subst (λ (ls : List (List ℕ)). AllZip IsVerdict (map line_form ls) vs) (take_all n lines le) are in
     let known = known_all (map line_form lines) vs all in
-    let said = told vs is in
-    (
+    let said = told vs is in (
       vs,
       subst (λ (ls : List LineForm). AllZip IsVerdict ls vs) (sym known.0) all,
       subst (λ (b : Bool). text l ≡ failed_lines vs ++ last_line b vs) (sym known.1) said.0,

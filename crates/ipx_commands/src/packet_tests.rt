@@ -12,10 +12,10 @@ const PACKET: &str = "ffff001e00000000002200007f00000540000000001100007f00000340
 const SHORT: &str = "ffff001d00000000002200007f00000540000000001100007f0000034001";
 
 /// From 00000022 00007f000002 0453 to every node of 00000022.
-const TWO_NETWORKS: &str = "ffff0030000100000022ffffffffffff04530000002200007f0000020453000200000011000100020000003300010002";
+const TWO_NETWORKS: &str =
+    "ffff0030000100000022ffffffffffff04530000002200007f0000020453000200000011000100020000003300010002";
 
-const NEAREST_QUERY: &str =
-    "ffff0022000400000011ffffffffffff04520000001100007f000003400000030004";
+const NEAREST_QUERY: &str = "ffff0022000400000011ffffffffffff04520000001100007f000003400000030004";
 
 /// The lines that `show` writes, and its answer.
 fn shown(alloc: Global, text: &str) -> (Vec<u8>, Result<u8, u8>) {
@@ -88,7 +88,9 @@ fn show_rows(rt: HostRuntime) -> Result<(), Fail> {
 
 /// A nearest response of one service with a name in hex of 48 bytes.
 fn service_with(alloc: Global, name: &str) -> Result<String, AllocError> {
-    format!(in alloc; "ffff0060000400000011ffffffffffff04520000001100007f000003045200040004{name}0000004400000000000104510003")
+    format!(in alloc;
+        "ffff0060000400000011ffffffffffff04520000001100007f000003045200040004{name}0000004400000000000104510003"
+    )
 }
 
 #[test]
@@ -121,9 +123,14 @@ fn names_of_services(rt: HostRuntime) -> Result<(), Fail> {
         if text == "" {
             // A byte is missing.
             assert_eq!(rt; answer, Ok(1));
-            assert_eq!(rt; written.as_slice(), b"refused (4) Truncated 96 95\n".as_slice());
+            assert_eq!(rt;
+                written.as_slice(),
+                b"refused (4) Truncated 96 95\n".as_slice()
+            );
         } else {
-            let lines = format!(in rt.alloc(); "ipx hops 0 kind 4 body 66\nto 00000011 ffffffffffff 0452\nfrom 00000011 00007f000003 0452\nsap nearest response 1\nservice 0004 {text} 00000044 000000000001 0451 hops 3\n")?;
+            let lines = format!(in rt.alloc();
+                "ipx hops 0 kind 4 body 66\nto 00000011 ffffffffffff 0452\nfrom 00000011 00007f000003 0452\nsap nearest response 1\nservice 0004 {text} 00000044 000000000001 0451 hops 3\n"
+            )?;
             assert_eq!(rt; answer, Ok(0));
             assert_eq!(rt; written.as_slice(), lines.as_bytes(), "{text}");
         }
@@ -139,9 +146,27 @@ fn check_rows(rt: HostRuntime) -> Result<(), Fail> {
         ("ok ", PACKET, "", "checked 1 failed 0\n", 0),
         ("ok ", SHORT, "", "line 1\nchecked 1 failed 1\n", 1),
         ("bad 11 ", PACKET, "", "line 1\nchecked 1 failed 1\n", 1),
-        ("# a comment\n\n  \nok ", PACKET, "\n\n", "checked 1 failed 0\n", 0),
-        ("bad 1 \nok \nok ", PACKET, "", "line 2\nchecked 3 failed 1\n", 1),
-        ("ok \nok ", PACKET, "\nbad 0 \nok ", "line 1\nline 3 bad\n", 2),
+        (
+            "# a comment\n\n  \nok ",
+            PACKET,
+            "\n\n",
+            "checked 1 failed 0\n",
+            0,
+        ),
+        (
+            "bad 1 \nok \nok ",
+            PACKET,
+            "",
+            "line 2\nchecked 3 failed 1\n",
+            1,
+        ),
+        (
+            "ok \nok ",
+            PACKET,
+            "\nbad 0 \nok ",
+            "line 1\nline 3 bad\n",
+            2,
+        ),
         ("", "", "", "checked 0 failed 0\n", 0),
         ("\n\n", "", "", "checked 0 failed 0\n", 0),
         ("bad 39 ", PACKET, "", "line 1\nchecked 1 failed 1\n", 1),
@@ -163,8 +188,23 @@ fn check_rows(rt: HostRuntime) -> Result<(), Fail> {
 #[test]
 fn malformed_lines(rt: HostRuntime) -> Result<(), Fail> {
     let lines = [
-        "ok", "OK ff", "ok f", "ok  ff", "ok ff\r", " ok ff", "bad 4", "bad 0 ff", "bad 04 ff",
-        "bad 40 ff", "bad +4 ff", "bad  ff", "bad 4  ff", "bad 123 ff", "bad 4 xx", "bad", "x",
+        "ok",
+        "OK ff",
+        "ok f",
+        "ok  ff",
+        "ok ff\r",
+        " ok ff",
+        "bad 4",
+        "bad 0 ff",
+        "bad 04 ff",
+        "bad 40 ff",
+        "bad +4 ff",
+        "bad  ff",
+        "bad 4  ff",
+        "bad 123 ff",
+        "bad 4 xx",
+        "bad",
+        "x",
         "\t",
     ];
     for line in lines {
@@ -196,14 +236,20 @@ fn comments_of_any_bytes(rt: HostRuntime) {
     let mut reader = b"#\xff\xfe\nok \nbad 1 ".as_slice();
     let mut written = Vec::new(rt.alloc());
     assert_eq!(rt; do_check(rt.alloc(), &mut reader, &mut written), Ok(1));
-    assert_eq!(rt; written.as_slice(), b"line 2\nchecked 2 failed 1\n".as_slice());
+    assert_eq!(rt;
+        written.as_slice(),
+        b"line 2\nchecked 2 failed 1\n".as_slice()
+    );
 }
 
 /// The lines of P have 87 bytes.
 #[test]
 fn faults_of_writer_in_show(rt: HostRuntime) {
     for left in 0..87 {
-        assert_eq!(rt; do_show(rt.alloc(), PACKET, &mut failing_after(left)), Err(1));
+        assert_eq!(rt;
+            do_show(rt.alloc(), PACKET, &mut failing_after(left)),
+            Err(1)
+        );
     }
     assert_eq!(rt; do_show(rt.alloc(), PACKET, &mut failing_after(87)), Ok(0));
 }

@@ -117,7 +117,11 @@ fn control_rows(rt: HostRuntime) -> Result<(), Fail> {
             "dropped (20) NotOurs\n",
             1,
         ),
-        ("ffff0022000400000011ffffffffffff04520000001100007f00000304520001ffff", "", 0),
+        (
+            "ffff0022000400000011ffffffffffff04520000001100007f00000304520001ffff",
+            "",
+            0,
+        ),
     ];
     for (text, lines, status) in rows {
         let mut reader = text.as_bytes();

@@ -26,7 +26,6 @@ use Rattle.ipx_router.specs.Hearing.{HeardRoutes, HeardServices, StopsAtRoute, a
 use Rattle.ipx_router.specs.Ports.{AreFromPorts, IsPortNumber}
 
 module _ (ports : List Port) (source : Source) (now : ℕ) (entries : List RipEntry) (routes : Routes) (i : ℕ) (d : RipEntry) (lt : i < length entries) (t : Table Network RouteMetric) (h : HeardRoutes ports source now entries routes i t) where
-
   next : after_routes ports source now routes (take (i + 1) entries) ≡ after_route ports source now (after_routes ports source now routes (take i entries)) (get_or entries i d)
   next = fold_more (after_route ports source now) routes entries i d lt
 
@@ -63,16 +62,19 @@ pub hearing_stops : (ports : List Port) (source : Source) (now : ℕ) (entries :
     → (result ≡ Err Full → (route_dead (route_metric (get_or entries i d)) ≡ false) × (routes_in t ((get_or entries i d).network, source) ≡ None) × (t.most ≤ length t.offers))
     → (n : ℕ) × HeardRoutes ports source now entries routes n new × (f ≡ Full → StopsAtRoute ports source entries n new)
 hearing_stops ports source now entries routes i d t new result f lt h same passes is full =
-    subst (λ (u : Table Network RouteMetric). (n : ℕ) × HeardRoutes ports source now entries routes n u × (f ≡ Full → StopsAtRoute ports source entries n u)) (sym same)
-    (i, h, λ e.
-        let why = full (is ∙ ap (λ (g : TableFault). let r : Result (Unit {0}) TableFault = Err g in r) e) in
-        record {
-          entry = get_or entries i d;
-          there = lt;
-          is = get_or_default entries i (get_or entries i d) d lt;
-          heard = passes;
-          full = record { alive = why.0; unknown = why.1; full = why.2 };
-        })
+    subst (λ (u : Table Network RouteMetric). (n : ℕ) × HeardRoutes ports source now entries routes n u × (f ≡ Full → StopsAtRoute ports source entries n u)) (sym same) (
+      i,
+      h,
+      λ e.
+          let why = full (is ∙ ap (λ (g : TableFault). let r : Result (Unit {0}) TableFault = Err g in r) e) in
+          record {
+            entry = get_or entries i d;
+            there = lt;
+            is = get_or_default entries i (get_or entries i d) d lt;
+            heard = passes;
+            full = record { alive = why.0; unknown = why.1; full = why.2 };
+          },
+    )
 
 abbrev pub no_entry : RipEntry
 no_entry = record { network = record { 0 = 0 }; hops = 0; ticks = 0 }

@@ -42,7 +42,6 @@ not_nearer_than_nearer : (x y h : ServiceEntry) → is_nearer y h ≡ true → i
 not_nearer_than_nearer x y h near far =
     decide (is_nearer x y) (λ e. absurd (true≢false (sym (ap is_lt (nearness_total.trans x y h (is_less (nearness x y) e) (is_less (nearness y h) near))) ∙ far)))
 
-
 -- a service that is not near changes nothing
 pub nearest_skip : (held : Option ServiceEntry) (told : List ServiceEntry) (kind : ℕ) (y : ServiceEntry) → MatchOption held (NoneIsNear told kind) (IsNearest told kind) → is_near kind y ≡ false
     → MatchOption held (NoneIsNear (told ++ y ∷ []) kind) (IsNearest (told ++ y ∷ []) kind)

@@ -63,7 +63,7 @@ passes_on r port bytes arrived (Err e) there found onward = tt
 -- ---- responses
 
 module _ (ports : List Port) (routes : Routes) (at : PortNow) (d : Datagram) (tail : List ℕ) (entries : List RipEntry) (source : Source) (from : source ≡ source_of at d.header)
-  (none : rip_fault d.body ≡ None) (is : IsRip (rip.Response entries) d.body tail) (new : Table Network RouteMetric) where
+    (none : rip_fault d.body ≡ None) (is : IsRip (rip.Response entries) d.body tail) (new : Table Network RouteMetric) where
   rip_answer : (a : Answer) → HearsRoutes ports routes source at.now entries a new → AnswersRip ports routes at d a new
   rip_answer a h =
       subst (λ (f : Option ControlFault). MatchOption f ((m : RipMessage) × (tail : List ℕ) × IsRip m d.body tail × AnswersRipMessage ports routes at d.header m a new) (λ f. (a ≡ Refused (BadControl f)) × HoldsRoutes new routes)) (sym none)
@@ -87,7 +87,7 @@ module _ (ports : List Port) (routes : Routes) (at : PortNow) (d : Datagram) (ta
   rip_left (Err f) (Err e) err says = inr (entries, tail, is, err.0, subst (λ (s : Source). HeardRoutes ports s at.now entries routes err.0 new) from err.1)
 
 module _ (services : Services) (at : PortNow) (d : Datagram) (tail : List ℕ) (nearest : Bool) (entries : List ServiceEntry) (source : Source) (from : source ≡ source_of at d.header)
-  (none : sap_fault d.body ≡ None) (is : IsSap (sap.Response nearest entries) d.body tail) (new : Table ServiceKey ServiceMetric) where
+    (none : sap_fault d.body ≡ None) (is : IsSap (sap.Response nearest entries) d.body tail) (new : Table ServiceKey ServiceMetric) where
   sap_answer : (a : Answer) → HearsServices services source at.now entries a new → AnswersSap services at d a new
   sap_answer a h =
       subst (λ (f : Option ControlFault). MatchOption f ((m : SapMessage) × (tail : List ℕ) × IsSap m d.body tail × AnswersSapMessage services at d.header m a new) (λ f. (a ≡ Refused (BadControl f)) × HoldsServices new services)) (sym none)

@@ -33,10 +33,11 @@ in_a_row added old later new e = ap (λ (t : List Sending). t ++ later) e ∙ ap
 pub asks_two : (number : ℕ) (port : Port) (old mid new : List Reply) (r s : Reply) → mid ≡ old ++ r ∷ [] → new ≡ mid ++ s ∷ []
     → IsRipPacket (all_nodes number port rip_socket) (rip.Request (all_asked ∷ [])) (sending_of r) → IsSapPacket (all_nodes number port sap_socket) (sap.Query false 65535) (sending_of s)
     → AddsPackets (AreAsked number port) old new
-asks_two number port old mid new r s e f p q =
-    (sending_of r ∷ sending_of s ∷ [],
-    ap sendings f ∙ sendings_one mid s ∙ ap (λ (t : List Sending). t ++ (sending_of s ∷ [])) (ap sendings e ∙ sendings_one old r) ∙ append_assoc (sendings old) (sending_of r ∷ []) (sending_of s ∷ []),
-    (sending_of r, sending_of s, refl, p, q))
+asks_two number port old mid new r s e f p q = (
+  sending_of r ∷ sending_of s ∷ [],
+  ap sendings f ∙ sendings_one mid s ∙ ap (λ (t : List Sending). t ++ (sending_of s ∷ [])) (ap sendings e ∙ sendings_one old r) ∙ append_assoc (sendings old) (sending_of r ∷ []) (sending_of s ∷ []),
+  (sending_of r, sending_of s, refl, p, q),
+)
 
 -- routes and then services
 pub tells_both : (ports : List Port) (routes : Routes) (services : Services) (at : PortNow) (old mid new : List Reply) (told_routes : List RipEntry) (told_services : List ServiceEntry) (for_routes for_services : Recipient)
@@ -44,20 +45,21 @@ pub tells_both : (ports : List Port) (routes : Routes) (services : Services) (at
     → AreToldRoutes ports routes at told_routes → AreToldServices services at told_services
     → AddsPackets (AreRoutePackets for_routes told_routes) old mid → AddsPackets (AreServicePackets for_services false told_services) mid new
     → AddsPackets (AreTold ports routes services at) old new
-tells_both ports routes services at old mid new rs ss tr ts er es of_r of_s p q =
-    (p.0 ++ q.0,
-    q.1 ∙ ap (λ (t : List Sending). t ++ q.0) p.1 ∙ append_assoc (sendings old) p.0 q.0,
-    record {
-      told_routes = rs;
-      told_services = ss;
-      route_packets = p.0;
-      service_packets = q.0;
-      are = refl;
-      of_routes = of_r;
-      of_services = of_s;
-      in_route_packets = subst (λ (t : Recipient). AreRoutePackets t rs p.0) er p.2;
-      in_service_packets = subst (λ (t : Recipient). AreServicePackets t false ss q.0) es q.2;
-    })
+tells_both ports routes services at old mid new rs ss tr ts er es of_r of_s p q = (
+  p.0 ++ q.0,
+  q.1 ∙ ap (λ (t : List Sending). t ++ q.0) p.1 ∙ append_assoc (sendings old) p.0 q.0,
+  record {
+    told_routes = rs;
+    told_services = ss;
+    route_packets = p.0;
+    service_packets = q.0;
+    are = refl;
+    of_routes = of_r;
+    of_services = of_s;
+    in_route_packets = subst (λ (t : Recipient). AreRoutePackets t rs p.0) er p.2;
+    in_service_packets = subst (λ (t : Recipient). AreServicePackets t false ss q.0) es q.2;
+  },
+)
 
 -- what was added to nothing is all
 pub adds_to_none : (P : List Sending → Type 0) (old new : List Reply) → old ≡ [] → AddsPackets P old new → P (sendings new)

@@ -24,7 +24,7 @@ Item : Type 0
 Item = ServiceKey × Source × ServiceMetric
 
 module _ (services : Services) (at : PortNow) (heard : List (ServiceKey × Source × ServiceMetric)) (listing : IsListing service_key_cmp service_before services at.now heard)
-  (one : (c : Services) (key : ServiceKey) (now : ℕ) (a b : Source × ServiceMetric) → IsBest service_before c key now a → IsBest service_before c key now b → a ≡ b) where
+    (one : (c : Services) (key : ServiceKey) (now : ℕ) (a b : Source × ServiceMetric) → IsBest service_before c key now a → IsBest service_before c key now b → a ≡ b) where
   abbrev comes_elsewhere : ServiceKey × Source × ServiceMetric → Bool
   comes_elsewhere item = not (item.1.port == at.number)
 

@@ -121,10 +121,12 @@ fn answer_sap(
             let replies = reply_services(alloc, services, at, to, nearest, kind)?;
             return Ok(Outcome::Replies(replies));
         }
-        Ok(Sap::Response {
-            nearest: _,
-            services: entries,
-        }) => {
+        Ok(
+            Sap::Response {
+                nearest: _,
+                services: entries,
+            },
+        ) => {
             let source = neighbour_of(at, packet.header);
             let heard = hear_services(alloc, services, source, &entries, at.now);
             return outcome_of_hearing(heard);

@@ -9,7 +9,9 @@ ghost use Rattle.ipx_router.specs.Ports.{AreFromPorts, IsPortNumber};
 use crate::networks::has_network;
 use crate::port::Port;
 use ipx_control::{RipEntry, ServiceEntry};
-use ipx_tables::{RouteMetric, RouteTable, ServiceKey, ServiceMetric, ServiceTable, Source, TableFault};
+use ipx_tables::{
+    RouteMetric, RouteTable, ServiceKey, ServiceMetric, ServiceTable, Source, TableFault,
+};
 use std::alloc::Global;
 
 fn is_route_heard(ports: &[Port], entry: &RipEntry) -> bool

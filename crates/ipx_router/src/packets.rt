@@ -14,11 +14,14 @@ use ipx_wire::{Address, IpxHeader, Node, OutOfMemory, Packet, Socket, encode_int
 use std::alloc::Global;
 
 pub const BROADCAST: Node = Node([0xff; 6]);
+
 pub const RIP_SOCKET: Socket = Socket(0x0453);
+
 pub const SAP_SOCKET: Socket = Socket(0x0452);
 
 /// How many entries a packet holds at most.
 const MOST_ROUTES_A_PACKET: usize = 50;
+
 const MOST_SERVICES_A_PACKET: usize = 7;
 
 /// Whom a packet of the router's own goes to: a node and socket of the network of a port.
@@ -31,11 +34,7 @@ pub struct Recipient {
 }
 
 /// The bytes of a packet.
-pub fn packet_bytes(
-    alloc: Global,
-    header: IpxHeader,
-    body: &[u8],
-) -> Result<Vec<u8>, OutOfMemory>
+pub fn packet_bytes(alloc: Global, header: IpxHeader, body: &[u8]) -> Result<Vec<u8>, OutOfMemory>
     requires { length body.now ≤ 1470 }
     ensures { IfOk result (λ v. IsIpx (record { header = header; body = body.now }) v.items []) }
 {

@@ -44,12 +44,7 @@ fn everyone(number: u8, port: Port, socket: Socket) -> Recipient
 }
 
 /// Adds a request for all routes and a query for all services.
-fn ask_on(
-    alloc: Global,
-    asked: &mut Vec<Reply>,
-    number: u8,
-    port: Port,
-) -> Result<(), OutOfMemory>
+fn ask_on(alloc: Global, asked: &mut Vec<Reply>, number: u8, port: Port) -> Result<(), OutOfMemory>
     ensures { OnOk result (AddsPackets (AreAsked number port) asked.old.items asked.new.items) }
 {
     let all = RipEntry {

@@ -61,12 +61,7 @@ fn text_of(alloc: Global, replies: &[Reply]) -> Result<String, Fail> {
 }
 
 /// The text of the packets that answer a packet, or of none.
-fn replies_to(
-    alloc: Global,
-    router: &mut Router,
-    number: u8,
-    text: &str,
-) -> Result<String, Fail> {
+fn replies_to(alloc: Global, router: &mut Router, number: u8, text: &str) -> Result<String, Fail> {
     match answer(alloc, router, number, text, 0)? {
         Outcome::Replies(replies) => text_of(alloc, &replies),
         _ => Ok(String::from_str(alloc, "no replies")?),
@@ -85,11 +80,14 @@ fn route_rows(rt: HostRuntime) -> Result<(), Fail> {
     assert!(rt; matches!(heard, Outcome::Heard(1)));
 
     let told = text_of(alloc, &router.tell(alloc, 0)?)?;
-    assert_eq!(rt; told.as_str(), "\
+    assert_eq!(rt;
+        told.as_str(),
+        "\
 1 ffffffffffff ffff0038000100000011ffffffffffff04530000001100007f00000104530002000000220001000100000033000100010000004400020004
 2 ffffffffffff ffff0030000100000022ffffffffffff04530000002200007f0000020453000200000011000100020000003300010002
 3 ffffffffffff ffff0038000100000033ffffffffffff04530000003300007f00000604530002000000110001000100000022000100010000004400020004
-");
+"
+    );
     assert!(rt; router.tell(alloc, 59_999)?.is_empty());
     assert_eq!(rt; router.tell(alloc, 60_000)?.len(), 3);
 
@@ -103,7 +101,10 @@ fn route_rows(rt: HostRuntime) -> Result<(), Fail> {
         }
         _ => String::new(alloc),
     };
-    assert_eq!(rt; onward.as_str(), "2 00007f000009 ffff001e01000000004400007f00000540000000001100007f0000034001");
+    assert_eq!(rt;
+        onward.as_str(),
+        "2 00007f000009 ffff001e01000000004400007f00000540000000001100007f0000034001"
+    );
     let late = answer(alloc, &mut router, 1, packet, 180_000)?;
     assert!(rt; matches!(late, Outcome::Dropped(Reason::NoRoute(Network(0x44)))));
     Ok(())
@@ -118,9 +119,12 @@ fn asked_routes(rt: HostRuntime) -> Result<(), Fail> {
     let asked = "ffff0040000100000011ffffffffffff04530000001100007f00000340010001\
 00000044ffffffff00000099ffffffff00000022ffffffff00000044ffffffff";
     let told = replies_to(alloc, &mut router, 1, asked)?;
-    assert_eq!(rt; told.as_str(), "\
+    assert_eq!(rt;
+        told.as_str(),
+        "\
 1 00007f000003 ffff003800010000001100007f00000340010000001100007f00000104530002000000440002000400000022000100010000004400020004
-");
+"
+    );
     Ok(())
 }
 
@@ -130,10 +134,13 @@ fn starting(rt: HostRuntime) -> Result<(), Fail> {
     let router = three_ports(alloc)?;
     let asked = router.start(alloc)?;
     assert_eq!(rt; asked.len(), 6);
-    assert_eq!(rt; text_of(alloc, &asked[..2])?.as_str(), "\
+    assert_eq!(rt;
+        text_of(alloc, &asked[..2])?.as_str(),
+        "\
 1 ffffffffffff ffff0028000100000011ffffffffffff04530000001100007f00000104530001ffffffffffffffff
 1 ffffffffffff ffff0022000400000011ffffffffffff04520000001100007f00000104520001ffff
-");
+"
+    );
     Ok(())
 }
 
@@ -141,7 +148,9 @@ fn starting(rt: HostRuntime) -> Result<(), Fail> {
 /// letters from one on and are zero behind, all at 00000044 000000000001 0451.
 fn services(alloc: Global, first: u8, count: u8, hops: u8) -> Result<String, Fail> {
     let length = hex::encode(alloc, (32 + 64 * count as u16).to_be_bytes())?;
-    let mut text = format!(in alloc; "ffff{length}000400000022ffffffffffff04520000002200007f00000904520002")?;
+    let mut text = format!(in alloc;
+        "ffff{length}000400000022ffffffffffff04520000002200007f00000904520002"
+    )?;
     for i in 0..count {
         let letter = hex::encode(alloc, [first.wrapping_add(i)])?;
         text.push_str("0004")?;
@@ -160,7 +169,9 @@ fn services(alloc: Global, first: u8, count: u8, hops: u8) -> Result<String, Fai
 fn query(alloc: Global, network: u8, operation: u8, kind: &str) -> Result<String, Fail> {
     let network = hex::encode(alloc, [0, 0, 0, network])?;
     let operation = hex::encode(alloc, [0, operation])?;
-    let text = format!(in alloc; "ffff00220004{network}ffffffffffff0452{network}00007f0000034001{operation}{kind}")?;
+    let text = format!(in alloc;
+        "ffff00220004{network}ffffffffffff0452{network}00007f0000034001{operation}{kind}"
+    )?;
     Ok(text)
 }
 
@@ -168,7 +179,10 @@ fn query(alloc: Global, network: u8, operation: u8, kind: &str) -> Result<String
 fn lengths(alloc: Global, router: &mut Router, number: u8, text: &str) -> Result<Vec<usize>, Fail> {
     match answer(alloc, router, number, text, 0)? {
         Outcome::Replies(replies) => {
-            let lengths = replies.iter().map(|reply| reply.bytes.len()).collect::<Vec<usize>>(alloc)?;
+            let lengths = replies
+                .iter()
+                .map(|reply| reply.bytes.len())
+                .collect::<Vec<usize>>(alloc)?;
             Ok(lengths)
         }
         _ => Ok(vec![in alloc; 0; 1]?),
@@ -185,7 +199,10 @@ fn service_rows(rt: HostRuntime) -> Result<(), Fail> {
     let two = services(alloc, b'A', 2, 2)?;
     assert!(rt; matches!(answer(alloc, &mut router, 2, &two, 0)?, Outcome::Heard(2)));
     let nearest = replies_to(alloc, &mut router, 1, &query(alloc, 0x11, 3, "0004")?)?;
-    let mut wanted = String::from_str(alloc, "1 00007f000003 ffff006000040000001100007f00000340010000001100007f0000010452000400044100")?;
+    let mut wanted = String::from_str(
+        alloc,
+        "1 00007f000003 ffff006000040000001100007f00000340010000001100007f0000010452000400044100",
+    )?;
     for _ in 0..46 {
         wanted.push_str("00")?;
     }
@@ -196,10 +213,18 @@ fn service_rows(rt: HostRuntime) -> Result<(), Fail> {
 
     let six = services(alloc, b'C', 6, 2)?;
     assert!(rt; matches!(answer(alloc, &mut router, 2, &six, 0)?, Outcome::Heard(6)));
-    assert_eq!(rt; lengths(alloc, &mut router, 1, &general)?.as_slice(), [480, 96].as_slice());
+    assert_eq!(rt;
+        lengths(alloc, &mut router, 1, &general)?.as_slice(),
+        [480, 96].as_slice()
+    );
     let eight = services(alloc, b'A', 8, 2)?;
     let refused = answer(alloc, &mut router, 2, &eight, 0)?;
-    assert!(rt; matches!(refused, Outcome::Dropped(Reason::BadControl(ControlFault::TooManyEntries(8)))));
+    assert!(rt;
+        matches!(
+            refused,
+            Outcome::Dropped(Reason::BadControl(ControlFault::TooManyEntries(8)))
+        )
+    );
     Ok(())
 }
 
@@ -216,7 +241,10 @@ fn farthest_service(rt: HostRuntime) -> Result<(), Fail> {
 
 /// A RIP response on port 2 with 50 networks from a first one on.
 fn fifty_networks(alloc: Global, first: u32) -> Result<String, Fail> {
-    let mut text = String::from_str(alloc, "ffff01b0000100000022ffffffffffff04530000002200007f00000904530002")?;
+    let mut text = String::from_str(
+        alloc,
+        "ffff01b0000100000022ffffffffffff04530000002200007f00000904530002",
+    )?;
     for i in 0..50u32 {
         let network = hex::encode(alloc, first.wrapping_add(i).to_be_bytes())?;
         text.push_str(&network)?;
@@ -230,15 +258,33 @@ fn full_table(rt: HostRuntime) -> Result<(), Fail> {
     let alloc = rt.alloc();
     let mut router = three_ports(alloc)?;
     for i in 0..20u32 {
-        let heard = answer(alloc, &mut router, 2, &fifty_networks(alloc, 1000 + 50 * i)?, 0)?;
+        let heard = answer(
+            alloc,
+            &mut router,
+            2,
+            &fifty_networks(alloc, 1000 + 50 * i)?,
+            0,
+        )?;
         assert!(rt; matches!(heard, Outcome::Heard(50)));
     }
     // 24 more find room, and the others do not.
     let full = answer(alloc, &mut router, 2, &fifty_networks(alloc, 2000)?, 0)?;
     assert!(rt; matches!(full, Outcome::Dropped(Reason::TableFull)));
-    let last = answer(alloc, &mut router, 1, "ffff001e0000000007e700007f00000540000000001100007f0000034001", 0)?;
+    let last = answer(
+        alloc,
+        &mut router,
+        1,
+        "ffff001e0000000007e700007f00000540000000001100007f0000034001",
+        0,
+    )?;
     assert!(rt; matches!(last, Outcome::Forward(_)));
-    let past = answer(alloc, &mut router, 1, "ffff001e0000000007e800007f00000540000000001100007f0000034001", 0)?;
+    let past = answer(
+        alloc,
+        &mut router,
+        1,
+        "ffff001e0000000007e800007f00000540000000001100007f0000034001",
+        0,
+    )?;
     assert!(rt; matches!(past, Outcome::Dropped(Reason::NoRoute(Network(0x7e8)))));
     Ok(())
 }

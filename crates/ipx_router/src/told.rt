@@ -11,7 +11,9 @@ ghost use Rattle.ipx_router.specs.Placing.{AddsHeard, AreToldPorts, PutsEntry, i
 use crate::networks::direct_port;
 use crate::port::{Port, PortNow};
 use ipx_control::{RipEntry, ServiceEntry};
-use ipx_tables::{Metric, RouteMetric, RouteTable, ServiceKey, ServiceMetric, ServiceTable, Source, one_best};
+use ipx_tables::{
+    Metric, RouteMetric, RouteTable, ServiceKey, ServiceMetric, ServiceTable, Source, one_best,
+};
 use ipx_wire::{Network, OutOfMemory};
 use std::alloc::Global;
 
@@ -58,11 +60,7 @@ fn is_over_other_port(ports: &[Port], network: Network, at: PortNow) -> bool
 }
 
 /// The networks of the other ports, as they are told.
-fn told_ports(
-    alloc: Global,
-    ports: &[Port],
-    at: PortNow,
-) -> Result<Vec<RipEntry>, OutOfMemory>
+fn told_ports(alloc: Global, ports: &[Port], at: PortNow) -> Result<Vec<RipEntry>, OutOfMemory>
     ensures { IfOk result (λ v. AreToldPorts ports.now at (length ports.now) v.items) }
 {
     let mut told = Vec::new(alloc);

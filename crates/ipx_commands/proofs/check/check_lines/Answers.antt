@@ -31,8 +31,7 @@ loop-line-preserved c =
     c.loop-line.yielded _ c.loop-line.yielded_by _ _ c.in-Some.line c.in-Some.is c.next.ensures.steps in
     let v = verdict_view c.in-Some-2.verdict in
     let told = subst (λ (o : Option code.Verdict). MatchOption o (line_form line ≡ Malformed) (λ w. IsVerdict (line_form line) (verdict_view w))) c.in-Some-2.is c.in_ok-verdict.ensures in
-    let are = lines_more lines (length c.loop-line.yielded) line v inv.0 there.0 there.1 told inv.1 in
-    (
+    let are = lines_more lines (length c.loop-line.yielded) line v inv.0 there.0 there.1 told inv.1 in (
       inv.0 ++ v ∷ [],
       subst (λ (k : ℕ). AllZip IsVerdict (map line_form (take k lines)) (inv.0 ++ v ∷ [])) (sym (length_push c.loop-line.yielded c.in-Some.line)) are,
       c.in_ok-note-in-Some-2.ensures inv.0 inv.2,

@@ -51,6 +51,7 @@ loop-entry-preserved c =
 pub returns-clause-heard : goal.returns-clause-heard
 returns-clause-heard c =
     let entries = c.args.entries.now in
-    let all : c.loop-entry.entry-index ≡ length entries = omega arith in
-    (c.loop-entry.invariant.count ∙ ap (count_by (is_heard c.args.ports.now)) (take_all c.loop-entry.entry-index entries c.loop-entry-test.false),
-    subst (λ (n : ℕ). HeardRoutes c.args.ports.now c.args.source c.args.now entries (routes_in c.args.routes.now) n c.loop-entry.routes) all c.loop-entry.invariant.heard)
+    let all : c.loop-entry.entry-index ≡ length entries = omega arith in (
+      c.loop-entry.invariant.count ∙ ap (count_by (is_heard c.args.ports.now)) (take_all c.loop-entry.entry-index entries c.loop-entry-test.false),
+      subst (λ (n : ℕ). HeardRoutes c.args.ports.now c.args.source c.args.now entries (routes_in c.args.routes.now) n c.loop-entry.routes) all c.loop-entry.invariant.heard,
+    )
