@@ -4,4 +4,5 @@ pub mod Lines
 pub mod Tallies
 pub mod Inputs
 pub mod Places
+pub mod Protocols
 pub mod VectorLines

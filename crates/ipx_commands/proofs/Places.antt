@@ -1,5 +1,5 @@
 -- The place of an element, and the part in front of it; and texts of a list, one behind the other.
-use Rattle.std.proofs.Common.{◌≡◌, ◌<◌, ◌≤◌, ℕ, ◌+◌, Bool, true, false, List, ◌++◌, ◌∷◌, [], length, take, get_or, Option, Some, None, arith, sym, ap, ◌∙◌, refl, inl, inr, lt-ltb}
+use Rattle.std.proofs.Common.{◌≡◌, ◌<◌, ◌≤◌, ℕ, ◌+◌, Bool, List, ◌++◌, [], length, take, get_or, Some, None, sym, ap, ◌∙◌, refl, inl, inr, lt-ltb}
 use Rattle.std.specs.Prelude.{position}
 use Rattle.std.specs.List.{before_first, flat_map, position_or_len}
 use Rattle.std.proofs.lemmas.Bool.{cases_lt, le-ltb}

@@ -1,5 +1,5 @@
 -- The ports of the router that `hop` asks make a router, which knows nothing yet.
-use Rattle.std.proofs.Common.{◌≡◌, List, [], Some, None}
+use Rattle.std.proofs.Common.{◌≡◌, [], Some, None}
 use Rattle.ipx_router.specs.declared.fault.NewFault.{NewFault}
 use Rattle.ipx_router.specs.Routing.{Routing}
 use Rattle.ipx_router.specs.NewRouter.{first_twin, ports_fault}

@@ -1,6 +1,6 @@
 -- Verdicts one by one, and the lines up to the first one of no known form.
-use Rattle.std.proofs.Common.{◌≡◌, ◌<◌, ◌≤◌, ℕ, zero, ◌+◌, Bool, true, false, List, ◌++◌, ◌∷◌, [], length, take, drop, map, get_or, arith, sym, ap, ◌∙◌, refl, cond, subst, Result, Ok, Err, take-append-drop}
-use Rattle.std.specs.Prelude.{count_by, string_bytes, if◌then◌else◌, ◌==◌, IfOk}
+use Rattle.std.proofs.Common.{◌≡◌, ◌<◌, ◌≤◌, ℕ, ◌+◌, Bool, true, false, List, ◌++◌, ◌∷◌, [], length, take, drop, map, get_or, arith, sym, ap, ◌∙◌, refl, cond, subst, Result, Ok, Err, take-append-drop}
+use Rattle.std.specs.Prelude.{string_bytes, if◌then◌else◌, ◌==◌, IfOk}
 use Rattle.std.specs.List.{AllZip, enumerate_from, flat_map, list_all, take_while}
 use Rattle.std.proofs.lemmas.Grind.{flat_map-append}
 use Rattle.std.proofs.lemmas.List.{append-nil, drop_more, length-append, length-map, length-take, map-append, map_push, take_all, take_more}

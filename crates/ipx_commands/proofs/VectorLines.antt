@@ -1,11 +1,10 @@
 -- What a line of vectors is, test by test.
-use Rattle.std.proofs.Common.{◌≡◌, ℕ, ◌+◌, ◌-◌, Bool, true, false, List, length, take, drop, Option, Some, None, Result, Ok, Err, sym, ap, ◌∙◌, refl, codes, nat_eq}
+use Rattle.std.proofs.Common.{◌≡◌, ℕ, true, false, List, drop, Some, Result, Ok, Err, sym, ◌∙◌, refl, codes, nat_eq}
 use Rattle.std.specs.Prelude.{◌==◌, position, IfOk}
 use Rattle.std.specs.List.{list_all, starts_with}
 use Rattle.std.specs.Result.{result_ok}
-use Rattle.std.proofs.lemmas.List.{take_rest}
 use Rattle.hex.specs.Hex.{decode_of}
-use Rattle.ipx_commands.specs.CheckLine.{LineForm, Malformed, Skipped, bad_vector, fault_number, line_form, vector_of}
+use Rattle.ipx_commands.specs.CheckLine.{LineForm, bad_vector, line_form, vector_of}
 
 pub ok_line : (line : List ℕ) → list_all (λ b. b == 32) line ≡ false → starts_with nat_eq line (codes "#") ≡ false → starts_with nat_eq line (codes "ok ") ≡ true
     → line_form line ≡ vector_of (Some 0) (result_ok (decode_of (drop 3 line)))

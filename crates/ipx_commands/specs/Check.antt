@@ -4,11 +4,13 @@ use Rattle.std.specs.List.{AllZip, enumerate_from, flat_map, list_all, take_whil
 use Rattle.std.specs.Fmt.{decimal}
 use Rattle.ipx_wire.specs.declared.fault.IpxFault.{IpxFault}
 use Rattle.ipx_wire.specs.declared.fault.IpxFault.TheVariants.{Short, Checksummed, LengthShort, Truncated, TooLong}
+use Rattle.ipx_wire.specs.declared.spx.fault.SpxFault.{SpxFault}
+use Rattle.ipx_wire.specs.declared.spx.fault.SpxFault.TheVariants.{SpxShort, OverSize}
 use Rattle.ipx_control.specs.declared.fault.ControlFault.{ControlFault}
 use Rattle.ipx_control.specs.declared.fault.ControlFault.TheVariants.{NoOperation, UnknownOperation, TooManyEntries, QueryShort, OutOfMemory}
 use Rattle.ipx_commands.specs.declared.check.Verdict as code
 use Rattle.ipx_commands.specs.declared.check.Verdict.TheVariants as verdicts
-use Rattle.ipx_commands.specs.Reading.{Datum, NoPacket, NoControl, Holds, IsReading}
+use Rattle.ipx_commands.specs.Reading.{Datum, NoPacket, NoSpx, NoControl, Holds, IsReading}
 use Rattle.ipx_commands.specs.CheckLine.{LineForm, Skipped, Vector, Malformed, input_lines, line_form}
 
 -- a fault's number
@@ -18,6 +20,10 @@ ipx_fault_number (Checksummed value) = 2
 ipx_fault_number (LengthShort value) = 3
 ipx_fault_number (Truncated said have) = 4
 ipx_fault_number (TooLong value) = 5
+
+abbrev pub spx_fault_number : SpxFault → ℕ
+spx_fault_number (SpxShort have) = 6
+spx_fault_number (OverSize have) = 7
 
 abbrev pub control_fault_number : ControlFault → ℕ
 control_fault_number NoOperation = 8
@@ -29,6 +35,7 @@ control_fault_number OutOfMemory = 12
 -- the number of the fault that refuses a datagram, 0 where none does
 abbrev pub outcome : Datum → ℕ
 outcome (NoPacket f) = ipx_fault_number f
+outcome (NoSpx f) = spx_fault_number f
 outcome (NoControl f) = control_fault_number f
 outcome (Holds d c) = 0
 

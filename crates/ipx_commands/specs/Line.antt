@@ -6,6 +6,8 @@ use Rattle.hex.specs.Hex.{encode_lower}
 use Rattle.std.specs.Int.{w32, to_be_bytes}
 use Rattle.ipx_wire.specs.declared.fault.IpxFault.{IpxFault}
 use Rattle.ipx_wire.specs.declared.fault.IpxFault.TheVariants.{Short, Checksummed, LengthShort, Truncated, TooLong}
+use Rattle.ipx_wire.specs.declared.spx.fault.SpxFault.{SpxFault}
+use Rattle.ipx_wire.specs.declared.spx.fault.SpxFault.TheVariants.{SpxShort, OverSize}
 use Rattle.ipx_control.specs.declared.fault.ControlFault.{ControlFault}
 use Rattle.ipx_control.specs.declared.fault.ControlFault.TheVariants as control
 use Rattle.ipx_router.specs.declared.reason.Reason.{Reason}
@@ -20,6 +22,10 @@ fault_text (Checksummed value) = codes "(2) Checksummed " ++ decimal value
 fault_text (LengthShort value) = codes "(3) LengthShort " ++ decimal value
 fault_text (Truncated said have) = codes "(4) Truncated " ++ (decimal said ++ (codes " " ++ decimal have))
 fault_text (TooLong value) = codes "(5) TooLong " ++ decimal value
+
+abbrev pub spx_fault_text : SpxFault → List ℕ
+spx_fault_text (SpxShort have) = codes "(6) SpxShort " ++ decimal have
+spx_fault_text (OverSize have) = codes "(7) OverSize " ++ decimal have
 
 abbrev pub control_fault_text : ControlFault → List ℕ
 control_fault_text control.NoOperation = codes "(8) NoOperation"

@@ -2,7 +2,10 @@
 use Rattle.std.specs.Prelude.{◌≡◌, ℕ, List, Option, Some, None, ◌==◌, if◌then◌else◌}
 use Rattle.ipx_wire.specs.declared.packet.IpxHeader.{IpxHeader}
 use Rattle.ipx_wire.specs.declared.fault.IpxFault.{IpxFault}
+use Rattle.ipx_wire.specs.declared.spx.SpxHeader.{SpxHeader}
+use Rattle.ipx_wire.specs.declared.spx.fault.SpxFault.{SpxFault}
 use Rattle.ipx_wire.specs.Ipx.{Datagram, IsIpx, ipx_fault, view}
+use Rattle.ipx_wire.specs.Spx.{IsSpx, spx_fault}
 use Rattle.ipx_control.specs.declared.fault.ControlFault.{ControlFault}
 use Rattle.ipx_control.specs.Rip.{RipMessage, IsRip, rip_fault, rip_view}
 use Rattle.ipx_control.specs.Sap.{SapMessage, IsSap, sap_fault, sap_view}
@@ -18,33 +21,38 @@ pub data Protocol : Type 0 where
   Sap : Protocol
   Other : Protocol
 
--- packet type 5 is SPX, whatever the socket; else destination socket 0453 is RIP and 0452 SAP
-abbrev pub protocol_of : IpxHeader → Protocol
-protocol_of h =
-    if h.kind == 5 then Spx
-    else if h.to.socket.0 == 0x453 then Rip
-    else if h.to.socket.0 == 0x452 then Sap
+-- destination socket 0453 is RIP and 0452 SAP
+abbrev pub protocol_at : ℕ → Protocol
+protocol_at socket =
+    if socket == 0x453 then Rip
+    else if socket == 0x452 then Sap
     else Other
+
+-- packet type 5 is SPX, whatever the socket
+abbrev pub protocol_of : IpxHeader → Protocol
+protocol_of h = if h.kind == 5 then Spx else protocol_at h.to.socket.0
 
 -- what a body holds, without where it lies in memory
 pub data Content : Type 0 where
   Plain : Content
+  OfSpx : SpxHeader → List ℕ → Content
   OfRip : RipMessage → Content
   OfSap : SapMessage → Content
 
 abbrev pub content_view : code.Contents → Content
 content_view bodies.Plain = Plain
+content_view (bodies.OfSpx header payload) = OfSpx header payload.now
 content_view (bodies.OfRip rip) = OfRip (rip_view rip)
 content_view (bodies.OfSap sap) = OfSap (sap_view sap)
 
--- a body's bytes hold this; only those of RIP and SAP are read
+-- a body's bytes hold this; only those of SPX, RIP and SAP are read
 abbrev pub IsContent : Protocol → List ℕ → Content → Type 0
-IsContent Spx body c = c ≡ Plain
+IsContent Spx body c = (h : SpxHeader) × (payload : List ℕ) × IsSpx h payload body × (c ≡ OfSpx h payload)
 IsContent Rip body c = (m : RipMessage) × (tail : List ℕ) × IsRip m body tail × (c ≡ OfRip m)
 IsContent Sap body c = (m : SapMessage) × (tail : List ℕ) × IsSap m body tail × (c ≡ OfSap m)
 IsContent Other body c = c ≡ Plain
 
--- the fault that refuses a body
+-- the fault that refuses a body of RIP or SAP
 abbrev pub body_fault : Protocol → List ℕ → Option ControlFault
 body_fault Spx body = None
 body_fault Rip body = rip_fault body
@@ -54,16 +62,19 @@ body_fault Other body = None
 -- a packet with what its body holds, or the fault that refuses the packet or its body
 pub data Datum : Type 0 where
   NoPacket : IpxFault → Datum
+  NoSpx : SpxFault → Datum
   NoControl : ControlFault → Datum
   Holds : Datagram → Content → Datum
 
 abbrev pub reading_view : readings_of.Reading → Datum
 reading_view (readings.NoPacket fault) = NoPacket fault
+reading_view (readings.NoSpx fault) = NoSpx fault
 reading_view (readings.NoControl fault) = NoControl fault
 reading_view (readings.Holds packet contents) = Holds (view packet) (content_view contents)
 
 -- the bytes are read as this
 abbrev pub IsReading : List ℕ → Datum → Type 0
 IsReading bytes (NoPacket f) = ipx_fault bytes ≡ Some f
+IsReading bytes (NoSpx f) = (d : Datagram) × (tail : List ℕ) × IsIpx d bytes tail × (protocol_of d.header ≡ Spx) × (spx_fault d.body ≡ Some f)
 IsReading bytes (NoControl f) = (d : Datagram) × (tail : List ℕ) × IsIpx d bytes tail × (body_fault (protocol_of d.header) d.body ≡ Some f)
 IsReading bytes (Holds d c) = (tail : List ℕ) × IsIpx d bytes tail × IsContent (protocol_of d.header) d.body c

@@ -5,13 +5,14 @@ use Rattle.std.specs.Fmt.{decimal}
 use Rattle.std.specs.Int.{w16, w32, to_be_bytes}
 use Rattle.hex.specs.Hex.{encode_lower}
 use Rattle.ipx_wire.specs.declared.address.Address.{Address}
+use Rattle.ipx_wire.specs.declared.spx.SpxHeader.{SpxHeader}
 use Rattle.ipx_wire.specs.Ipx.{Datagram}
 use Rattle.ipx_control.specs.declared.rip.RipEntry.{RipEntry}
 use Rattle.ipx_control.specs.declared.sap.ServiceEntry.{ServiceEntry}
 use Rattle.ipx_control.specs.Rip as rip
 use Rattle.ipx_control.specs.Sap as sap
-use Rattle.ipx_commands.specs.Line.{control_fault_text, fault_text}
-use Rattle.ipx_commands.specs.Reading.{Content, Plain, OfRip, OfSap, Datum, NoPacket, NoControl, Holds}
+use Rattle.ipx_commands.specs.Line.{control_fault_text, fault_text, spx_fault_text}
+use Rattle.ipx_commands.specs.Reading.{Content, Plain, OfSpx, OfRip, OfSap, Datum, NoPacket, NoSpx, NoControl, Holds}
 
 -- a network in 8 hex digits, a node in 12 and a socket in 4
 abbrev pub address_text : Address → List ℕ
@@ -23,6 +24,32 @@ abbrev pub header_lines : Datagram → List ℕ
 header_lines d =
     codes "ipx hops " ++ (decimal d.header.hops ++ (codes " kind " ++ (decimal d.header.kind ++ (codes " body " ++ (decimal (length d.body)
     ++ (codes "\nto " ++ (address_text d.header.to ++ (codes "\nfrom " ++ (address_text d.header.from ++ 10 ∷ [])))))))))
+
+-- a bit of the connection control
+abbrev pub bit_text : Bool → List ℕ
+bit_text bit = if bit then codes "1" else codes "0"
+
+abbrev pub control_text : SpxHeader → List ℕ
+control_text h =
+    codes "system " ++ (bit_text h.system ++ (codes " wants " ++ (bit_text h.wants_ack ++ (codes " last " ++ bit_text h.last))))
+
+-- a number of an SPX packet in 4 hex digits
+abbrev pub word_text : ℕ → List ℕ
+word_text n = encode_lower (to_be_bytes w16 n)
+
+-- the two connection ids
+abbrev pub ids_text : SpxHeader → List ℕ
+ids_text h = codes "from " ++ (word_text h.from_id ++ (codes " to " ++ word_text h.to_id))
+
+-- the three counts of units
+abbrev pub counts_text : SpxHeader → List ℕ
+counts_text h = codes "seq " ++ (word_text h.seq ++ (codes " ack " ++ (word_text h.ack ++ (codes " limit " ++ word_text h.limit))))
+
+-- an SPX packet; its datastream type in 2 hex digits
+abbrev pub spx_line : SpxHeader → List ℕ → List ℕ
+spx_line h payload =
+    codes "spx " ++ (control_text h ++ (codes " stream " ++ (encode_lower (h.stream ∷ []) ++ (codes " " ++ (ids_text h
+    ++ (codes " " ++ (counts_text h ++ (codes " body " ++ (decimal (length payload) ++ 10 ∷ [])))))))))
 
 -- a network of a RIP packet
 abbrev pub rip_entry_line : RipEntry → List ℕ
@@ -57,17 +84,20 @@ sap_lines (sap.Response nearest services) =
 -- the lines of what a body holds
 abbrev pub content_lines : Content → List ℕ
 content_lines Plain = []
+content_lines (OfSpx h payload) = spx_line h payload
 content_lines (OfRip m) = rip_lines m
 content_lines (OfSap m) = sap_lines m
 
 -- all the lines of a datagram
 abbrev pub reading_lines : Datum → List ℕ
 reading_lines (NoPacket f) = codes "refused " ++ (fault_text f ++ 10 ∷ [])
+reading_lines (NoSpx f) = codes "refused " ++ (spx_fault_text f ++ 10 ∷ [])
 reading_lines (NoControl f) = codes "refused " ++ (control_fault_text f ++ 10 ∷ [])
 reading_lines (Holds d c) = header_lines d ++ content_lines c
 
 -- the status that goes with them
 abbrev pub reading_status : Datum → ℕ
 reading_status (NoPacket f) = 1
+reading_status (NoSpx f) = 1
 reading_status (NoControl f) = 1
 reading_status (Holds d c) = 0

@@ -4,7 +4,7 @@ ghost use Rattle.std.specs.Prelude.{◌≡◌, ◌≤◌, ◌<◌, ◌+◌, ◌+
 ghost use Rattle.std.specs.Io.KnownBytes.{Appends};
 ghost use Rattle.ipx_commands.specs.Reading.{reading_view};
 ghost use Rattle.ipx_commands.specs.CheckLine.{Malformed as no_line, Vector as vector, input_lines, line_form};
-ghost use Rattle.ipx_commands.specs.Check.{CheckWrites, ChecksLines, Failed as told_failed, IsVerdict, Verdict as Told, check_status, control_fault_number, failed_line, failed_lines, ipx_fault_number, last_line, outcome, verdict_view};
+ghost use Rattle.ipx_commands.specs.Check.{CheckWrites, ChecksLines, Failed as told_failed, IsVerdict, Verdict as Told, check_status, control_fault_number, failed_line, failed_lines, ipx_fault_number, last_line, outcome, spx_fault_number, verdict_view};
 ghost use Rattle.ipx_commands.specs.Tally.{IsTally};
 
 use crate::check_line::{Line, read_line};
@@ -12,7 +12,7 @@ use crate::input::{InputFault, read_up_to};
 use crate::output::{tell_no_memory, write_lines};
 use crate::reading::{Reading, read_datagram};
 use ipx_control::ControlFault;
-use ipx_wire::{IpxFault, OutOfMemory};
+use ipx_wire::{IpxFault, OutOfMemory, SpxFault};
 use std::alloc::{AllocError, Global};
 use std::io::{Read, Write};
 
@@ -49,6 +49,15 @@ fn number_of_ipx_fault(fault: IpxFault) -> u8
     }
 }
 
+fn number_of_spx_fault(fault: SpxFault) -> u8
+    ensures { result ≡ spx_fault_number fault }
+{
+    match fault {
+        SpxFault::SpxShort(_) => 6,
+        SpxFault::OverSize(_) => 7,
+    }
+}
+
 fn number_of_control_fault(fault: ControlFault) -> u8
     ensures { result ≡ control_fault_number fault }
 {
@@ -67,6 +76,7 @@ fn outcome_of(reading: &Reading<'_>) -> u8
 {
     match reading {
         Reading::NoPacket(fault) => return number_of_ipx_fault(*fault),
+        Reading::NoSpx(fault) => return number_of_spx_fault(*fault),
         Reading::NoControl(fault) => return number_of_control_fault(*fault),
         Reading::Holds(_, _) => return 0,
     }

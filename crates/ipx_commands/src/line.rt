@@ -4,11 +4,11 @@ ghost use Rattle.std.specs.Prelude.{◌≡◌, IfOk, string_bytes};
 ghost use Rattle.std.specs.List.{flat_map};
 ghost use Rattle.ipx_router.specs.Answer.{view};
 ghost use Rattle.ipx_router.specs.Packets.{sending_of, sendings};
-ghost use Rattle.ipx_commands.specs.Line.{control_fault_text, fault_text, lines_of, reason_text, sending_line, sending_text, status_of};
+ghost use Rattle.ipx_commands.specs.Line.{control_fault_text, fault_text, lines_of, reason_text, sending_line, sending_text, spx_fault_text, status_of};
 
 use ipx_control::ControlFault;
 use ipx_router::{Outcome, Reason, Reply};
-use ipx_wire::IpxFault;
+use ipx_wire::{IpxFault, SpxFault};
 use std::alloc::{AllocError, Global};
 
 pub fn fault_to_text(alloc: Global, fault: IpxFault) -> Result<String, AllocError>
@@ -20,6 +20,15 @@ pub fn fault_to_text(alloc: Global, fault: IpxFault) -> Result<String, AllocErro
         IpxFault::LengthShort(value) => format!(in alloc; "(3) LengthShort {value}"),
         IpxFault::Truncated(said, have) => format!(in alloc; "(4) Truncated {said} {have}"),
         IpxFault::TooLong(value) => format!(in alloc; "(5) TooLong {value}"),
+    }
+}
+
+pub fn spx_fault_to_text(alloc: Global, fault: SpxFault) -> Result<String, AllocError>
+    ensures { IfOk result (λ t. string_bytes t ≡ spx_fault_text fault) }
+{
+    match fault {
+        SpxFault::SpxShort(have) => format!(in alloc; "(6) SpxShort {have}"),
+        SpxFault::OverSize(have) => format!(in alloc; "(7) OverSize {have}"),
     }
 }
 

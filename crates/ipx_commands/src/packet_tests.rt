@@ -15,6 +15,10 @@ const SHORT: &str = "ffff001d00000000002200007f00000540000000001100007f000003400
 const TWO_NETWORKS: &str =
     "ffff0030000100000022ffffffffffff04530000002200007f0000020453000200000011000100020000003300010002";
 
+/// An SPX packet of three bytes that ends a message and asks to be acknowledged.
+const SPX: &str =
+    "ffff002d02050000003300007f00000740000000001100007f0000034001500000010001000000000007616263";
+
 const NEAREST_QUERY: &str = "ffff0022000400000011ffffffffffff04520000001100007f000003400000030004";
 
 /// The lines that `show` writes, and its answer.
@@ -62,11 +66,21 @@ fn show_rows(rt: HostRuntime) -> Result<(), Fail> {
         ),
         (SHORT, "refused (3) LengthShort 29\n", 1),
         ("", "refused (1) Short 0\n", 1),
-        // Packet type 5 is SPX, whatever the socket.
         (
-            "ffff0020000500000011ffffffffffff04530000001100007f00000340000009",
-            "ipx hops 0 kind 5 body 2\nto 00000011 ffffffffffff 0453\nfrom 00000011 00007f000003 4000\n",
+            SPX,
+            "ipx hops 2 kind 5 body 15\nto 00000033 00007f000007 4000\nfrom 00000011 00007f000003 4001\nspx system 0 wants 1 last 1 stream 00 from 0001 to 0001 seq 0000 ack 0000 limit 0007 body 3\n",
             0,
+        ),
+        // Packet type 5 is SPX, whatever the socket; the free bits of its control byte are ignored.
+        (
+            "ffff002a000500000011ffffffffffff04530000001100007f0000034000afabc0de0102030405060708",
+            "ipx hops 0 kind 5 body 12\nto 00000011 ffffffffffff 0453\nfrom 00000011 00007f000003 4000\nspx system 1 wants 0 last 0 stream ab from c0de to 0102 seq 0304 ack 0506 limit 0708 body 0\n",
+            0,
+        ),
+        (
+            "ffff0020000500000011ffffffffffff04520000001100007f00000340000003",
+            "refused (6) SpxShort 2\n",
+            1,
         ),
         (
             "FFFF0020000100000011FFFFFFFFFFFF04530000001100007F00000340000001",
@@ -82,6 +96,55 @@ fn show_rows(rt: HostRuntime) -> Result<(), Fail> {
         let (written, answer) = shown(rt.alloc(), text);
         assert_eq!(rt; answer, Ok(status), "{text}");
         assert_eq!(rt; written.as_slice(), lines.as_bytes(), "{text}");
+    }
+    Ok(())
+}
+
+/// A packet of type 5 with a length in hex and a body of this many zero bytes.
+fn spx_with(alloc: Global, length: &str, body: usize) -> Result<String, AllocError> {
+    let mut text = format!(in alloc;
+        "ffff{length}00050000003300007f00000740000000001100007f0000034001"
+    )?;
+    for _ in 0..body {
+        text.push_str("00")?;
+    }
+    Ok(text)
+}
+
+#[test]
+fn sizes_of_spx_bodies(rt: HostRuntime) -> Result<(), Fail> {
+    let rows = [
+        ("001e", 0, "refused (6) SpxShort 0\n", "bad 6 ", 1),
+        ("0029", 11, "refused (6) SpxShort 11\n", "bad 6 ", 1),
+        (
+            "002a",
+            12,
+            "ipx hops 0 kind 5 body 12\nto 00000033 00007f000007 4000\nfrom 00000011 00007f000003 4001\nspx system 0 wants 0 last 0 stream 00 from 0000 to 0000 seq 0000 ack 0000 limit 0000 body 0\n",
+            "ok ",
+            0,
+        ),
+        (
+            "0240",
+            546,
+            "ipx hops 0 kind 5 body 546\nto 00000033 00007f000007 4000\nfrom 00000011 00007f000003 4001\nspx system 0 wants 0 last 0 stream 00 from 0000 to 0000 seq 0000 ack 0000 limit 0000 body 534\n",
+            "ok ",
+            0,
+        ),
+        ("0241", 547, "refused (7) OverSize 547\n", "bad 7 ", 1),
+    ];
+    for (length, body, lines, vector, status) in rows {
+        let packet = spx_with(rt.alloc(), length, body)?;
+        let (written, answer) = shown(rt.alloc(), packet.as_str());
+        assert_eq!(rt; answer, Ok(status), "{body}");
+        assert_eq!(rt; written.as_slice(), lines.as_bytes(), "{body}");
+        let text = format!(in rt.alloc(); "{vector}{packet}")?;
+        let (written, answer) = checked(rt.alloc(), text.as_str());
+        assert_eq!(rt; answer, Ok(0), "{body}");
+        assert_eq!(rt;
+            written.as_slice(),
+            b"checked 1 failed 0\n".as_slice(),
+            "{body}"
+        );
     }
     Ok(())
 }
@@ -171,6 +234,8 @@ fn check_rows(rt: HostRuntime) -> Result<(), Fail> {
         ("\n\n", "", "", "checked 0 failed 0\n", 0),
         ("bad 39 ", PACKET, "", "line 1\nchecked 1 failed 1\n", 1),
         ("bad 1 ", "ff", "", "checked 1 failed 0\n", 0),
+        ("ok ", SPX, "", "checked 1 failed 0\n", 0),
+        ("bad 6 ", SPX, "", "line 1\nchecked 1 failed 1\n", 1),
     ];
     for (before, packet, after, lines, status) in rows {
         let text = format!(in rt.alloc(); "{before}{packet}{after}")?;
@@ -242,7 +307,7 @@ fn comments_of_any_bytes(rt: HostRuntime) {
     );
 }
 
-/// The lines of P have 87 bytes.
+/// The lines of PACKET have 87 bytes.
 #[test]
 fn faults_of_writer_in_show(rt: HostRuntime) {
     for left in 0..87 {

@@ -1,16 +1,18 @@
 //! What a datagram is: a packet with what its body holds, or why it is refused.
 
 ghost use Rattle.std.specs.Prelude.{◌≡◌, ◌⊎◌, IfOk, IfErr, Some, None};
-ghost use Rattle.ipx_commands.specs.Reading.{IsContent, IsReading, body_fault, content_view, protocol_of, reading_view};
+ghost use Rattle.ipx_wire.specs.Spx.{spx_fault};
+ghost use Rattle.ipx_commands.specs.Reading.{IsContent, IsReading, Spx, body_fault, content_view, protocol_at, reading_view};
 
 use ipx_control::{ControlFault, Rip, Sap, decode_rip, decode_sap};
-use ipx_wire::{IpxFault, OutOfMemory, Packet, decode};
+use ipx_wire::{IpxFault, OutOfMemory, Packet, Socket, SpxFault, SpxHeader, decode, decode_spx};
 use std::alloc::Global;
 
-/// What a body holds.
+/// What a body holds. The payload of an SPX packet is lent.
 #[derive(Debug, Drop)]
-pub enum Contents {
+pub enum Contents<'a> {
     Plain,
+    OfSpx(SpxHeader, &'a [u8]),
     OfRip(Rip),
     OfSap(Sap),
 }
@@ -19,31 +21,42 @@ pub enum Contents {
 #[derive(Debug, Drop)]
 pub enum Reading<'a> {
     NoPacket(IpxFault),
+    NoSpx(SpxFault),
     NoControl(ControlFault),
-    Holds(Packet<'a>, Contents),
+    Holds(Packet<'a>, Contents<'a>),
 }
 
-/// What the body of a packet holds. Packet type 5 is SPX, whatever the socket; else the
-/// destination socket says whether it is RIP or SAP.
-fn contents_of(alloc: Global, packet: &Packet<'_>) -> Result<Contents, ControlFault>
-    ensures found { IfOk result (λ c. IsContent (protocol_of packet.now.header) packet.now.body.now (content_view c)) }
-    ensures fault { IfErr result (λ f. (f ≡ ControlFault.OutOfMemory) ⊎ (body_fault (protocol_of packet.now.header) packet.now.body.now ≡ Some f)) }
+/// What the body of a packet of type 5 holds.
+fn spx_contents(body: &[u8]) -> Result<Contents<'_>, SpxFault>
+    ensures found { IfOk result (λ c. IsContent Spx body.now (content_view c)) }
+    ensures fault { IfErr result (λ f. spx_fault body.now ≡ Some f) }
 {
-    if packet.header.kind == 5 {
-        return Ok(Contents::Plain);
-    }
-    if packet.header.to.socket.0 == 0x453 {
-        let rip = decode_rip(alloc, packet.body)?;
+    let (header, payload) = decode_spx(body)?;
+    Ok(Contents::OfSpx(header, payload))
+}
+
+/// What the body of a packet of another type holds: the destination socket says whether it is RIP
+/// or SAP.
+fn contents_at<'a>(
+    alloc: Global,
+    socket: Socket,
+    body: &'a [u8],
+) -> Result<Contents<'a>, ControlFault>
+    ensures found { IfOk result (λ c. IsContent (protocol_at socket.0) body.now (content_view c)) }
+    ensures fault { IfErr result (λ f. (f ≡ ControlFault.OutOfMemory) ⊎ (body_fault (protocol_at socket.0) body.now ≡ Some f)) }
+{
+    if socket.0 == 0x453 {
+        let rip = decode_rip(alloc, body)?;
         return Ok(Contents::OfRip(rip));
     }
-    if packet.header.to.socket.0 == 0x452 {
-        let sap = decode_sap(alloc, packet.body)?;
+    if socket.0 == 0x452 {
+        let sap = decode_sap(alloc, body)?;
         return Ok(Contents::OfSap(sap));
     }
     Ok(Contents::Plain)
 }
 
-/// What a datagram is.
+/// What a datagram is. Packet type 5 is SPX, whatever the socket.
 pub fn read_datagram(alloc: Global, bytes: &[u8]) -> Result<Reading<'_>, OutOfMemory>
     ensures { IfOk result (λ r. IsReading bytes.now (reading_view r)) }
 {
@@ -51,7 +64,13 @@ pub fn read_datagram(alloc: Global, bytes: &[u8]) -> Result<Reading<'_>, OutOfMe
         Ok(packet) => packet,
         Err(fault) => return Ok(Reading::NoPacket(fault)),
     };
-    match contents_of(alloc, &packet) {
+    if packet.header.kind == 5 {
+        match spx_contents(packet.body) {
+            Ok(contents) => return Ok(Reading::Holds(packet, contents)),
+            Err(fault) => return Ok(Reading::NoSpx(fault)),
+        }
+    }
+    match contents_at(alloc, packet.header.to.socket, packet.body) {
         Ok(contents) => return Ok(Reading::Holds(packet, contents)),
         Err(ControlFault::OutOfMemory) => return Err(OutOfMemory),
         Err(fault) => return Ok(Reading::NoControl(fault)),

@@ -6,13 +6,13 @@ ghost use Rattle.ipx_wire.specs.Ipx.{view};
 ghost use Rattle.ipx_control.specs.Rip.{rip_view};
 ghost use Rattle.ipx_control.specs.Sap.{sap_view};
 ghost use Rattle.ipx_commands.specs.Reading.{content_view, reading_view};
-ghost use Rattle.ipx_commands.specs.ShowLine.{address_text, content_lines, header_lines, name_byte, name_text, reach, reading_lines, reading_status, rip_entry_line, rip_lines, sap_lines, service_line};
+ghost use Rattle.ipx_commands.specs.ShowLine.{address_text, bit_text, content_lines, control_text, counts_text, header_lines, ids_text, name_byte, name_text, reach, reading_lines, reading_status, rip_entry_line, rip_lines, sap_lines, service_line, spx_line, word_text};
 
-use crate::line::{control_fault_to_text, fault_to_text};
+use crate::line::{control_fault_to_text, fault_to_text, spx_fault_to_text};
 use crate::place::place_of;
 use crate::reading::{Contents, Reading};
 use ipx_control::{Rip, RipEntry, Sap, ServiceEntry};
-use ipx_wire::{Address, Packet};
+use ipx_wire::{Address, Packet, SpxHeader};
 use std::alloc::{AllocError, Global};
 
 fn address_to_text(alloc: Global, address: Address) -> Result<String, AllocError>
@@ -33,6 +33,56 @@ fn packet_to_lines(alloc: Global, packet: &Packet<'_>) -> Result<String, AllocEr
     let to = address_to_text(alloc, packet.header.to)?;
     let from = address_to_text(alloc, packet.header.from)?;
     format!(in alloc; "ipx hops {hops} kind {kind} body {body}\nto {to}\nfrom {from}\n")
+}
+
+fn bit_of(bit: bool) -> &'static str
+    ensures { result.now ≡ bit_text bit }
+{
+    if bit { "1" } else { "0" }
+}
+
+fn control_to_text(alloc: Global, header: SpxHeader) -> Result<String, AllocError>
+    ensures { IfOk result (λ t. string_bytes t ≡ control_text header) }
+{
+    let system = bit_of(header.system);
+    let wants = bit_of(header.wants_ack);
+    let last = bit_of(header.last);
+    format!(in alloc; "system {system} wants {wants} last {last}")
+}
+
+fn word_to_text(alloc: Global, number: u16) -> Result<String, AllocError>
+    ensures { IfOk result (λ t. string_bytes t ≡ word_text number) }
+{
+    let digits = hex::encode(alloc, number.to_be_bytes())?;
+    format!(in alloc; "{digits}")
+}
+
+fn ids_to_text(alloc: Global, header: SpxHeader) -> Result<String, AllocError>
+    ensures { IfOk result (λ t. string_bytes t ≡ ids_text header) }
+{
+    let from = word_to_text(alloc, header.from_id)?;
+    let to = word_to_text(alloc, header.to_id)?;
+    format!(in alloc; "from {from} to {to}")
+}
+
+fn counts_to_text(alloc: Global, header: SpxHeader) -> Result<String, AllocError>
+    ensures { IfOk result (λ t. string_bytes t ≡ counts_text header) }
+{
+    let seq = word_to_text(alloc, header.seq)?;
+    let ack = word_to_text(alloc, header.ack)?;
+    let limit = word_to_text(alloc, header.limit)?;
+    format!(in alloc; "seq {seq} ack {ack} limit {limit}")
+}
+
+fn spx_to_line(alloc: Global, header: SpxHeader, payload: &[u8]) -> Result<String, AllocError>
+    ensures { IfOk result (λ t. string_bytes t ≡ spx_line header payload.now) }
+{
+    let control = control_to_text(alloc, header)?;
+    let stream = hex::encode(alloc, [header.stream])?;
+    let ids = ids_to_text(alloc, header)?;
+    let counts = counts_to_text(alloc, header)?;
+    let body = payload.len();
+    format!(in alloc; "spx {control} stream {stream} {ids} {counts} body {body}\n")
 }
 
 fn rip_entry_to_line(alloc: Global, entry: RipEntry) -> Result<String, AllocError>
@@ -160,11 +210,12 @@ fn sap_to_lines(alloc: Global, sap: &Sap) -> Result<String, AllocError>
     }
 }
 
-fn contents_to_lines(alloc: Global, contents: &Contents) -> Result<String, AllocError>
+fn contents_to_lines(alloc: Global, contents: &Contents<'_>) -> Result<String, AllocError>
     ensures { IfOk result (λ t. string_bytes t ≡ content_lines (content_view contents.now)) }
 {
     match contents {
         Contents::Plain => return Ok(String::new(alloc)),
+        Contents::OfSpx(header, payload) => return spx_to_line(alloc, *header, payload),
         Contents::OfRip(rip) => return rip_to_lines(alloc, rip),
         Contents::OfSap(sap) => return sap_to_lines(alloc, sap),
     }
@@ -177,6 +228,10 @@ pub fn reading_to_lines(alloc: Global, reading: &Reading<'_>) -> Result<String, 
     match reading {
         Reading::NoPacket(fault) => {
             let text = fault_to_text(alloc, *fault)?;
+            return format!(in alloc; "refused {text}\n");
+        }
+        Reading::NoSpx(fault) => {
+            let text = spx_fault_to_text(alloc, *fault)?;
             return format!(in alloc; "refused {text}\n");
         }
         Reading::NoControl(fault) => {
@@ -196,7 +251,7 @@ pub fn reading_to_status(reading: &Reading<'_>) -> u8
     ensures { result ≡ reading_status (reading_view reading.now) }
 {
     match reading {
-        Reading::NoPacket(_) | Reading::NoControl(_) => 1,
+        Reading::NoPacket(_) | Reading::NoSpx(_) | Reading::NoControl(_) => 1,
         Reading::Holds(_, _) => 0,
     }
 }

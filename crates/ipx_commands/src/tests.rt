@@ -262,12 +262,12 @@ pub fn failing_on(text: &[u8], left: u32) -> Failing<'_> {
     }
 }
 
-/// A reader of P, or a writer, that fails after so many calls.
+/// A reader of PACKET, or a writer, that fails after so many calls.
 pub fn failing_after(left: u32) -> Failing<'static> {
     failing_on(PACKET.as_bytes(), left)
 }
 
-/// P is 60 bytes of text and one empty read; its line has 84 bytes.
+/// PACKET is 60 bytes of text and one empty read; its line has 84 bytes.
 #[test]
 fn faults_of_reader_and_writer(rt: HostRuntime) {
     for left in 0..61 {

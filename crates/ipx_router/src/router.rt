@@ -1,12 +1,12 @@
 //! The router.
 
-ghost use Rattle.std.specs.Prelude.{◌≡◌, ◌≤◌, ◌-◌, List, [], length, All, IfOk, IfErr, OnOk, OnErr, Some, None};
+ghost use Rattle.std.specs.Prelude.{◌≡◌, ◌≤◌, ◌-◌, List, true, [], length, All, IfOk, IfErr, OnOk, OnErr, Some, None};
 ghost use Rattle.ipx_router.specs.NewRouter.{IsOwnNetwork, ports_fault};
 ghost use Rattle.ipx_router.specs.Knowledge.{HoldsKnown, KeepsRest, known_at, tables};
 ghost use Rattle.ipx_router.specs.Packets.{sendings};
 ghost use Rattle.ipx_router.specs.Ports.{AreOnPorts};
 ghost use Rattle.ipx_router.specs.Answer.{Answers, IsOnPort, Leaves, PassesOn, view};
-ghost use Rattle.ipx_router.specs.Telling.{AreStarts, Tells};
+ghost use Rattle.ipx_router.specs.Telling.{AreStarts, Tells, is_due};
 
 use crate::answering::receive_at;
 use crate::fault::NewFault;
@@ -120,7 +120,8 @@ impl Router {
     /// then when 60,000 milliseconds have passed. After want of memory it is still time.
     pub fn tell(&mut self, alloc: Global, now: u64) -> Result<Vec<Reply>, OutOfMemory>
         ensures tells { IfOk result (λ v. Tells (known_at self.old now) self.old.told now (sendings v.items) self.new.told) }
-        ensures refused { OnErr result (self.new.told ≡ self.old.told) }
+        // Memory is wanted only where it is time.
+        ensures refused { OnErr result ((is_due self.old.told now ≡ true) × (self.new.told ≡ self.old.told)) }
         ensures known { HoldsKnown (known_at self.old now) (tables self.new) }
         ensures there { IfOk result (λ v. AreOnPorts (length self.old.ports) (sendings v.items)) }
         ensures rest { KeepsRest self.old self.new }

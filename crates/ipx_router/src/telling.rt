@@ -1,6 +1,6 @@
 //! What a router tells its neighbours of itself.
 
-ghost use Rattle.std.specs.Prelude.{◌≡◌, ◌≤◌, ℕ, [], length, OnErr, OnOk, IfOk};
+ghost use Rattle.std.specs.Prelude.{◌≡◌, ◌≤◌, ℕ, true, [], length, OnErr, OnOk, IfOk};
 ghost use Rattle.ipx_router.specs.Telling.{AreAsked, AreStarts, AreTellings, AreTold, Tells, all_nodes, is_due};
 ghost use Rattle.ipx_router.specs.Knowledge.{HoldsKnown, known_aged, routes_in, services_in};
 ghost use Rattle.ipx_router.specs.Ports.{AreFromPorts, AreOnPorts};
@@ -135,7 +135,7 @@ pub fn tell_at(
     requires count { length ports.now ≤ 16 }
     requires sources { AreFromPorts (length ports.now) (routes_in routes.old) }
     ensures tells { IfOk result (λ v. Tells (known_aged ports.now routes.old services.old now) told.old now (sendings v.items) told.new) }
-    ensures refused { OnErr result (told.new ≡ told.old) }
+    ensures refused { OnErr result ((is_due told.old now ≡ true) × (told.new ≡ told.old)) }
     ensures known { HoldsKnown (known_aged ports.now routes.old services.old now) (routes.new, services.new) }
     ensures there { IfOk result (λ v. AreOnPorts (length ports.now) (sendings v.items)) }
     ensures most { (routes.new.most ≡ routes.old.most) × (services.new.most ≡ services.old.most) }

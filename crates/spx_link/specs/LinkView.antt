@@ -38,7 +38,7 @@ pub record LinkView : Type 0 where
 abbrev pub free : LinkView → ℕ
 free l = l.buffers - length l.held
 
--- something that was sent at a moment is to be sent again
+-- 500 ms or more have passed since a moment; none where it lies ahead
 abbrev pub due : ℕ → ℕ → Bool
 due at now = nat_le (at + resend_after) now
 

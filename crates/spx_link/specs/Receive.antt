@@ -1,5 +1,5 @@
 -- What a link answers to a packet and what it becomes (Novell SPX, and this project's profile): one function
--- for each rule. Where units that come ahead of their turn are kept one day, `in_turn` and `out_of_turn` change.
+-- for each rule.
 use Rattle.std.specs.Prelude.{ℕ, ◌+◌, ◌-◌, ◌==◌, nat_lt, nat_le, Bool, true, false, ◌&&◌, ◌||◌, not, List, [], ◌∷◌, ◌++◌, length, drop, if◌then◌else◌}
 use Rattle.ipx_wire.specs.declared.spx.SpxHeader.{SpxHeader}
 use Rattle.spx_link.specs.declared.state.State.{State}

@@ -1,4 +1,4 @@
-//! The limits of a link, which are this project's own.
+//! The numbers of a link: those of Novell SPX, and the limits of this project.
 
 /// How many units may be outstanding, and how many buffers an end may have.
 pub const MOST_UNITS: u16 = 1024;

@@ -107,7 +107,8 @@ impl Link {
             self.read_numbers(header);
             return Ok(self.read_system(header));
         }
-        // The unit first, since room for it may be refused. The numbers beside it are others.
+        // The unit first, since room for it may be refused. It neither reads nor
+        // changes what the numbers change, so the order cannot be seen.
         let received = self.read_unit(header, body)?;
         self.read_numbers(header);
         Ok(received)

@@ -308,6 +308,53 @@ fn refused_memory(rt: HostRuntime) -> Result<(), Fail> {
     Ok(())
 }
 
+/// The calls by id that can want memory: where one is refused, its link and the other are as they
+/// were, and the same call again succeeds. Run it with each allocation refused.
+#[test]
+fn refused_memory_by_id(rt: HostRuntime) -> Result<(), Fail> {
+    let alloc = rt.alloc();
+    let mut links = Links::new(alloc);
+    for id in 1..3u16 {
+        if links.dial(alloc, HERE, there(), 8, 0).is_err() {
+            assert_eq!(rt; links.after(id - 1), None);
+            links.dial(alloc, HERE, there(), 8, 0)?;
+        }
+    }
+    assert!(rt; links.get(1).is_some());
+    let joined = links.receive(alloc, 1, &system(0, 7), &[], 0)?;
+    assert_eq!(rt; joined, Received::Joined);
+    for seq in 0..5u16 {
+        assert!(rt; links.get(1).is_some());
+        if links.receive(alloc, 1, &unit(0, seq), b"a", 0) == Err(OfferFault::OutOfMemory) {
+            let held = links.get(1).map(|link| link.numbers().held);
+            assert_eq!(rt; held, Some(seq));
+            assert!(rt; links.get(1).is_some());
+            links.receive(alloc, 1, &unit(0, seq), b"a", 0)?;
+        }
+        let held = links.get(1).map(|link| link.numbers().held);
+        assert_eq!(rt; held, Some(seq + 1));
+    }
+    for _ in 0..5 {
+        assert!(rt; links.get(1).is_some());
+        if links.offer(alloc, 1, unit_again(alloc)?) == Err(OfferFault::OutOfMemory) {
+            assert!(rt; links.get(1).is_some());
+            links.offer(alloc, 1, unit_again(alloc)?)?;
+        }
+    }
+    assert!(rt; links.get(1).is_some());
+    if links.end(alloc, 1) == Err(OfferFault::OutOfMemory) {
+        let state = links.get(1).map(|link| link.state());
+        assert_eq!(rt; state, Some(State::Live));
+        assert!(rt; links.get(1).is_some());
+        links.end(alloc, 1)?;
+    }
+    let state = links.get(1).map(|link| link.state());
+    assert_eq!(rt; state, Some(State::Ending));
+    let state = links.get(2).map(|link| link.state());
+    assert_eq!(rt; state, Some(State::Opening));
+    Ok(())
+}
+
 /// Each call by id, on a link that dials and on one that accepts.
 #[test]
 fn by_id(rt: HostRuntime) -> Result<(), Fail> {

@@ -1,4 +1,4 @@
-use Rattle.std.proofs.Common.{◌≡◌, ◌<◌, ℕ, ◌+◌, ◌++◌, ◌∷◌, [], List, length, map, take, get_or, Option, string_bytes, ap, sym, ◌∙◌, subst, rules, tests, arith}
+use Rattle.std.proofs.Common.{◌≡◌, ℕ, ◌++◌, ◌∷◌, [], length, map, take, Option, string_bytes, ap, sym, ◌∙◌, subst, rules, tests, arith}
 use Rattle.std.specs.Prelude.{◌==◌, MatchOption}
 use Rattle.std.specs.List.{AllZip}
 use Rattle.std.specs.Slice.Iter as slice

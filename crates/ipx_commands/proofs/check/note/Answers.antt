@@ -1,6 +1,6 @@
-use Rattle.std.proofs.Common.{◌≡◌, ◌+◌, ◌++◌, ◌∷◌, [], List, arith, refl, sym, ap, ◌∙◌, string_bytes, ℕ, append-nil}
+use Rattle.std.proofs.Common.{◌+◌, ◌++◌, List, arith, refl, sym, ap, ◌∙◌, string_bytes, ℕ, append-nil}
 use Rattle.ipx_commands.specs.declared.check.Tally as code
-use Rattle.ipx_commands.specs.Check.{Verdict, NoVector, Passed, Failed}
+use Rattle.ipx_commands.specs.Check.{NoVector, Passed, Failed}
 use Rattle.ipx_commands.proofs.Tallies.{IsTally-push}
 use Rattle.ipx_commands.proofs.check.note.Goals as goal
 

@@ -1,9 +1,9 @@
-use Rattle.std.proofs.Common.{◌≡◌, ℕ, ◌+◌, ◌-◌, List, length, take, drop, Some, ap, sym, ◌∙◌, subst}
+use Rattle.std.proofs.Common.{◌≡◌, ℕ, List, Some, sym, subst}
 use Rattle.std.specs.Prelude.{◌==◌, IfOk, position}
 use Rattle.std.specs.Result.{result_ok}
 use Rattle.std.proofs.lemmas.List.{take_rest}
 use Rattle.hex.specs.Hex.{decode_of}
-use Rattle.ipx_commands.specs.CheckLine.{bad_vector, fault_number, line_form, line_view, vector_of}
+use Rattle.ipx_commands.specs.CheckLine.{bad_vector, line_view, vector_of}
 use Rattle.ipx_commands.proofs.VectorLines.{bad_line, ok_line, read_as}
 use Rattle.ipx_commands.proofs.check_line.read_line.Goals as goal
 

@@ -1,4 +1,4 @@
-use Rattle.std.proofs.Common.{◌≡◌, ◌∙◌, ◌++◌, List, ℕ, ap, sym, string_bytes}
+use Rattle.std.proofs.Common.{◌∙◌, ◌++◌, List, ℕ, ap, sym, string_bytes}
 use Rattle.ipx_router.specs.Packets.{sending_of}
 use Rattle.ipx_commands.specs.Line.{sending_line}
 use Rattle.ipx_commands.proofs.Lines.{lines_more}

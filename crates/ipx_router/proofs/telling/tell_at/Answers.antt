@@ -1,5 +1,5 @@
-use Rattle.std.proofs.Common.{◌≡◌, ◌∙◌, Bool, true, [], Some, length, refl, sym, subst}
-use Rattle.std.specs.Prelude.{MatchBool}
+use Rattle.std.proofs.Common.{◌≡◌, ◌∙◌, Bool, true, [], Some, Result, Ok, Err, length, refl, sym, subst}
+use Rattle.std.specs.Prelude.{MatchBool, OnErr}
 use Rattle.ipx_router.specs.Knowledge.{Known, known_aged, routes_in}
 use Rattle.ipx_router.specs.Packets.{sendings}
 use Rattle.ipx_router.specs.Telling.{AreTellings, is_due}
@@ -24,3 +24,13 @@ returns-clause-tells c =
     let due : is_due c.args.told.now c.args.now ≡ true = sym c.is_time.ensures ∙ c.if-not-is_time.false in
     subst (λ (b : Bool). MatchBool b (AreTellings k.ports k.routes k.services c.args.now 1 k.ports sent × (Some c.args.now ≡ Some c.args.now)) ((sent ≡ []) × (Some c.args.now ≡ c.args.told.now))) (sym due)
     (subst (λ (k : Known). AreTellings k.ports k.routes k.services c.args.now 1 k.ports sent) same c.in_ok-replies.ensures.tells, refl)
+
+on_err : {A E P : Type 0} (r : Result A E) → P → OnErr r P
+on_err (Ok x) p = tt
+on_err (Err e) p = p
+
+pub returns-in_err-replies-clause-refused : goal.returns-in_err-replies-clause-refused
+returns-in_err-replies-clause-refused c =
+    let due : is_due c.args.told.now c.args.now ≡ true = sym c.is_time.ensures ∙ c.if-not-is_time.false in
+    let same : c.args.told.now ≡ c.args.told.now = refl in
+    on_err c.from_residual.result (due, same)

@@ -1,0 +1,71 @@
+//! The proved router, by the functions that `crates/ipx_bench` exports.
+
+use crate::inputs::Records;
+
+unsafe extern "C" {
+    fn ipx_bench_decode(datagrams: *const u8, count: usize, size: usize, rounds: u32) -> u64;
+
+    fn ipx_bench_receive(
+        heard: *const u8,
+        heard_count: usize,
+        heard_size: usize,
+        records: *const u8,
+        count: usize,
+        size: usize,
+        rounds: u32,
+    ) -> u64;
+
+    fn ipx_bench_tell(heard: *const u8, count: usize, size: usize, rounds: u32) -> u64;
+
+    fn ipx_bench_answers(
+        records: *const u8,
+        count: usize,
+        size: usize,
+        out: *mut u8,
+        room: usize,
+    ) -> usize;
+}
+
+pub fn decode(datagrams: &[u8], size: usize, rounds: u32) -> u64 {
+    // SAFETY: the pointer and the length are one slice, which is only read.
+    unsafe { ipx_bench_decode(datagrams.as_ptr(), datagrams.len(), size, rounds) }
+}
+
+pub fn receive(heard: &Records, records: &Records, rounds: u32) -> u64 {
+    // SAFETY: each pointer and the length behind it are one slice, which is only read.
+    unsafe {
+        ipx_bench_receive(
+            heard.bytes.as_ptr(),
+            heard.bytes.len(),
+            heard.size,
+            records.bytes.as_ptr(),
+            records.bytes.len(),
+            records.size,
+            rounds,
+        )
+    }
+}
+
+pub fn tell(heard: &Records, rounds: u32) -> u64 {
+    // SAFETY: the pointer and the length are one slice, which is only read.
+    unsafe { ipx_bench_tell(heard.bytes.as_ptr(), heard.bytes.len(), heard.size, rounds) }
+}
+
+/// What a new router answers to each record, and what it tells then, as bytes.
+pub fn answers(records: &Records) -> Vec<u8> {
+    let mut out = vec![0; 1 << 24];
+    // SAFETY: each pointer and the length behind it are one slice. The first is only read, and the
+    // second is this function's own.
+    let count = unsafe {
+        ipx_bench_answers(
+            records.bytes.as_ptr(),
+            records.bytes.len(),
+            records.size,
+            out.as_mut_ptr(),
+            out.len(),
+        )
+    };
+    assert!(count <= out.len(), "the answers take {count} bytes");
+    out.truncate(count);
+    out
+}

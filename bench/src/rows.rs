@@ -1,0 +1,151 @@
+//! What is measured: calls of both routers on the same inputs.
+
+use crate::inputs::{
+    FIRST_LEARNED, PORT_NETWORKS, Records, fifty_of, others, packets, routes, routes_and_services,
+};
+use crate::{ours, theirs};
+use std::rc::Rc;
+
+/// A call that is measured, on both sides.
+pub struct Row {
+    pub name: String,
+    /// How many calls a round makes.
+    pub calls: u32,
+    pub ours: Box<dyn Fn(u32) -> u64>,
+    pub theirs: Box<dyn Fn(u32) -> u64>,
+}
+
+const SIZES: [usize; 3] = [30, 576, 1500];
+const LEARNED: [u32; 3] = [1, 32, 1024];
+const ROUTES: u32 = 1024;
+const SERVICES: u32 = 4096;
+const KNOWN: u32 = 1000;
+
+fn decode(size: usize) -> Row {
+    let records = packets(size, |k| PORT_NETWORKS[1 + k as usize % 2]);
+    let calls = records.count() as u32;
+    let datagrams = Rc::new(records.datagrams());
+    let same = Rc::clone(&datagrams);
+    Row {
+        name: format!("decode, {size} bytes"),
+        calls,
+        ours: Box::new(move |rounds| ours::decode(&datagrams, size, rounds)),
+        theirs: Box::new(move |rounds| theirs::decode(&same, size, rounds)),
+    }
+}
+
+fn receive(name: String, heard: Records, records: Records) -> Row {
+    let calls = records.count() as u32;
+    let inputs = Rc::new((heard, records));
+    let same = Rc::clone(&inputs);
+    Row {
+        name,
+        calls,
+        ours: Box::new(move |rounds| ours::receive(&inputs.0, &inputs.1, rounds)),
+        theirs: Box::new(move |rounds| theirs::receive(&same.0, &same.1, rounds)),
+    }
+}
+
+fn forward_direct(size: usize) -> Row {
+    let records = packets(size, |k| PORT_NETWORKS[1 + k as usize % 2]);
+    receive(
+        format!("forward, direct, {size} bytes"),
+        Records::none(),
+        records,
+    )
+}
+
+fn forward_learned(size: usize, count: u32) -> Row {
+    let name = format!("forward, {count} learned, {size} bytes");
+    let heard = routes(count, &[2, 3]);
+    let records = packets(size, |k| FIRST_LEARNED + k * 37 % count);
+    receive(name, heard, records)
+}
+
+fn hear() -> Row {
+    let name = format!("hear 50 routes of {KNOWN} known");
+    receive(name, routes(KNOWN, &[2]), fifty_of(KNOWN))
+}
+
+fn tell() -> Row {
+    let heard = Rc::new(routes_and_services(ROUTES, SERVICES));
+    let same = Rc::clone(&heard);
+    Row {
+        name: format!("tell {ROUTES} routes, {SERVICES} services"),
+        calls: 1,
+        ours: Box::new(move |rounds| ours::tell(&heard, rounds)),
+        theirs: Box::new(move |rounds| theirs::tell(&same, rounds)),
+    }
+}
+
+/// All rows, in the order in which they are printed.
+pub fn all() -> Vec<Row> {
+    let learned = LEARNED
+        .into_iter()
+        .flat_map(|count| SIZES.map(|size| forward_learned(size, count)));
+    SIZES
+        .into_iter()
+        .map(decode)
+        .chain(SIZES.into_iter().map(forward_direct))
+        .chain(learned)
+        .chain([hear(), tell()])
+        .collect()
+}
+
+fn joined(parts: Vec<Records>) -> Records {
+    let size = parts.iter().map(|part| part.size).max().unwrap_or(1);
+    let records = parts
+        .iter()
+        .flat_map(|part| part.bytes.chunks_exact(part.size));
+    let bytes = records
+        .flat_map(|record| {
+            let padding = std::iter::repeat_n(0, size - record.len());
+            record.iter().copied().chain(padding)
+        })
+        .collect();
+    Records { bytes, size }
+}
+
+/// Stops the program unless both routers answer the same bytes to the same records.
+pub fn check_answers() {
+    let direct = |k: u32| PORT_NETWORKS[1 + k as usize % 2];
+    let cases = [
+        (
+            "direct",
+            joined(SIZES.map(|size| packets(size, direct)).into()),
+        ),
+        (
+            "learned",
+            joined(vec![
+                routes(ROUTES, &[2, 3]),
+                packets(576, |k| FIRST_LEARNED + k * 37),
+            ]),
+        ),
+        (
+            "heard again",
+            joined(vec![routes(KNOWN, &[2]), fifty_of(KNOWN)]),
+        ),
+        (
+            "full",
+            joined(vec![routes(ROUTES + 60, &[1, 2, 3]), others()]),
+        ),
+        (
+            "told",
+            joined(vec![routes_and_services(ROUTES, SERVICES), others()]),
+        ),
+        ("others", others()),
+    ];
+    for (name, records) in cases {
+        let (ours, theirs) = (ours::answers(&records), theirs::answers(&records));
+        assert!(ours == theirs, "the answers differ: {name}");
+        println!("same answers: {name}, {} bytes", ours.len());
+    }
+}
+
+/// Stops the program unless both sides digest the same answers in the row's own loops.
+pub fn check_row(row: &Row) {
+    for rounds in [1, 2] {
+        let (ours, theirs) = ((row.ours)(rounds), (row.theirs)(rounds));
+        assert!(ours == theirs, "the digests differ: {}", row.name);
+    }
+}

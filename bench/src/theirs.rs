@@ -1,0 +1,193 @@
+//! The plain router, in the loops that `crates/ipx_bench` has for the proved one.
+
+use crate::inputs::{LEAD, PORT_NETWORKS, Records};
+use crate::plain::control::ControlFault;
+use crate::plain::router::{Outcome, Port, Reason, Reply, Router};
+use crate::plain::wire::{Address, IpxFault, Network, Node, Packet, decode as decode_packet};
+
+const MOMENT: u64 = 1 << 60;
+
+fn mixed(digest: u64, number: u64) -> u64 {
+    digest.wrapping_mul(31).wrapping_add(number)
+}
+
+fn node_number(node: Node) -> u64 {
+    let [a, b, c, d, e, f] = node.0;
+    u64::from_be_bytes([0, 0, a, b, c, d, e, f])
+}
+
+fn address_digest(address: Address) -> u64 {
+    let place = u64::from(address.network.0) ^ node_number(address.node);
+    mixed(place, u64::from(address.socket.0))
+}
+
+fn packet_digest(packet: &Packet<'_>) -> u64 {
+    let header = packet.header;
+    let kinds = u64::from(header.hops) ^ u64::from(header.kind);
+    let ends = address_digest(header.to) ^ address_digest(header.from);
+    mixed(kinds ^ ends, packet.body.len() as u64)
+}
+
+fn byte_at(bytes: &[u8], at: usize) -> u64 {
+    bytes.get(at).copied().map_or(0, u64::from)
+}
+
+fn reply_digest(reply: &Reply) -> u64 {
+    let count = reply.bytes.len();
+    let ends = byte_at(&reply.bytes, 4) ^ byte_at(&reply.bytes, count.saturating_sub(1));
+    let place = mixed(u64::from(reply.port), node_number(reply.next));
+    mixed(place ^ ends, count as u64)
+}
+
+fn replies_digest(replies: &[Reply]) -> u64 {
+    replies
+        .iter()
+        .fold(0, |digest, reply| mixed(digest, reply_digest(reply)))
+}
+
+fn outcome_digest(outcome: &Outcome) -> u64 {
+    match outcome {
+        Outcome::Forward(reply) => reply_digest(reply),
+        Outcome::Replies(replies) => replies_digest(replies),
+        Outcome::Heard(count) => mixed(4, u64::from(*count)),
+        Outcome::Dropped(reason) => u64::from(reason_number(reason)),
+    }
+}
+
+fn router_of_three() -> Router {
+    let ports = (1..).zip(PORT_NETWORKS).map(|(number, network)| Port {
+        network: Network(network),
+        node: Node([0, 0, 0x7f, 0, 0, number]),
+        cost: 1,
+    });
+    Router::new(ports.collect())
+}
+
+fn feed(router: &mut Router, record: &[u8]) -> Option<Outcome> {
+    let port = *record.first()?;
+    let datagram = record.get(LEAD..)?;
+    if port == 0 || port > 3 {
+        return None;
+    }
+    Some(router.receive(port, datagram, MOMENT))
+}
+
+fn fed_digests(router: &mut Router, records: &Records) -> u64 {
+    let mut digest = 0;
+    for record in records.bytes.chunks_exact(records.size) {
+        let fed = feed(router, record).map_or(2, |outcome| outcome_digest(&outcome));
+        digest = mixed(digest, fed);
+    }
+    digest
+}
+
+#[inline(never)]
+pub fn decode(datagrams: &[u8], size: usize, rounds: u32) -> u64 {
+    let mut digest = 0;
+    for _ in 0..rounds {
+        for datagram in datagrams.chunks_exact(size) {
+            let decoded = decode_packet(datagram).map_or_else(
+                |fault| u64::from(fault_number(&fault)),
+                |packet| packet_digest(&packet),
+            );
+            digest = mixed(digest, decoded);
+        }
+    }
+    digest
+}
+
+#[inline(never)]
+pub fn receive(heard: &Records, records: &Records, rounds: u32) -> u64 {
+    let mut router = router_of_three();
+    fed_digests(&mut router, heard);
+    let mut digest = 0;
+    for _ in 0..rounds {
+        digest = mixed(digest, fed_digests(&mut router, records));
+    }
+    digest
+}
+
+#[inline(never)]
+pub fn tell(heard: &Records, rounds: u32) -> u64 {
+    let mut router = router_of_three();
+    fed_digests(&mut router, heard);
+    let mut digest = 0;
+    for round in 0..rounds {
+        let told = router.tell(u64::from(round) * 60_000);
+        digest = mixed(digest, replies_digest(&told));
+    }
+    digest
+}
+
+fn write_reply(reply: &Reply, out: &mut Vec<u8>) {
+    out.push(reply.port);
+    out.extend(reply.next.0);
+    out.extend((reply.bytes.len() as u64).to_be_bytes());
+    out.extend(&reply.bytes);
+}
+
+fn fault_number(fault: &IpxFault) -> u8 {
+    match fault {
+        IpxFault::Short(_) => 1,
+        IpxFault::Checksummed(_) => 2,
+        IpxFault::LengthShort(_) => 3,
+        IpxFault::Truncated(..) => 4,
+        IpxFault::TooLong(_) => 5,
+    }
+}
+
+fn control_number(fault: &ControlFault) -> u8 {
+    match fault {
+        ControlFault::NoOperation => 8,
+        ControlFault::UnknownOperation(_) => 9,
+        ControlFault::TooManyEntries(_) => 10,
+        ControlFault::QueryShort(_) => 11,
+    }
+}
+
+fn reason_number(reason: &Reason) -> u8 {
+    match reason {
+        Reason::Bad(fault) => fault_number(fault),
+        Reason::Propagated => 19,
+        Reason::NotOurs => 20,
+        Reason::NoRoute(_) => 21,
+        Reason::HopLimit => 22,
+        Reason::BadControl(fault) => control_number(fault),
+        Reason::TableFull => 24,
+    }
+}
+
+fn write_outcome(outcome: &Outcome, out: &mut Vec<u8>) {
+    match outcome {
+        Outcome::Forward(reply) => {
+            out.push(b'F');
+            write_reply(reply, out);
+        }
+        Outcome::Replies(replies) => {
+            out.push(b'R');
+            replies.iter().for_each(|reply| write_reply(reply, out));
+        }
+        Outcome::Heard(count) => {
+            out.push(b'H');
+            out.extend(count.to_be_bytes());
+        }
+        Outcome::Dropped(reason) => out.extend([b'D', reason_number(reason)]),
+    }
+}
+
+/// What a new router answers to each record, and what it tells then, as bytes.
+pub fn answers(records: &Records) -> Vec<u8> {
+    let mut router = router_of_three();
+    let mut out = Vec::new();
+    for record in records.bytes.chunks_exact(records.size) {
+        if let Some(outcome) = feed(&mut router, record) {
+            write_outcome(&outcome, &mut out);
+        }
+    }
+    out.push(b'T');
+    router
+        .tell(0)
+        .iter()
+        .for_each(|reply| write_reply(reply, &mut out));
+    out
+}

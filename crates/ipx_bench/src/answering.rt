@@ -1,0 +1,98 @@
+//! What a router answers, written out as bytes, to be held against another router's answers.
+
+ghost use Rattle.std.specs.Prelude.{◌≡◌, ◌≤◌, length};
+
+use crate::faults::reason_number;
+use crate::feeding::{feed, router_of_three};
+use ipx_router::{Outcome, Reply, Router};
+use ipx_wire::OutOfMemory;
+use std::alloc::Global;
+
+fn write_reply(out: &mut Vec<u8>, reply: &Reply) -> Result<(), OutOfMemory> {
+    let count = reply.bytes.len() as u64;
+    out.push(reply.port)?;
+    out.extend_from_slice(&reply.next.0)?;
+    out.extend_from_slice(&count.to_be_bytes())?;
+    out.extend_from_slice(&reply.bytes)?;
+    Ok(())
+}
+
+fn write_replies(out: &mut Vec<u8>, replies: &[Reply]) -> Result<(), OutOfMemory> {
+    for reply in replies {
+        write_reply(out, reply)?;
+    }
+    Ok(())
+}
+
+fn write_outcome(out: &mut Vec<u8>, outcome: &Outcome) -> Result<(), OutOfMemory> {
+    match outcome {
+        Outcome::Forward(reply) => {
+            out.push(b'F')?;
+            write_reply(out, reply)?;
+        }
+        Outcome::Replies(replies) => {
+            out.push(b'R')?;
+            write_replies(out, replies)?;
+        }
+        Outcome::Heard(count) => {
+            out.push(b'H')?;
+            out.extend_from_slice(&count.to_be_bytes())?;
+        }
+        Outcome::Dropped(reason) => {
+            out.push(b'D')?;
+            out.push(reason_number(*reason))?;
+        }
+    }
+    Ok(())
+}
+
+fn write_answer(
+    alloc: Global,
+    out: &mut Vec<u8>,
+    router: &mut Router,
+    record: &[u8],
+) -> Result<(), OutOfMemory>
+    requires { length router.old.ports ≡ 3 }
+    ensures { length router.new.ports ≡ 3 }
+{
+    match feed(alloc, router, record)? {
+        Some(outcome) => write_outcome(out, &outcome),
+        None => Ok(()),
+    }
+}
+
+/// What a new router answers to each record, and what it tells then.
+fn answers_to(alloc: Global, records: &[u8], size: usize) -> Result<Vec<u8>, OutOfMemory>
+    requires { 1 ≤ size }
+{
+    let mut router = router_of_three(alloc)?;
+    let mut out = Vec::new(alloc);
+    for record in records.chunks_exact(size) {
+        write_answer(alloc, &mut out, &mut router, record)?;
+    }
+    out.push(b'T')?;
+    let told = router.tell(alloc, 0)?;
+    write_replies(&mut out, &told)?;
+    Ok(out)
+}
+
+/// Writes what a new router answers to records of one size and what it tells then, and answers how
+/// many bytes that takes, or 0 where memory ran out. Nothing is written where there is no room.
+#[unsafe(no_mangle)]
+pub extern "C" fn ipx_bench_answers(
+    alloc: Global,
+    records: &[u8],
+    size: usize,
+    out: &mut [u8],
+) -> usize {
+    if size == 0 {
+        return 0;
+    }
+    let Ok(answers) = answers_to(alloc, records, size) else {
+        return 0;
+    };
+    if answers.len() <= out.len() {
+        out[..answers.len()].copy_from_slice(&answers);
+    }
+    answers.len()
+}

@@ -1,0 +1,58 @@
+//! Numbers that depend on what a call answered, so that no call can be left out.
+
+use crate::faults::reason_number;
+use ipx_router::{Outcome, Reply};
+use ipx_wire::{Address, Node, Packet};
+
+/// The digest of what came before and of one number more.
+pub fn mixed(digest: u64, number: u64) -> u64 {
+    digest.wrapping_mul(31).wrapping_add(number)
+}
+
+fn node_number(node: Node) -> u64 {
+    let Node([a, b, c, d, e, f]) = node;
+    u64::from_be_bytes([0, 0, a, b, c, d, e, f])
+}
+
+fn address_digest(address: Address) -> u64 {
+    let place = u64::from(address.network.0) ^ node_number(address.node);
+    mixed(place, u64::from(address.socket.0))
+}
+
+/// The digest of each field of a packet.
+pub fn packet_digest(packet: &Packet<'_>) -> u64 {
+    let header = packet.header;
+    let kinds = u64::from(header.hops) ^ u64::from(header.kind);
+    let ends = address_digest(header.to) ^ address_digest(header.from);
+    mixed(kinds ^ ends, packet.body.len() as u64)
+}
+
+fn byte_at(bytes: &[u8], at: usize) -> u64 {
+    bytes.get(at).copied().map_or(0, u64::from)
+}
+
+fn reply_digest(reply: &Reply) -> u64 {
+    let count = reply.bytes.len();
+    let ends = byte_at(&reply.bytes, 4) ^ byte_at(&reply.bytes, count.saturating_sub(1));
+    let place = mixed(u64::from(reply.port), node_number(reply.next));
+    mixed(place ^ ends, count as u64)
+}
+
+/// The digest of packets that leave.
+pub fn replies_digest(replies: &[Reply]) -> u64 {
+    let mut digest = 0;
+    for reply in replies {
+        digest = mixed(digest, reply_digest(reply));
+    }
+    digest
+}
+
+/// The digest of what became of a datagram.
+pub fn outcome_digest(outcome: &Outcome) -> u64 {
+    match outcome {
+        Outcome::Forward(reply) => reply_digest(reply),
+        Outcome::Replies(replies) => replies_digest(replies),
+        Outcome::Heard(count) => mixed(4, u64::from(*count)),
+        Outcome::Dropped(reason) => u64::from(reason_number(*reason)),
+    }
+}

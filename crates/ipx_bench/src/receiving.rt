@@ -1,0 +1,58 @@
+//! Datagrams that come in at a router.
+
+ghost use Rattle.std.specs.Prelude.{◌≡◌, ◌≤◌, length};
+
+use crate::digest::{mixed, outcome_digest};
+use crate::feeding::{feed, router_of_three};
+use ipx_router::Router;
+use std::alloc::Global;
+
+fn fed_digest(alloc: Global, router: &mut Router, record: &[u8]) -> u64
+    requires { length router.old.ports ≡ 3 }
+    ensures { length router.new.ports ≡ 3 }
+{
+    match feed(alloc, router, record) {
+        Ok(Some(outcome)) => outcome_digest(&outcome),
+        Ok(None) => 2,
+        Err(_) => 3,
+    }
+}
+
+/// Hands each record to the router, and answers the digest of what became of them.
+pub fn fed_digests(alloc: Global, router: &mut Router, records: &[u8], size: usize) -> u64
+    requires router { length router.old.ports ≡ 3 }
+    requires size { 1 ≤ size }
+    ensures { length router.new.ports ≡ 3 }
+{
+    let mut digest = 0;
+    for record in records.chunks_exact(size) {
+        digest = mixed(digest, fed_digest(alloc, router, record));
+    }
+    digest
+}
+
+/// Hands each heard record to a new router, and then each timed one, again and again.
+///
+/// Answers the digest of what became of the timed ones. Both kinds of records have one size each.
+#[unsafe(no_mangle)]
+pub extern "C" fn ipx_bench_receive(
+    alloc: Global,
+    heard: &[u8],
+    heard_size: usize,
+    records: &[u8],
+    size: usize,
+    rounds: u32,
+) -> u64 {
+    if heard_size == 0 || size == 0 {
+        return 0;
+    }
+    let Ok(mut router) = router_of_three(alloc) else {
+        return 0;
+    };
+    let _ = fed_digests(alloc, &mut router, heard, heard_size);
+    let mut digest = 0;
+    for _ in 0..rounds {
+        digest = mixed(digest, fed_digests(alloc, &mut router, records, size));
+    }
+    digest
+}

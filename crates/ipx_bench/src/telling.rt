@@ -1,0 +1,38 @@
+//! Telling neighbours what is known.
+
+ghost use Rattle.std.specs.Prelude.{◌≡◌, length};
+
+use crate::digest::{mixed, replies_digest};
+use crate::feeding::router_of_three;
+use crate::receiving::fed_digests;
+use ipx_router::Router;
+use std::alloc::Global;
+
+/// How long a router does not tell again, in milliseconds.
+const PERIOD: u64 = 60_000;
+
+fn told_digest(alloc: Global, router: &mut Router, now: u64) -> u64 {
+    match router.tell(alloc, now) {
+        Ok(told) => replies_digest(&told),
+        Err(_) => 3,
+    }
+}
+
+/// Hands each heard record to a new router, which then tells again and again, each time when it is
+/// due. Answers the digest of what it told.
+#[unsafe(no_mangle)]
+pub extern "C" fn ipx_bench_tell(alloc: Global, heard: &[u8], size: usize, rounds: u32) -> u64 {
+    if size == 0 {
+        return 0;
+    }
+    let Ok(mut router) = router_of_three(alloc) else {
+        return 0;
+    };
+    let _ = fed_digests(alloc, &mut router, heard, size);
+    let mut digest = 0;
+    for round in 0..rounds {
+        let now = u64::from(round) * PERIOD;
+        digest = mixed(digest, told_digest(alloc, &mut router, now));
+    }
+    digest
+}
