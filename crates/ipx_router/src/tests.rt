@@ -5,7 +5,8 @@ ghost use Rattle.std.specs.Prelude.{◌≡◌};
 use crate::{NewFault, Outcome, Port, Reason, Reply, Router};
 use ipx_control::ControlFault;
 use ipx_wire::{Network, Node, OutOfMemory};
-use std::alloc::Global;
+use std::alloc::{AllocError, Global};
+use std::process::Abort;
 use std::test::Fail;
 
 fn node(last: u8) -> Node {
@@ -146,7 +147,7 @@ fn starting(rt: HostRuntime) -> Result<(), Fail> {
 
 /// A SAP response on port 2 that tells so many services of kind 0004, whose names begin with the
 /// letters from one on and are zero behind, all at 00000044 000000000001 0451.
-fn services(alloc: Global, first: u8, count: u8, hops: u8) -> Result<String, Fail> {
+fn services(alloc: Global, first: u8, count: u8, hops: u8) -> Result<String, AllocError> {
     let length = hex::encode(alloc, (32 + 64 * count as u16).to_be_bytes())?;
     let mut text = format!(in alloc;
         "ffff{length}000400000022ffffffffffff04520000002200007f00000904520002"
@@ -166,7 +167,7 @@ fn services(alloc: Global, first: u8, count: u8, hops: u8) -> Result<String, Fai
 }
 
 /// A query from socket 4001 of node 00007f000003, on the network of a port.
-fn query(alloc: Global, network: u8, operation: u8, kind: &str) -> Result<String, Fail> {
+fn query(alloc: Global, network: u8, operation: u8, kind: &str) -> Result<String, AllocError> {
     let network = hex::encode(alloc, [0, 0, 0, network])?;
     let operation = hex::encode(alloc, [0, operation])?;
     let text = format!(in alloc;
@@ -336,5 +337,39 @@ fn refused_memory(rt: HostRuntime) -> Result<(), Fail> {
         Err(_) => answer(alloc, &mut router, 1, nearest, 0)?,
     };
     assert!(rt; matches!(&none, Outcome::Replies(replies) if replies.is_empty()));
+    refused_memory_of_services(&rt, alloc, &mut router)
+}
+
+/// The same for services, on a router that heard none.
+fn refused_memory_of_services(
+    rt: &impl Abort,
+    alloc: Global,
+    router: &mut Router,
+) -> Result<(), Fail> {
+    let six = match services(alloc, b'A', 6, 2) {
+        Ok(text) => text,
+        Err(_) => services(alloc, b'A', 6, 2)?,
+    };
+    let heard = match answer(alloc, router, 2, &six, 0) {
+        Ok(outcome) => outcome,
+        Err(_) => answer(alloc, router, 2, &six, 0)?,
+    };
+    assert!(rt; matches!(heard, Outcome::Heard(6)));
+    for operation in [1, 3] {
+        let text = match query(alloc, 0x11, operation, "0004") {
+            Ok(text) => text,
+            Err(_) => query(alloc, 0x11, operation, "0004")?,
+        };
+        let outcome = match answer(alloc, router, 1, &text, 0) {
+            Ok(outcome) => outcome,
+            Err(_) => answer(alloc, router, 1, &text, 0)?,
+        };
+        assert!(rt; matches!(&outcome, Outcome::Replies(replies) if replies.len() == 1));
+    }
+    let told = match router.tell(alloc, 60_000) {
+        Ok(told) => told,
+        Err(_) => router.tell(alloc, 60_000)?,
+    };
+    assert_eq!(rt; told.len(), 5);
     Ok(())
 }
