@@ -187,6 +187,11 @@ pub fn routes_and_services(routes: u32, services: u32) -> Records {
     Records::of(SAP_RECORD, rip.chain(sap))
 }
 
+/// A request or query by broadcast from the neighbour on port 1.
+pub fn asking(socket: u16, body: &[u8]) -> Records {
+    Records::of(RIP_RECORD, [control(1, socket, body)].into_iter())
+}
+
 /// Requests and queries, and datagrams that are refused, one for each cause.
 pub fn others() -> Records {
     let good = |hops, kind, network| {

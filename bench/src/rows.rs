@@ -1,7 +1,8 @@
 //! What is measured: calls of both routers on the same inputs.
 
 use crate::inputs::{
-    FIRST_LEARNED, PORT_NETWORKS, Records, fifty_of, others, packets, routes, routes_and_services,
+    FIRST_LEARNED, PORT_NETWORKS, Records, asking, fifty_of, others, packets, routes,
+    routes_and_services,
 };
 use crate::{ours, theirs};
 use std::rc::Rc;
@@ -67,6 +68,51 @@ fn hear() -> Row {
     receive(name, routes(KNOWN, &[2]), fifty_of(KNOWN))
 }
 
+/// All routes and services, told to a router that knows them already after the first round.
+fn hear_all() -> Row {
+    let records = routes_and_services(ROUTES, SERVICES);
+    let mut row = receive(
+        format!("hear {ROUTES} routes, {SERVICES} services"),
+        Records::none(),
+        records,
+    );
+    row.calls = 1;
+    row
+}
+
+/// What is asked of a router that holds all routes and services.
+fn ask(name: &str, socket: u16, body: &[u8]) -> Row {
+    let heard = routes_and_services(ROUTES, SERVICES);
+    receive(name.to_owned(), heard, asking(socket, body))
+}
+
+fn ask_all() -> [Row; 3] {
+    let every_route = [0, 1, 0xff, 0xff, 0xff, 0xff, 0, 0, 0, 0];
+    [
+        ask(&format!("ask for {ROUTES} routes"), 0x0453, &every_route),
+        ask(
+            &format!("ask for {SERVICES} services"),
+            0x0452,
+            &[0, 1, 0xff, 0xff],
+        ),
+        ask(
+            &format!("ask for the nearest of {SERVICES}"),
+            0x0452,
+            &[0, 3, 0, 4],
+        ),
+    ]
+}
+
+fn forward_with_all_held() -> Row {
+    let heard = routes_and_services(ROUTES, SERVICES);
+    let records = packets(30, |k| PORT_NETWORKS[1 + k as usize % 2]);
+    receive(
+        "forward, direct, 30 bytes, all held".to_owned(),
+        heard,
+        records,
+    )
+}
+
 fn tell() -> Row {
     let heard = Rc::new(routes_and_services(ROUTES, SERVICES));
     let same = Rc::clone(&heard);
@@ -88,7 +134,9 @@ pub fn all() -> Vec<Row> {
         .map(decode)
         .chain(SIZES.into_iter().map(forward_direct))
         .chain(learned)
-        .chain([hear(), tell()])
+        .chain([forward_with_all_held(), hear(), hear_all()])
+        .chain(ask_all())
+        .chain([tell()])
         .collect()
 }
 
