@@ -1,9 +1,8 @@
 -- What a table says once one more entry was heard.
-use Rattle.std.proofs.Common.{◌≡◌, ℕ, ◌+◌, ◌<◌, ◌≤◌, Bool, true, false, cond, Result, Ok, Err, List, [], length, get_or, take, Option, Some, None, refl, sym, ap, ◌∙◌, subst, arith}
-use Rattle.std.specs.Prelude.{fold}
+use Rattle.std.proofs.Common.{◌≡◌, ℕ, ◌+◌, ◌<◌, ◌≤◌, Bool, true, false, cond, Result, Err, List, [], length, get_or, take, Option, Some, None, refl, sym, ap, ◌∙◌, subst, arith}
 use Rattle.std.specs.declared.cmp.Ordering.{Ordering}
 use Rattle.std.specs.declared.cmp.Ordering.TheVariants.{Less, Equal, Greater}
-use Rattle.std.specs.Ordering.{ordering_then, is_eq, nat_cmp}
+use Rattle.std.specs.Ordering.{ordering_then, is_eq}
 use Rattle.std.proofs.lemmas.List.{get_or_default}
 use Rattle.std.proofs.lemmas.List.Sums.{fold_more}
 use Rattle.std.proofs.lemmas.Map.Lookups.{exact_unsigned}
@@ -11,7 +10,7 @@ use Rattle.ipx_wire.specs.declared.address.Network.{Network}
 use Rattle.ipx_control.specs.declared.rip.RipEntry.{RipEntry}
 use Rattle.ipx_control.specs.declared.sap.ServiceEntry.{ServiceEntry}
 use Rattle.ipx_tables.specs.declared.fault.TableFault.{TableFault}
-use Rattle.ipx_tables.specs.declared.fault.TableFault.TheVariants.{Full}
+use Rattle.ipx_tables.specs.declared.fault.TableFault.TheVariants.{Full, OutOfMemory}
 use Rattle.ipx_tables.specs.declared.route.RouteMetric.{RouteMetric}
 use Rattle.ipx_tables.specs.declared.service.ServiceKey.{ServiceKey}
 use Rattle.ipx_tables.specs.declared.service.ServiceMetric.{ServiceMetric}
@@ -20,9 +19,9 @@ use Rattle.ipx_tables.specs.Content.{Table, after_age, after_hear, is_same, is_y
 use Rattle.ipx_tables.specs.Route.{network_cmp, route_dead}
 use Rattle.ipx_tables.specs.Service.{service_key_cmp, service_dead}
 use Rattle.ipx_router.specs.declared.port.Port.{Port}
-use Rattle.ipx_router.specs.Knowledge.{Routes, Services, HoldsRoutes, HoldsServices, routes_in, services_in}
+use Rattle.ipx_router.specs.Knowledge.{Routes, Services, routes_in, services_in}
 use Rattle.ipx_router.specs.Told.{key_of_service}
-use Rattle.ipx_router.specs.Hearing.{HeardRoutes, HeardServices, StopsAtRoute, after_route, after_routes, after_service, after_services, is_heard, route_metric, service_metric}
+use Rattle.ipx_router.specs.Hearing.{HeardRoutes, HeardServices, StopsAtRoute, WantsAtRoute, after_route, after_routes, after_service, is_heard, route_metric, service_metric}
 use Rattle.ipx_router.specs.Ports.{AreFromPorts, IsPortNumber}
 
 module _ (ports : List Port) (source : Source) (now : ℕ) (entries : List RipEntry) (routes : Routes) (i : ℕ) (d : RipEntry) (lt : i < length entries) (t : Table Network RouteMetric) (h : HeardRoutes ports source now entries routes i t) where
@@ -60,9 +59,10 @@ heard_no_route ports source now entries t = record { within = omega arith; holds
 pub hearing_stops : (ports : List Port) (source : Source) (now : ℕ) (entries : List RipEntry) (routes : Routes) (i : ℕ) (d : RipEntry) (t new : Table Network RouteMetric) (result : Result (Unit {0}) TableFault) (f : TableFault)
     → i < length entries → HeardRoutes ports source now entries routes i t → new ≡ t → is_heard ports (get_or entries i d) ≡ true → result ≡ Err f
     → (result ≡ Err Full → (route_dead (route_metric (get_or entries i d)) ≡ false) × (routes_in t ((get_or entries i d).network, source) ≡ None) × (t.most ≤ length t.offers))
-    → (n : ℕ) × HeardRoutes ports source now entries routes n new × (f ≡ Full → StopsAtRoute ports source entries n new)
-hearing_stops ports source now entries routes i d t new result f lt h same passes is full =
-    subst (λ (u : Table Network RouteMetric). (n : ℕ) × HeardRoutes ports source now entries routes n u × (f ≡ Full → StopsAtRoute ports source entries n u)) (sym same) (
+    → (result ≡ Err OutOfMemory → (route_dead (route_metric (get_or entries i d)) ≡ false) × (routes_in t ((get_or entries i d).network, source) ≡ None) × (length t.offers < t.most))
+    → (n : ℕ) × HeardRoutes ports source now entries routes n new × (f ≡ Full → StopsAtRoute ports source entries n new) × (f ≡ OutOfMemory → WantsAtRoute ports source entries n new)
+hearing_stops ports source now entries routes i d t new result f lt h same passes is full wants =
+    subst (λ (u : Table Network RouteMetric). (n : ℕ) × HeardRoutes ports source now entries routes n u × (f ≡ Full → StopsAtRoute ports source entries n u) × (f ≡ OutOfMemory → WantsAtRoute ports source entries n u)) (sym same) (
       i,
       h,
       λ e.
@@ -73,6 +73,15 @@ hearing_stops ports source now entries routes i d t new result f lt h same passe
             is = get_or_default entries i (get_or entries i d) d lt;
             heard = passes;
             full = record { alive = why.0; unknown = why.1; full = why.2 };
+          },
+      λ e.
+          let why = wants (is ∙ ap (λ (g : TableFault). let r : Result (Unit {0}) TableFault = Err g in r) e) in
+          record {
+            entry = get_or entries i d;
+            there = lt;
+            is = get_or_default entries i (get_or entries i d) d lt;
+            heard = passes;
+            grows = record { alive = why.0; unknown = why.1; room = why.2 };
           },
     )
 

@@ -1,21 +1,25 @@
 -- From what is answered once old offers have gone to what the router answers.
-use Rattle.std.proofs.Common.{◌≡◌, ℕ, ◌+◌, ◌-◌, ◌≤◌, ◌<◌, Bool, List, length, take, Option, Some, None, Result, Ok, Err, refl, sym, ap, ◌∙◌, subst, inl, inr, arith}
-use Rattle.std.specs.Prelude.{slice_get, IfOk, IfErr, IfSome, OnErr, IsErr, MatchOption, MatchResult, count_by, ◌⊎◌}
+use Rattle.std.proofs.Common.{◌≡◌, ℕ, ◌-◌, ◌<◌, Bool, true, false, ltb, List, [], ◌∷◌, length, Option, Some, None, Result, Ok, Err, refl, sym, subst, inl, inr, arith}
+use Rattle.std.specs.Prelude.{slice_get, IfOk, IfErr, IfSome, OnErr, IsOk, MatchOption, MatchResult, count_by, ◌⊎◌, ◌==◌, ◌||◌, ◌/◌, if◌then◌else◌}
 use Rattle.std.specs.List.{All}
 use Rattle.std.proofs.Math.Path.{fun_ext}
+use Rattle.std.proofs.lemmas.Bool.{false≢true}
 use Rattle.std.proofs.lemmas.List.Elements.{All-weaker}
 use Rattle.ipx_wire.specs.declared.address.Network.{Network}
 use Rattle.ipx_wire.specs.declared.memory.OutOfMemory.{OutOfMemory}
-use Rattle.ipx_wire.specs.Ipx.{Datagram}
+use Rattle.ipx_wire.specs.Ipx.{Datagram, number}
 use Rattle.ipx_control.specs.declared.fault.ControlFault.{ControlFault}
+use Rattle.ipx_control.specs.declared.fault.ControlFault.TheVariants.{NoOperation, UnknownOperation, TooManyEntries, QueryShort, OutOfMemory as out_of_memory_fault}
 use Rattle.ipx_control.specs.declared.rip.RipEntry.{RipEntry}
+use Rattle.ipx_control.specs.declared.rip.Rip.{Rip}
 use Rattle.ipx_control.specs.declared.sap.ServiceEntry.{ServiceEntry}
-use Rattle.ipx_control.specs.Rip.{RipMessage, IsRip, rip_fault}
+use Rattle.ipx_control.specs.declared.sap.Sap.{Sap}
+use Rattle.ipx_control.specs.Rip.{RipMessage, IsRip, rip_entries, rip_fault}
 use Rattle.ipx_control.specs.Rip as rip
-use Rattle.ipx_control.specs.Sap.{SapMessage, IsSap, sap_fault}
+use Rattle.ipx_control.specs.Sap.{SapMessage, IsSap, sap_fault, sap_services}
 use Rattle.ipx_control.specs.Sap as sap
 use Rattle.ipx_tables.specs.declared.fault.TableFault.{TableFault}
-use Rattle.ipx_tables.specs.declared.fault.TableFault.TheVariants.{Full}
+use Rattle.ipx_tables.specs.declared.fault.TableFault.TheVariants.{Full, OutOfMemory as out_of_memory}
 use Rattle.ipx_tables.specs.declared.route.RouteMetric.{RouteMetric}
 use Rattle.ipx_tables.specs.declared.service.ServiceKey.{ServiceKey}
 use Rattle.ipx_tables.specs.declared.service.ServiceMetric.{ServiceMetric}
@@ -26,12 +30,12 @@ use Rattle.ipx_router.specs.declared.port.Port.{Port}
 use Rattle.ipx_router.specs.declared.port.PortNow.{PortNow}
 use Rattle.ipx_router.specs.declared.reason.Reason.TheVariants.{BadControl, TableFull}
 use Rattle.ipx_router.specs.Routing.{Routing}
-use Rattle.ipx_router.specs.Knowledge.{Known, Routes, Services, HoldsRoutes, HoldsServices, Tables, known_aged, known_at, known_in, routes_in, services_in}
+use Rattle.ipx_router.specs.Knowledge.{Routes, Services, HoldsRoutes, HoldsServices, Tables, known_aged, known_at, known_in, routes_in, services_in}
 use Rattle.ipx_router.specs.Control.{source_of, asker}
-use Rattle.ipx_router.specs.Hearing.{HeardRoutes, HeardServices, StopsAtRoute, StopsAtService, is_heard}
+use Rattle.ipx_router.specs.Hearing.{HeardRoutes, HeardServices, StopsAtRoute, StopsAtService, WantsAtRoute, WantsAtService, is_heard}
 use Rattle.ipx_router.specs.Packets.{Sending}
 use Rattle.ipx_router.specs.Ports.{AreOnPorts, IsPortNumber}
-use Rattle.ipx_router.specs.Answer.{Answer, Heard, Refused, Replied, Sent, AnswersBytes, AnswersRip, AnswersRipMessage, AnswersSap, AnswersSapMessage, HearsRoutes, HearsServices, HoldsPacket, IsOnPort, LeavesBytes, LeavesRoutes, LeavesServices, OnwardForEachReading, PassesOn, view}
+use Rattle.ipx_router.specs.Answer.{Answer, Heard, Refused, Replied, Sent, AnswersBytes, AnswersRip, AnswersRipMessage, AnswersSap, AnswersSapMessage, HearsRoutes, HearsServices, HoldsPacket, IsOnPort, LeavesBytes, LeavesRipMessage, LeavesRoutes, LeavesSapMessage, LeavesServices, StopsHearingRoutes, StopsHearingServices, OnwardForEachReading, PassesOn, view}
 use Rattle.ipx_router.proofs.Cuts.{route_packets_port, service_packets_port}
 
 -- what tables say once old offers have gone is what is known then
@@ -71,7 +75,7 @@ module _ (ports : List Port) (routes : Routes) (at : PortNow) (d : Datagram) (ta
 
   pub rip_heard : (heard : Result ℕ TableFault) (o : Result Outcome OutOfMemory)
       → IfOk heard (λ n. (n ≡ count_by (is_heard ports) entries) × HeardRoutes ports source at.now entries routes (length entries) new)
-      → IfErr heard (λ f. (n : ℕ) × HeardRoutes ports source at.now entries routes n new × (f ≡ Full → StopsAtRoute ports source entries n new))
+      → IfErr heard (λ f. (n : ℕ) × HeardRoutes ports source at.now entries routes n new × (f ≡ Full → StopsAtRoute ports source entries n new) × (f ≡ out_of_memory → WantsAtRoute ports source entries n new))
       → IfOk o (λ x. MatchResult heard (λ n. view x ≡ Heard n) (λ f. (f ≡ Full) × (view x ≡ Refused TableFull)))
       → IfOk o (λ x. AnswersRip ports routes at d (view x) new)
   rip_heard (Ok n) (Ok x) ok err says = subst (λ (a : Answer). AnswersRip ports routes at d a new) (sym says) (rip_answer (Heard n) ok)
@@ -80,11 +84,13 @@ module _ (ports : List Port) (routes : Routes) (at : PortNow) (d : Datagram) (ta
   rip_heard (Err f) (Err e) ok err says = tt
 
   pub rip_left : (heard : Result ℕ TableFault) (o : Result Outcome OutOfMemory)
-      → IfErr heard (λ f. (n : ℕ) × HeardRoutes ports source at.now entries routes n new × (f ≡ Full → StopsAtRoute ports source entries n new))
-      → OnErr o (IsErr heard) → OnErr o (LeavesRoutes ports routes at d new)
+      → IfErr heard (λ f. (n : ℕ) × HeardRoutes ports source at.now entries routes n new × (f ≡ Full → StopsAtRoute ports source entries n new) × (f ≡ out_of_memory → WantsAtRoute ports source entries n new))
+      → OnErr o (heard ≡ Err out_of_memory) → OnErr o (LeavesRoutes ports routes at d new)
   rip_left heard (Ok x) err says = tt
   rip_left (Ok n) (Err e) err says = cc
-  rip_left (Err f) (Err e) err says = inr (entries, tail, is, err.0, subst (λ (s : Source). HeardRoutes ports s at.now entries routes err.0 new) from err.1)
+  rip_left (Err f) (Err e) err says =
+      let wants : f ≡ out_of_memory = cc in
+      (rip.Response entries, tail, is, subst (λ (s : Source). StopsHearingRoutes ports routes s at.now entries new) from (inr (err.0, err.1, err.3 wants)))
 
 module _ (services : Services) (at : PortNow) (d : Datagram) (tail : List ℕ) (nearest : Bool) (entries : List ServiceEntry) (source : Source) (from : source ≡ source_of at d.header)
     (none : sap_fault d.body ≡ None) (is : IsSap (sap.Response nearest entries) d.body tail) (new : Table ServiceKey ServiceMetric) where
@@ -95,7 +101,7 @@ module _ (services : Services) (at : PortNow) (d : Datagram) (tail : List ℕ) (
 
   pub sap_heard : (heard : Result ℕ TableFault) (o : Result Outcome OutOfMemory)
       → IfOk heard (λ n. (n ≡ length entries) × HeardServices source at.now entries services (length entries) new)
-      → IfErr heard (λ f. (n : ℕ) × HeardServices source at.now entries services n new × (f ≡ Full → StopsAtService source entries n new))
+      → IfErr heard (λ f. (n : ℕ) × HeardServices source at.now entries services n new × (f ≡ Full → StopsAtService source entries n new) × (f ≡ out_of_memory → WantsAtService source entries n new))
       → IfOk o (λ x. MatchResult heard (λ n. view x ≡ Heard n) (λ f. (f ≡ Full) × (view x ≡ Refused TableFull)))
       → IfOk o (λ x. AnswersSap services at d (view x) new)
   sap_heard (Ok n) (Ok x) ok err says = subst (λ (a : Answer). AnswersSap services at d a new) (sym says) (sap_answer (Heard n) ok)
@@ -104,11 +110,67 @@ module _ (services : Services) (at : PortNow) (d : Datagram) (tail : List ℕ) (
   sap_heard (Err f) (Err e) ok err says = tt
 
   pub sap_left : (heard : Result ℕ TableFault) (o : Result Outcome OutOfMemory)
-      → IfErr heard (λ f. (n : ℕ) × HeardServices source at.now entries services n new × (f ≡ Full → StopsAtService source entries n new))
-      → OnErr o (IsErr heard) → OnErr o (LeavesServices services at d new)
+      → IfErr heard (λ f. (n : ℕ) × HeardServices source at.now entries services n new × (f ≡ Full → StopsAtService source entries n new) × (f ≡ out_of_memory → WantsAtService source entries n new))
+      → OnErr o (heard ≡ Err out_of_memory) → OnErr o (LeavesServices services at d new)
   sap_left heard (Ok x) err says = tt
   sap_left (Ok n) (Err e) err says = cc
-  sap_left (Err f) (Err e) err says = inr (nearest, entries, tail, is, err.0, subst (λ (s : Source). HeardServices s at.now entries services err.0 new) from err.1)
+  sap_left (Err f) (Err e) err says =
+      let wants : f ≡ out_of_memory = cc in
+      (sap.Response nearest entries, tail, is, subst (λ (s : Source). StopsHearingServices services s at.now entries new) from (inr (err.0, err.1, err.3 wants)))
+
+-- ---- want of memory for the entries of a body
+
+rip_want_by : (a b c : Bool) (n operation : ℕ)
+    → (if a then Some NoOperation else if b then (if c then Some (TooManyEntries n) else None) else Some (UnknownOperation operation)) ≡ Some out_of_memory_fault → ⊥
+rip_want_by true b c n operation h = cc
+rip_want_by false true true n operation h = cc
+rip_want_by false true false n operation h = cc
+rip_want_by false false c n operation h = cc
+
+sap_want_by : (a b c d e : Bool) (n size operation : ℕ)
+    → (if a then Some NoOperation else if b then (if c then Some (QueryShort size) else None) else if d then (if e then Some (TooManyEntries n) else None) else Some (UnknownOperation operation)) ≡ Some out_of_memory_fault → ⊥
+sap_want_by true b c d e n size operation h = cc
+sap_want_by false true true d e n size operation h = cc
+sap_want_by false true false d e n size operation h = cc
+sap_want_by false false c true true n size operation h = cc
+sap_want_by false false c true false n size operation h = cc
+sap_want_by false false c false e n size operation h = cc
+
+-- where the reading of a body wants memory, the body has no fault
+pub rip_wanted : (bytes : List ℕ) → ((out_of_memory_fault ≡ out_of_memory_fault) × (rip_fault bytes ≡ None)) ⊎ (rip_fault bytes ≡ Some out_of_memory_fault) → rip_fault bytes ≡ None
+rip_wanted bytes (inl h) = h.1
+rip_wanted bytes (inr h) = absurd (rip_want_by (ltb (length bytes) 2) _ _ _ _ h)
+
+pub sap_wanted : (bytes : List ℕ) → ((out_of_memory_fault ≡ out_of_memory_fault) × (sap_fault bytes ≡ None)) ⊎ (sap_fault bytes ≡ Some out_of_memory_fault) → sap_fault bytes ≡ None
+sap_wanted bytes (inl h) = h.1
+sap_wanted bytes (inr h) =
+    let size = length bytes in
+    let operation = number 2 0 bytes in
+    absurd (sap_want_by (ltb size 2) ((operation == 1) || (operation == 3)) (ltb size 4) ((operation == 2) || (operation == 4)) (ltb 7 ((size - 2) / 64)) ((size - 2) / 64) size operation h)
+
+some_entry : {E : Type 0} (entries : List E) → (entries ≡ [] → ⊥) → 0 < length entries
+some_entry [] none = absurd (none refl)
+some_entry (e ∷ es) none = omega arith
+
+module _ (ports : List Port) (routes : Routes) (at : PortNow) (d : Datagram) (f : ControlFault)
+    (no_memory : (m : RipMessage) (tail : List ℕ) → IsRip m d.body tail → rip_entries m ≡ [] → IsOk {T = Rip} (Err f)) (new : Table Network RouteMetric) (same : HoldsRoutes new routes) where
+  rip_unread_by : (m : RipMessage) → (rip_entries m ≡ [] → ⊥) → LeavesRipMessage ports routes at d.header m new
+  rip_unread_by (rip.Request asked) some = same
+  rip_unread_by (rip.Response entries) some = inl (some_entry entries some, same)
+
+  pub rip_unread : (m : RipMessage) × (tail : List ℕ) × IsRip m d.body tail → LeavesRoutes ports routes at d new
+  rip_unread found =
+      (found.0, found.1, found.2, rip_unread_by found.0 (λ none. false≢true (no_memory found.0 found.1 found.2 none)))
+
+module _ (services : Services) (at : PortNow) (d : Datagram) (f : ControlFault)
+    (no_memory : (m : SapMessage) (tail : List ℕ) → IsSap m d.body tail → sap_services m ≡ [] → IsOk {T = Sap} (Err f)) (new : Table ServiceKey ServiceMetric) (same : HoldsServices new services) where
+  sap_unread_by : (m : SapMessage) → (sap_services m ≡ [] → ⊥) → LeavesSapMessage services at d.header m new
+  sap_unread_by (sap.Query nearest kind) some = same
+  sap_unread_by (sap.Response nearest entries) some = inl (some_entry entries some, same)
+
+  pub sap_unread : (m : SapMessage) × (tail : List ℕ) × IsSap m d.body tail → LeavesServices services at d new
+  sap_unread found =
+      (found.0, found.1, found.2, sap_unread_by found.0 (λ none. false≢true (no_memory found.0 found.1 found.2 none)))
 
 -- ---- replies leave by the port that was asked on
 

@@ -1,5 +1,5 @@
 -- What a router answers to the bytes that come in on a port, and what it holds then.
-use Rattle.std.specs.Prelude.{◌≡◌, ◌≤◌, ◌<◌, ◌⊎◌, ℕ, ◌+◌, ◌-◌, ◌==◌, ◌||◌, ◌&&◌, Bool, true, false, not, List, [], length, Option, Some, None, All, slice_get, IfSome, MatchOption, count_by, if◌then◌else◌}
+use Rattle.std.specs.Prelude.{◌≡◌, ◌<◌, ◌⊎◌, ℕ, ◌-◌, Bool, List, length, Option, Some, slice_get, IfSome, MatchOption, count_by}
 use Rattle.ipx_wire.specs.declared.address.Network.{Network}
 use Rattle.ipx_wire.specs.declared.address.Node.{Node}
 use Rattle.ipx_wire.specs.declared.packet.IpxHeader.{IpxHeader}
@@ -21,19 +21,19 @@ use Rattle.ipx_router.specs.declared.packets.Recipient.{Recipient}
 use Rattle.ipx_router.specs.declared.outcome.Outcome.{Outcome}
 use Rattle.ipx_router.specs.declared.outcome.Outcome.TheVariants as outcomes
 use Rattle.ipx_router.specs.declared.reason.Reason.{Reason}
-use Rattle.ipx_router.specs.declared.reason.Reason.TheVariants.{Bad, Propagated, NotOurs, BadControl, TableFull}
+use Rattle.ipx_router.specs.declared.reason.Reason.TheVariants.{Bad, BadControl, TableFull}
 use Rattle.ipx_router.specs.declared.control.Concern.{Concern}
 use Rattle.ipx_router.specs.declared.control.Concern.TheVariants as concerns
 use Rattle.ipx_router.specs.Routing.{Routing}
 use Rattle.ipx_router.specs.Ports.{AreOnPorts, IsPortNumber}
 use Rattle.ipx_router.specs.Knowledge.{Known, HoldsKnown, Routes, Services, HoldsRoutes, HoldsServices, Tables, known_at, tables}
 use Rattle.ipx_router.specs.declared.route.Route.{Route}
-use Rattle.ipx_router.specs.Route.{IsRouteOrNone}
+use Rattle.ipx_router.specs.Route.{IsRouteOrNone, IsRouteTo}
 use Rattle.ipx_router.specs.Forward.{Decision, Leaves as LeavesBy, Stays, IsOneHopOn, by_route}
-use Rattle.ipx_router.specs.Packets.{Sending, AreRoutePackets, AreServicePackets, sendings, rip_socket, sap_socket}
+use Rattle.ipx_router.specs.Packets.{Sending, AreRoutePackets, AreServicePackets, sendings}
 use Rattle.ipx_router.specs.Told.{AreToldRoutes, AreToldServices}
 use Rattle.ipx_router.specs.Asking.{AreServicesAsked, routes_asked}
-use Rattle.ipx_router.specs.Hearing.{HeardRoutes, HeardServices, StopsAtRoute, StopsAtService, is_heard}
+use Rattle.ipx_router.specs.Hearing.{HeardRoutes, HeardServices, StopsAtRoute, StopsAtService, WantsAtRoute, WantsAtService, is_heard}
 use Rattle.ipx_router.specs.Control.{concern_of, asker, source_of}
 
 -- an outcome without where it lies in memory
@@ -112,14 +112,37 @@ AnswersSap services at d a new = MatchOption (sap_fault d.body)
     ((m : SapMessage) × (tail : List ℕ) × IsSap m d.body tail × AnswersSapMessage services at d.header m a new)
     (λ f. (a ≡ Refused (BadControl f)) × HoldsServices new services)
 
--- what want of memory leaves: the entries before it were heard, and the others were not
+-- want of memory for the entries of a response: they could not be read, or one of them could not be heard; those before it were, and the others were not
+abbrev pub StopsHearingRoutes : List Port → Routes → Source → ℕ → List RipEntry → Table Network RouteMetric → Type 0
+StopsHearingRoutes ports routes source now entries new = ((0 < length entries) × HoldsRoutes new routes)
+    ⊎ ((n : ℕ) × HeardRoutes ports source now entries routes n new × WantsAtRoute ports source entries n new)
+
+abbrev pub StopsHearingServices : Services → Source → ℕ → List ServiceEntry → Table ServiceKey ServiceMetric → Type 0
+StopsHearingServices services source now entries new = ((0 < length entries) × HoldsServices new services)
+    ⊎ ((n : ℕ) × HeardServices source now entries services n new × WantsAtService source entries n new)
+
+abbrev pub LeavesRipMessage : List Port → Routes → PortNow → IpxHeader → RipMessage → Table Network RouteMetric → Type 0
+LeavesRipMessage ports routes at h (rip.Request asked) new = HoldsRoutes new routes
+LeavesRipMessage ports routes at h (rip.Response entries) new = StopsHearingRoutes ports routes (source_of at h) at.now entries new
+
+abbrev pub LeavesSapMessage : Services → PortNow → IpxHeader → SapMessage → Table ServiceKey ServiceMetric → Type 0
+LeavesSapMessage services at h (sap.Query nearest kind) new = HoldsServices new services
+LeavesSapMessage services at h (sap.Response nearest entries) new = StopsHearingServices services (source_of at h) at.now entries new
+
+-- what want of memory leaves: only a RIP packet wants it
 abbrev pub LeavesRoutes : List Port → Routes → PortNow → Datagram → Table Network RouteMetric → Type 0
-LeavesRoutes ports routes at d new = HoldsRoutes new routes ⊎ ((entries : List RipEntry) × (tail : List ℕ)
-    × IsRip (rip.Response entries) d.body tail × (n : ℕ) × HeardRoutes ports (source_of at d.header) at.now entries routes n new)
+LeavesRoutes ports routes at d new =
+    (m : RipMessage) × (tail : List ℕ) × IsRip m d.body tail × LeavesRipMessage ports routes at d.header m new
 
 abbrev pub LeavesServices : Services → PortNow → Datagram → Table ServiceKey ServiceMetric → Type 0
-LeavesServices services at d new = HoldsServices new services ⊎ ((nearest : Bool) × (entries : List ServiceEntry) × (tail : List ℕ)
-    × IsSap (sap.Response nearest entries) d.body tail × (n : ℕ) × HeardServices (source_of at d.header) at.now entries services n new)
+LeavesServices services at d new =
+    (m : SapMessage) × (tail : List ℕ) × IsSap m d.body tail × LeavesSapMessage services at d.header m new
+
+-- a packet for another network goes on: there is a route, and fewer than fifteen routers carried it
+pub record GoesOn (ports : List Port) (routes : Routes) (at : PortNow) (h : IpxHeader) : Type 0 where
+  pub route : Route
+  pub leads : IsRouteTo ports routes at.now h.to.network route
+  pub hops : h.hops < 15
 
 -- by what the packet is to the router
 abbrev pub AnswersByConcern : Known → PortNow → Datagram → Answer → Tables → Concern → Type 0
@@ -128,11 +151,12 @@ AnswersByConcern k at d a new concerns.Rip = AnswersRip k.ports k.routes at d a 
 AnswersByConcern k at d a new concerns.Sap = AnswersSap k.services at d a new.1 × HoldsRoutes new.0 k.routes
 AnswersByConcern k at d a new concerns.Passing = PassesAlong k.ports k.routes at d a × HoldsKnown k new
 
+-- what is dropped by its header wants no memory
 abbrev pub LeavesByConcern : Known → PortNow → Datagram → Tables → Concern → Type 0
-LeavesByConcern k at d new (concerns.Refused reason) = HoldsKnown k new
+LeavesByConcern k at d new (concerns.Refused reason) = ⊥
 LeavesByConcern k at d new concerns.Rip = LeavesRoutes k.ports k.routes at d new.0 × HoldsServices new.1 k.services
 LeavesByConcern k at d new concerns.Sap = LeavesServices k.services at d new.1 × HoldsRoutes new.0 k.routes
-LeavesByConcern k at d new concerns.Passing = HoldsKnown k new
+LeavesByConcern k at d new concerns.Passing = GoesOn k.ports k.routes at d.header × HoldsKnown k new
 
 abbrev pub AnswersPacket : Known → PortNow → List ℕ → Answer → Tables → Type 0
 AnswersPacket k at bytes a new =

@@ -1,5 +1,5 @@
 -- What a router hears from the entries of a RIP or SAP response.
-use Rattle.std.specs.Prelude.{◌≡◌, ◌<◌, ◌≤◌, ℕ, ◌==◌, ◌||◌, Bool, true, false, not, List, length, take, slice_index_or, Option, None, fold, count_by, if◌then◌else◌}
+use Rattle.std.specs.Prelude.{◌≡◌, ◌<◌, ◌≤◌, ℕ, ◌==◌, ◌||◌, Bool, true, false, not, List, length, take, slice_index_or, None, fold, if◌then◌else◌}
 use Rattle.std.specs.List.{list_any}
 use Rattle.ipx_wire.specs.declared.address.Network.{Network}
 use Rattle.ipx_control.specs.declared.rip.RipEntry.{RipEntry}
@@ -62,6 +62,17 @@ pub record IsFullForService (source : Source) (t : Table ServiceKey ServiceMetri
   pub unknown : services_in t (key_of_service e, source) ≡ None
   pub full : t.most ≤ length t.offers
 
+-- the table has room for one more offer, and none by which the entry would be heard
+pub record GrowsByRoute (source : Source) (t : Table Network RouteMetric) (e : RipEntry) : Type 0 where
+  pub alive : route_dead (route_metric e) ≡ false
+  pub unknown : routes_in t (e.network, source) ≡ None
+  pub room : length t.offers < t.most
+
+pub record GrowsByService (source : Source) (t : Table ServiceKey ServiceMetric) (e : ServiceEntry) : Type 0 where
+  pub alive : service_dead (service_metric e) ≡ false
+  pub unknown : services_in t (key_of_service e, source) ≡ None
+  pub room : length t.offers < t.most
+
 -- the table was full for the entry behind the first n, which is to be heard
 pub record StopsAtRoute (ports : List Port) (source : Source) (entries : List RipEntry) (n : ℕ) (new : Table Network RouteMetric) : Type 0 where
   pub entry : RipEntry
@@ -75,3 +86,17 @@ pub record StopsAtService (source : Source) (entries : List ServiceEntry) (n : �
   pub there : n < length entries
   pub is : slice_index_or entries n entry ≡ entry
   pub full : IsFullForService source new entry
+
+-- the table would have grown by the entry behind the first n, which is to be heard
+pub record WantsAtRoute (ports : List Port) (source : Source) (entries : List RipEntry) (n : ℕ) (new : Table Network RouteMetric) : Type 0 where
+  pub entry : RipEntry
+  pub there : n < length entries
+  pub is : slice_index_or entries n entry ≡ entry
+  pub heard : is_heard ports entry ≡ true
+  pub grows : GrowsByRoute source new entry
+
+pub record WantsAtService (source : Source) (entries : List ServiceEntry) (n : ℕ) (new : Table ServiceKey ServiceMetric) : Type 0 where
+  pub entry : ServiceEntry
+  pub there : n < length entries
+  pub is : slice_index_or entries n entry ≡ entry
+  pub grows : GrowsByService source new entry

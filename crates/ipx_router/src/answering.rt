@@ -1,6 +1,6 @@
 //! What a router answers to a datagram.
 
-ghost use Rattle.std.specs.Prelude.{◌≡◌, ◌≤◌, ◌<◌, ℕ, List, [], length, IfOk, OnErr, IsErr, MatchResult};
+ghost use Rattle.std.specs.Prelude.{◌≡◌, ◌≤◌, ◌<◌, ℕ, List, [], length, IfOk, OnErr, Err, MatchResult};
 ghost use Rattle.ipx_wire.specs.Ipx.{view as packet_view};
 ghost use Rattle.ipx_control.specs.Rip.{rip_view};
 ghost use Rattle.ipx_control.specs.Sap.{sap_view};
@@ -19,7 +19,10 @@ use crate::packets::{Recipient, add_route_packets, add_service_packets};
 use crate::port::{Port, PortNow};
 use crate::reason::Reason;
 use crate::told::{told_routes, told_services};
-use ipx_control::{ControlFault, Rip, RipEntry, Sap, ServiceEntry, decode_rip, decode_sap};
+use ipx_control::{
+    ControlFault, Rip, RipEntry, Sap, ServiceEntry, decode_rip, decode_sap, rip_fault_is_of_no_rip,
+    sap_fault_is_of_no_sap,
+};
 use ipx_tables::{RouteTable, ServiceTable, Source, TableFault};
 use ipx_wire::{OutOfMemory, Packet, decode};
 use std::alloc::Global;
@@ -63,7 +66,7 @@ fn reply_services(
 fn outcome_of_hearing(heard: Result<u16, TableFault>) -> Result<Outcome, OutOfMemory>
     ensures answer { IfOk result (λ o. MatchResult heard (λ n. view o ≡ Heard n)
         (λ f. (f ≡ TableFault.Full) × (view o ≡ Refused Reason.TableFull))) }
-    ensures refused { OnErr result (IsErr heard) }
+    ensures refused { OnErr result (heard ≡ Err TableFault.OutOfMemory) }
 {
     match heard {
         Ok(count) => Ok(Outcome::Heard(count)),
@@ -86,6 +89,7 @@ fn answer_rip(
     ensures sources { IsPortNumber (length ports.now) at.number → AreFromPorts (length ports.now) (routes_in routes.old)
         → AreFromPorts (length ports.now) (routes_in routes.new) }
 {
+    rip_fault_is_of_no_rip();
     match decode_rip(alloc, packet.body) {
         Err(ControlFault::OutOfMemory) => return Err(OutOfMemory),
         Err(fault) => return Ok(Outcome::Dropped(Reason::BadControl(fault))),
@@ -113,6 +117,7 @@ fn answer_sap(
     ensures refused { OnErr result (LeavesServices (services_in services.old) at (packet_view packet.entry) services.new) }
     ensures most { services.new.most ≡ services.old.most }
 {
+    sap_fault_is_of_no_sap();
     match decode_sap(alloc, packet.body) {
         Err(ControlFault::OutOfMemory) => return Err(OutOfMemory),
         Err(fault) => return Ok(Outcome::Dropped(Reason::BadControl(fault))),

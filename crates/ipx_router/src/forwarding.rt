@@ -1,11 +1,11 @@
 //! A packet on its way to another network.
 
-ghost use Rattle.std.specs.Prelude.{◌≡◌, ◌≤◌, ◌<◌, ℕ, List, [], length, IfOk, IfSome, IfNone, Option};
+ghost use Rattle.std.specs.Prelude.{◌≡◌, ◌≤◌, ◌<◌, ℕ, List, [], length, IfOk, IfSome, IfNone, OnErr, Option};
 ghost use Rattle.ipx_wire.specs.Ipx.{view as packet_view};
 ghost use Rattle.ipx_router.specs.Knowledge.{routes_in};
 ghost use Rattle.ipx_router.specs.Ports.{AreFromPorts, IsPortNumber};
 ghost use Rattle.ipx_router.specs.Forward.{Decision, IfLeaves, IfLeavesBy, IsOneHopOn, by_route, fate_of, one_hop_on};
-ghost use Rattle.ipx_router.specs.Answer.{IsOnPort, Onward, PassesAlong, view};
+ghost use Rattle.ipx_router.specs.Answer.{GoesOn, IsOnPort, Onward, PassesAlong, view};
 
 use crate::outcome::{Outcome, Reply};
 use crate::packets::packet_bytes;
@@ -70,6 +70,7 @@ pub fn pass_along(
     requires body { length packet.body.now ≤ 1470 }
     requires sources { AreFromPorts (length ports.now) (routes_in routes.now) }
     ensures passes { IfOk result (λ o. PassesAlong ports.now (routes_in routes.now) at (packet_view packet.entry) (view o)) }
+    ensures refused { OnErr result (GoesOn ports.now (routes_in routes.now) at packet.entry.header) }
     ensures onward { IfOk result (λ o. Onward at.port (packet_view packet.entry) (view o)) }
     ensures there { IfOk result (λ o. IsOnPort (length ports.now) (view o)) }
 {

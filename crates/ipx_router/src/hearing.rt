@@ -3,7 +3,7 @@
 ghost use Rattle.std.specs.Prelude.{◌≡◌, ◌≤◌, ℕ, IfOk, IfErr, length, count_by};
 ghost use Rattle.ipx_router.specs.Knowledge.{routes_in, services_in};
 ghost use Rattle.ipx_router.specs.Told.{key_of_service};
-ghost use Rattle.ipx_router.specs.Hearing.{HeardRoutes, HeardServices, StopsAtRoute, StopsAtService, is_heard};
+ghost use Rattle.ipx_router.specs.Hearing.{HeardRoutes, HeardServices, StopsAtRoute, StopsAtService, WantsAtRoute, WantsAtService, is_heard};
 ghost use Rattle.ipx_router.specs.Ports.{AreFromPorts, IsPortNumber};
 
 use crate::networks::has_network;
@@ -36,7 +36,8 @@ pub fn hear_routes(
         × HeardRoutes ports.now source now entries.now (routes_in routes.old) (length entries.now) routes.new) }
     ensures refused { IfErr result (λ f. (n : ℕ)
         × HeardRoutes ports.now source now entries.now (routes_in routes.old) n routes.new
-        × (f ≡ TableFault.Full → StopsAtRoute ports.now source entries.now n routes.new)) }
+        × (f ≡ TableFault.Full → StopsAtRoute ports.now source entries.now n routes.new)
+        × (f ≡ TableFault.OutOfMemory → WantsAtRoute ports.now source entries.now n routes.new)) }
     ensures most { routes.new.most ≡ routes.old.most }
     ensures sources { (count : ℕ) → IsPortNumber count source.port
         → AreFromPorts count (routes_in routes.old) → AreFromPorts count (routes_in routes.new) }
@@ -68,7 +69,8 @@ pub fn hear_services(
         × HeardServices source now entries.now (services_in services.old) (length entries.now) services.new) }
     ensures refused { IfErr result (λ f. (n : ℕ)
         × HeardServices source now entries.now (services_in services.old) n services.new
-        × (f ≡ TableFault.Full → StopsAtService source entries.now n services.new)) }
+        × (f ≡ TableFault.Full → StopsAtService source entries.now n services.new)
+        × (f ≡ TableFault.OutOfMemory → WantsAtService source entries.now n services.new)) }
     ensures most { services.new.most ≡ services.old.most }
 {
     let mut heard = 0;

@@ -112,6 +112,18 @@ fn route_rows(rt: HostRuntime) -> Result<(), Fail> {
 }
 
 #[test]
+fn printed_networks(rt: HostRuntime) -> Result<(), Fail> {
+    let alloc = rt.alloc();
+    let reason = Reason::NoRoute(Network(0x1a2b));
+    let text = format!(in alloc; "{reason}")?;
+    assert_eq!(rt; text.as_str(), "no route to network 00001a2b");
+    let fault = NewFault::TwinNetwork(Network(0xab));
+    let text = format!(in alloc; "{fault}")?;
+    assert_eq!(rt; text.as_str(), "two ports on network 000000ab");
+    Ok(())
+}
+
+#[test]
 fn asked_routes(rt: HostRuntime) -> Result<(), Fail> {
     let alloc = rt.alloc();
     let mut router = three_ports(alloc)?;

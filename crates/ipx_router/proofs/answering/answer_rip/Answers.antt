@@ -1,7 +1,7 @@
-use Rattle.std.proofs.Common.{List, subst}
+use Rattle.std.proofs.Common.{refl}
 use Rattle.ipx_wire.specs.Ipx.{view as packet_view}
 use Rattle.ipx_router.specs.Knowledge.{routes_in}
-use Rattle.ipx_router.proofs.Receiving.{rip_heard, rip_left}
+use Rattle.ipx_router.proofs.Receiving.{rip_heard, rip_left, rip_unread, rip_wanted}
 use Rattle.ipx_router.proofs.answering.answer_rip.Goals as goal
 
 pub returns-in-Ok-Response-clause-answer : goal.returns-in-Ok-Response-clause-answer
@@ -21,3 +21,9 @@ returns-in-Ok-Response-clause-refused c =
 
 pub returns-in-Ok-Response-clause-sources : goal.returns-in-Ok-Response-clause-sources
 returns-in-Ok-Response-clause-sources c = λ port from. c.hear_routes-heard.ensures.sources _ (rw c.neighbour_of-source.ensures port) from
+
+pub returns-in-Err-OutOfMemory-clause-refused : goal.returns-in-Err-OutOfMemory-clause-refused
+returns-in-Err-OutOfMemory-clause-refused c =
+    let fault = rw c.in-Err-OutOfMemory.field-0-is at c.in-Err-OutOfMemory.ensures.fault in
+    let found = c.rip_fault_is_of_no_rip.ensures.packet c.args.packet.body.now (rip_wanted c.args.packet.body.now fault) in
+    rip_unread c.args.ports.now (routes_in c.args.routes.now) c.args.at (packet_view c.args.packet) c.in-Err-OutOfMemory.field-0 c.in-Err-OutOfMemory.ensures.no_memory c.args.routes.now (λ p. refl) found

@@ -1,7 +1,7 @@
-use Rattle.std.proofs.Common.{List, subst}
+use Rattle.std.proofs.Common.{refl}
 use Rattle.ipx_wire.specs.Ipx.{view as packet_view}
 use Rattle.ipx_router.specs.Knowledge.{services_in}
-use Rattle.ipx_router.proofs.Receiving.{sap_heard, sap_left}
+use Rattle.ipx_router.proofs.Receiving.{sap_heard, sap_left, sap_unread, sap_wanted}
 use Rattle.ipx_router.proofs.answering.answer_sap.Goals as goal
 
 pub returns-in-Ok-Response-clause-answer : goal.returns-in-Ok-Response-clause-answer
@@ -18,3 +18,9 @@ returns-in-Ok-Response-clause-refused c =
     let refused = rw c.deref.ensures.value at c.hear_services-heard.ensures.refused in
     sap_left (services_in c.args.services.now) c.args.at (packet_view c.args.packet) found.0 c.in-Ok-Response.field-0-0 c.in-Ok-Response.entries.items c.neighbour_of-source.result c.neighbour_of-source.ensures c.in-Ok-Response.ensures.whole found.1 c.hear_services-heard.new.services
     c.hear_services-heard.result c.outcome_of_hearing.result refused c.outcome_of_hearing.ensures.refused
+
+pub returns-in-Err-OutOfMemory-clause-refused : goal.returns-in-Err-OutOfMemory-clause-refused
+returns-in-Err-OutOfMemory-clause-refused c =
+    let fault = rw c.in-Err-OutOfMemory.field-0-is at c.in-Err-OutOfMemory.ensures.fault in
+    let found = c.sap_fault_is_of_no_sap.ensures.packet c.args.packet.body.now (sap_wanted c.args.packet.body.now fault) in
+    sap_unread (services_in c.args.services.now) c.args.at (packet_view c.args.packet) c.in-Err-OutOfMemory.field-0 c.in-Err-OutOfMemory.ensures.no_memory c.args.services.now (λ p. refl) found

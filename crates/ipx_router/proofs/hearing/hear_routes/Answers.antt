@@ -14,7 +14,7 @@ returns-in_err-hear-clause-refused c =
     let p = err_from_is_err_and c.from_residual.result c.from_residual.ensures.1 in
     rw (p.1, p.2)
     (hearing_stops c.args.ports.now c.args.source c.args.now c.args.entries.now (routes_in c.args.routes.now) c.loop-entry.entry-index no_entry c.loop-entry.routes c.hear.new.self c.hear.result c.in_err-hear.field-0.0
-    c.loop-entry-test.true c.loop-entry.invariant.heard c.in_err-hear.ensures.refused (sym c.is_route_heard.ensures ∙ c.if-is_route_heard.true) c.in_err-hear.was c.hear.ensures.full.0)
+    c.loop-entry-test.true c.loop-entry.invariant.heard c.in_err-hear.ensures.refused (sym c.is_route_heard.ensures ∙ c.if-is_route_heard.true) c.in_err-hear.was c.hear.ensures.full.0 c.hear.ensures.out_of_memory)
 
 pub returns-in_err-hear-clause-sources : goal.returns-in_err-hear-clause-sources
 returns-in_err-hear-clause-sources c = rw c.in_err-hear.ensures.refused c.loop-entry.invariant.sources
