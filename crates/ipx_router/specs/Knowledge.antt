@@ -5,7 +5,7 @@ use Rattle.ipx_tables.specs.declared.route.RouteMetric.{RouteMetric}
 use Rattle.ipx_tables.specs.declared.service.ServiceKey.{ServiceKey}
 use Rattle.ipx_tables.specs.declared.service.ServiceMetric.{ServiceMetric}
 use Rattle.ipx_tables.specs.declared.source.Source.{Source}
-use Rattle.ipx_tables.specs.Content.{Content, Table, content, after_age}
+use Rattle.ipx_tables.specs.Content.{Content, IsTable, Table, content, after_age}
 use Rattle.ipx_tables.specs.Route.{network_cmp}
 use Rattle.ipx_tables.specs.Service.{service_key_cmp}
 use Rattle.ipx_router.specs.declared.port.Port.{Port}
@@ -57,6 +57,13 @@ Tables = Table Network RouteMetric × Table ServiceKey ServiceMetric
 
 abbrev pub tables : Routing → Tables
 tables r = (r.routes, r.services)
+
+-- no network and no service stands twice of one neighbour, and they are 1,024 and 4,096 at most
+pub record AreTables (t : Tables) : Type 0 where
+  pub routes : IsTable network_cmp t.0
+  pub services : IsTable service_key_cmp t.1
+  pub most_routes : t.0.most ≡ 1024
+  pub most_services : t.1.most ≡ 4096
 
 -- tables hold just what is known
 pub record HoldsKnown (k : Known) (new : Tables) : Type 0 where

@@ -3,9 +3,8 @@ use Rattle.std.specs.Prelude.{◌≡◌, ◌≤◌, ℕ, List, Some, All, length
 use Rattle.ipx_wire.specs.declared.address.Network.{Network}
 use Rattle.ipx_tables.specs.declared.route.RouteMetric.{RouteMetric}
 use Rattle.ipx_tables.specs.declared.source.Source.{Source}
-use Rattle.ipx_tables.specs.Content.{Table}
 use Rattle.ipx_router.specs.declared.port.Port.{Port}
-use Rattle.ipx_router.specs.Knowledge.{Routes, routes_in}
+use Rattle.ipx_router.specs.Knowledge.{AreTables, Routes, Tables, routes_in}
 use Rattle.ipx_router.specs.Packets.{Sending}
 
 abbrev pub IsPortNumber : ℕ → ℕ → Type 0
@@ -19,7 +18,8 @@ AreOnPorts count sent = All (λ s. IsPortNumber count s.port) sent
 abbrev pub AreFromPorts : ℕ → Routes → Type 0
 AreFromPorts count routes = (p : Network × Source) (v : RouteMetric × ℕ) → routes p ≡ Some v → IsPortNumber count p.1.port
 
--- at most 16 ports, and routes over them alone
-pub record IsSound (ports : List Port) (routes : Table Network RouteMetric) : Type 0 where
+-- at most 16 ports, and tables of offers, with routes over those ports alone
+pub record IsSound (ports : List Port) (t : Tables) : Type 0 where
   pub count : length ports ≤ 16
-  pub sources : AreFromPorts (length ports) (routes_in routes)
+  pub sources : AreFromPorts (length ports) (routes_in t.0)
+  pub tables : AreTables t

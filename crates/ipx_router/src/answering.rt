@@ -4,7 +4,10 @@ ghost use Rattle.std.specs.Prelude.{◌≡◌, ◌≤◌, ◌<◌, ℕ, List, []
 ghost use Rattle.ipx_wire.specs.Ipx.{view as packet_view};
 ghost use Rattle.ipx_control.specs.Rip.{rip_view};
 ghost use Rattle.ipx_control.specs.Sap.{sap_view};
-ghost use Rattle.ipx_router.specs.Knowledge.{known_aged, known_in, routes_in, services_in};
+ghost use Rattle.ipx_tables.specs.Content.{IsTable};
+ghost use Rattle.ipx_tables.specs.Route.{network_cmp};
+ghost use Rattle.ipx_tables.specs.Service.{service_key_cmp};
+ghost use Rattle.ipx_router.specs.Knowledge.{AreTables, known_aged, known_in, routes_in, services_in};
 ghost use Rattle.ipx_router.specs.Packets.{sendings};
 ghost use Rattle.ipx_router.specs.Control.{concern_of};
 ghost use Rattle.ipx_router.specs.Answer.{AnswersByConcern, AnswersBytes, AnswersRip, AnswersSap, Heard, HoldsPacket, IsOnPort, LeavesByConcern, LeavesBytes, LeavesRoutes, LeavesServices, Onward, OnwardForEachReading, Refused, RepliesRoutes, RepliesServices, view};
@@ -86,6 +89,7 @@ fn answer_rip(
     ensures answer { IfOk result (λ o. AnswersRip ports.now (routes_in routes.old) at (packet_view packet.entry) (view o) routes.new) }
     ensures refused { OnErr result (LeavesRoutes ports.now (routes_in routes.old) at (packet_view packet.entry) routes.new) }
     ensures most { routes.new.most ≡ routes.old.most }
+    ensures valid { IsTable network_cmp routes.old → IsTable network_cmp routes.new }
     ensures sources { IsPortNumber (length ports.now) at.number → AreFromPorts (length ports.now) (routes_in routes.old)
         → AreFromPorts (length ports.now) (routes_in routes.new) }
 {
@@ -116,6 +120,7 @@ fn answer_sap(
     ensures answer { IfOk result (λ o. AnswersSap (services_in services.old) at (packet_view packet.entry) (view o) services.new) }
     ensures refused { OnErr result (LeavesServices (services_in services.old) at (packet_view packet.entry) services.new) }
     ensures most { services.new.most ≡ services.old.most }
+    ensures valid { IsTable service_key_cmp services.old → IsTable service_key_cmp services.new }
 {
     sap_fault_is_of_no_sap();
     match decode_sap(alloc, packet.body) {
@@ -156,6 +161,7 @@ fn answer_packet(
     ensures onward { IfOk result (λ o. Onward at.port (packet_view packet.entry) (view o)) }
     ensures there { IfOk result (λ o. IsOnPort (length ports.now) (view o)) }
     ensures most { (routes.new.most ≡ routes.old.most) × (services.new.most ≡ services.old.most) }
+    ensures valid { AreTables (routes.old, services.old) → AreTables (routes.new, services.new) }
     ensures sources { AreFromPorts (length ports.now) (routes_in routes.new) }
 {
     match concern_with(at.port, packet.header) {
@@ -184,6 +190,7 @@ fn answer_to(
     ensures onward { IfOk result (λ o. OnwardForEachReading at.port bytes.now (view o)) }
     ensures there { IfOk result (λ o. IsOnPort (length ports.now) (view o)) }
     ensures most { (routes.new.most ≡ routes.old.most) × (services.new.most ≡ services.old.most) }
+    ensures valid { AreTables (routes.old, services.old) → AreTables (routes.new, services.new) }
     ensures sources { AreFromPorts (length ports.now) (routes_in routes.new) }
 {
     match decode(bytes) {
@@ -210,6 +217,7 @@ pub fn receive_at(
     ensures onward { IfOk result (λ o. OnwardForEachReading at.port bytes.now (view o)) }
     ensures there { IfOk result (λ o. IsOnPort (length ports.now) (view o)) }
     ensures most { (routes.new.most ≡ routes.old.most) × (services.new.most ≡ services.old.most) }
+    ensures valid { AreTables (routes.old, services.old) → AreTables (routes.new, services.new) }
     ensures sources { AreFromPorts (length ports.now) (routes_in routes.new) }
 {
     routes.age(at.now);

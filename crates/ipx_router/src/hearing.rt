@@ -1,6 +1,9 @@
 //! What a router hears from its neighbours.
 
 ghost use Rattle.std.specs.Prelude.{◌≡◌, ◌≤◌, ℕ, IfOk, IfErr, length, count_by};
+ghost use Rattle.ipx_tables.specs.Content.{IsTable};
+ghost use Rattle.ipx_tables.specs.Route.{network_cmp};
+ghost use Rattle.ipx_tables.specs.Service.{service_key_cmp};
 ghost use Rattle.ipx_router.specs.Knowledge.{routes_in, services_in};
 ghost use Rattle.ipx_router.specs.Told.{key_of_service};
 ghost use Rattle.ipx_router.specs.Hearing.{HeardRoutes, HeardServices, StopsAtRoute, StopsAtService, WantsAtRoute, WantsAtService, is_heard};
@@ -39,6 +42,7 @@ pub fn hear_routes(
         × (f ≡ TableFault.Full → StopsAtRoute ports.now source entries.now n routes.new)
         × (f ≡ TableFault.OutOfMemory → WantsAtRoute ports.now source entries.now n routes.new)) }
     ensures most { routes.new.most ≡ routes.old.most }
+    ensures valid { IsTable network_cmp routes.old → IsTable network_cmp routes.new }
     ensures sources { (count : ℕ) → IsPortNumber count source.port
         → AreFromPorts count (routes_in routes.old) → AreFromPorts count (routes_in routes.new) }
 {
@@ -72,6 +76,7 @@ pub fn hear_services(
         × (f ≡ TableFault.Full → StopsAtService source entries.now n services.new)
         × (f ≡ TableFault.OutOfMemory → WantsAtService source entries.now n services.new)) }
     ensures most { services.new.most ≡ services.old.most }
+    ensures valid { IsTable service_key_cmp services.old → IsTable service_key_cmp services.new }
 {
     let mut heard = 0;
     for entry in entries {

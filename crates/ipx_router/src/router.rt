@@ -2,7 +2,7 @@
 
 ghost use Rattle.std.specs.Prelude.{◌≡◌, ◌≤◌, ◌-◌, List, true, [], length, All, IfOk, IfErr, OnOk, OnErr, Some, None};
 ghost use Rattle.ipx_router.specs.NewRouter.{IsOwnNetwork, ports_fault};
-ghost use Rattle.ipx_router.specs.Knowledge.{HoldsKnown, KeepsRest, known_at, tables};
+ghost use Rattle.ipx_router.specs.Knowledge.{AreTables, HoldsKnown, KeepsRest, known_at, tables};
 ghost use Rattle.ipx_router.specs.Packets.{sendings};
 ghost use Rattle.ipx_router.specs.Ports.{AreOnPorts};
 ghost use Rattle.ipx_router.specs.Answer.{Answers, IsOnPort, Leaves, PassesOn, view};
@@ -36,7 +36,7 @@ impl Model for Router {
 
     ghost view = { λ r. record { ports = r.ports.items; routes = r.routes; services = r.services; told = r.told } };
 
-    ghost invariant = { λ r. IsSound r.ports.items r.routes };
+    ghost invariant = { λ r. IsSound r.ports.items (r.routes, r.services) };
 }
 
 impl Router {
@@ -46,6 +46,7 @@ impl Router {
         ensures ports { IfOk result (λ r. r.ports ≡ ports.items) }
         ensures knows_nothing { IfOk result (λ r. (r.routes.offers ≡ []) × (r.services.offers ≡ []) × (r.told ≡ None)) }
         ensures room { IfOk result (λ r. (r.routes.most ≡ 1024) × (r.services.most ≡ 4096)) }
+        ensures valid { IfOk result (λ r. AreTables (tables r)) }
         ensures sound { OnOk result (ports_fault ports.items ≡ None) }
         ensures fault { IfErr result (λ f. ports_fault ports.items ≡ Some f) }
     {
@@ -68,7 +69,8 @@ impl Router {
 
     /// Its ports. The first is port 1.
     pub fn ports(&self) -> &[Port]
-        ensures { result.now ≡ self.now.ports }
+        ensures ports { result.now ≡ self.now.ports }
+        ensures valid { AreTables (tables self.now) }
     {
         self.ports.as_slice()
     }
@@ -90,6 +92,7 @@ impl Router {
         ensures onward { IfOk result (λ o. PassesOn self.old port bytes.now (view o)) }
         ensures there { IfOk result (λ o. IsOnPort (length self.old.ports) (view o)) }
         ensures rest { KeepsRest self.old self.new }
+        ensures valid { AreTables (tables self.new) }
         ensures told { self.new.told ≡ self.old.told }
     {
         let arrived = self.ports[port as usize - 1];
@@ -125,6 +128,7 @@ impl Router {
         ensures known { HoldsKnown (known_at self.old now) (tables self.new) }
         ensures there { IfOk result (λ v. AreOnPorts (length self.old.ports) (sendings v.items)) }
         ensures rest { KeepsRest self.old self.new }
+        ensures valid { AreTables (tables self.new) }
     {
         tell_at(
             alloc,

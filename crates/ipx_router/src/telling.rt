@@ -2,7 +2,7 @@
 
 ghost use Rattle.std.specs.Prelude.{◌≡◌, ◌≤◌, ℕ, true, [], length, OnErr, OnOk, IfOk};
 ghost use Rattle.ipx_router.specs.Telling.{AreAsked, AreStarts, AreTellings, AreTold, Tells, all_nodes, is_due};
-ghost use Rattle.ipx_router.specs.Knowledge.{HoldsKnown, known_aged, routes_in, services_in};
+ghost use Rattle.ipx_router.specs.Knowledge.{AreTables, HoldsKnown, known_aged, routes_in, services_in};
 ghost use Rattle.ipx_router.specs.Ports.{AreFromPorts, AreOnPorts};
 ghost use Rattle.ipx_router.specs.Packets.{sendings};
 ghost use Rattle.ipx_router.specs.Adding.{AddsPackets};
@@ -139,6 +139,7 @@ pub fn tell_at(
     ensures known { HoldsKnown (known_aged ports.now routes.old services.old now) (routes.new, services.new) }
     ensures there { IfOk result (λ v. AreOnPorts (length ports.now) (sendings v.items)) }
     ensures most { (routes.new.most ≡ routes.old.most) × (services.new.most ≡ services.old.most) }
+    ensures valid { AreTables (routes.old, services.old) → AreTables (routes.new, services.new) }
     ensures sources { AreFromPorts (length ports.now) (routes_in routes.new) }
 {
     routes.age(now);

@@ -1,10 +1,10 @@
-use Rattle.std.proofs.Common.{◌≡◌, ◌+◌, ◌∙◌, ℕ, length, take, ap, sym, subst, arith}
+use Rattle.std.proofs.Common.{◌≡◌, ◌∙◌, ℕ, length, ap, sym, subst, arith}
 use Rattle.std.specs.Prelude.{count_by}
 use Rattle.std.proofs.lemmas.List.{take_all}
 use Rattle.std.proofs.lemmas.List.Sums.{count_by_more_no, count_by_more_yes}
 use Rattle.std.proofs.lemmas.Result.{err_from_is_err_and}
 use Rattle.ipx_router.specs.Knowledge.{routes_in}
-use Rattle.ipx_router.specs.Hearing.{HeardRoutes, is_heard, route_metric}
+use Rattle.ipx_router.specs.Hearing.{HeardRoutes, is_heard}
 use Rattle.ipx_router.proofs.HearingLemmas.{heard_more, heard_skip, hearing_stops, no_entry, sources_more}
 use Rattle.ipx_router.proofs.hearing.hear_routes.Goals as goal
 use Rattle.ipx_router.proofs.hearing.hear_routes.Goals.{then-is_route_heard+in_ok-hear, else-is_route_heard}
@@ -34,6 +34,7 @@ loop-entry-preserved c =
             few = omega (arith, old.few);
             heard = heard_more ports c.args.source c.args.now entries (routes_in c.args.routes.now) i no_entry c.loop-entry-test.true c.loop-entry.routes old.heard w.hear.new.self passes w.in_ok-hear.ensures.heard;
             most = w.hear.ensures.most ∙ old.most;
+            valid = λ _. w.hear.ensures.valid;
             sources = λ count port from. sources_more count c.args.source (routes_in c.loop-entry.routes) (routes_in w.hear.new.self) _ _ c.args.now port (old.sources count port from) w.in_ok-hear.ensures.heard;
           })
       | else-is_route_heard w ↦
@@ -44,6 +45,7 @@ loop-entry-preserved c =
             few = omega (arith, old.few);
             heard = heard_skip ports c.args.source c.args.now entries (routes_in c.args.routes.now) i no_entry c.loop-entry-test.true c.loop-entry.routes old.heard fails;
             most = old.most;
+            valid = old.valid;
             sources = old.sources;
           })
     ]

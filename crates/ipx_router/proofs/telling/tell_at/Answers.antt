@@ -5,6 +5,7 @@ use Rattle.ipx_router.specs.Packets.{sendings}
 use Rattle.ipx_router.specs.Telling.{AreTellings, is_due}
 use Rattle.ipx_router.proofs.HearingLemmas.{sources_aged}
 use Rattle.ipx_router.proofs.Receiving.{known_same}
+use Rattle.ipx_router.proofs.KeptTables.{tables_kept}
 use Rattle.ipx_router.proofs.telling.tell_at.Goals as goal
 
 pub returns-then-not-is_time-clause-sources : goal.returns-then-not-is_time-clause-sources
@@ -34,3 +35,15 @@ returns-in_err-replies-clause-refused c =
     let due : is_due c.args.told.now c.args.now ≡ true = sym c.is_time.ensures ∙ c.if-not-is_time.false in
     let same : c.args.told.now ≡ c.args.told.now = refl in
     on_err c.from_residual.result (due, same)
+
+pub returns-then-not-is_time-clause-valid : goal.returns-then-not-is_time-clause-valid
+returns-then-not-is_time-clause-valid c =
+    tables_kept (c.args.routes.now, c.args.services.now) (c.age.new.self, c.age-2.new.self) (λ _. c.age.ensures.valid) (λ _. c.age-2.ensures.valid) c.age.ensures.most c.age-2.ensures.most
+
+pub returns-in_err-replies-clause-valid : goal.returns-in_err-replies-clause-valid
+returns-in_err-replies-clause-valid c =
+    tables_kept (c.args.routes.now, c.args.services.now) (c.age.new.self, c.age-2.new.self) (λ _. c.age.ensures.valid) (λ _. c.age-2.ensures.valid) c.age.ensures.most c.age-2.ensures.most
+
+pub returns-clause-valid : goal.returns-clause-valid
+returns-clause-valid c =
+    tables_kept (c.args.routes.now, c.args.services.now) (c.age.new.self, c.age-2.new.self) (λ _. c.age.ensures.valid) (λ _. c.age-2.ensures.valid) c.age.ensures.most c.age-2.ensures.most
