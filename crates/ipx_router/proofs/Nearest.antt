@@ -1,14 +1,13 @@
 -- The nearest service, one more at a time.
 use Rattle.std.proofs.Common.{◌≡◌, ℕ, Bool, true, false, cond, List, [], ◌∷◌, ◌++◌, Option, Some, None, refl, sym, ap, ◌∙◌, subst, inl, inr}
 use mathlib.Core.Bool.{true≢false}
-use Rattle.std.specs.Prelude.{Contains, MatchOption, ◌⊎◌}
+use Rattle.std.specs.Prelude.{MatchOption}
 use Rattle.std.specs.Cmp.{IsTotalOrder}
-use Rattle.std.specs.Ordering.{is_lt, ordering_reverse, nat_cmp}
+use Rattle.std.specs.Ordering.{is_lt, ordering_reverse}
 use Rattle.std.specs.declared.cmp.Ordering.{Ordering}
 use Rattle.std.specs.declared.cmp.Ordering.TheVariants.{Less, Equal, Greater}
 use Rattle.std.proofs.lemmas.Cmp.{nat_cmp_total, nat_list_cmp_total, on_total, then_total}
 use Rattle.std.proofs.lemmas.List.Elements.{Contains-append_left, Contains-push, Contains-push_cases}
-use Rattle.ipx_wire.specs.declared.address.Address.{Address}
 use Rattle.ipx_control.specs.declared.sap.ServiceEntry.{ServiceEntry}
 use Rattle.ipx_router.specs.Asking.{IsNearest, NoneIsNear, is_near, is_nearer, nearer, nearness}
 

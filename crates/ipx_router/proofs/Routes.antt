@@ -1,5 +1,5 @@
 -- The route to a network that is no port's own.
-use Rattle.std.proofs.Common.{◌≡◌, ℕ, List, Option, Some, None, refl, sym, subst}
+use Rattle.std.proofs.Common.{◌≡◌, ℕ, List, Option, Some, None, sym, subst}
 use Rattle.std.specs.Prelude.{MatchOption}
 use Rattle.ipx_wire.specs.declared.address.Network.{Network}
 use Rattle.ipx_tables.specs.Best.{NoneCounts}

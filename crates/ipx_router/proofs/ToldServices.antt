@@ -1,8 +1,8 @@
 -- The told services, from the listing of the best offers.
-use Rattle.std.proofs.Common.{◌≡◌, ℕ, ◌<◌, Bool, true, false, not, nat_eq, List, length, get_or, map, refl, sym, ap, ◌∙◌, subst, arith}
-use borrow.Author.Tests.{eqb-true, eqb-false}
+use Rattle.std.proofs.Common.{◌≡◌, ℕ, Bool, true, not, List, get_or, map, sym, ap, ◌∙◌, subst}
+use borrow.Author.Tests.{eqb-false}
 use Rattle.std.specs.Prelude.{Contains, ◌==◌}
-use Rattle.std.specs.List.{All, AllPairs, filter}
+use Rattle.std.specs.List.{filter}
 use Rattle.std.specs.declared.cmp.Ordering.TheVariants.{Less}
 use Rattle.std.proofs.lemmas.Bool.{not-true}
 use Rattle.std.proofs.lemmas.List.Elements.{All-contains, Contains-get_or}

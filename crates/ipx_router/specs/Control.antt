@@ -1,5 +1,5 @@
 -- What a packet is to a router, by its header: control for the router itself, or on its way to another network.
-use Rattle.std.specs.Prelude.{◌≡◌, ℕ, ◌==◌, ◌||◌, ◌&&◌, Bool, not, nat_eq, [], ◌∷◌, List, if◌then◌else◌}
+use Rattle.std.specs.Prelude.{◌==◌, ◌||◌, ◌&&◌, Bool, not, nat_eq, [], ◌∷◌, if◌then◌else◌}
 use Rattle.std.specs.Cmp.Lexicographic.{pointwise}
 use Rattle.ipx_wire.specs.declared.address.Node.{Node}
 use Rattle.ipx_wire.specs.declared.packet.IpxHeader.{IpxHeader}

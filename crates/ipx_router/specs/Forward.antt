@@ -1,5 +1,5 @@
 -- What becomes of a packet for another network.
-use Rattle.std.specs.Prelude.{◌≡◌, ◌<◌, ℕ, ◌+◌, List, [], Option, Some, None, nat_le, ◌==◌, if◌then◌else◌, unwrap_or}
+use Rattle.std.specs.Prelude.{ℕ, ◌+◌, List, [], Option, Some, None, nat_le, ◌==◌, if◌then◌else◌, unwrap_or}
 use Rattle.ipx_wire.specs.declared.address.Node.{Node}
 use Rattle.ipx_wire.specs.declared.packet.IpxHeader.{IpxHeader}
 use Rattle.ipx_wire.specs.Ipx.{Datagram, IsIpx}

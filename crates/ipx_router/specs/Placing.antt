@@ -1,5 +1,5 @@
 -- The told routes in the making.
-use Rattle.std.specs.Prelude.{◌≡◌, ◌<◌, ◌⊎◌, ℕ, ◌+◌, ◌==◌, ◌&&◌, Bool, true, false, not, List, length, slice_index_or, Option, Some, None, is_none, Contains}
+use Rattle.std.specs.Prelude.{◌≡◌, ◌<◌, ◌⊎◌, ℕ, ◌+◌, ◌==◌, ◌&&◌, Bool, true, false, not, List, slice_index_or, Option, Some, None, is_none, Contains}
 use Rattle.ipx_wire.specs.declared.address.Network.{Network}
 use Rattle.ipx_control.specs.declared.rip.RipEntry.{RipEntry}
 use Rattle.ipx_tables.specs.declared.route.RouteMetric.{RouteMetric}

@@ -1,6 +1,5 @@
 -- What a router tells its neighbours of itself, and when.
-use Rattle.std.specs.Prelude.{◌≡◌, ◌≤◌, ℕ, ◌+◌, ◌-◌, Bool, true, false, List, [], ◌∷◌, ◌++◌, Option, Some, None, nat_le, MatchBool}
-use Rattle.ipx_wire.specs.declared.address.Node.{Node}
+use Rattle.std.specs.Prelude.{◌≡◌, ℕ, ◌+◌, ◌-◌, Bool, true, false, List, [], ◌∷◌, ◌++◌, Option, Some, None, nat_le, MatchBool}
 use Rattle.ipx_control.specs.declared.rip.RipEntry.{RipEntry}
 use Rattle.ipx_control.specs.declared.sap.ServiceEntry.{ServiceEntry}
 use Rattle.ipx_control.specs.Rip as rip

@@ -1,4 +1,4 @@
-use Rattle.std.proofs.Common.{◌≡◌, ◌∙◌, List, sym, subst, take}
+use Rattle.std.proofs.Common.{◌∙◌, List, sym, subst, take}
 use Rattle.ipx_control.specs.declared.rip.RipEntry.{RipEntry}
 use Rattle.ipx_control.specs.Rip as rip
 use Rattle.ipx_router.specs.Packets.{IsRipPacket, sending_of}

@@ -1,4 +1,4 @@
-use Rattle.std.proofs.Common.{◌≡◌, ◌∙◌, List, sym, subst, take}
+use Rattle.std.proofs.Common.{◌∙◌, List, sym, subst, take}
 use Rattle.ipx_control.specs.declared.sap.ServiceEntry.{ServiceEntry}
 use Rattle.ipx_control.specs.Sap as sap
 use Rattle.ipx_router.specs.Packets.{IsSapPacket, sending_of}

@@ -1,4 +1,4 @@
-use Rattle.std.proofs.Common.{◌≡◌, ◌∙◌, length, sym}
+use Rattle.std.proofs.Common.{◌∙◌, length, sym}
 use Rattle.ipx_router.specs.Knowledge.{routes_in}
 use Rattle.ipx_router.proofs.Routes.{route_by_offer}
 use Rattle.ipx_router.proofs.route.route_to.Goals as goal

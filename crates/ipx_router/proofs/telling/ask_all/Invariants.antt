@@ -1,4 +1,4 @@
-use Rattle.std.proofs.Common.{◌≡◌, ◌+◌, ◌++◌, List, drop}
+use Rattle.std.proofs.Common.{◌+◌, ◌++◌, List, drop}
 use Rattle.ipx_router.specs.Packets.{Sending, sendings}
 use Rattle.ipx_router.specs.Telling.{AreStarts}
 use Rattle.ipx_router.proofs.telling.ask_all.Given as goal

@@ -1,4 +1,4 @@
-use Rattle.std.proofs.Common.{◌≡◌, ◌+◌, List, [], drop, append-nil, refl, sym, subst}
+use Rattle.std.proofs.Common.{◌+◌, List, [], append-nil, refl, sym, subst}
 use Rattle.std.proofs.lemmas.List.{drop_all, drop_more}
 use Rattle.ipx_router.specs.declared.port.Port.{Port}
 use Rattle.ipx_router.specs.Knowledge.{routes_in, services_in}

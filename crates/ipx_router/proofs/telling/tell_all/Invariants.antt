@@ -1,4 +1,4 @@
-use Rattle.std.proofs.Common.{◌≡◌, ◌+◌, ◌++◌, List, drop}
+use Rattle.std.proofs.Common.{◌+◌, ◌++◌, List, drop}
 use Rattle.ipx_router.specs.Knowledge.{routes_in, services_in}
 use Rattle.ipx_router.specs.Packets.{Sending, sendings}
 use Rattle.ipx_router.specs.Telling.{AreTellings}

@@ -1,6 +1,6 @@
-use Rattle.std.proofs.Common.{◌≡◌, ◌+◌, ◌∙◌, length, sym, subst, ℕ, arith}
+use Rattle.std.proofs.Common.{◌∙◌, sym, subst}
 use Rattle.ipx_control.specs.declared.rip.RipEntry.{RipEntry}
-use Rattle.ipx_router.specs.Placing.{AddsHeard, PutsEntry}
+use Rattle.ipx_router.specs.Placing.{PutsEntry}
 use Rattle.ipx_router.proofs.ToldRoutes.{no_item, item_more, item_skip}
 use Rattle.ipx_router.proofs.told.add_heard.Goals as goal
 use Rattle.ipx_router.proofs.told.add_heard.Goals.{then-is_over_other_neighbour+in_ok-put_entry, else-is_over_other_neighbour}

@@ -1,4 +1,4 @@
-use Rattle.std.proofs.Common.{◌≡◌, ◌∙◌, List, ap, map, not, sym, subst}
+use Rattle.std.proofs.Common.{◌∙◌, List, ap, map, not, sym, subst}
 use Rattle.std.specs.Prelude.{◌==◌, filter}
 use Rattle.ipx_control.specs.declared.sap.ServiceEntry.{ServiceEntry}
 use Rattle.ipx_tables.specs.declared.service.ServiceKey.{ServiceKey}
