@@ -2,6 +2,7 @@
 #![tactic(auto)]
 
 mod address;
+mod changing;
 mod fault;
 mod laws;
 mod memory;
@@ -11,6 +12,7 @@ mod spx;
 mod writing;
 
 pub use address::{Address, Network, Node, Socket};
+pub use changing::{packet_part, set_hops, set_source_network};
 pub use fault::IpxFault;
 pub use laws::{
     bytes_are_one_packet, packet_before_any_bytes, packet_has_bytes, packet_is_one_list_of_bytes,
@@ -23,3 +25,6 @@ pub use spx::{
     spx_packet_has_bytes, spx_packet_is_one_list_of_bytes, spx_packet_is_read_back,
 };
 pub use writing::{encode_into, put_address};
+
+#[cfg(test)]
+mod tests;
