@@ -1,7 +1,7 @@
 //! What a router answers to a datagram.
 
 ghost use Rattle.std.specs.Prelude.{◌≡◌, ◌≤◌, ◌<◌, ℕ, List, [], length, IfOk, OnErr, Err, MatchResult};
-ghost use Rattle.ipx_wire.specs.Ipx.{view as packet_view};
+ghost use Rattle.ipx_wire.specs.Ipx.{BeginsWith, view as packet_view};
 ghost use Rattle.ipx_control.specs.Rip.{rip_view};
 ghost use Rattle.ipx_control.specs.Sap.{sap_view};
 ghost use Rattle.ipx_tables.specs.Content.{IsTable};
@@ -150,10 +150,11 @@ fn answer_packet(
     routes: &mut RouteTable,
     services: &mut ServiceTable,
     at: PortNow,
+    datagram: &[u8],
     packet: Packet<'_>,
 ) -> Result<Outcome, OutOfMemory>
     requires ports { length ports.now ≤ 16 }
-    requires body { length packet.body.now ≤ 1470 }
+    requires reading { BeginsWith datagram.now (packet_view packet) }
     requires sources { AreFromPorts (length ports.now) (routes_in routes.old) }
     requires port { IsPortNumber (length ports.now) at.number }
     ensures answer { IfOk result (λ o. AnswersByConcern (known_in ports.now routes.old services.old) at (packet_view packet.entry) (view o) (routes.new, services.new) (concern_of at.port packet.entry.header)) }
@@ -168,7 +169,7 @@ fn answer_packet(
         Concern::Refused(reason) => return Ok(Outcome::Dropped(reason)),
         Concern::Rip => return answer_rip(alloc, ports, routes, at, packet),
         Concern::Sap => return answer_sap(alloc, services, at, packet),
-        Concern::Passing => return pass_along(alloc, ports, routes, at, packet),
+        Concern::Passing => return pass_along(alloc, ports, routes, at, datagram, packet),
     }
 }
 
@@ -195,7 +196,7 @@ fn answer_to(
 {
     match decode(bytes) {
         Err(fault) => return Ok(Outcome::Dropped(Reason::Bad(fault))),
-        Ok(packet) => return answer_packet(alloc, ports, routes, services, at, packet),
+        Ok(packet) => return answer_packet(alloc, ports, routes, services, at, bytes, packet),
     }
 }
 

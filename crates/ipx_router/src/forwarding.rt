@@ -1,38 +1,47 @@
 //! A packet on its way to another network.
 
 ghost use Rattle.std.specs.Prelude.{◌≡◌, ◌≤◌, ◌<◌, ℕ, List, [], length, IfOk, IfSome, IfNone, OnErr, Option};
-ghost use Rattle.ipx_wire.specs.Ipx.{view as packet_view};
+ghost use Rattle.ipx_wire.specs.Ipx.{BeginsWith, IsIpx, view as packet_view};
 ghost use Rattle.ipx_router.specs.Knowledge.{routes_in};
 ghost use Rattle.ipx_router.specs.Ports.{AreFromPorts, IsPortNumber};
 ghost use Rattle.ipx_router.specs.Forward.{Decision, IfLeaves, IfLeavesBy, IsOneHopOn, by_route, fate_of, one_hop_on};
 ghost use Rattle.ipx_router.specs.Answer.{GoesOn, IsOnPort, Onward, PassesAlong, view};
 
 use crate::outcome::{Outcome, Reply};
-use crate::packets::packet_bytes;
 use crate::port::{Port, PortNow};
 use crate::reason::Reason;
 use crate::route::{Route, route_to};
 use ipx_tables::RouteTable;
-use ipx_wire::{Address, IpxHeader, Node, OutOfMemory, Packet};
+use ipx_wire::{IpxHeader, Node, OutOfMemory, Packet, packet_part, set_hops, set_source_network};
 use std::alloc::Global;
 
-fn header_one_hop_on(arrived: Port, header: IpxHeader) -> IpxHeader
-    requires { header.hops < 15 }
-    ensures { result ≡ one_hop_on arrived header }
+/// Changes the bytes of a packet with this header to those one hop on.
+fn step_on(bytes: &mut [u8], arrived: Port, header: IpxHeader)
+    requires room { 30 ≤ length bytes.old }
+    requires hops { header.hops < 15 }
+    ensures { (body tail : List ℕ) → IsIpx (record { header = header; body = body }) bytes.old tail
+        → IsIpx (record { header = one_hop_on arrived header; body = body }) bytes.new tail }
 {
-    let network = if header.from.network.0 == 0 {
-        arrived.network
-    } else {
-        header.from.network
-    };
-    IpxHeader {
-        hops: header.hops + 1,
-        from: Address {
-            network,
-            ..header.from
-        },
-        ..header
+    set_hops(bytes, header.hops + 1);
+    if header.from.network.0 == 0 {
+        set_source_network(bytes, arrived.network);
     }
+}
+
+/// The bytes of a packet one hop on: a copy of its own, changed in place.
+fn bytes_one_hop_on(
+    alloc: Global,
+    arrived: Port,
+    datagram: &[u8],
+    packet: &Packet<'_>,
+) -> Result<Vec<u8>, OutOfMemory>
+    requires reading { BeginsWith datagram.now (packet_view packet.now) }
+    requires hops { packet.now.header.hops < 15 }
+    ensures { IfOk result (λ v. IsOneHopOn arrived (packet_view packet.now) v.items) }
+{
+    let mut bytes = Vec::from_slice(alloc, packet_part(datagram, packet))?;
+    step_on(&mut bytes, arrived, packet.header);
+    Ok(bytes)
 }
 
 /// What becomes of a packet, by its header.
@@ -64,10 +73,11 @@ pub fn pass_along(
     ports: &[Port],
     routes: &RouteTable,
     at: PortNow,
+    datagram: &[u8],
     packet: Packet<'_>,
 ) -> Result<Outcome, OutOfMemory>
     requires ports { length ports.now ≤ 16 }
-    requires body { length packet.body.now ≤ 1470 }
+    requires reading { BeginsWith datagram.now (packet_view packet) }
     requires sources { AreFromPorts (length ports.now) (routes_in routes.now) }
     ensures passes { IfOk result (λ o. PassesAlong ports.now (routes_in routes.now) at (packet_view packet.entry) (view o)) }
     ensures refused { OnErr result (GoesOn ports.now (routes_in routes.now) at packet.entry.header) }
@@ -78,8 +88,7 @@ pub fn pass_along(
     match fate_by_route(packet.header, route) {
         Fate::Stays(reason) => return Ok(Outcome::Dropped(reason)),
         Fate::Leaves { port, next } => {
-            let header = header_one_hop_on(at.port, packet.header);
-            let bytes = packet_bytes(alloc, header, packet.body)?;
+            let bytes = bytes_one_hop_on(alloc, at.port, datagram, &packet)?;
             return Ok(Outcome::Forward(Reply { port, next, bytes }));
         }
     }

@@ -34,7 +34,7 @@ pub struct Recipient {
 }
 
 /// The bytes of a packet.
-pub fn packet_bytes(alloc: Global, header: IpxHeader, body: &[u8]) -> Result<Vec<u8>, OutOfMemory>
+fn packet_bytes(alloc: Global, header: IpxHeader, body: &[u8]) -> Result<Vec<u8>, OutOfMemory>
     requires { length body.now ≤ 1470 }
     ensures { IfOk result (λ v. IsIpx (record { header = header; body = body.now }) v.items []) }
 {
