@@ -20,3 +20,6 @@ returns-in-Rip-clause-valid c =
 pub returns-in-Sap-clause-valid : goal.returns-in-Sap-clause-valid
 returns-in-Sap-clause-valid c =
     tables_kept (c.args.routes.now, c.args.services.now) (c.args.routes.now, c.answer_sap.new.services) (λ t. t) c.answer_sap.ensures.valid refl c.answer_sap.ensures.most
+
+pub returns-in-Rip-clause-sources : goal.returns-in-Rip-clause-sources
+returns-in-Rip-clause-sources c = c.answer_rip.ensures.sources c.requires.port c.requires.sources
