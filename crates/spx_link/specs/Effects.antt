@@ -1,5 +1,5 @@
 -- What the calls of a link do to its numbers and to the ends of its connection, apart from moments and marks.
-use Rattle.std.specs.Prelude.{◌≡◌, ⊤, ℕ, ◌+◌, ◌-◌, ◌<◌, nat_le, nat_lt, ◌&&◌, [], Option, Some, None, if◌then◌else◌}
+use Rattle.std.specs.Prelude.{◌≡◌, ⊤, ℕ, ◌+◌, ◌-◌, ◌<◌, [], Option, Some, None}
 use Rattle.ipx_wire.specs.declared.spx.SpxHeader.{SpxHeader}
 use Rattle.spx_link.specs.declared.numbers.Numbers.{Numbers}
 use Rattle.spx_link.specs.declared.outgoing.Sent.{Sent}
@@ -7,9 +7,9 @@ use Rattle.spx_link.specs.declared.outgoing.Sent.TheVariants as Sents
 use Rattle.spx_link.specs.declared.received.Received.{Received}
 use Rattle.spx_link.specs.declared.received.Received.TheVariants.{Joined, Kept, Repeat, Ahead, OverAllocation, System, PeerEnded, Confirmed, Stranger}
 use Rattle.spx_link.specs.declared.state.State.TheVariants.{Opening, Live}
-use Rattle.spx_link.specs.Limits.{most_room, no_id}
+use Rattle.spx_link.specs.Limits.{no_id}
 use Rattle.spx_link.specs.LinkView.{LinkView}
-use Rattle.spx_link.specs.Marks.{mark, distance}
+use Rattle.spx_link.specs.Marks.{mark, outstanding_after, room_after}
 use Rattle.spx_link.specs.Poll.{OutgoingView}
 
 -- ---- a poll
@@ -30,20 +30,9 @@ numbers_after_poll (Some o) n = numbers_after_sent o.what n
 
 -- ---- a packet
 
--- how many outstanding units an acknowledge number takes away
-abbrev pub taken_away : ℕ → Numbers → ℕ
-taken_away ack n =
-    if nat_le (distance ack (distance n.next n.out)) n.out then distance ack (distance n.next n.out) else 0
-
--- the room that an allocation leaves
-abbrev pub room_left : ℕ → Numbers → ℕ
-room_left limit n =
-    if nat_lt n.room (distance (limit + 1) n.next) && nat_le (distance (limit + 1) n.next) most_room
-    then distance (limit + 1) n.next
-    else n.room
-
 abbrev pub numbers_read : SpxHeader → Numbers → Numbers
-numbers_read h n = record n { out = n.out - taken_away h.ack n; room = room_left h.limit n }
+numbers_read h n =
+    record n { out = outstanding_after n.next n.out h.ack; room = room_after n.next n.room h.limit }
 
 abbrev pub one_more_held : Numbers → Numbers
 one_more_held n = record n { expected = mark (n.expected + 1); held = n.held + 1 }

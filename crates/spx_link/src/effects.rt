@@ -7,9 +7,10 @@ ghost use Rattle.ipx_wire.specs.declared.address.Address.{Address};
 ghost use Rattle.spx_link.specs.declared.unit.Unit as units;
 ghost use Rattle.spx_link.specs.declared.received.Received.TheVariants.{Joined};
 ghost use Rattle.spx_link.specs.declared.state.State.TheVariants.{Live, Opening};
-ghost use Rattle.spx_link.specs.Effects.{IfRequest, Joins, SameEnds, SamePeer, numbers_after_poll, numbers_after_received, numbers_after_take, room_left};
+ghost use Rattle.spx_link.specs.Effects.{IfRequest, Joins, SameEnds, SamePeer, numbers_after_poll, numbers_after_received, numbers_after_take};
 ghost use Rattle.spx_link.specs.LinkView.{LinkView, numbers_of};
-ghost use Rattle.spx_link.specs.Offer.{accepted_from, dialed, end_link, lose_link, offer_link, owe_reply_link, take_link};
+ghost use Rattle.spx_link.specs.Marks.{room_after};
+ghost use Rattle.spx_link.specs.Offer.{accepted_from, end_link, lose_link, offer_link, owe_reply_link, take_link};
 ghost use Rattle.spx_link.specs.Poll.{poll_link};
 ghost use Rattle.spx_link.specs.Receive.{receive_link};
 
@@ -53,5 +54,5 @@ pub fn others_change_no_number()
 pub fn accepted_owes_its_reply()
     ensures state { (own : ℕ) (s : Socket) (a : Address) (h : SpxHeader) (buffers now : ℕ) → (accepted_from own s a h buffers now).state ≡ Live }
     ensures reply { (own : ℕ) (s : Socket) (a : Address) (h : SpxHeader) (buffers now : ℕ) → (accepted_from own s a h buffers now).owes_reply ≡ true }
-    ensures room { (own : ℕ) (s : Socket) (a : Address) (h : SpxHeader) (buffers now : ℕ) → (accepted_from own s a h buffers now).room ≡ room_left h.limit (numbers_of (dialed own s a buffers now)) }
+    ensures room { (own : ℕ) (s : Socket) (a : Address) (h : SpxHeader) (buffers now : ℕ) → (accepted_from own s a h buffers now).room ≡ room_after 0 0 h.limit }
 {}
