@@ -34,12 +34,12 @@ pub fn growth()
     ensures two { (steps : List Step) (m n : Machine) → IsRun steps m n → Grows m.two n.two }
 {}
 
-/// A position that an end may send was allowed by a packet that it got before.
+/// A position that an end may send was allowed by a packet of its peer that it got before.
 pub fn allowances()
     ensures one { (steps : List Step) (a b : ℕ) (m : Machine) (n : ℕ) → IsRun steps (start a b) m → n < m.one.limit
-        → (p : Packet) × Contains steps (One (Gets p)) × (n < p.allows) }
+        → (p : Packet) × Contains steps (One (Gets p)) × Contains m.two.bag p × (n < p.allows) }
     ensures two { (steps : List Step) (a b : ℕ) (m : Machine) (n : ℕ) → IsRun steps (start a b) m → n < m.two.limit
-        → (p : Packet) × Contains steps (Two (Gets p)) × (n < p.allows) }
+        → (p : Packet) × Contains steps (Two (Gets p)) × Contains m.one.bag p × (n < p.allows) }
 {}
 
 /// The 16-bit numbers of a fresh packet say what its positions are, where neither end has more than
