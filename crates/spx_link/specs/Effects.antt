@@ -1,5 +1,5 @@
 -- What the calls of a link do to its numbers and to the ends of its connection, apart from moments and marks.
-use Rattle.std.specs.Prelude.{◌≡◌, ⊤, ℕ, ◌+◌, ◌-◌, ◌<◌, [], Option, Some, None}
+use Rattle.std.specs.Prelude.{◌≡◌, ⊤, true, ℕ, ◌+◌, ◌-◌, ◌<◌, [], Option, Some, None}
 use Rattle.ipx_wire.specs.declared.spx.SpxHeader.{SpxHeader}
 use Rattle.spx_link.specs.declared.numbers.Numbers.{Numbers}
 use Rattle.spx_link.specs.declared.outgoing.Sent.{Sent}
@@ -11,6 +11,7 @@ use Rattle.spx_link.specs.Limits.{no_id}
 use Rattle.spx_link.specs.LinkView.{LinkView}
 use Rattle.spx_link.specs.Marks.{mark, outstanding_after, room_after}
 use Rattle.spx_link.specs.Poll.{OutgoingView}
+use Rattle.spx_link.specs.Receive.{is_system}
 
 -- ---- a poll
 
@@ -67,13 +68,14 @@ pub record SamePeer (old new : LinkView) : Type 0 where
   pub ends : SameEnds old new
   pub peer : new.peer ≡ old.peer
 
--- a link that joined was opening before, and is live with the id that the reply came from
+-- a link that joined was opening before, and is live with the id that the reply came from, which has no unit
 pub record Joins (old new : LinkView) (h : SpxHeader) : Type 0 where
   pub before : old.state ≡ Opening
   pub after : new.state ≡ Live
   pub peer : new.peer ≡ h.from_id
   pub above : 0 < h.from_id
   pub below : h.from_id < no_id
+  pub unit : is_system h ≡ true
 
 -- a request, which names no id of a peer
 pub record IsRequest (o : OutgoingView) : Type 0 where
