@@ -1,5 +1,5 @@
 -- What each rule of a poll gives, and what it leaves of the units.
-use Rattle.std.proofs.Common.{◌≡◌, ℕ, ◌+◌, ◌<◌, ◌⊎◌, inl, inr, Bool, true, false, [], refl, ap, sym, ◌∙◌, if◌then◌else◌, ◌==◌, ◌&&◌, ◌||◌, not, nat_le, nat_lt, List, map, take, set, Option, None, Some, IfSome, slice_get, length, option_map, position, arith}
+use Rattle.std.proofs.Common.{◌≡◌, ℕ, ◌+◌, ◌<◌, inl, inr, Bool, true, false, [], refl, ap, sym, ◌∙◌, if◌then◌else◌, ◌==◌, ◌&&◌, ◌||◌, not, nat_le, nat_lt, map, take, set, Option, None, Some, IfSome, slice_get, option_map, arith}
 use Rattle.std.proofs.Math.Seq.{map-set_same}
 use Rattle.std.proofs.lemmas.Bool.{and_parts}
 use Rattle.std.proofs.lemmas.Bool.Decides.{nat_tests}
@@ -11,13 +11,13 @@ use Rattle.spx_link.specs.declared.unit.Unit.{Unit}
 use Rattle.spx_link.specs.declared.outgoing.Sent.TheVariants as Sents
 use Rattle.spx_link.specs.declared.state.State.{State}
 use Rattle.spx_link.specs.declared.state.State.TheVariants as States
-use Rattle.spx_link.specs.Limits.{most_units, most_sends, end_stream, confirm_stream, no_id}
+use Rattle.spx_link.specs.Limits.{most_units, most_sends, end_stream, confirm_stream}
 use Rattle.spx_link.specs.LinkView.{LinkView, due, is_end, is_working}
 use Rattle.spx_link.specs.Offer.{the_end}
 use Rattle.spx_link.specs.Poll as P
 use Rattle.spx_link.specs.Poll.{OutgoingView, poll_link, poll_at}
 use Rattle.spx_link.specs.Units.{unit_of, queued_units, as_sent, SameUnits, SameEndings}
-use Rattle.spx_link.specs.Given.{IsWithoutUnit, Carries, IsNextUnit, IsOutstandingUnit, IsOfKind, IsGiven, StaysOrIsLost}
+use Rattle.spx_link.specs.Given.{Carries, IsGiven, StaysOrIsLost}
 
 -- what holds of both sides holds of the choice, and may rest on the test
 pub by_test : {A : Type 0} (P : A → Type 0) (b : Bool) (x y : A) → (b ≡ true → P x) → (b ≡ false → P y) → P (if b then x else y)

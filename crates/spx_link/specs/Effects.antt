@@ -1,5 +1,5 @@
 -- What the calls of a link do to its numbers and to the ends of its connection, apart from moments and marks.
-use Rattle.std.specs.Prelude.{◌≡◌, ⊤, true, ℕ, ◌+◌, ◌-◌, ◌<◌, [], Option, Some, None}
+use Rattle.std.specs.Prelude.{◌≡◌, ⊤, true, ◌+◌, ◌-◌, ◌<◌, [], Option, Some, None}
 use Rattle.ipx_wire.specs.declared.spx.SpxHeader.{SpxHeader}
 use Rattle.spx_link.specs.declared.numbers.Numbers.{Numbers}
 use Rattle.spx_link.specs.declared.outgoing.Sent.{Sent}

@@ -1,5 +1,5 @@
 -- Which unit a link keeps, and what a packet does to its units and to how far its connection has come.
-use Rattle.std.specs.Prelude.{◌≡◌, ℕ, ◌<◌, Bool, true, false, []}
+use Rattle.std.specs.Prelude.{◌≡◌, ◌<◌, Bool, true, false, []}
 use Rattle.ipx_wire.specs.declared.spx.SpxHeader.{SpxHeader}
 use Rattle.spx_link.specs.declared.received.Received.{Received}
 use Rattle.spx_link.specs.declared.received.Received.TheVariants.{Joined, Kept, Repeat, Ahead, OverAllocation, System, PeerEnded, Confirmed, Stranger}
