@@ -1,7 +1,7 @@
 -- Distances between the marks of positions.
 use Rattle.std.proofs.Common.{ℕ, ◌≡◌, ◌≢◌, ◌↔◌, ◌+◌, ◌-◌, ◌<◌, ◌≤◌, ◌&&◌, nat_le, nat_lt, max, if◌then◌else◌, arith}
 use Rattle.std.proofs.lemmas.Bool.Decides.{nat_tests}
-use Rattle.spx_link.specs.Marks.{mark, distance, outstanding_after, sendable_after}
+use Rattle.spx_link.specs.Marks.{mark, distance, outstanding_after, room_after}
 
 -- ---- marks
 
@@ -65,7 +65,7 @@ allocation_stale sent allows before a b c =
 allow_between : (sent room limit allows beyond : ℕ) → sent + room ≡ limit → allows ≤ sent + 16383 → (sent ≤ allows → sent + beyond ≡ allows) → (allows < sent → 32769 ≤ beyond) → sent + (if nat_lt room beyond && nat_le beyond 16383 then beyond else room) ≡ max limit allows
 allow_between sent room limit allows beyond e a current stale = grind (arith, nat_tests)
 
-pub allocation_read : (bound sent room limit allows before : ℕ) → bound ≤ 16383 → sent + room ≡ limit → allows ≤ sent + bound → before ≤ allows → sent < before + 32768 → sent + sendable_after (mark sent) room (mark (allows + 65535)) ≡ max limit allows
+pub allocation_read : (bound sent room limit allows before : ℕ) → bound ≤ 16383 → sent + room ≡ limit → allows ≤ sent + bound → before ≤ allows → sent < before + 32768 → sent + room_after (mark sent) room (mark (allows + 65535)) ≡ max limit allows
 allocation_read bound sent room limit allows before r e a b c =
     allow_between sent room limit allows (distance (mark (allows + 65535) + 1) (mark sent)) e (omega arith)
     (λ le. allocation_current sent allows le (omega arith))

@@ -178,7 +178,7 @@ of_read : (l : LinkView) (h : SpxHeader) (r : Received × LinkView) → ReadKeep
 of_read l h r k = record { numbers = k.numbers; ends = k.same.ends; peer = λ _. k.same.peer; joins = λ e. absurd (k.not_joined e) }
 
 joins_so : (l : LinkView) (h : SpxHeader) → l.state ≡ States.Opening → R.is_reply l h ≡ true → Joins l (R.read_numbers (R.joined l h) h) h
-joins_so l h opening reply = record { before = opening; after = refl; peer = refl; above = grind (arith, nat_tests); below = grind (arith, nat_tests) }
+joins_so l h opening reply = record { before = opening; after = refl; peer = refl; above = grind (arith, nat_tests); below = grind (arith, nat_tests); unit = grind (arith, nat_tests) }
 
 reply_receive_keeps : (l : LinkView) (h : SpxHeader) → l.state ≡ States.Opening → ReceiveKeeps l h (R.receive_reply l h)
 reply_receive_keeps l h opening =

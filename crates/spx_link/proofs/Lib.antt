@@ -1,5 +1,6 @@
 pub mod Apart
 pub mod Calls
+pub mod Carrying
 pub mod Distances
 pub mod Found
 pub mod Keeping
@@ -9,6 +10,7 @@ pub mod MachineFresh
 pub mod MachineGrowth
 pub mod MachineSound
 pub mod Pigeons
+pub mod Reading
 pub mod Receiving
 pub mod Rounds
 pub mod Samples

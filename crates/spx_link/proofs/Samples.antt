@@ -1,7 +1,7 @@
 -- Values of the definitions, worked by hand, and a run with a unit that is sent, read, acknowledged and taken.
 use Rattle.std.proofs.Common.{◌+◌, ◌≡◌, [], ◌∷◌, List, Some, None, arith, refl}
 use Rattle.spx_link.specs.declared.unit.Unit.{Unit}
-use Rattle.spx_link.specs.Marks.{mark, distance, outstanding_after, sendable_after}
+use Rattle.spx_link.specs.Marks.{mark, distance, outstanding_after, room_after}
 use Rattle.spx_link.specs.Machine.{Packet, End, Machine, Step, IsRun, start, new_end, mailed, sent_next, got}
 use Rattle.spx_link.specs.Machine.Act.{Sends, SendsNoUnit, Gets, Takes, Gains}
 use Rattle.spx_link.specs.Machine.Step.{One, Two}
@@ -14,13 +14,13 @@ acknowledge_6 : outstanding_after 10 3 6 ≡ 3
 acknowledge_6 = refl
 
 -- allocations 13, 10 and 4
-allocation_13 : sendable_after 10 2 13 ≡ 4
+allocation_13 : room_after 10 2 13 ≡ 4
 allocation_13 = refl
 
-allocation_10 : sendable_after 10 2 10 ≡ 2
+allocation_10 : room_after 10 2 10 ≡ 2
 allocation_10 = refl
 
-allocation_4 : sendable_after 10 2 4 ≡ 2
+allocation_4 : room_after 10 2 4 ≡ 2
 allocation_4 = refl
 
 allocation_4_lies : distance (4 + 1) 10 ≡ 65531

@@ -1,5 +1,5 @@
 -- What the calls of a link do to its numbers and to the ends of its connection, apart from moments and marks.
-use Rattle.std.specs.Prelude.{◌≡◌, ⊤, ℕ, ◌+◌, ◌-◌, ◌<◌, nat_le, nat_lt, ◌&&◌, [], Option, Some, None, if◌then◌else◌}
+use Rattle.std.specs.Prelude.{◌≡◌, ⊤, true, ◌+◌, ◌-◌, ◌<◌, [], Option, Some, None}
 use Rattle.ipx_wire.specs.declared.spx.SpxHeader.{SpxHeader}
 use Rattle.spx_link.specs.declared.numbers.Numbers.{Numbers}
 use Rattle.spx_link.specs.declared.outgoing.Sent.{Sent}
@@ -7,10 +7,11 @@ use Rattle.spx_link.specs.declared.outgoing.Sent.TheVariants as Sents
 use Rattle.spx_link.specs.declared.received.Received.{Received}
 use Rattle.spx_link.specs.declared.received.Received.TheVariants.{Joined, Kept, Repeat, Ahead, OverAllocation, System, PeerEnded, Confirmed, Stranger}
 use Rattle.spx_link.specs.declared.state.State.TheVariants.{Opening, Live}
-use Rattle.spx_link.specs.Limits.{most_room, no_id}
+use Rattle.spx_link.specs.Limits.{no_id}
 use Rattle.spx_link.specs.LinkView.{LinkView}
-use Rattle.spx_link.specs.Marks.{mark, distance}
+use Rattle.spx_link.specs.Marks.{mark, outstanding_after, room_after}
 use Rattle.spx_link.specs.Poll.{OutgoingView}
+use Rattle.spx_link.specs.Receive.{is_system}
 
 -- ---- a poll
 
@@ -30,20 +31,9 @@ numbers_after_poll (Some o) n = numbers_after_sent o.what n
 
 -- ---- a packet
 
--- how many outstanding units an acknowledge number takes away
-abbrev pub taken_away : ℕ → Numbers → ℕ
-taken_away ack n =
-    if nat_le (distance ack (distance n.next n.out)) n.out then distance ack (distance n.next n.out) else 0
-
--- the room that an allocation leaves
-abbrev pub room_left : ℕ → Numbers → ℕ
-room_left limit n =
-    if nat_lt n.room (distance (limit + 1) n.next) && nat_le (distance (limit + 1) n.next) most_room
-    then distance (limit + 1) n.next
-    else n.room
-
 abbrev pub numbers_read : SpxHeader → Numbers → Numbers
-numbers_read h n = record n { out = n.out - taken_away h.ack n; room = room_left h.limit n }
+numbers_read h n =
+    record n { out = outstanding_after n.next n.out h.ack; room = room_after n.next n.room h.limit }
 
 abbrev pub one_more_held : Numbers → Numbers
 one_more_held n = record n { expected = mark (n.expected + 1); held = n.held + 1 }
@@ -78,13 +68,14 @@ pub record SamePeer (old new : LinkView) : Type 0 where
   pub ends : SameEnds old new
   pub peer : new.peer ≡ old.peer
 
--- a link that joined was opening before, and is live with the id that the reply came from
+-- a link that joined was opening before, and is live with the id that the reply came from, which has no unit
 pub record Joins (old new : LinkView) (h : SpxHeader) : Type 0 where
   pub before : old.state ≡ Opening
   pub after : new.state ≡ Live
   pub peer : new.peer ≡ h.from_id
   pub above : 0 < h.from_id
   pub below : h.from_id < no_id
+  pub unit : is_system h ≡ true
 
 -- a request, which names no id of a peer
 pub record IsRequest (o : OutgoingView) : Type 0 where

@@ -1,6 +1,7 @@
 pub mod Chosen
 pub mod Effects
 pub mod Fresh
+pub mod Given
 pub mod Leasts
 pub mod Lending
 pub mod Limits
@@ -14,3 +15,5 @@ pub mod Picked
 pub mod Poll
 pub mod Receive
 pub mod Sound
+pub mod Turns
+pub mod Units

@@ -1,15 +1,14 @@
 -- What a link answers to a packet and what it becomes (Novell SPX, and this project's profile): one function
 -- for each rule.
-use Rattle.std.specs.Prelude.{ℕ, ◌+◌, ◌-◌, ◌==◌, nat_lt, nat_le, Bool, true, false, ◌&&◌, ◌||◌, not, List, [], ◌∷◌, ◌++◌, length, drop, if◌then◌else◌}
+use Rattle.std.specs.Prelude.{ℕ, ◌+◌, ◌==◌, nat_lt, nat_le, Bool, true, false, ◌&&◌, ◌||◌, not, List, [], ◌∷◌, ◌++◌, length, drop, if◌then◌else◌}
 use Rattle.ipx_wire.specs.declared.spx.SpxHeader.{SpxHeader}
 use Rattle.spx_link.specs.declared.state.State.{State}
 use Rattle.spx_link.specs.declared.state.State.TheVariants as States
 use Rattle.spx_link.specs.declared.received.Received.{Received}
 use Rattle.spx_link.specs.declared.received.Received.TheVariants.{Joined, Kept, Repeat, Ahead, OverAllocation, System, PeerEnded, Confirmed, Stranger}
-use Rattle.spx_link.specs.Limits.{most_room, end_stream, confirm_stream, no_id}
+use Rattle.spx_link.specs.Limits.{end_stream, confirm_stream, no_id}
 use Rattle.spx_link.specs.LinkView.{LinkView, free, is_confirmed}
-use Rattle.spx_link.specs.Poll.{base}
-use Rattle.spx_link.specs.Marks.{mark, distance}
+use Rattle.spx_link.specs.Marks.{mark, distance, acknowledged, outstanding_after, room_after}
 
 -- the answers to a unit that is held from then on
 abbrev pub is_kept : Received → Bool
@@ -25,26 +24,15 @@ is_kept Stranger = false
 
 -- ---- the numbers that every packet carries
 
--- how many outstanding units an acknowledge number takes away: none where it is stale
-abbrev pub beyond_base : LinkView → ℕ → ℕ
-beyond_base l ack = distance ack (base l)
-
-abbrev pub acknowledged : LinkView → ℕ → ℕ
-acknowledged l ack = if nat_le (beyond_base l ack) l.out then beyond_base l ack else 0
-
 abbrev pub read_ack : ℕ → LinkView → LinkView
-read_ack ack l = record l { queue = drop (acknowledged l ack) l.queue; out = l.out - acknowledged l ack }
-
--- the room that an allocation leaves: the old room where it is stale
-abbrev pub beyond_next : LinkView → ℕ → ℕ
-beyond_next l limit = distance (limit + 1) l.next
-
-abbrev pub room_after : LinkView → ℕ → ℕ
-room_after l limit =
-    if nat_lt l.room (beyond_next l limit) && nat_le (beyond_next l limit) most_room then beyond_next l limit else l.room
+read_ack ack l =
+    record l {
+      queue = drop (acknowledged l.next l.out ack) l.queue;
+      out = outstanding_after l.next l.out ack;
+    }
 
 abbrev pub read_limit : ℕ → LinkView → LinkView
-read_limit limit l = record l { room = room_after l limit }
+read_limit limit l = record l { room = room_after l.next l.room limit }
 
 abbrev pub read_numbers : LinkView → SpxHeader → LinkView
 read_numbers l h = record (read_limit h.limit (read_ack h.ack l)) { probes = 0 }

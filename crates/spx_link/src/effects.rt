@@ -1,22 +1,47 @@
-//! What the calls of a link do to its numbers and to the ends of its connection: laws of their functions.
+//! What the calls of a link do to its numbers, its units, its state and the ends of its connection:
+//! laws of their functions.
 
-ghost use Rattle.std.specs.Prelude.{◌≡◌, ◌≢◌, ℕ, true, List};
+ghost use Rattle.std.specs.Prelude.{◌≡◌, ◌≢◌, ◌↔◌, ◌<◌, ◌++◌, ℕ, [], ◌∷◌, true, false, drop, IfSome, List};
 ghost use Rattle.ipx_wire.specs.declared.spx.SpxHeader.{SpxHeader};
 ghost use Rattle.ipx_wire.specs.declared.address.Socket.{Socket};
 ghost use Rattle.ipx_wire.specs.declared.address.Address.{Address};
 ghost use Rattle.spx_link.specs.declared.unit.Unit as units;
-ghost use Rattle.spx_link.specs.declared.received.Received.TheVariants.{Joined};
-ghost use Rattle.spx_link.specs.declared.state.State.TheVariants.{Live, Opening};
-ghost use Rattle.spx_link.specs.Effects.{IfRequest, Joins, SameEnds, SamePeer, numbers_after_poll, numbers_after_received, numbers_after_take, room_left};
+ghost use Rattle.spx_link.specs.declared.received.Received.TheVariants.{Confirmed, Joined, Stranger};
+ghost use Rattle.spx_link.specs.declared.state.State.TheVariants.{Ending, Live, Lost, Opening};
+ghost use Rattle.spx_link.specs.Effects.{IfRequest, Joins, SameEnds, SamePeer, numbers_after_poll, numbers_after_received, numbers_after_take};
+ghost use Rattle.spx_link.specs.Given.{IsGiven, StaysOrIsLost};
+ghost use Rattle.spx_link.specs.Limits.{end_stream};
 ghost use Rattle.spx_link.specs.LinkView.{LinkView, numbers_of};
-ghost use Rattle.spx_link.specs.Offer.{accepted_from, dialed, end_link, lose_link, offer_link, owe_reply_link, take_link};
+ghost use Rattle.spx_link.specs.Marks.{acknowledged, room_after};
+ghost use Rattle.spx_link.specs.Offer.{accepted_from, dialed, end_link, first_of, lose_link, offer_link, owe_reply_link, take_link, the_end};
 ghost use Rattle.spx_link.specs.Poll.{poll_link};
-ghost use Rattle.spx_link.specs.Receive.{receive_link};
+ghost use Rattle.spx_link.specs.Receive.{is_kept, is_own, receive_link};
+ghost use Rattle.spx_link.specs.Turns.{IsDone, IsInTurn, ended_after, is_joined, state_after};
+ghost use Rattle.spx_link.specs.Units.{IsEmpty, SameEndings, SameUnits, as_sent, queued_units, unit_in};
 
 /// A poll changes the numbers just where it sends a unit for the first time, and no end.
 pub fn poll_changes()
     ensures numbers { (l : LinkView) (now : ℕ) → numbers_of (poll_link l now).1 ≡ numbers_after_poll (poll_link l now).0 (numbers_of l) }
     ensures ends { (l : LinkView) (now : ℕ) → SamePeer l (poll_link l now).1 }
+{}
+
+/// What the packet that a poll gives says of its link, by what it is sent for.
+pub fn poll_gives()
+    ensures { (l : LinkView) (now : ℕ) → IfSome (poll_link l now).0 (IsGiven l) }
+{}
+
+/// A poll leaves the units that are queued and held, and the state, but where it gives nothing and
+/// the link is lost.
+pub fn poll_keeps_units()
+    ensures units { (l : LinkView) (now : ℕ) → SameUnits l (poll_link l now).1 }
+    ensures endings { (l : LinkView) (now : ℕ) → SameEndings l (poll_link l now).1 }
+    ensures state { (l : LinkView) (now : ℕ) → StaysOrIsLost l.state (poll_link l now).1.state (poll_link l now).0 }
+{}
+
+/// The end, and each unit that may be offered, is sent as it is.
+pub fn units_are_sent_as_they_are()
+    ensures offered { (u : units.Unit) → u.stream < end_stream → as_sent u ≡ u }
+    ensures end { as_sent the_end ≡ the_end }
 {}
 
 /// In Opening a poll gives nothing but requests.
@@ -34,10 +59,69 @@ pub fn receive_changes()
     ensures joins { (l : LinkView) (h : SpxHeader) (body : List ℕ) → (receive_link l h body).0 ≡ Joined → Joins l (receive_link l h body).1 h }
 {}
 
+/// The unit of a packet is kept just where it is in turn, and is then held behind the others.
+pub fn receive_keeps_units()
+    ensures kept { (l : LinkView) (h : SpxHeader) (body : List ℕ) → (is_kept (receive_link l h body).0 ≡ true) ↔ IsInTurn l h }
+    ensures held { (l : LinkView) (h : SpxHeader) (body : List ℕ) → is_kept (receive_link l h body).0 ≡ true → (receive_link l h body).1.held ≡ l.held ++ unit_in h body ∷ [] }
+    ensures same { (l : LinkView) (h : SpxHeader) (body : List ℕ) → is_kept (receive_link l h body).0 ≡ false → (receive_link l h body).1.held ≡ l.held }
+{}
+
+/// The units that a packet acknowledges leave the queue.
+pub fn receive_drops_units()
+    ensures { (l : LinkView) (h : SpxHeader) (body : List ℕ) → (receive_link l h body).0 ≢ Stranger → queued_units (receive_link l h body).1 ≡ drop (acknowledged l.next l.out h.ack) (queued_units l) }
+{}
+
+/// What is read, unless it joins, is a packet of the link's own peer. A stranger's changes nothing.
+pub fn receive_reads_its_own()
+    ensures own { (l : LinkView) (h : SpxHeader) (body : List ℕ) → (receive_link l h body).0 ≢ Stranger → (receive_link l h body).0 ≢ Joined → (is_joined l.state ≡ true) × (is_own l h ≡ true) }
+    ensures stranger { (l : LinkView) (h : SpxHeader) (body : List ℕ) → (receive_link l h body).0 ≡ Stranger → (receive_link l h body).1 ≡ l }
+{}
+
+/// What a packet makes of the state, and of which ends were queued and came. A link is confirmed
+/// once its end is queued and all its units are acknowledged.
+pub fn receive_changes_states()
+    ensures state { (l : LinkView) (h : SpxHeader) (body : List ℕ) → (receive_link l h body).1.state ≡ state_after (receive_link l h body).0 l.state }
+    ensures end_queued { (l : LinkView) (h : SpxHeader) (body : List ℕ) → (receive_link l h body).1.end_queued ≡ l.end_queued }
+    ensures peer_ended { (l : LinkView) (h : SpxHeader) (body : List ℕ) → (receive_link l h body).1.peer_ended ≡ ended_after (receive_link l h body).0 l.peer_ended }
+    ensures confirmed { (l : LinkView) (h : SpxHeader) (body : List ℕ) → (receive_link l h body).0 ≡ Confirmed → IsDone l (receive_link l h body).1 }
+{}
+
 /// A take changes how many units are held, and no end.
 pub fn take_changes()
     ensures numbers { (l : LinkView) → numbers_of (take_link l).1 ≡ numbers_after_take (numbers_of l) }
     ensures ends { (l : LinkView) → SamePeer l (take_link l).1 }
+{}
+
+/// A take gives the first unit held, and the others stay.
+pub fn take_gives_the_first()
+    ensures gives { (l : LinkView) → (take_link l).0 ≡ first_of l.held }
+    ensures held { (l : LinkView) → (take_link l).1.held ≡ drop 1 l.held }
+    ensures queued { (l : LinkView) → queued_units (take_link l).1 ≡ queued_units l }
+    ensures endings { (l : LinkView) → SameEndings l (take_link l).1 }
+    ensures state { (l : LinkView) → (take_link l).1.state ≡ l.state }
+{}
+
+/// Units, and the end, are queued behind the others. With the end the state is Ending.
+pub fn units_queue_in_order()
+    ensures offered { (l : LinkView) (us : List units.Unit) → queued_units (offer_link l us) ≡ queued_units l ++ us }
+    ensures offers_alone { (l : LinkView) (us : List units.Unit) → ((offer_link l us).held ≡ l.held) × ((offer_link l us).state ≡ l.state) × SameEndings l (offer_link l us) }
+    ensures end { (l : LinkView) → queued_units (end_link l) ≡ queued_units l ++ the_end ∷ [] }
+    ensures ends { (l : LinkView) → ((end_link l).state ≡ Ending) × ((end_link l).end_queued ≡ true) }
+    ensures ends_alone { (l : LinkView) → ((end_link l).held ≡ l.held) × ((end_link l).peer_ended ≡ l.peer_ended) }
+{}
+
+/// A reply that is owed again leaves the units and the state, and so does what gives a link up, but
+/// for the state.
+pub fn others_keep_units()
+    ensures owe_reply { (l : LinkView) → SameUnits l (owe_reply_link l) × SameEndings l (owe_reply_link l) × ((owe_reply_link l).state ≡ l.state) }
+    ensures lose { (l : LinkView) → SameUnits l (lose_link l) × SameEndings l (lose_link l) × ((lose_link l).state ≡ Lost) }
+{}
+
+/// A link is made without units, and its numbers are 0 but for its buffers and the room that a
+/// request allows.
+pub fn new_links_are_empty()
+    ensures dialed { (own : ℕ) (s : Socket) (a : Address) (buffers now : ℕ) → IsEmpty (dialed own s a buffers now) buffers 0 }
+    ensures accepted { (own : ℕ) (s : Socket) (a : Address) (h : SpxHeader) (buffers now : ℕ) → IsEmpty (accepted_from own s a h buffers now) buffers (room_after 0 0 h.limit) }
 {}
 
 /// The other calls change neither a number nor an end.
@@ -53,5 +137,5 @@ pub fn others_change_no_number()
 pub fn accepted_owes_its_reply()
     ensures state { (own : ℕ) (s : Socket) (a : Address) (h : SpxHeader) (buffers now : ℕ) → (accepted_from own s a h buffers now).state ≡ Live }
     ensures reply { (own : ℕ) (s : Socket) (a : Address) (h : SpxHeader) (buffers now : ℕ) → (accepted_from own s a h buffers now).owes_reply ≡ true }
-    ensures room { (own : ℕ) (s : Socket) (a : Address) (h : SpxHeader) (buffers now : ℕ) → (accepted_from own s a h buffers now).room ≡ room_left h.limit (numbers_of (dialed own s a buffers now)) }
+    ensures room { (own : ℕ) (s : Socket) (a : Address) (h : SpxHeader) (buffers now : ℕ) → (accepted_from own s a h buffers now).room ≡ room_after 0 0 h.limit }
 {}

@@ -7,7 +7,8 @@
 //! outstanding and the most buffers that it has, and each law gives the range in which it holds.
 
 ghost use Rattle.std.specs.Prelude.{ℕ, ◌≡◌, ◌≢◌, ◌↔◌, ◌+◌, ◌<◌, ◌≤◌, max};
-ghost use Rattle.spx_link.specs.Marks.{mark, distance, outstanding_after, sendable_after};
+ghost use Rattle.spx_link.specs.Limits.{most_room};
+ghost use Rattle.spx_link.specs.Marks.{mark, distance, outstanding_after, room_after};
 
 /// What marks say of positions.
 pub fn marks()
@@ -51,9 +52,9 @@ pub fn allocation()
     ensures stale { (sent allows before : ℕ) → before ≤ allows → allows < sent → sent < before + 32768
         → 32769 ≤ distance (mark (allows + 65535) + 1) (mark sent) }
     // Both together: the positions below the greater of limit and allows may be sent afterwards.
-    ensures read { (bound sent room limit allows before : ℕ) → bound ≤ 16383 → sent + room ≡ limit
+    ensures read { (bound sent room limit allows before : ℕ) → bound ≤ most_room → sent + room ≡ limit
         → allows ≤ sent + bound → before ≤ allows → sent < before + 32768
-        → sent + sendable_after (mark sent) room (mark (allows + 65535)) ≡ max limit allows }
+        → sent + room_after (mark sent) room (mark (allows + 65535)) ≡ max limit allows }
 {}
 
 /// A unit's sequence number, at position `n`, read by an end that has read the positions below

@@ -2,6 +2,7 @@
 //! whatever buffers the two ends have. Packets may be read late, often, in any order or never.
 
 ghost use Rattle.std.specs.Prelude.{ℕ, ◌<◌, ◌≤◌, List, All, Contains};
+ghost use Rattle.spx_link.specs.Limits.{most_room};
 ghost use Rattle.spx_link.specs.Machine.{Machine, Packet, Step, IsRun, start, IsChain, IsWithin, WasSent, Grows};
 ghost use Rattle.spx_link.specs.Machine.Act.{Gets};
 ghost use Rattle.spx_link.specs.Machine.Step.{One, Two};
@@ -33,19 +34,19 @@ pub fn growth()
     ensures two { (steps : List Step) (m n : Machine) → IsRun steps m n → Grows m.two n.two }
 {}
 
-/// A position that an end may send was allowed by a packet that it got before.
+/// A position that an end may send was allowed by a packet of its peer that it got before.
 pub fn allowances()
     ensures one { (steps : List Step) (a b : ℕ) (m : Machine) (n : ℕ) → IsRun steps (start a b) m → n < m.one.limit
-        → (p : Packet) × Contains steps (One (Gets p)) × (n < p.allows) }
+        → (p : Packet) × Contains steps (One (Gets p)) × Contains m.two.bag p × (n < p.allows) }
     ensures two { (steps : List Step) (a b : ℕ) (m : Machine) (n : ℕ) → IsRun steps (start a b) m → n < m.two.limit
-        → (p : Packet) × Contains steps (Two (Gets p)) × (n < p.allows) }
+        → (p : Packet) × Contains steps (Two (Gets p)) × Contains m.one.bag p × (n < p.allows) }
 {}
 
 /// The 16-bit numbers of a fresh packet say what its positions are, where neither end has more than
 /// 16,383 buffers.
 pub fn fresh_packets()
-    ensures one { (steps : List Step) (a b : ℕ) (m : Machine) (p : Packet) → a ≤ 16383 → b ≤ 16383
+    ensures one { (steps : List Step) (a b : ℕ) (m : Machine) (p : Packet) → a ≤ most_room → b ≤ most_room
         → IsRun steps (start a b) m → Contains m.two.bag p → IsFresh m.one m.two p → Tells m.one p }
-    ensures two { (steps : List Step) (a b : ℕ) (m : Machine) (p : Packet) → a ≤ 16383 → b ≤ 16383
+    ensures two { (steps : List Step) (a b : ℕ) (m : Machine) (p : Packet) → a ≤ most_room → b ≤ most_room
         → IsRun steps (start a b) m → Contains m.one.bag p → IsFresh m.two m.one p → Tells m.two p }
 {}

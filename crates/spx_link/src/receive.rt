@@ -2,7 +2,7 @@
 
 ghost use Rattle.std.specs.Prelude.{◌≡◌, ◌+◌, ◌≤◌, ◌<◌, ◌++◌, [], ◌∷◌, IfOk, IfErr, OnOk, OnErr, IsTrue, drop, length};
 ghost use Rattle.spx_link.specs.LinkView as view;
-ghost use Rattle.spx_link.specs.Marks.{mark};
+ghost use Rattle.spx_link.specs.Marks.{acknowledged, mark};
 ghost use Rattle.spx_link.specs.Receive as spec;
 ghost use Rattle.spx_link.specs.declared.fault.OfferFault.TheVariants as OfferFaults;
 
@@ -132,7 +132,7 @@ impl Link {
     }
 
     fn acknowledged(&self, ack: u16) -> u16
-        ensures value { result ≡ spec.acknowledged self.now ack }
+        ensures value { result ≡ acknowledged self.now.next self.now.out ack }
         ensures within { result ≤ self.now.out }
     {
         let beyond = ack.wrapping_sub(self.base());

@@ -1,0 +1,329 @@
+-- Which packets' units are kept, and what each rule of receive does to the units and to how far a connection has come.
+use Rattle.std.proofs.Common.{◌≡◌, ℕ, ◌<◌, ◌↔◌, Bool, true, false, refl, ap, sym, ◌∙◌, if◌then◌else◌, ◌==◌, ◌&&◌, not, nat_le, nat_lt, List, [], ◌∷◌, ◌++◌, map, drop, length, Option, eqb-true, arith}
+use Rattle.std.proofs.lemmas.Bool.{and_parts}
+use Rattle.std.proofs.lemmas.Bool.Decides.{nat_tests}
+use Rattle.std.proofs.lemmas.List.{drop-map, map-append}
+use Rattle.ipx_wire.specs.declared.spx.SpxHeader.{SpxHeader}
+use Rattle.spx_link.specs.declared.queue.Queued.{Queued}
+use Rattle.spx_link.specs.declared.unit.Unit as units
+use Rattle.spx_link.specs.declared.received.Received.{Received}
+use Rattle.spx_link.specs.declared.received.Received.TheVariants.{Joined, Kept, Repeat, Ahead, OverAllocation, System, PeerEnded, Confirmed, Stranger}
+use Rattle.spx_link.specs.declared.state.State.{State}
+use Rattle.spx_link.specs.declared.state.State.TheVariants as States
+use Rattle.spx_link.specs.Limits.{end_stream, confirm_stream}
+use Rattle.spx_link.specs.LinkView.{LinkView, free, is_confirmed}
+use Rattle.spx_link.specs.Marks.{acknowledged, distance}
+use Rattle.spx_link.specs.Offer.{queued, first_of, take_link, take_held}
+use Rattle.spx_link.specs.Receive as R
+use Rattle.spx_link.specs.Receive.{is_kept, is_own, is_system, is_next, receive_link, receive_at}
+use Rattle.spx_link.specs.Turns.{is_joined, IsInTurn, state_after, ended_after, IsDone}
+use Rattle.spx_link.specs.Units.{unit_of, queued_units, unit_in, SameEndings}
+use Rattle.spx_link.proofs.Carrying.{by_test}
+
+-- ---- the unit that is in turn
+
+abbrev turn : Bool → Bool → Bool → Bool → Bool
+turn own system ended next = own && (not system && (not ended && next))
+
+abbrev in_turn : LinkView → SpxHeader → Bool
+in_turn l h = turn (is_own l h) (is_system h) l.peer_ended (is_next l h)
+
+of_another : (own system ended next : Bool) → own ≡ false → false ≡ turn own system ended next
+of_another true system ended next e = cc
+of_another false system ended next e = refl
+
+of_system : (own system ended next : Bool) → system ≡ true → false ≡ turn own system ended next
+of_system true true ended next e = refl
+of_system false true ended next e = refl
+of_system own false ended next e = cc
+
+of_ended : (own system ended next : Bool) → ended ≡ true → false ≡ turn own system ended next
+of_ended true true true next e = refl
+of_ended true false true next e = refl
+of_ended false system true next e = refl
+of_ended own system false next e = cc
+
+of_other_place : (own system ended next : Bool) → next ≡ false → false ≡ turn own system ended next
+of_other_place true true ended false e = refl
+of_other_place true false true false e = refl
+of_other_place true false false false e = refl
+of_other_place false system ended false e = refl
+of_other_place own system ended true e = cc
+
+of_all : (own system ended next : Bool) → own ≡ true → system ≡ false → ended ≡ false → next ≡ true → true ≡ turn own system ended next
+of_all true false false true a b c d = refl
+of_all false system ended next a b c d = cc
+of_all true true ended next a b c d = cc
+of_all true false true next a b c d = cc
+of_all true false false false a b c d = cc
+
+-- a unit that is behind is not the next one
+behind_not_next : (beyond free : ℕ) → nat_le 32768 beyond ≡ true → ((beyond == 0) && nat_lt 0 free) ≡ false
+behind_not_next beyond free far = grind (arith, nat_tests)
+
+-- ---- what a rule says
+
+-- how far the connection has come, and what is left of the units to send
+pub record Course (l : LinkView) (h : SpxHeader) (r : Received × LinkView) : Type 0 where
+  pub state : r.1.state ≡ state_after r.0 l.state
+  pub end_queued : r.1.end_queued ≡ l.end_queued
+  pub peer_ended : r.1.peer_ended ≡ ended_after r.0 l.peer_ended
+  pub queue : (r.0 ≡ Stranger → ⊥) → r.1.queue ≡ drop (acknowledged l.next l.out h.ack) l.queue
+  pub stranger : r.0 ≡ Stranger → r.1 ≡ l
+  pub done : r.0 ≡ Confirmed → IsDone l r.1
+
+-- the unit
+pub record Keeps (l : LinkView) (h : SpxHeader) (body : List ℕ) (r : Received × LinkView) : Type 0 where
+  pub turns : is_kept r.0 ≡ in_turn l h
+  pub kept : is_kept r.0 ≡ true → r.1.held ≡ l.held ++ unit_in h body ∷ []
+  pub other : is_kept r.0 ≡ false → r.1.held ≡ l.held
+
+pub record ReadSays (l : LinkView) (h : SpxHeader) (body : List ℕ) (r : Received × LinkView) : Type 0 where
+  pub course : Course l h r
+  pub unit : Keeps l h body r
+
+stranger_says : (l : LinkView) (h : SpxHeader) (body : List ℕ) → false ≡ in_turn l h → ReadSays l h body (Stranger, l)
+stranger_says l h body other = record {
+  course = record { state = refl; end_queued = refl; peer_ended = refl; queue = λ no. absurd (no refl); stranger = λ _. refl; done = λ e. cc };
+  unit = record { turns = other; kept = λ e. cc; other = λ _. refl };
+}
+
+empty_of : {A : Type 0} (xs : List A) → (length xs == 0) ≡ true → xs ≡ []
+empty_of [] e = refl
+empty_of (x ∷ xs) e =
+    let none : length (x ∷ xs) ≡ 0 = eqb-true (length (x ∷ xs)) 0 e in
+    absurd (omega arith)
+
+confirmed_says : (l : LinkView) (h : SpxHeader) (body : List ℕ) → is_system h ≡ true → R.may_confirm (R.read_numbers l h) h ≡ true → ReadSays l h body (Confirmed, record (R.with_ack_owed (R.read_numbers l h) h.wants_ack) { state = States.Confirmed })
+confirmed_says l h body system may =
+    let m : LinkView = R.read_numbers l h in
+    let others : Bool = (length m.queue == 0) && not (is_confirmed l.state) in
+    let more : (l.end_queued && others) ≡ true = (and_parts (h.stream == confirm_stream) (l.end_queued && others) may).1 in
+    let rest : ((length m.queue == 0) && not (is_confirmed l.state)) ≡ true = (and_parts l.end_queued others more).1 in
+    record {
+      course = record {
+        state = refl;
+        end_queued = refl;
+        peer_ended = refl;
+        queue = λ _. refl;
+        stranger = λ e. cc;
+        done = λ _. record { end_queued = (and_parts l.end_queued others more).0; queue = empty_of m.queue (and_parts (length m.queue == 0) (not (is_confirmed l.state)) rest).0 };
+      };
+      unit = record { turns = of_system (is_own l h) (is_system h) l.peer_ended (is_next l h) system; kept = λ e. cc; other = λ _. refl };
+    }
+
+system_says : (l : LinkView) (h : SpxHeader) (body : List ℕ) → is_system h ≡ true → ReadSays l h body (R.read_system (R.read_numbers l h) h)
+system_says l h body system =
+    let m : LinkView = R.read_numbers l h in
+    by_test (ReadSays l h body) (R.may_confirm m h) (Confirmed, record (R.with_ack_owed m h.wants_ack) { state = States.Confirmed }) (System, R.with_ack_owed m h.wants_ack)
+    (λ may. confirmed_says l h body system may)
+    (λ _. record {
+      course = record { state = refl; end_queued = refl; peer_ended = refl; queue = λ _. refl; stranger = λ e. cc; done = λ e. cc };
+      unit = record { turns = of_system (is_own l h) (is_system h) l.peer_ended (is_next l h) system; kept = λ e. cc; other = λ _. refl };
+    })
+
+repeated_says : (l : LinkView) (h : SpxHeader) (body : List ℕ) → false ≡ in_turn l h → ReadSays l h body (Repeat, R.repeated (R.read_numbers l h) h)
+repeated_says l h body other =
+    let m : LinkView = R.read_numbers l h in
+    by_test (λ (n : LinkView). ReadSays l h body (Repeat, n)) ((h.stream == end_stream) && m.peer_ended) (record m { owes_confirm = true }) (record m { owes_ack = true })
+    (λ _. record {
+      course = record { state = refl; end_queued = refl; peer_ended = refl; queue = λ _. refl; stranger = λ e. cc; done = λ e. cc };
+      unit = record { turns = other; kept = λ e. cc; other = λ _. refl };
+    })
+    (λ _. record {
+      course = record { state = refl; end_queued = refl; peer_ended = refl; queue = λ _. refl; stranger = λ e. cc; done = λ e. cc };
+      unit = record { turns = other; kept = λ e. cc; other = λ _. refl };
+    })
+
+out_of_turn_says : (l : LinkView) (h : SpxHeader) (body : List ℕ) → false ≡ in_turn l h → ReadSays l h body (R.out_of_turn (R.read_numbers l h) h)
+out_of_turn_says l h body other =
+    let m : LinkView = R.read_numbers l h in
+    by_test (ReadSays l h body) (nat_lt (R.beyond_expected m h) (free m)) (Ahead, record m { owes_ack = true }) (OverAllocation, record m { owes_ack = true })
+    (λ _. record {
+      course = record { state = refl; end_queued = refl; peer_ended = refl; queue = λ _. refl; stranger = λ e. cc; done = λ e. cc };
+      unit = record { turns = other; kept = λ e. cc; other = λ _. refl };
+    })
+    (λ _. record {
+      course = record { state = refl; end_queued = refl; peer_ended = refl; queue = λ _. refl; stranger = λ e. cc; done = λ e. cc };
+      unit = record { turns = other; kept = λ e. cc; other = λ _. refl };
+    })
+
+-- the unit that a packet carries, by whether it is an end
+abbrev the_unit : SpxHeader → List ℕ → Bool → units.Unit
+the_unit h body ends = record { stream = h.stream; last = h.last; body = record { items = if ends then [] else body } }
+
+end_in : (h : SpxHeader) (body : List ℕ) (ends : Bool) → ends ≡ true → record { stream = h.stream; last = h.last; body = record { items = [] } } ≡ the_unit h body ends
+end_in h body true e = refl
+end_in h body false e = cc
+
+other_in : (h : SpxHeader) (body : List ℕ) (ends : Bool) → ends ≡ false → record { stream = h.stream; last = h.last; body = record { items = body } } ≡ the_unit h body ends
+other_in h body true e = cc
+other_in h body false e = refl
+
+keep_says : (l : LinkView) (h : SpxHeader) (body : List ℕ) → true ≡ in_turn l h → ReadSays l h body (R.keep (R.read_numbers l h) h body)
+keep_says l h body next =
+    let m : LinkView = R.read_numbers l h in
+    by_test (ReadSays l h body) (h.stream == end_stream) (PeerEnded, R.keep_end m h) (Kept, R.keep_unit m h body)
+    (λ ends. record {
+      course = record { state = refl; end_queued = refl; peer_ended = refl; queue = λ _. refl; stranger = λ e. cc; done = λ e. cc };
+      unit = record { turns = next; kept = λ _. ap (λ (u : units.Unit). l.held ++ u ∷ []) (end_in h body (h.stream == end_stream) ends); other = λ e. cc };
+    })
+    (λ unit. record {
+      course = record { state = refl; end_queued = refl; peer_ended = refl; queue = λ _. refl; stranger = λ e. cc; done = λ e. cc };
+      unit = record { turns = next; kept = λ _. ap (λ (u : units.Unit). l.held ++ u ∷ []) (other_in h body (h.stream == end_stream) unit); other = λ e. cc };
+    })
+
+unit_says : (l : LinkView) (h : SpxHeader) (body : List ℕ) → is_own l h ≡ true → is_system h ≡ false → ReadSays l h body (R.read_unit (R.read_numbers l h) h body)
+unit_says l h body own unit =
+    let m : LinkView = R.read_numbers l h in
+    by_test (ReadSays l h body) (nat_le 32768 (R.beyond_expected m h)) (Repeat, R.repeated m h) (R.not_behind m h body)
+    (λ far. repeated_says l h body (of_other_place (is_own l h) (is_system h) l.peer_ended (is_next l h) (behind_not_next (R.beyond_expected l h) (free l) far)))
+    (λ _. by_test (ReadSays l h body) m.peer_ended (Ahead, m) (R.in_turn m h body)
+    (λ ended. record {
+      course = record { state = refl; end_queued = refl; peer_ended = refl; queue = λ _. refl; stranger = λ e. cc; done = λ e. cc };
+      unit = record { turns = of_ended (is_own l h) (is_system h) l.peer_ended (is_next l h) ended; kept = λ e. cc; other = λ _. refl };
+    })
+    (λ more. by_test (ReadSays l h body) (is_next m h) (R.keep m h body) (R.out_of_turn m h)
+    (λ next. keep_says l h body (of_all (is_own l h) (is_system h) l.peer_ended (is_next l h) own unit more next))
+    (λ place. out_of_turn_says l h body (of_other_place (is_own l h) (is_system h) l.peer_ended (is_next l h) place))))
+
+joined_says : (l : LinkView) (h : SpxHeader) (body : List ℕ) → ReadSays l h body (R.receive_joined l h body)
+joined_says l h body =
+    by_test (ReadSays l h body) (is_own l h) (R.read_packet l h body) (Stranger, l)
+    (λ own. by_test (ReadSays l h body) (is_system h) (R.read_system (R.read_numbers l h) h) (R.read_unit (R.read_numbers l h) h body)
+    (λ system. system_says l h body system)
+    (λ unit. unit_says l h body own unit))
+    (λ other. stranger_says l h body (of_another (is_own l h) (is_system h) l.peer_ended (is_next l h) other))
+
+-- ---- any packet
+
+pub record ReceiveSays (l : LinkView) (h : SpxHeader) (body : List ℕ) (r : Received × LinkView) : Type 0 where
+  pub course : Course l h r
+  pub turns : is_kept r.0 ≡ true ↔ IsInTurn l h
+  pub kept : is_kept r.0 ≡ true → r.1.held ≡ l.held ++ unit_in h body ∷ []
+  pub other : is_kept r.0 ≡ false → r.1.held ≡ l.held
+  pub own : (r.0 ≡ Stranger → ⊥) → (r.0 ≡ Joined → ⊥) → (is_joined l.state ≡ true) × (is_own l h ≡ true)
+
+next_alone : (l : LinkView) (h : SpxHeader) → is_next l h ≡ true → (distance h.seq l.expected ≡ 0) × (0 < free l)
+next_alone l h e = (grind (arith, nat_tests), grind (arith, nat_tests))
+
+next_of : (l : LinkView) (h : SpxHeader) → distance h.seq l.expected ≡ 0 → 0 < free l → is_next l h ≡ true
+next_of l h a b = grind (arith, nat_tests)
+
+not_true : (b : Bool) → not b ≡ true → b ≡ false
+not_true true e = cc
+not_true false e = refl
+
+is_in_turn : (l : LinkView) (h : SpxHeader) → is_joined l.state ≡ true → in_turn l h ≡ true → IsInTurn l h
+is_in_turn l h joined e =
+    let a = and_parts _ _ e in
+    let b = and_parts _ _ a.1 in
+    let c = and_parts _ _ b.1 in
+    record {
+      joined = joined;
+      own = a.0;
+      unit = not_true (is_system h) b.0;
+      more = not_true l.peer_ended c.0;
+      next = (next_alone l h c.1).0;
+      room = (next_alone l h c.1).1;
+    }
+
+-- what is read is the link's own
+own_alone : (l : LinkView) (h : SpxHeader) (body : List ℕ) → ((R.receive_joined l h body).0 ≡ Stranger → ⊥) → is_own l h ≡ true
+own_alone l h body =
+    by_test (λ (r : Received × LinkView). (r.0 ≡ Stranger → ⊥) → is_own l h ≡ true) (is_own l h) (R.read_packet l h body) (Stranger, l)
+    (λ own _. own)
+    (λ _ read. absurd (read refl))
+
+of_joined : (l : LinkView) (h : SpxHeader) (body : List ℕ) → is_joined l.state ≡ true → ReceiveSays l h body (R.receive_joined l h body)
+of_joined l h body joined =
+    let says : ReadSays l h body (R.receive_joined l h body) = joined_says l h body in
+    record {
+      course = says.course;
+      turns = (
+        λ kept. is_in_turn l h joined (sym says.unit.turns ∙ kept),
+        λ t. says.unit.turns ∙ sym (of_all (is_own l h) (is_system h) l.peer_ended (is_next l h) t.own t.unit t.more (next_of l h t.next t.room)),
+      );
+      kept = says.unit.kept;
+      other = says.unit.other;
+      own = λ read _. (joined, own_alone l h body read);
+    }
+
+not_joined : (l : LinkView) (h : SpxHeader) → is_joined l.state ≡ false → false ≡ true ↔ IsInTurn l h
+not_joined l h e = (λ x. cc, λ t. let j : is_joined l.state ≡ true = t.joined in cc)
+
+stranger_receives : (l : LinkView) (h : SpxHeader) (body : List ℕ) → is_joined l.state ≡ false → ReceiveSays l h body (Stranger, l)
+stranger_receives l h body e =
+    record {
+      course = record { state = refl; end_queued = refl; peer_ended = refl; queue = λ no. absurd (no refl); stranger = λ _. refl; done = λ x. cc };
+      turns = not_joined l h e;
+      kept = λ x. cc;
+      other = λ _. refl;
+      own = λ read _. absurd (read refl);
+    }
+
+reply_receives : (l : LinkView) (h : SpxHeader) (body : List ℕ) → is_joined l.state ≡ false → ReceiveSays l h body (R.receive_reply l h)
+reply_receives l h body e =
+    by_test (ReceiveSays l h body) (R.is_reply l h) (Joined, R.read_numbers (R.joined l h) h) (Stranger, l)
+    (λ _. record {
+      course = record { state = refl; end_queued = refl; peer_ended = refl; queue = λ _. refl; stranger = λ x. cc; done = λ x. cc };
+      turns = not_joined l h e;
+      kept = λ x. cc;
+      other = λ _. refl;
+      own = λ _ other. absurd (other refl);
+    })
+    (λ _. stranger_receives l h body e)
+
+receive_at_says : (s : State) (l : LinkView) (h : SpxHeader) (body : List ℕ) → l.state ≡ s → ReceiveSays l h body (receive_at s l h body)
+receive_at_says States.Opening l h body e = reply_receives l h body (ap is_joined e)
+receive_at_says States.Live l h body e = of_joined l h body (ap is_joined e)
+receive_at_says States.Ending l h body e = of_joined l h body (ap is_joined e)
+receive_at_says States.PeerEnded l h body e = of_joined l h body (ap is_joined e)
+receive_at_says States.Confirmed l h body e = of_joined l h body (ap is_joined e)
+receive_at_says States.Lost l h body e = stranger_receives l h body (ap is_joined e)
+
+pub receive_says : (l : LinkView) (h : SpxHeader) (body : List ℕ) → ReceiveSays l h body (receive_link l h body)
+receive_says l h body = receive_at_says l.state l h body refl
+
+-- the units that are left to send
+pub units_left : (l m : LinkView) (count : ℕ) → m.queue ≡ drop count l.queue → queued_units m ≡ drop count (queued_units l)
+units_left l m count e = ap (map unit_of) e ∙ sym (drop-map unit_of count l.queue)
+
+-- ---- offers
+
+units_queued : (us : List units.Unit) → map unit_of (map queued us) ≡ us
+units_queued [] = refl
+units_queued (u ∷ us) = ap (λ (rest : List units.Unit). u ∷ rest) (units_queued us)
+
+pub units_joined : (qs : List Queued) (us : List units.Unit) → map unit_of (qs ++ map queued us) ≡ map unit_of qs ++ us
+units_joined qs us = map-append unit_of qs (map queued us) ∙ ap (λ (more : List units.Unit). map unit_of qs ++ more) (units_queued us)
+
+-- ---- takes
+
+pub record TakeSays (l : LinkView) (r : Option units.Unit × LinkView) : Type 0 where
+  pub gives : r.0 ≡ first_of l.held
+  pub held : r.1.held ≡ drop 1 l.held
+  pub queued : queued_units r.1 ≡ queued_units l
+  pub endings : SameEndings l r.1
+  pub state : r.1.state ≡ l.state
+
+take_held_says : (l : LinkView) (us : List units.Unit) → l.held ≡ us → TakeSays l (take_held l us)
+take_held_says l [] e =
+    record {
+      gives = ap first_of (sym e);
+      held = e ∙ ap (drop 1) (sym e);
+      queued = refl;
+      endings = record { end_queued = refl; peer_ended = refl };
+      state = refl;
+    }
+take_held_says l (u ∷ us) e =
+    record {
+      gives = ap first_of (sym e);
+      held = ap (drop 1) (sym e);
+      queued = refl;
+      endings = record { end_queued = refl; peer_ended = refl };
+      state = refl;
+    }
+
+pub take_says : (l : LinkView) → TakeSays l (take_link l)
+take_says l = take_held_says l l.held refl

@@ -1,0 +1,10 @@
+use Rattle.spx_link.proofs.Reading.{receive_says}
+use Rattle.spx_link.proofs.effects.receive_keeps_units.Goals as goal
+
+pub returns : goal.returns
+returns c =
+    record {
+      kept = λ l h body. (receive_says l h body).turns;
+      held = λ l h body. (receive_says l h body).kept;
+      same = λ l h body. (receive_says l h body).other;
+    }

@@ -1,0 +1,57 @@
+-- Which unit a link keeps, and what a packet does to its units and to how far its connection has come.
+use Rattle.std.specs.Prelude.{◌≡◌, ◌<◌, Bool, true, false, []}
+use Rattle.ipx_wire.specs.declared.spx.SpxHeader.{SpxHeader}
+use Rattle.spx_link.specs.declared.received.Received.{Received}
+use Rattle.spx_link.specs.declared.received.Received.TheVariants.{Joined, Kept, Repeat, Ahead, OverAllocation, System, PeerEnded, Confirmed, Stranger}
+use Rattle.spx_link.specs.declared.state.State.{State}
+use Rattle.spx_link.specs.declared.state.State.TheVariants as States
+use Rattle.spx_link.specs.LinkView.{LinkView, free}
+use Rattle.spx_link.specs.Marks.{distance}
+use Rattle.spx_link.specs.Receive.{is_own, is_system, after_end}
+
+-- the states in which packets of the peer are read
+abbrev pub is_joined : State → Bool
+is_joined States.Opening = false
+is_joined States.Live = true
+is_joined States.Ending = true
+is_joined States.PeerEnded = true
+is_joined States.Confirmed = true
+is_joined States.Lost = false
+
+-- the packet has the unit that comes next, and there is a buffer for it
+pub record IsInTurn (l : LinkView) (h : SpxHeader) : Type 0 where
+  pub joined : is_joined l.state ≡ true
+  pub own : is_own l h ≡ true
+  pub unit : is_system h ≡ false
+  pub more : l.peer_ended ≡ false
+  pub next : distance h.seq l.expected ≡ 0
+  pub room : 0 < free l
+
+-- the state after an answer
+abbrev pub state_after : Received → State → State
+state_after Joined s = States.Live
+state_after Kept s = s
+state_after Repeat s = s
+state_after Ahead s = s
+state_after OverAllocation s = s
+state_after System s = s
+state_after PeerEnded s = after_end s
+state_after Confirmed s = States.Confirmed
+state_after Stranger s = s
+
+-- whether the peer has ended after an answer
+abbrev pub ended_after : Received → Bool → Bool
+ended_after Joined ended = ended
+ended_after Kept ended = ended
+ended_after Repeat ended = ended
+ended_after Ahead ended = ended
+ended_after OverAllocation ended = ended
+ended_after System ended = ended
+ended_after PeerEnded ended = true
+ended_after Confirmed ended = ended
+ended_after Stranger ended = ended
+
+-- a link that is confirmed had queued its end, and nothing of its own is left to acknowledge
+pub record IsDone (old new : LinkView) : Type 0 where
+  pub end_queued : old.end_queued ≡ true
+  pub queue : new.queue ≡ []
