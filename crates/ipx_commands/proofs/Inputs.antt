@@ -1,9 +1,10 @@
 -- From what was read of an input to all of it.
-use Rattle.std.proofs.Common.{◌≡◌, ℕ, List, length, take, Option, Some, None, arith, inl, inr, true, ltb, lt-ltb, subst, sym, Result, Ok, Err}
+use Rattle.std.proofs.Common.{◌≡◌, ℕ, List, length, take, Option, Some, None, arith, refl, inl, inr, true, ltb, lt-ltb, subst, sym, Result, Ok, Err}
 use Rattle.std.specs.Prelude.{IfOk, IfSome, IsOkAnd}
 use Rattle.std.specs.Io.KnownBytes.{Appends}
 use Rattle.std.proofs.lemmas.Bool.{cases_lt}
 use Rattle.std.proofs.lemmas.List.{take_all, length-take}
+use Rattle.ipx_commands.specs.Text.{IsInput}
 use Rattle.ipx_commands.specs.Check.{CheckWrites}
 
 -- one byte past the longest input is enough to see that an input is too long
@@ -18,10 +19,10 @@ CheckWrites-take input lines status writes =
     ]
 
 pub check_known : (known a b : Option (List ℕ)) (text lines : List ℕ) (status : ℕ) → IfSome known (λ input. text ≡ take 1000001 input) → CheckWrites text lines status → Appends a b lines
-    → IfSome known (λ input. (l : List ℕ) × CheckWrites input l status × Appends a b l)
-check_known None a b text lines status read writes appends = read
+    → (input : List ℕ) × IsInput known input × (l : List ℕ) × CheckWrites input l status × Appends a b l
+check_known None a b text lines status read writes appends = (text, tt, lines, writes, appends)
 check_known (Some input) a b text lines status read writes appends =
-    (lines, CheckWrites-take input lines status (subst (λ (t : List ℕ). CheckWrites t lines status) read writes), appends)
+    (input, refl, lines, CheckWrites-take input lines status (subst (λ (t : List ℕ). CheckWrites t lines status) read writes), appends)
 
 -- from the lines that a command makes and the answer of their writing to what was written
 pub lines_written : {L E F : Type 0} (lines : Result L E) (result : Result ℕ F) (text : L → List ℕ) (status : L → ℕ) (Writes : List ℕ → ℕ → Type 0) (a b : Option (List ℕ))
@@ -33,6 +34,6 @@ lines_written (Ok l) (Ok s) text status Writes a b made wrote = (text l, subst (
 
 -- the same for lines that are made of what was read
 pub check_written : {F : Type 0} (result : Result ℕ F) (known a b : Option (List ℕ)) (text : List ℕ) → IfSome known (λ input. text ≡ take 1000001 input)
-    → IfOk result (λ s. (l : List ℕ) × CheckWrites text l s × Appends a b l) → IfOk result (λ s. IfSome known (λ input. (l : List ℕ) × CheckWrites input l s × Appends a b l))
+    → IfOk result (λ s. (l : List ℕ) × CheckWrites text l s × Appends a b l) → IfOk result (λ s. (input : List ℕ) × IsInput known input × (l : List ℕ) × CheckWrites input l s × Appends a b l)
 check_written (Err e) known a b text read wrote = tt
 check_written (Ok s) known a b text read wrote = check_known known a b text wrote.0 s read wrote.1 wrote.2

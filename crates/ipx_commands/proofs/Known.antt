@@ -4,7 +4,7 @@ use Rattle.std.specs.Prelude.{IfSome}
 use Rattle.std.specs.Io.KnownBytes.{Appends}
 use Rattle.std.proofs.lemmas.Bool.{cases_lt}
 use Rattle.std.proofs.lemmas.List.{take_all, length-take}
-use Rattle.ipx_commands.specs.Text.{packet_of_text}
+use Rattle.ipx_commands.specs.Text.{IsInput, packet_of_text}
 use Rattle.ipx_commands.specs.Hop.{HopWrites}
 
 -- one byte past the longest text is enough to see that a text is too long
@@ -19,7 +19,7 @@ packet_of_text-take input =
     ]
 
 pub writes_known : (known a b : Option (List ℕ)) (text line : List ℕ) (status : ℕ) → IfSome known (λ input. text ≡ take 4097 input) → HopWrites text line status → Appends a b line
-    → IfSome known (λ input. (l : List ℕ) × HopWrites input l status × Appends a b l)
-writes_known None a b text line status read writes appends = read
+    → (input : List ℕ) × IsInput known input × (l : List ℕ) × HopWrites input l status × Appends a b l
+writes_known None a b text line status read writes appends = (text, tt, line, writes, appends)
 writes_known (Some input) a b text line status read writes appends =
-    (line, rw (← packet_of_text-take input, ← read) writes, appends)
+    (input, refl, line, rw (← packet_of_text-take input, ← read) writes, appends)

@@ -1,7 +1,8 @@
 //! `ipx check`: vectors against their outcomes.
 
-ghost use Rattle.std.specs.Prelude.{◌≡◌, ◌≤◌, ◌<◌, ◌+◌, ◌++◌, ◌∷◌, [], true, false, IfErr, IfOk, IfSome, OnOk, MatchOption, ℕ, List, length, map, string_bytes};
+ghost use Rattle.std.specs.Prelude.{◌≡◌, ◌≤◌, ◌<◌, ◌+◌, ◌++◌, ◌∷◌, [], true, false, IfErr, IfOk, OnOk, MatchOption, ℕ, List, length, map, string_bytes};
 ghost use Rattle.std.specs.Io.KnownBytes.{Appends};
+ghost use Rattle.ipx_commands.specs.Text.{IsInput};
 ghost use Rattle.ipx_commands.specs.Reading.{reading_view};
 ghost use Rattle.ipx_commands.specs.CheckLine.{Malformed as no_line, Vector as vector, input_lines, line_form};
 ghost use Rattle.ipx_commands.specs.Check.{CheckWrites, ChecksLines, Failed as told_failed, IsVerdict, Verdict as Told, check_status, control_fault_number, failed_line, failed_lines, ipx_fault_number, last_line, outcome, spx_fault_number, verdict_view};
@@ -203,8 +204,8 @@ fn lines_for_input(alloc: Global, input: &[u8]) -> Result<(String, u8), OutOfMem
 /// status 1 of a read or write fault, after which nothing more is written, or of want of memory,
 /// which writes `fault (14) OutOfMemory`.
 pub fn do_check<R: Read, W: Write>(alloc: Global, reader: &mut R, writer: &mut W) -> Result<u8, u8>
-    ensures written { IfOk result (λ status. IfSome (R.remaining reader.old) (λ input. (lines : List ℕ)
-        × CheckWrites input lines status × Appends (W.contents writer.old) (W.contents writer.new) lines)) }
+    ensures written { IfOk result (λ status. (input : List ℕ) × IsInput (R.remaining reader.old) input × (lines : List ℕ)
+        × CheckWrites input lines status × Appends (W.contents writer.old) (W.contents writer.new) lines) }
     ensures fault { IfErr result (λ status. status ≡ 1) }
 {
     let input = match read_up_to(alloc, reader, MOST + 1) {

@@ -1,9 +1,9 @@
 //! `ipx hop`: one packet through a router with two ports.
 
-ghost use Rattle.std.specs.Prelude.{◌≡◌, IfErr, IfOk, IfSome, ℕ, List, string_bytes};
+ghost use Rattle.std.specs.Prelude.{◌≡◌, IfErr, IfOk, ℕ, List, string_bytes};
 ghost use Rattle.std.specs.Option.{option_map};
 ghost use Rattle.std.specs.Io.KnownBytes.{Appends};
-ghost use Rattle.ipx_commands.specs.Text.{packet_of_text, without_line_end};
+ghost use Rattle.ipx_commands.specs.Text.{IsInput, packet_of_text, without_line_end};
 ghost use Rattle.ipx_commands.specs.Hop.{HopAnswers, HopWrites, hop_routing};
 
 use crate::input::{InputFault, read_up_to};
@@ -90,8 +90,8 @@ fn line_for_text(alloc: Global, text: &[u8]) -> Result<(String, u8), OutOfMemory
 /// write fault, after which nothing more is written, or of want of memory, which writes
 /// `fault (14) OutOfMemory`.
 pub fn do_hop<R: Read, W: Write>(alloc: Global, reader: &mut R, writer: &mut W) -> Result<u8, u8>
-    ensures written { IfOk result (λ status. IfSome (R.remaining reader.old) (λ input. (line : List ℕ)
-        × HopWrites input line status × Appends (W.contents writer.old) (W.contents writer.new) line)) }
+    ensures written { IfOk result (λ status. (input : List ℕ) × IsInput (R.remaining reader.old) input × (line : List ℕ)
+        × HopWrites input line status × Appends (W.contents writer.old) (W.contents writer.new) line) }
     ensures fault { IfErr result (λ status. status ≡ 1) }
 {
     let text = match read_up_to(alloc, reader, MOST + 1) {

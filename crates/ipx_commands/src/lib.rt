@@ -18,6 +18,8 @@ pub use output::tell_no_memory;
 pub use show::do_show;
 
 #[cfg(test)]
-mod packet_tests;
+mod check_tests;
+#[cfg(test)]
+mod show_tests;
 #[cfg(test)]
 mod tests;

@@ -1,22 +1,21 @@
-//! What no proof sees: the worked rows of `show` and `check`, and that their calls succeed and fail
-//! as they should.
+//! What no proof sees: the worked rows of `show`, and that its calls succeed and fail as they should.
 
 use crate::check::do_check;
 use crate::show::do_show;
-use crate::tests::{failing_after, failing_on};
+use crate::tests::failing_after;
 use std::alloc::{AllocError, Global};
 use std::test::Fail;
 
-const PACKET: &str = "ffff001e00000000002200007f00000540000000001100007f0000034001";
+pub const PACKET: &str = "ffff001e00000000002200007f00000540000000001100007f0000034001";
 
-const SHORT: &str = "ffff001d00000000002200007f00000540000000001100007f0000034001";
+pub const SHORT: &str = "ffff001d00000000002200007f00000540000000001100007f0000034001";
 
 /// From 00000022 00007f000002 0453 to every node of 00000022.
 const TWO_NETWORKS: &str =
     "ffff0030000100000022ffffffffffff04530000002200007f0000020453000200000011000100020000003300010002";
 
 /// An SPX packet of three bytes that ends a message and asks to be acknowledged.
-const SPX: &str =
+pub const SPX: &str =
     "ffff002d02050000003300007f00000740000000001100007f0000034001500000010001000000000007616263";
 
 const NEAREST_QUERY: &str = "ffff0022000400000011ffffffffffff04520000001100007f000003400000030004";
@@ -29,7 +28,7 @@ fn shown(alloc: Global, text: &str) -> (Vec<u8>, Result<u8, u8>) {
 }
 
 /// The lines that `check` writes, and its answer.
-fn checked(alloc: Global, text: &str) -> (Vec<u8>, Result<u8, u8>) {
+pub fn checked(alloc: Global, text: &str) -> (Vec<u8>, Result<u8, u8>) {
     let mut reader = text.as_bytes();
     let mut written = Vec::new(alloc);
     let answer = do_check(alloc, &mut reader, &mut written);
@@ -149,6 +148,76 @@ fn sizes_of_spx_bodies(rt: HostRuntime) -> Result<(), Fail> {
     Ok(())
 }
 
+/// A RIP response with a length in hex, this many times the same entry, and a tail.
+fn response_with(
+    alloc: Global,
+    length: &str,
+    entries: usize,
+    tail: &str,
+) -> Result<String, AllocError> {
+    let mut text = format!(in alloc;
+        "ffff{length}000100000011ffffffffffff04530000001100007f00000304530002"
+    )?;
+    for _ in 0..entries {
+        text.push_str("0000004400010002")?;
+    }
+    text.push_str(tail)?;
+    Ok(text)
+}
+
+/// The packet of 50 entries has 432 bytes.
+#[test]
+fn sizes_of_rip_bodies(rt: HostRuntime) -> Result<(), Fail> {
+    let rows = [
+        (
+            "01b0",
+            50,
+            "",
+            "ipx hops 0 kind 1 body 402\nto 00000011 ffffffffffff 0453\nfrom 00000011 00007f000003 0453\nrip response 50\n",
+            50,
+            "ok ",
+            0,
+        ),
+        (
+            "0037",
+            2,
+            "ffffffffffffff",
+            "ipx hops 0 kind 1 body 25\nto 00000011 ffffffffffff 0453\nfrom 00000011 00007f000003 0453\nrip response 2\n",
+            2,
+            "ok ",
+            0,
+        ),
+        (
+            "01b8",
+            51,
+            "",
+            "refused (10) TooManyEntries 51\n",
+            0,
+            "bad 10 ",
+            1,
+        ),
+    ];
+    for (length, entries, tail, first, networks, vector, status) in rows {
+        let packet = response_with(rt.alloc(), length, entries, tail)?;
+        let mut lines = String::from_str(rt.alloc(), first)?;
+        for _ in 0..networks {
+            lines.push_str("net 00000044 hops 1 ticks 2\n")?;
+        }
+        let (written, answer) = shown(rt.alloc(), packet.as_str());
+        assert_eq!(rt; answer, Ok(status), "{entries}");
+        assert_eq!(rt; written.as_slice(), lines.as_bytes(), "{entries}");
+        let text = format!(in rt.alloc(); "{vector}{packet}")?;
+        let (written, answer) = checked(rt.alloc(), text.as_str());
+        assert_eq!(rt; answer, Ok(0), "{entries}");
+        assert_eq!(rt;
+            written.as_slice(),
+            b"checked 1 failed 0\n".as_slice(),
+            "{entries}"
+        );
+    }
+    Ok(())
+}
+
 /// A nearest response of one service with a name in hex of 48 bytes.
 fn service_with(alloc: Global, name: &str) -> Result<String, AllocError> {
     format!(in alloc;
@@ -201,112 +270,6 @@ fn names_of_services(rt: HostRuntime) -> Result<(), Fail> {
     Ok(())
 }
 
-#[test]
-fn check_rows(rt: HostRuntime) -> Result<(), Fail> {
-    let rows = [
-        ("bad 4 ", SHORT, "", "line 1\nchecked 1 failed 1\n", 1),
-        ("bad 3 ", SHORT, "\n", "checked 1 failed 0\n", 0),
-        ("ok ", PACKET, "", "checked 1 failed 0\n", 0),
-        ("ok ", SHORT, "", "line 1\nchecked 1 failed 1\n", 1),
-        ("bad 11 ", PACKET, "", "line 1\nchecked 1 failed 1\n", 1),
-        (
-            "# a comment\n\n  \nok ",
-            PACKET,
-            "\n\n",
-            "checked 1 failed 0\n",
-            0,
-        ),
-        (
-            "bad 1 \nok \nok ",
-            PACKET,
-            "",
-            "line 2\nchecked 3 failed 1\n",
-            1,
-        ),
-        (
-            "ok \nok ",
-            PACKET,
-            "\nbad 0 \nok ",
-            "line 1\nline 3 bad\n",
-            2,
-        ),
-        ("", "", "", "checked 0 failed 0\n", 0),
-        ("\n\n", "", "", "checked 0 failed 0\n", 0),
-        ("bad 39 ", PACKET, "", "line 1\nchecked 1 failed 1\n", 1),
-        ("bad 1 ", "ff", "", "checked 1 failed 0\n", 0),
-        ("ok ", SPX, "", "checked 1 failed 0\n", 0),
-        ("bad 6 ", SPX, "", "line 1\nchecked 1 failed 1\n", 1),
-    ];
-    for (before, packet, after, lines, status) in rows {
-        let text = format!(in rt.alloc(); "{before}{packet}{after}")?;
-        let (written, answer) = checked(rt.alloc(), text.as_str());
-        assert_eq!(rt; answer, Ok(status), "{text}");
-        assert_eq!(rt; written.as_slice(), lines.as_bytes(), "{text}");
-    }
-    let text = format!(in rt.alloc(); "ok {PACKET}\nbad 3 {SHORT}\n")?;
-    let (written, answer) = checked(rt.alloc(), text.as_str());
-    assert_eq!(rt; answer, Ok(0));
-    assert_eq!(rt; written.as_slice(), b"checked 2 failed 0\n".as_slice());
-    Ok(())
-}
-
-#[test]
-fn malformed_lines(rt: HostRuntime) -> Result<(), Fail> {
-    let lines = [
-        "ok",
-        "OK ff",
-        "ok f",
-        "ok  ff",
-        "ok ff\r",
-        " ok ff",
-        "bad 4",
-        "bad 0 ff",
-        "bad 04 ff",
-        "bad 40 ff",
-        "bad +4 ff",
-        "bad  ff",
-        "bad 4  ff",
-        "bad 123 ff",
-        "bad 4 xx",
-        "bad",
-        "x",
-        "\t",
-    ];
-    for line in lines {
-        let (written, answer) = checked(rt.alloc(), line);
-        assert_eq!(rt; answer, Ok(2), "{line}");
-        assert_eq!(rt; written.as_slice(), b"line 1 bad\n".as_slice(), "{line}");
-    }
-    Ok(())
-}
-
-#[test]
-fn longest_input(rt: HostRuntime) -> Result<(), Fail> {
-    let mut input = vec![in rt.alloc(); b'#'; 1_000_001]?;
-    let mut written = Vec::new(rt.alloc());
-    let answer = do_check(rt.alloc(), &mut input.as_slice(), &mut written);
-    assert_eq!(rt; answer, Ok(2));
-    assert_eq!(rt; written.as_slice(), b"line 0 bad\n".as_slice());
-    let _ = input.pop();
-    let mut written = Vec::new(rt.alloc());
-    let answer = do_check(rt.alloc(), &mut input.as_slice(), &mut written);
-    assert_eq!(rt; answer, Ok(0));
-    assert_eq!(rt; written.as_slice(), b"checked 0 failed 0\n".as_slice());
-    Ok(())
-}
-
-/// Vectors are bytes, not text: a comment may hold any.
-#[test]
-fn comments_of_any_bytes(rt: HostRuntime) {
-    let mut reader = b"#\xff\xfe\nok \nbad 1 ".as_slice();
-    let mut written = Vec::new(rt.alloc());
-    assert_eq!(rt; do_check(rt.alloc(), &mut reader, &mut written), Ok(1));
-    assert_eq!(rt;
-        written.as_slice(),
-        b"line 2\nchecked 2 failed 1\n".as_slice()
-    );
-}
-
 /// The lines of PACKET have 87 bytes.
 #[test]
 fn faults_of_writer_in_show(rt: HostRuntime) {
@@ -317,36 +280,4 @@ fn faults_of_writer_in_show(rt: HostRuntime) {
         );
     }
     assert_eq!(rt; do_show(rt.alloc(), PACKET, &mut failing_after(87)), Ok(0));
-}
-
-/// The vector is 6 bytes and one empty read; its lines have 19 bytes.
-#[test]
-fn faults_of_reader_and_writer_in_check(rt: HostRuntime) {
-    let vector = b"bad 1 ".as_slice();
-    for left in 0..7 {
-        let mut written = Vec::new(rt.alloc());
-        assert_eq!(rt;
-            do_check(rt.alloc(), &mut failing_on(vector, left), &mut written),
-            Err(1)
-        );
-        assert!(rt; written.is_empty());
-    }
-    let mut written = Vec::new(rt.alloc());
-    assert_eq!(rt;
-        do_check(rt.alloc(), &mut failing_on(vector, 7), &mut written),
-        Ok(0)
-    );
-    assert_eq!(rt; written.as_slice(), b"checked 1 failed 0\n".as_slice());
-    for left in 0..19 {
-        let mut reader = vector;
-        assert_eq!(rt;
-            do_check(rt.alloc(), &mut reader, &mut failing_after(left)),
-            Err(1)
-        );
-    }
-    let mut reader = vector;
-    assert_eq!(rt;
-        do_check(rt.alloc(), &mut reader, &mut failing_after(19)),
-        Ok(0)
-    );
 }
