@@ -103,6 +103,30 @@ pub fn packets(size: usize, network: impl Fn(u32) -> u32) -> Records {
     Records::of(LEAD + size, (0..VARIETY as u32).map(one))
 }
 
+/// Datagrams of a size over 1,500 that are no packets, for one cause or another.
+pub fn refused(size: usize) -> Records {
+    let end = || End {
+        network: 0x22,
+        node: node(5),
+        socket: 0x4000,
+    };
+    let one = |k: u32| {
+        let mut bytes = datagram(0, 4, end(), end(), &[]);
+        let length = match k * 7 % 16 % 4 {
+            0 => size as u32 + 1 + k,
+            1 => k % 30,
+            2 => 1501 + k % (size as u32 - 1500),
+            _ => {
+                bytes[1] = k as u8;
+                30
+            }
+        };
+        bytes[2..4].copy_from_slice(&(length as u16).to_be_bytes());
+        (1, bytes)
+    };
+    Records::of(LEAD + size, (0..VARIETY as u32).map(one))
+}
+
 /// A control packet by broadcast from the neighbour on a port.
 fn control(port: u8, socket: u16, body: &[u8]) -> (u8, Vec<u8>) {
     let network = PORT_NETWORKS[usize::from(port) - 1];

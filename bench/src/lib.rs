@@ -2,6 +2,8 @@
 
 pub mod inputs;
 pub mod ours;
+pub mod pairs;
 pub mod plain;
 pub mod rows;
+pub mod scripts;
 pub mod theirs;

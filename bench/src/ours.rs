@@ -1,4 +1,4 @@
-//! The proved router, by the functions that `crates/ipx_bench` exports.
+//! The proved router and links, by the functions that `crates/ipx_bench` exports.
 
 use crate::inputs::Records;
 
@@ -21,6 +21,23 @@ unsafe extern "C" {
         records: *const u8,
         count: usize,
         size: usize,
+        out: *mut u8,
+        room: usize,
+    ) -> usize;
+
+    fn ipx_bench_pass(
+        bytes: *const u8,
+        count: usize,
+        offered: usize,
+        buffers: u16,
+        rounds: u32,
+    ) -> u64;
+
+    fn ipx_bench_play(
+        script: *const u8,
+        count: usize,
+        size: usize,
+        buffers: u16,
         out: *mut u8,
         room: usize,
     ) -> usize;
@@ -61,6 +78,31 @@ pub fn answers(records: &Records) -> Vec<u8> {
             records.bytes.as_ptr(),
             records.bytes.len(),
             records.size,
+            out.as_mut_ptr(),
+            out.len(),
+        )
+    };
+    assert!(count <= out.len(), "the answers take {count} bytes");
+    out.truncate(count);
+    out
+}
+
+pub fn pass(bytes: &[u8], offered: usize, buffers: u16, rounds: u32) -> u64 {
+    // SAFETY: the pointer and the length are one slice, which is only read.
+    unsafe { ipx_bench_pass(bytes.as_ptr(), bytes.len(), offered, buffers, rounds) }
+}
+
+/// What a new pair of links with so many buffers answers to a script, as bytes.
+pub fn played(script: &[u8], size: usize, buffers: u16) -> Vec<u8> {
+    let mut out = vec![0; 1 << 24];
+    // SAFETY: each pointer and the length behind it are one slice. The first is only read, and the
+    // second is this function's own.
+    let count = unsafe {
+        ipx_bench_play(
+            script.as_ptr(),
+            script.len(),
+            size,
+            buffers,
             out.as_mut_ptr(),
             out.len(),
         )

@@ -1,10 +1,12 @@
 //! What is measured: calls of both routers on the same inputs.
 
 use crate::inputs::{
-    FIRST_LEARNED, PORT_NETWORKS, Records, asking, fifty_of, others, packets, routes,
-    routes_and_services,
+    FIRST_LEARNED, LEAD, PORT_NETWORKS, Records, asking, fifty_of, others, packets, refused,
+    routes, routes_and_services,
 };
-use crate::{ours, theirs};
+use crate::plain::spx::MOST_DATA;
+use crate::scripts::{Script, bytes, disturbed, passing, silent, wrapping};
+use crate::{ours, pairs, theirs};
 use std::rc::Rc;
 
 /// A call that is measured, on both sides.
@@ -17,18 +19,31 @@ pub struct Row {
 }
 
 const SIZES: [usize; 3] = [30, 576, 1500];
+const REFUSED_SIZE: usize = 1536;
 const LEARNED: [u32; 3] = [1, 32, 1024];
 const ROUTES: u32 = 1024;
 const SERVICES: u32 = 4096;
 const KNOWN: u32 = 1000;
+const PASSED: usize = 1_000_000;
+const BUFFERS: u16 = 8;
+const OFFERED: [usize; 2] = [8, 1873];
 
 fn decode(size: usize) -> Row {
     let records = packets(size, |k| PORT_NETWORKS[1 + k as usize % 2]);
+    decode_all(format!("decode, {size} bytes"), records)
+}
+
+fn decode_refused() -> Row {
+    decode_all("decode, refused".to_owned(), refused(REFUSED_SIZE))
+}
+
+fn decode_all(name: String, records: Records) -> Row {
+    let size = records.size - LEAD;
     let calls = records.count() as u32;
     let datagrams = Rc::new(records.datagrams());
     let same = Rc::clone(&datagrams);
     Row {
-        name: format!("decode, {size} bytes"),
+        name,
         calls,
         ours: Box::new(move |rounds| ours::decode(&datagrams, size, rounds)),
         theirs: Box::new(move |rounds| theirs::decode(&same, size, rounds)),
@@ -124,6 +139,19 @@ fn tell() -> Row {
     }
 }
 
+/// Bytes that pass over a pair of links that stands. A call is a unit.
+fn pass(offered: usize) -> Row {
+    let data = Rc::new(bytes(PASSED));
+    let same = Rc::clone(&data);
+    let part = offered * MOST_DATA;
+    Row {
+        name: format!("SPX units, {BUFFERS} buffers, {offered} offered"),
+        calls: PASSED.div_ceil(MOST_DATA) as u32,
+        ours: Box::new(move |rounds| ours::pass(&data, part, BUFFERS, rounds)),
+        theirs: Box::new(move |rounds| pairs::pass(&same, part, BUFFERS, rounds)),
+    }
+}
+
 /// All rows, in the order in which they are printed.
 pub fn all() -> Vec<Row> {
     let learned = LEARNED
@@ -132,11 +160,13 @@ pub fn all() -> Vec<Row> {
     SIZES
         .into_iter()
         .map(decode)
+        .chain([decode_refused()])
         .chain(SIZES.into_iter().map(forward_direct))
         .chain(learned)
         .chain([forward_with_all_held(), hear(), hear_all()])
         .chain(ask_all())
         .chain([tell()])
+        .chain(OFFERED.map(pass))
         .collect()
 }
 
@@ -188,6 +218,57 @@ pub fn check_answers() {
         assert!(ours == theirs, "the answers differ: {name}");
         println!("same answers: {name}, {} bytes", ours.len());
     }
+}
+
+/// Stops the program unless both pairs of links answer the same bytes to the same scripts, and
+/// unless these come to each kind of packet, answer and state.
+pub fn check_links() {
+    let scripts = [passing(PASSED, OFFERED[0], BUFFERS), wrapping()]
+        .into_iter()
+        .chain(silent())
+        .chain(disturbed(200));
+    let (mut calls, mut count) = (0, 0);
+    let mut seen: [Vec<u32>; 4] = Default::default();
+    for script in scripts {
+        let Script {
+            events,
+            size,
+            buffers,
+            answers,
+            ..
+        } = &script;
+        let ours = ours::played(events, *size, *buffers);
+        let theirs = pairs::played(events, *size, *buffers).unwrap_or_default();
+        assert!(theirs == *answers, "a script is not played as it was made");
+        assert!(ours == theirs, "the answers of links differ");
+        calls += events.len() / size;
+        count += answers.len();
+        let tallies: [&[u32]; 4] = [
+            &script.sent,
+            &script.received,
+            &script.offered,
+            &script.states,
+        ];
+        for (sum, tally) in seen.iter_mut().zip(tallies) {
+            sum.resize(tally.len(), 0);
+            sum.iter_mut()
+                .zip(tally)
+                .for_each(|(all, more)| *all += more);
+        }
+    }
+    let [sent, received, offered, states] = &seen;
+    let met = |tally: &[u32]| tally.iter().all(|times| *times > 0);
+    assert!(met(sent), "a kind of packet was not sent: {sent:?}");
+    assert!(
+        met(&received[..9]) && met(&received[16..]),
+        "not answered: {received:?}"
+    );
+    assert!(
+        met(&[offered[0], offered[25], offered[26]]),
+        "not refused: {offered:?}"
+    );
+    assert!(met(states), "a state was not met: {states:?}");
+    println!("same answers: links, {calls} calls, {count} bytes");
 }
 
 /// Stops the program unless both sides digest the same answers in the row's own loops.

@@ -23,9 +23,20 @@ fn address_digest(address: Address) -> u64 {
 
 fn packet_digest(packet: &Packet<'_>) -> u64 {
     let header = packet.header;
-    let kinds = u64::from(header.hops) ^ u64::from(header.kind);
+    let kinds = u64::from(u16::from_be_bytes([header.hops, header.kind]));
     let ends = address_digest(header.to) ^ address_digest(header.from);
     mixed(kinds ^ ends, packet.body.len() as u64)
+}
+
+fn fault_digest(fault: &IpxFault) -> u64 {
+    let value = match fault {
+        IpxFault::Short(have) => *have as u64,
+        IpxFault::Checksummed(value) | IpxFault::LengthShort(value) | IpxFault::TooLong(value) => {
+            u64::from(*value)
+        }
+        IpxFault::Truncated(said, have) => mixed(u64::from(*said), *have as u64),
+    };
+    mixed(value, u64::from(fault_number(fault)))
 }
 
 fn byte_at(bytes: &[u8], at: usize) -> u64 {
@@ -86,10 +97,10 @@ pub fn decode(datagrams: &[u8], size: usize, rounds: u32) -> u64 {
     let mut digest = 0;
     for _ in 0..rounds {
         for datagram in datagrams.chunks_exact(size) {
-            let decoded = decode_packet(datagram).map_or_else(
-                |fault| u64::from(fault_number(&fault)),
-                |packet| packet_digest(&packet),
-            );
+            let decoded = match decode_packet(datagram) {
+                Ok(packet) => packet_digest(&packet),
+                Err(fault) => fault_digest(&fault),
+            };
             digest = mixed(digest, decoded);
         }
     }

@@ -1,6 +1,6 @@
 //! How many calls a second both routers make.
 
-use ipx_bench::rows::{all, check_answers, check_row};
+use ipx_bench::rows::{all, check_answers, check_links, check_row};
 use std::time::{Duration, Instant};
 
 /// How long the calls of one repetition take at least, and how long the repetitions of a row. Many
@@ -64,6 +64,7 @@ fn in_words(rate: f64) -> String {
 
 fn main() {
     check_answers();
+    check_links();
     println!();
     println!(
         "{:<36} {:>12} {:>12} {:>12} {:>12} {:>8}",

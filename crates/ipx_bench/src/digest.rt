@@ -1,8 +1,9 @@
 //! Numbers that depend on what a call answered, so that no call can be left out.
 
-use crate::faults::reason_number;
+use crate::faults::{fault_number, reason_number};
 use ipx_router::{Outcome, Reply};
-use ipx_wire::{Address, Node, Packet};
+use ipx_wire::{Address, IpxFault, Node, Packet, SpxHeader};
+use spx_link::Unit;
 
 /// The digest of what came before and of one number more.
 pub fn mixed(digest: u64, number: u64) -> u64 {
@@ -22,9 +23,21 @@ fn address_digest(address: Address) -> u64 {
 /// The digest of each field of a packet.
 pub fn packet_digest(packet: &Packet<'_>) -> u64 {
     let header = packet.header;
-    let kinds = u64::from(header.hops) ^ u64::from(header.kind);
+    let kinds = u64::from(u16::from_be_bytes([header.hops, header.kind]));
     let ends = address_digest(header.to) ^ address_digest(header.from);
     mixed(kinds ^ ends, packet.body.len() as u64)
+}
+
+/// The digest of a fault and of its values.
+pub fn fault_digest(fault: IpxFault) -> u64 {
+    let value = match fault {
+        IpxFault::Short(have) => have as u64,
+        IpxFault::Checksummed(value) => u64::from(value),
+        IpxFault::LengthShort(value) => u64::from(value),
+        IpxFault::Truncated(said, have) => mixed(u64::from(said), have as u64),
+        IpxFault::TooLong(value) => u64::from(value),
+    };
+    mixed(value, u64::from(fault_number(fault)))
 }
 
 fn byte_at(bytes: &[u8], at: usize) -> u64 {
@@ -55,4 +68,30 @@ pub fn outcome_digest(outcome: &Outcome) -> u64 {
         Outcome::Heard(count) => mixed(4, u64::from(*count)),
         Outcome::Dropped(reason) => u64::from(reason_number(*reason)),
     }
+}
+
+/// The digest of some bytes: how many they are, and the ones at their ends.
+fn ends_digest(bytes: &[u8]) -> u64 {
+    let count = bytes.len();
+    let ends = byte_at(bytes, 0) ^ byte_at(bytes, count.saturating_sub(1));
+    mixed(ends, count as u64)
+}
+
+/// The digest of each field of a packet of a connection, and of its data.
+pub fn spx_digest(header: &SpxHeader, body: &[u8]) -> u64 {
+    let marks = mixed(
+        u64::from(header.system),
+        mixed(u64::from(header.wants_ack), u64::from(header.last)),
+    );
+    let kind = mixed(marks, u64::from(header.stream));
+    let ids = mixed(u64::from(header.from_id), u64::from(header.to_id));
+    let counts = mixed(u64::from(header.seq), u64::from(header.ack));
+    let numbers = mixed(counts, u64::from(header.limit));
+    mixed(kind ^ ids ^ numbers, ends_digest(body))
+}
+
+/// The digest of a unit.
+pub fn unit_digest(unit: &Unit) -> u64 {
+    let kind = mixed(u64::from(unit.stream), u64::from(unit.last));
+    mixed(kind, ends_digest(unit.body.as_slice()))
 }

@@ -2,7 +2,8 @@
 
 use ipx_control::ControlFault;
 use ipx_router::Reason;
-use ipx_wire::IpxFault;
+use ipx_wire::{IpxFault, SpxFault};
+use spx_link::OfferFault;
 
 fn control_number(fault: ControlFault) -> u8 {
     match fault {
@@ -33,5 +34,20 @@ pub fn reason_number(reason: Reason) -> u8 {
         Reason::HopLimit => 22,
         Reason::BadControl(fault) => control_number(fault),
         Reason::TableFull => 24,
+    }
+}
+
+pub fn spx_number(fault: SpxFault) -> u8 {
+    match fault {
+        SpxFault::SpxShort(_) => 16,
+        SpxFault::OverSize(_) => 17,
+    }
+}
+
+pub fn offer_number(fault: OfferFault) -> u8 {
+    match fault {
+        OfferFault::NotLive => 25,
+        OfferFault::Ended => 26,
+        OfferFault::OutOfMemory => 27,
     }
 }

@@ -1,4 +1,4 @@
-//! The calls of the router in loops, exported for the benchmark beside a plain Rust router.
+//! The calls of the router and of the links in loops, exported for the benchmark beside plain Rust.
 #![tactic(auto)]
 
 mod answering;
@@ -6,5 +6,8 @@ mod decoding;
 mod digest;
 mod faults;
 mod feeding;
+mod pair;
+mod passing;
+mod playing;
 mod receiving;
 mod telling;

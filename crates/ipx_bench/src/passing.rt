@@ -1,0 +1,156 @@
+//! Bytes that pass from one end of a connection to the other.
+
+ghost use Rattle.std.specs.Prelude.{◌≡◌, ◌≤◌, ◌<◌, All, IfOk, length};
+ghost use Rattle.spx_link.specs.Limits.{end_stream};
+ghost use Rattle.spx_link.specs.Links.{IsLive};
+
+use crate::digest::{mixed, spx_digest, unit_digest};
+use crate::pair::{End, Pair, ROOM};
+use ipx_wire::{Fragment, OutOfMemory, decode_spx};
+use spx_link::Unit;
+use std::alloc::Global;
+
+/// The most data that a unit holds.
+const MOST_DATA: usize = 534;
+
+/// The unit of so many bytes. What is past its room is left out.
+fn unit_of(piece: &[u8]) -> Unit
+    ensures { result.stream ≡ 0 }
+{
+    let mut body = Fragment::new();
+    let _ = body.try_extend_from_slice(piece);
+    Unit {
+        stream: 0,
+        last: false,
+        body,
+    }
+}
+
+/// Bytes, cut into units of a size.
+pub fn cut(alloc: Global, bytes: &[u8], size: usize) -> Result<Vec<Unit>, OutOfMemory>
+    requires { 1 ≤ size }
+    ensures { IfOk result (λ v. All (λ u. u.stream < end_stream) v.items) }
+{
+    let mut units = Vec::new(alloc);
+    for piece in bytes.chunks(size) {
+        units.push(unit_of(piece))?;
+    }
+    Ok(units)
+}
+
+/// Carries one packet from an end to another, and answers its digest and that of what came of it.
+fn carry(
+    alloc: Global,
+    from: &mut End,
+    to: &mut End,
+    packet: &mut [u8; ROOM],
+    now: u64,
+) -> Option<u64>
+    requires from { IsLive from.old.links from.old.id }
+    requires to { IsLive to.old.links to.old.id }
+    ensures from { IsLive from.new.links from.new.id }
+    ensures to { IsLive to.new.links to.new.id }
+{
+    let (what, count) = from.send(now, packet)?;
+    let Ok((header, body)) = decode_spx(&packet[..count]) else {
+        return None;
+    };
+    let digest = mixed(what as u64, spx_digest(&header, body));
+    let received = to.receive(alloc, &header, body, now);
+    Some(mixed(digest, u64::from(received)))
+}
+
+/// Carries packets from an end to another, until there is none to send.
+fn carry_all(alloc: Global, from: &mut End, to: &mut End, packet: &mut [u8; ROOM], now: u64) -> u64
+    requires from { IsLive from.old.links from.old.id }
+    requires to { IsLive to.old.links to.old.id }
+    ensures from { IsLive from.new.links from.new.id }
+    ensures to { IsLive to.new.links to.new.id }
+{
+    let mut digest = 0;
+    for _ in 0..u16::MAX {
+        match carry(alloc, from, to, packet, now) {
+            Some(carried) => digest = mixed(digest, carried),
+            None => break,
+        }
+    }
+    digest
+}
+
+/// Takes all units that an end holds. Answers how many they are, and their digest.
+fn take_all(end: &mut End) -> (u16, u64)
+    requires { IsLive end.old.links end.old.id }
+    ensures { IsLive end.new.links end.new.id }
+{
+    let mut digest = 0;
+    for count in 0..u16::MAX {
+        match end.links.take(end.id) {
+            Some(unit) => digest = mixed(digest, unit_digest(&unit)),
+            None => return (count, digest),
+        }
+    }
+    (u16::MAX, digest)
+}
+
+/// Carries packets to and fro, and takes what came, until nothing comes.
+fn pump(alloc: Global, pair: &mut Pair, turns: usize, now: u64) -> u64
+    requires near { IsLive pair.old.near.links pair.old.near.id }
+    requires far { IsLive pair.old.far.links pair.old.far.id }
+    ensures near { IsLive pair.new.near.links pair.new.near.id }
+    ensures far { IsLive pair.new.far.links pair.new.far.id }
+{
+    let mut packet = [0; ROOM];
+    let mut digest = 0;
+    for _ in 0..turns {
+        let sent = carry_all(alloc, &mut pair.near, &mut pair.far, &mut packet, now);
+        let (count, taken) = take_all(&mut pair.far);
+        let answered = carry_all(alloc, &mut pair.far, &mut pair.near, &mut packet, now);
+        digest = mixed(mixed(mixed(digest, sent), taken), answered);
+        if count == 0 {
+            break;
+        }
+    }
+    digest
+}
+
+/// Offers bytes to the near end in one call, and passes them to the far one.
+fn pass(alloc: Global, pair: &mut Pair, bytes: &[u8], now: u64) -> Result<u64, OutOfMemory>
+    requires near { IsLive pair.old.near.links pair.old.near.id }
+    requires far { IsLive pair.old.far.links pair.old.far.id }
+    ensures near { IsLive pair.new.near.links pair.new.near.id }
+    ensures far { IsLive pair.new.far.links pair.new.far.id }
+{
+    let units = cut(alloc, bytes, MOST_DATA)?;
+    match pair.near.links.offer(alloc, pair.near.id, units) {
+        Ok(()) => Ok(pump(alloc, pair, bytes.len(), now)),
+        Err(_) => Err(OutOfMemory),
+    }
+}
+
+/// Passes bytes from one end of a connection to the other, again and again. So many of them are
+/// offered by one call.
+///
+/// Answers the digest of all packets, of what came of them, and of the units taken.
+#[unsafe(no_mangle)]
+pub extern "C" fn ipx_bench_pass(
+    alloc: Global,
+    bytes: &[u8],
+    offered: usize,
+    buffers: u16,
+    rounds: u32,
+) -> u64 {
+    if offered == 0 {
+        return 0;
+    }
+    let Ok(mut pair) = Pair::new(alloc, buffers) else {
+        return 0;
+    };
+    let mut digest = pump(alloc, &mut pair, 1, 0);
+    for _ in 0..rounds {
+        for part in bytes.chunks(offered) {
+            let passed = pass(alloc, &mut pair, part, 0).unwrap_or(3);
+            digest = mixed(digest, passed);
+        }
+    }
+    digest
+}
