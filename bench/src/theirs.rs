@@ -28,17 +28,6 @@ fn packet_digest(packet: &Packet<'_>) -> u64 {
     mixed(kinds ^ ends, packet.body.len() as u64)
 }
 
-fn fault_digest(fault: &IpxFault) -> u64 {
-    let value = match fault {
-        IpxFault::Short(have) => *have as u64,
-        IpxFault::Checksummed(value) | IpxFault::LengthShort(value) | IpxFault::TooLong(value) => {
-            u64::from(*value)
-        }
-        IpxFault::Truncated(said, have) => mixed(u64::from(*said), *have as u64),
-    };
-    mixed(value, u64::from(fault_number(fault)))
-}
-
 fn byte_at(bytes: &[u8], at: usize) -> u64 {
     bytes.get(at).copied().map_or(0, u64::from)
 }
@@ -97,10 +86,10 @@ pub fn decode(datagrams: &[u8], size: usize, rounds: u32) -> u64 {
     let mut digest = 0;
     for _ in 0..rounds {
         for datagram in datagrams.chunks_exact(size) {
-            let decoded = match decode_packet(datagram) {
-                Ok(packet) => packet_digest(&packet),
-                Err(fault) => fault_digest(&fault),
-            };
+            let decoded = decode_packet(datagram).map_or_else(
+                |fault| u64::from(fault_number(&fault)),
+                |packet| packet_digest(&packet),
+            );
             digest = mixed(digest, decoded);
         }
     }

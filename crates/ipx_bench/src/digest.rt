@@ -1,8 +1,8 @@
 //! Numbers that depend on what a call answered, so that no call can be left out.
 
-use crate::faults::{fault_number, reason_number};
+use crate::faults::reason_number;
 use ipx_router::{Outcome, Reply};
-use ipx_wire::{Address, IpxFault, Node, Packet, SpxHeader};
+use ipx_wire::{Address, Node, Packet, SpxHeader};
 use spx_link::Unit;
 
 /// The digest of what came before and of one number more.
@@ -26,18 +26,6 @@ pub fn packet_digest(packet: &Packet<'_>) -> u64 {
     let kinds = u64::from(u16::from_be_bytes([header.hops, header.kind]));
     let ends = address_digest(header.to) ^ address_digest(header.from);
     mixed(kinds ^ ends, packet.body.len() as u64)
-}
-
-/// The digest of a fault and of its values.
-pub fn fault_digest(fault: IpxFault) -> u64 {
-    let value = match fault {
-        IpxFault::Short(have) => have as u64,
-        IpxFault::Checksummed(value) => u64::from(value),
-        IpxFault::LengthShort(value) => u64::from(value),
-        IpxFault::Truncated(said, have) => mixed(u64::from(said), have as u64),
-        IpxFault::TooLong(value) => u64::from(value),
-    };
-    mixed(value, u64::from(fault_number(fault)))
 }
 
 fn byte_at(bytes: &[u8], at: usize) -> u64 {

@@ -31,7 +31,7 @@ pub fn cut(alloc: Global, bytes: &[u8], size: usize) -> Result<Vec<Unit>, OutOfM
     requires { 1 ≤ size }
     ensures { IfOk result (λ v. All (λ u. u.stream < end_stream) v.items) }
 {
-    let mut units = Vec::new(alloc);
+    let mut units = Vec::with_capacity(alloc, bytes.len().div_ceil(size))?;
     for piece in bytes.chunks(size) {
         units.push(unit_of(piece))?;
     }
