@@ -21,7 +21,7 @@ use std::io::{Read, Write};
 const MOST: usize = 1_000_000;
 
 /// What a line tells.
-#[derive(Clone, Copy, Debug, PartialEq, Eq)]
+#[derive(Clone, Copy)]
 pub enum Verdict {
     NoVector,
     Passed,
@@ -30,7 +30,7 @@ pub enum Verdict {
 
 /// What was found so far: what is written for the vectors that failed, how many lines and vectors
 /// there were, and how many vectors failed.
-#[derive(Debug, Drop)]
+#[derive(Drop)]
 pub struct Tally {
     text: String,
     lines: usize,

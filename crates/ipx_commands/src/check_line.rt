@@ -13,7 +13,7 @@ use std::alloc::Global;
 
 /// A line: one that is skipped, a vector, or one of no known form. A vector is the number of the
 /// fault that its datagram must have, 0 for none, and the datagram.
-#[derive(Debug, Drop)]
+#[derive(Drop)]
 pub enum Line {
     Skipped,
     Vector { number: u8, bytes: Vec<u8> },

@@ -1,9 +1,18 @@
 //! What no proof sees: the worked rows of `check`, and that its calls succeed and fail as they should.
 
 use crate::check::do_check;
-use crate::show_tests::{PACKET, SHORT, SPX, checked};
+use crate::show_tests::{PACKET, SHORT, SPX};
 use crate::tests::{failing_after, failing_on};
+use std::alloc::Global;
 use std::test::Fail;
+
+/// Whether `check` writes these lines for an input, and answers this status.
+pub fn checks(alloc: Global, input: &[u8], lines: &str, status: u8) -> bool {
+    let mut reader = input;
+    let mut written = Vec::new(alloc);
+    let answer = do_check(alloc, &mut reader, &mut written);
+    answer == Ok(status) && written.as_slice() == lines.as_bytes()
+}
 
 #[test]
 fn check_rows(rt: HostRuntime) -> Result<(), Fail> {
@@ -43,19 +52,18 @@ fn check_rows(rt: HostRuntime) -> Result<(), Fail> {
     ];
     for (before, packet, after, lines, status) in rows {
         let text = format!(in rt.alloc(); "{before}{packet}{after}")?;
-        let (written, answer) = checked(rt.alloc(), text.as_str());
-        assert_eq!(rt; answer, Ok(status), "{text}");
-        assert_eq!(rt; written.as_slice(), lines.as_bytes(), "{text}");
+        assert!(rt;
+            checks(rt.alloc(), text.as_bytes(), lines, status),
+            "{text}"
+        );
     }
     let text = format!(in rt.alloc(); "ok {PACKET}\nbad 3 {SHORT}\n")?;
-    let (written, answer) = checked(rt.alloc(), text.as_str());
-    assert_eq!(rt; answer, Ok(0));
-    assert_eq!(rt; written.as_slice(), b"checked 2 failed 0\n".as_slice());
+    assert!(rt; checks(rt.alloc(), text.as_bytes(), "checked 2 failed 0\n", 0));
     Ok(())
 }
 
 #[test]
-fn malformed_lines(rt: HostRuntime) -> Result<(), Fail> {
+fn malformed_lines(rt: HostRuntime) {
     let lines = [
         "ok",
         "OK ff",
@@ -77,38 +85,27 @@ fn malformed_lines(rt: HostRuntime) -> Result<(), Fail> {
         "\t",
     ];
     for line in lines {
-        let (written, answer) = checked(rt.alloc(), line);
-        assert_eq!(rt; answer, Ok(2), "{line}");
-        assert_eq!(rt; written.as_slice(), b"line 1 bad\n".as_slice(), "{line}");
+        assert!(rt;
+            checks(rt.alloc(), line.as_bytes(), "line 1 bad\n", 2),
+            "{line}"
+        );
     }
-    Ok(())
 }
 
 #[test]
 fn longest_input(rt: HostRuntime) -> Result<(), Fail> {
     let mut input = vec![in rt.alloc(); b'#'; 1_000_001]?;
-    let mut written = Vec::new(rt.alloc());
-    let answer = do_check(rt.alloc(), &mut input.as_slice(), &mut written);
-    assert_eq!(rt; answer, Ok(2));
-    assert_eq!(rt; written.as_slice(), b"line 0 bad\n".as_slice());
+    assert!(rt; checks(rt.alloc(), input.as_slice(), "line 0 bad\n", 2));
     let _ = input.pop();
-    let mut written = Vec::new(rt.alloc());
-    let answer = do_check(rt.alloc(), &mut input.as_slice(), &mut written);
-    assert_eq!(rt; answer, Ok(0));
-    assert_eq!(rt; written.as_slice(), b"checked 0 failed 0\n".as_slice());
+    assert!(rt; checks(rt.alloc(), input.as_slice(), "checked 0 failed 0\n", 0));
     Ok(())
 }
 
 /// Vectors are bytes, not text: a comment may hold any.
 #[test]
 fn comments_of_any_bytes(rt: HostRuntime) {
-    let mut reader = b"#\xff\xfe\nok \nbad 1 ".as_slice();
-    let mut written = Vec::new(rt.alloc());
-    assert_eq!(rt; do_check(rt.alloc(), &mut reader, &mut written), Ok(1));
-    assert_eq!(rt;
-        written.as_slice(),
-        b"line 2\nchecked 2 failed 1\n".as_slice()
-    );
+    let input = b"#\xff\xfe\nok \nbad 1 ";
+    assert!(rt; checks(rt.alloc(), input, "line 2\nchecked 2 failed 1\n", 1));
 }
 
 /// The vector is 6 bytes and one empty read; its lines have 19 bytes.

@@ -9,7 +9,7 @@ use ipx_wire::{IpxFault, OutOfMemory, Packet, Socket, SpxFault, SpxHeader, decod
 use std::alloc::Global;
 
 /// What a body holds. The payload of an SPX packet is lent.
-#[derive(Debug, Drop)]
+#[derive(Drop)]
 pub enum Contents<'a> {
     Plain,
     OfSpx(SpxHeader, &'a [u8]),
@@ -18,7 +18,7 @@ pub enum Contents<'a> {
 }
 
 /// A packet with what its body holds, or the fault that refuses the packet or its body.
-#[derive(Debug, Drop)]
+#[derive(Drop)]
 pub enum Reading<'a> {
     NoPacket(IpxFault),
     NoSpx(SpxFault),

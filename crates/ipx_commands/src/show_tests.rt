@@ -1,6 +1,6 @@
 //! What no proof sees: the worked rows of `show`, and that its calls succeed and fail as they should.
 
-use crate::check::do_check;
+use crate::check_tests::checks;
 use crate::show::do_show;
 use crate::tests::failing_after;
 use std::alloc::{AllocError, Global};
@@ -20,23 +20,28 @@ pub const SPX: &str =
 
 const NEAREST_QUERY: &str = "ffff0022000400000011ffffffffffff04520000001100007f000003400000030004";
 
-/// The lines that `show` writes, and its answer.
-fn shown(alloc: Global, text: &str) -> (Vec<u8>, Result<u8, u8>) {
+/// Whether `show` writes these lines for a text, and answers this status.
+fn shows(alloc: Global, text: &str, lines: &str, status: u8) -> bool {
     let mut written = Vec::new(alloc);
     let answer = do_show(alloc, text, &mut written);
-    (written, answer)
+    answer == Ok(status) && written.as_slice() == lines.as_bytes()
 }
 
-/// The lines that `check` writes, and its answer.
-pub fn checked(alloc: Global, text: &str) -> (Vec<u8>, Result<u8, u8>) {
-    let mut reader = text.as_bytes();
-    let mut written = Vec::new(alloc);
-    let answer = do_check(alloc, &mut reader, &mut written);
-    (written, answer)
+/// Whether `show` writes these lines for a packet, and `check` takes it for what a vector says.
+fn reads(
+    alloc: Global,
+    packet: &str,
+    lines: &str,
+    vector: &str,
+    status: u8,
+) -> Result<bool, AllocError> {
+    let text = format!(in alloc; "{vector}{packet}")?;
+    let passes = checks(alloc, text.as_bytes(), "checked 1 failed 0\n", 0);
+    Ok(passes && shows(alloc, packet, lines, status))
 }
 
 #[test]
-fn show_rows(rt: HostRuntime) -> Result<(), Fail> {
+fn show_rows(rt: HostRuntime) {
     let rows = [
         (
             PACKET,
@@ -92,85 +97,73 @@ fn show_rows(rt: HostRuntime) -> Result<(), Fail> {
         ("ff ", "line 1 bad\n", 2),
     ];
     for (text, lines, status) in rows {
-        let (written, answer) = shown(rt.alloc(), text);
-        assert_eq!(rt; answer, Ok(status), "{text}");
-        assert_eq!(rt; written.as_slice(), lines.as_bytes(), "{text}");
+        assert!(rt; shows(rt.alloc(), text, lines, status), "{text}");
     }
-    Ok(())
 }
 
-/// A packet of type 5 with a length in hex and a body of this many zero bytes.
-fn spx_with(alloc: Global, length: &str, body: usize) -> Result<String, AllocError> {
-    let mut text = format!(in alloc;
-        "ffff{length}00050000003300007f00000740000000001100007f0000034001"
-    )?;
-    for _ in 0..body {
-        text.push_str("00")?;
+/// A text, and behind it this many times a part.
+fn repeated(alloc: Global, text: &str, part: &str, times: usize) -> Result<String, AllocError> {
+    let mut whole = String::from_str(alloc, text)?;
+    for _ in 0..times {
+        whole.push_str(part)?;
     }
-    Ok(text)
+    Ok(whole)
 }
 
+/// From 00000011 00007f000003 4001 to 00000033 00007f000007 4000: a length, and so many zero bytes.
 #[test]
 fn sizes_of_spx_bodies(rt: HostRuntime) -> Result<(), Fail> {
     let rows = [
-        ("001e", 0, "refused (6) SpxShort 0\n", "bad 6 ", 1),
-        ("0029", 11, "refused (6) SpxShort 11\n", "bad 6 ", 1),
         (
-            "002a",
+            "ffff001e00050000003300007f00000740000000001100007f0000034001",
+            0,
+            "refused (6) SpxShort 0\n",
+            "bad 6 ",
+            1,
+        ),
+        (
+            "ffff002900050000003300007f00000740000000001100007f0000034001",
+            11,
+            "refused (6) SpxShort 11\n",
+            "bad 6 ",
+            1,
+        ),
+        (
+            "ffff002a00050000003300007f00000740000000001100007f0000034001",
             12,
             "ipx hops 0 kind 5 body 12\nto 00000033 00007f000007 4000\nfrom 00000011 00007f000003 4001\nspx system 0 wants 0 last 0 stream 00 from 0000 to 0000 seq 0000 ack 0000 limit 0000 body 0\n",
             "ok ",
             0,
         ),
         (
-            "0240",
+            "ffff024000050000003300007f00000740000000001100007f0000034001",
             546,
             "ipx hops 0 kind 5 body 546\nto 00000033 00007f000007 4000\nfrom 00000011 00007f000003 4001\nspx system 0 wants 0 last 0 stream 00 from 0000 to 0000 seq 0000 ack 0000 limit 0000 body 534\n",
             "ok ",
             0,
         ),
-        ("0241", 547, "refused (7) OverSize 547\n", "bad 7 ", 1),
+        (
+            "ffff024100050000003300007f00000740000000001100007f0000034001",
+            547,
+            "refused (7) OverSize 547\n",
+            "bad 7 ",
+            1,
+        ),
     ];
-    for (length, body, lines, vector, status) in rows {
-        let packet = spx_with(rt.alloc(), length, body)?;
-        let (written, answer) = shown(rt.alloc(), packet.as_str());
-        assert_eq!(rt; answer, Ok(status), "{body}");
-        assert_eq!(rt; written.as_slice(), lines.as_bytes(), "{body}");
-        let text = format!(in rt.alloc(); "{vector}{packet}")?;
-        let (written, answer) = checked(rt.alloc(), text.as_str());
-        assert_eq!(rt; answer, Ok(0), "{body}");
-        assert_eq!(rt;
-            written.as_slice(),
-            b"checked 1 failed 0\n".as_slice(),
-            "{body}"
-        );
+    for (header, body, lines, vector, status) in rows {
+        let packet = repeated(rt.alloc(), header, "00", body)?;
+        let is_read = reads(rt.alloc(), packet.as_str(), lines, vector, status)?;
+        assert!(rt; is_read, "{body}");
     }
     Ok(())
 }
 
-/// A RIP response with a length in hex, this many times the same entry, and a tail.
-fn response_with(
-    alloc: Global,
-    length: &str,
-    entries: usize,
-    tail: &str,
-) -> Result<String, AllocError> {
-    let mut text = format!(in alloc;
-        "ffff{length}000100000011ffffffffffff04530000001100007f00000304530002"
-    )?;
-    for _ in 0..entries {
-        text.push_str("0000004400010002")?;
-    }
-    text.push_str(tail)?;
-    Ok(text)
-}
-
-/// The packet of 50 entries has 432 bytes.
+/// Entries of network 44 behind a header and the operation. The packet of 50 has 432 bytes.
 #[test]
 fn sizes_of_rip_bodies(rt: HostRuntime) -> Result<(), Fail> {
     let rows = [
         (
-            "01b0",
+            "ffff01b0000100000011ffffffffffff04530000001100007f00000304530002",
             50,
             "",
             "ipx hops 0 kind 1 body 402\nto 00000011 ffffffffffff 0453\nfrom 00000011 00007f000003 0453\nrip response 50\n",
@@ -179,7 +172,7 @@ fn sizes_of_rip_bodies(rt: HostRuntime) -> Result<(), Fail> {
             0,
         ),
         (
-            "0037",
+            "ffff0037000100000011ffffffffffff04530000001100007f00000304530002",
             2,
             "ffffffffffffff",
             "ipx hops 0 kind 1 body 25\nto 00000011 ffffffffffff 0453\nfrom 00000011 00007f000003 0453\nrip response 2\n",
@@ -188,7 +181,7 @@ fn sizes_of_rip_bodies(rt: HostRuntime) -> Result<(), Fail> {
             0,
         ),
         (
-            "01b8",
+            "ffff01b8000100000011ffffffffffff04530000001100007f00000304530002",
             51,
             "",
             "refused (10) TooManyEntries 51\n",
@@ -197,23 +190,12 @@ fn sizes_of_rip_bodies(rt: HostRuntime) -> Result<(), Fail> {
             1,
         ),
     ];
-    for (length, entries, tail, first, networks, vector, status) in rows {
-        let packet = response_with(rt.alloc(), length, entries, tail)?;
-        let mut lines = String::from_str(rt.alloc(), first)?;
-        for _ in 0..networks {
-            lines.push_str("net 00000044 hops 1 ticks 2\n")?;
-        }
-        let (written, answer) = shown(rt.alloc(), packet.as_str());
-        assert_eq!(rt; answer, Ok(status), "{entries}");
-        assert_eq!(rt; written.as_slice(), lines.as_bytes(), "{entries}");
-        let text = format!(in rt.alloc(); "{vector}{packet}")?;
-        let (written, answer) = checked(rt.alloc(), text.as_str());
-        assert_eq!(rt; answer, Ok(0), "{entries}");
-        assert_eq!(rt;
-            written.as_slice(),
-            b"checked 1 failed 0\n".as_slice(),
-            "{entries}"
-        );
+    for (header, entries, tail, first, networks, vector, status) in rows {
+        let mut packet = repeated(rt.alloc(), header, "0000004400010002", entries)?;
+        packet.push_str(tail)?;
+        let lines = repeated(rt.alloc(), first, "net 00000044 hops 1 ticks 2\n", networks)?;
+        let is_read = reads(rt.alloc(), packet.as_str(), lines.as_str(), vector, status)?;
+        assert!(rt; is_read, "{entries}");
     }
     Ok(())
 }
@@ -237,10 +219,6 @@ fn names_of_services(rt: HostRuntime) -> Result<(), Fail> {
             "-",
         ),
         (
-            "2d1b5b324a205c7e7f80ff210a00410000000000000000000000000000000000000000000000000000000000000000",
-            "",
-        ),
-        (
             "2d1b5b324a205c7e7f80ff210a0041000000000000000000000000000000000000000000000000000000000000000000",
             "-\\x1b[2J\\x20\\x5c~\\x7f\\x80\\xff!\\x0a",
         ),
@@ -251,22 +229,27 @@ fn names_of_services(rt: HostRuntime) -> Result<(), Fail> {
     ];
     for (name, text) in names {
         let packet = service_with(rt.alloc(), name)?;
-        let (written, answer) = shown(rt.alloc(), packet.as_str());
-        if text == "" {
-            // A byte is missing.
-            assert_eq!(rt; answer, Ok(1));
-            assert_eq!(rt;
-                written.as_slice(),
-                b"refused (4) Truncated 96 95\n".as_slice()
-            );
-        } else {
-            let lines = format!(in rt.alloc();
-                "ipx hops 0 kind 4 body 66\nto 00000011 ffffffffffff 0452\nfrom 00000011 00007f000003 0452\nsap nearest response 1\nservice 0004 {text} 00000044 000000000001 0451 hops 3\n"
-            )?;
-            assert_eq!(rt; answer, Ok(0));
-            assert_eq!(rt; written.as_slice(), lines.as_bytes(), "{text}");
-        }
+        let lines = format!(in rt.alloc();
+            "ipx hops 0 kind 4 body 66\nto 00000011 ffffffffffff 0452\nfrom 00000011 00007f000003 0452\nsap nearest response 1\nservice 0004 {text} 00000044 000000000001 0451 hops 3\n"
+        )?;
+        assert!(rt;
+            shows(rt.alloc(), packet.as_str(), lines.as_str(), 0),
+            "{text}"
+        );
     }
+    // A byte is missing.
+    let packet = service_with(
+        rt.alloc(),
+        "2d1b5b324a205c7e7f80ff210a00410000000000000000000000000000000000000000000000000000000000000000",
+    )?;
+    assert!(rt;
+        shows(
+            rt.alloc(),
+            packet.as_str(),
+            "refused (4) Truncated 96 95\n",
+            1
+        )
+    );
     Ok(())
 }
 

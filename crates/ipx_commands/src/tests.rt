@@ -5,6 +5,7 @@ ghost use Rattle.std.specs.Prelude.{◌≡◌, ◌≤◌, ◌<◌, ◌^◌, leng
 use crate::hop::do_hop;
 use ipx_router::{NewFault, Port, Router};
 use ipx_wire::{IpxFault, Network, Node, decode};
+use std::alloc::Global;
 use std::io;
 use std::io::{Read, Write};
 use std::test::Fail;
@@ -14,8 +15,16 @@ const PACKET: &str = "ffff001e00000000002200007f00000540000000001100007f00000340
 const FORWARD: &str =
     "forward 2 00007f000005 ffff001e01000000002200007f00000540000000001100007f0000034001\n";
 
+/// Whether `hop` writes these lines for a text, and answers this status.
+fn hops(alloc: Global, text: &[u8], lines: &str, status: u8) -> bool {
+    let mut reader = text;
+    let mut written = Vec::new(alloc);
+    let answer = do_hop(alloc, &mut reader, &mut written);
+    answer == Ok(status) && written.as_slice() == lines.as_bytes()
+}
+
 #[test]
-fn hop_rows(rt: HostRuntime) -> Result<(), Fail> {
+fn hop_rows(rt: HostRuntime) {
     let rows = [
         (PACKET, FORWARD, 0),
         // The last transport control that goes on.
@@ -84,18 +93,13 @@ fn hop_rows(rt: HostRuntime) -> Result<(), Fail> {
             1,
         ),
     ];
-    for (text, line, status) in rows {
-        let mut reader = text.as_bytes();
-        let mut written = Vec::new(rt.alloc());
-        let answer = do_hop(rt.alloc(), &mut reader, &mut written);
-        assert_eq!(rt; answer, Ok(status), "{text}");
-        assert_eq!(rt; written.as_slice(), line.as_bytes(), "{text}");
+    for (text, lines, status) in rows {
+        assert!(rt; hops(rt.alloc(), text.as_bytes(), lines, status), "{text}");
     }
-    Ok(())
 }
 
 #[test]
-fn control_rows(rt: HostRuntime) -> Result<(), Fail> {
+fn control_rows(rt: HostRuntime) {
     let rows = [
         (
             "ffff0028000100000011ffffffffffff04530000001100007f00000304530001ffffffffffffffff",
@@ -124,13 +128,8 @@ fn control_rows(rt: HostRuntime) -> Result<(), Fail> {
         ),
     ];
     for (text, lines, status) in rows {
-        let mut reader = text.as_bytes();
-        let mut written = Vec::new(rt.alloc());
-        let answer = do_hop(rt.alloc(), &mut reader, &mut written);
-        assert_eq!(rt; answer, Ok(status), "{text}");
-        assert_eq!(rt; written.as_slice(), lines.as_bytes(), "{text}");
+        assert!(rt; hops(rt.alloc(), text.as_bytes(), lines, status), "{text}");
     }
-    Ok(())
 }
 
 #[test]
@@ -149,12 +148,8 @@ fn hop_texts(rt: HostRuntime) -> Result<(), Fail> {
         (b"ff\n\n".as_slice(), "line 1 bad\n", 2),
         (b"ff\r\n".as_slice(), "line 1 bad\n", 2),
     ];
-    for (text, line, status) in rows {
-        let mut reader = text;
-        let mut written = Vec::new(rt.alloc());
-        let answer = do_hop(rt.alloc(), &mut reader, &mut written);
-        assert_eq!(rt; answer, Ok(status), "{line}");
-        assert_eq!(rt; written.as_slice(), line.as_bytes());
+    for (text, lines, status) in rows {
+        assert!(rt; hops(rt.alloc(), text, lines, status), "{lines}");
     }
     Ok(())
 }
