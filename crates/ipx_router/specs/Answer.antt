@@ -129,7 +129,7 @@ abbrev pub LeavesSapMessage : Services → PortNow → IpxHeader → SapMessage 
 LeavesSapMessage services at h (sap.Query nearest kind) new = HoldsServices new services
 LeavesSapMessage services at h (sap.Response nearest entries) new = StopsHearingServices services (source_of at h) at.now entries new
 
--- what want of memory leaves: only a RIP packet wants it
+-- what want of memory leaves: only a body that is a RIP or SAP packet wants it
 abbrev pub LeavesRoutes : List Port → Routes → PortNow → Datagram → Table Network RouteMetric → Type 0
 LeavesRoutes ports routes at d new =
     (m : RipMessage) × (tail : List ℕ) × IsRip m d.body tail × LeavesRipMessage ports routes at d.header m new
@@ -176,7 +176,7 @@ abbrev pub LeavesBytes : Known → PortNow → List ℕ → Tables → Type 0
 LeavesBytes k at bytes new =
     (d : Datagram) × (tail : List ℕ) × IsIpx d bytes tail × LeavesByConcern k at d new (concern_of at.port d.header)
 
--- what a router holds after want of memory
+-- when a router may want memory, and what it holds then
 abbrev pub Leaves : Routing → ℕ → List ℕ → ℕ → Routing → Type 0
 Leaves old port bytes now new = IfSome (slice_get old.ports (port - 1)) (λ arrived.
     LeavesBytes (known_at old now) (record { number = port; port = arrived; now = now }) bytes (tables new))

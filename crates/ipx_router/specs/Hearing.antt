@@ -51,7 +51,7 @@ pub record HeardServices (source : Source) (now : ℕ) (entries : List ServiceEn
   pub within : n ≤ length entries
   pub holds : HoldsServices new (after_services source now services (take n entries))
 
--- the table holds as many offers as it may, and none by which the entry would be heard
+-- the entry is alive, the table knows none of its network or service from this source, and it holds as many offers as it may
 pub record IsFullForRoute (source : Source) (t : Table Network RouteMetric) (e : RipEntry) : Type 0 where
   pub alive : route_dead (route_metric e) ≡ false
   pub unknown : routes_in t (e.network, source) ≡ None
@@ -62,7 +62,7 @@ pub record IsFullForService (source : Source) (t : Table ServiceKey ServiceMetri
   pub unknown : services_in t (key_of_service e, source) ≡ None
   pub full : t.most ≤ length t.offers
 
--- the table has room for one more offer, and none by which the entry would be heard
+-- the entry is alive, the table knows none of its network or service from this source, and it has room for one more offer
 pub record GrowsByRoute (source : Source) (t : Table Network RouteMetric) (e : RipEntry) : Type 0 where
   pub alive : route_dead (route_metric e) ≡ false
   pub unknown : routes_in t (e.network, source) ≡ None

@@ -58,7 +58,7 @@ Tables = Table Network RouteMetric × Table ServiceKey ServiceMetric
 abbrev pub tables : Routing → Tables
 tables r = (r.routes, r.services)
 
--- no network and no service stands twice of one neighbour, and they are 1,024 and 4,096 at most
+-- no network and no service stands twice from one source, and they are 1,024 and 4,096 at most
 pub record AreTables (t : Tables) : Type 0 where
   pub routes : IsTable network_cmp t.0
   pub services : IsTable service_key_cmp t.1
