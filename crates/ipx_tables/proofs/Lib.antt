@@ -3,5 +3,6 @@ pub mod Best
 pub mod Listed
 pub mod Places
 pub mod LastWord
+pub mod Expiry
 pub mod Unique
 pub mod Counting

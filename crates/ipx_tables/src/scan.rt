@@ -1,8 +1,9 @@
 //! Reading a list of offers from its front to its end.
 
-ghost use Rattle.std.specs.Prelude.{◌≡◌, None, MatchOption};
+ghost use Rattle.std.specs.Prelude.{◌≡◌, ℕ, ◌+◌, ◌-◌, ◌^◌, ◌<◌, ◌≤◌, None, MatchOption, min};
 ghost use Rattle.std.specs.List.{filter};
 ghost use Rattle.ipx_tables.specs.Content.{content, is_same, is_young};
+ghost use Rattle.ipx_tables.specs.Expiry.{NoneOldBefore};
 ghost use Rattle.ipx_tables.specs.Scan.{IsAt, best_from, is_candidate, offer_beats};
 
 use crate::metric::Metric;
@@ -17,6 +18,13 @@ fn counts(now: u64, moment: u64) -> bool
     ensures { result ≡ is_young now moment }
 {
     now.saturating_sub(moment) < LIFE
+}
+
+/// The moment from which an offer of this moment counts no more.
+pub fn expiry(moment: u64) -> u64
+    ensures { result ≡ min (moment + 180000) (2 ^ 64 - 1) }
+{
+    moment.saturating_add(LIFE)
 }
 
 /// Whether the first is the better one: by metric, then by the lower port and the lower neighbour.
@@ -66,9 +74,27 @@ pub fn place_of<K: Ord + Copy, M: Copy>(
     None
 }
 
-/// Takes out each offer that counts no more.
-pub fn keep_young<K: Copy, M: Copy>(offers: &mut Vec<Offer<K, M>>, now: u64)
-    ensures { offers.new.items ≡ filter (λ o. is_young now o.heard) offers.old.items }
+/// Takes out each offer that counts no more. The result is the moment until which all others do.
+#[inline(never)] // so that whoever ages a table has only the comparison in line
+pub fn keep_young<K: Copy, M: Copy>(offers: &mut Vec<Offer<K, M>>, now: u64) -> u64
+    ensures young { offers.new.items ≡ filter (λ o. is_young now o.heard) offers.old.items }
+    ensures until { NoneOldBefore result offers.new.items }
+    ensures no_later { (moment : ℕ) → moment < 2 ^ 64 → NoneOldBefore moment offers.new.items
+        → moment ≤ result }
 {
     offers.retain(|offer| counts(now, offer.heard));
+    first_expiry(offers)
+}
+
+/// The moment until which all offers count.
+fn first_expiry<K: Copy, M: Copy>(offers: &[Offer<K, M>]) -> u64
+    ensures until { NoneOldBefore result offers.now }
+    ensures no_later { (moment : ℕ) → moment < 2 ^ 64 → NoneOldBefore moment offers.now
+        → moment ≤ result }
+{
+    offers
+        .iter()
+        .map(|offer| expiry(offer.heard))
+        .min()
+        .unwrap_or(u64::MAX)
 }
