@@ -6,7 +6,7 @@ ghost use Rattle.ipx_tables.specs.Best.{IsBest, NoneCounts};
 ghost use Rattle.ipx_tables.specs.Listing.{IsListing};
 
 use crate::fault::TableFault;
-use crate::listing::add_best;
+use crate::listing::{items_that_count, listing_order};
 use crate::metric::Metric;
 use crate::offer::Offer;
 use crate::scan::{best_of, expiry, keep_young, place_of};
@@ -161,11 +161,9 @@ impl<K: Ord + Copy, M: Metric + Copy> Offers<K, M> {
         ensures no_memory_if_none { ((key : K) → NoneCounts (content K.cmp self.now.offers) key now) → IsOk result }
         ensures valid { IsTable K.cmp self.now }
     {
-        let offers = self.offers.as_slice();
-        let mut listed: Vec<(K, Source, M)> = Vec::new(alloc);
-        for at in 0..offers.len() {
-            add_best(&mut listed, offers, at, now)?;
-        }
+        let mut listed = items_that_count(alloc, &self.offers, now)?;
+        listed.sort_unstable_by(|a, b| listing_order(a, b));
+        listed.dedup_by(|item, kept| item.0.cmp(&kept.0).is_eq());
         Ok(listed)
     }
 }

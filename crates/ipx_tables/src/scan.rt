@@ -4,17 +4,19 @@ ghost use Rattle.std.specs.Prelude.{◌≡◌, ℕ, ◌+◌, ◌-◌, ◌^◌, �
 ghost use Rattle.std.specs.List.{filter};
 ghost use Rattle.ipx_tables.specs.Content.{content, is_same, is_young};
 ghost use Rattle.ipx_tables.specs.Expiry.{NoneOldBefore};
+ghost use Rattle.ipx_tables.specs.Best.{rank_cmp};
 ghost use Rattle.ipx_tables.specs.Scan.{IsAt, best_from, is_candidate, offer_beats};
 
 use crate::metric::Metric;
 use crate::offer::Offer;
 use crate::source::Source;
+use std::cmp::Ordering;
 
 /// How long an offer counts after it was heard, in milliseconds.
 const LIFE: u64 = 180_000;
 
 /// Whether an offer of this moment counts.
-fn counts(now: u64, moment: u64) -> bool
+pub fn counts(now: u64, moment: u64) -> bool
     ensures { result ≡ is_young now moment }
 {
     now.saturating_sub(moment) < LIFE
@@ -27,11 +29,24 @@ pub fn expiry(moment: u64) -> u64
     moment.saturating_add(LIFE)
 }
 
-/// Whether the first is the better one: by metric, then by the lower port and the lower neighbour.
+/// The better one first: by metric, then by the lower port and the lower neighbour.
+pub fn rank<M: Metric + Copy>(a: (Source, M), b: (Source, M)) -> Ordering
+    ensures { result ≡ rank_cmp M.before a b }
+{
+    if a.1.before(&b.1) {
+        Ordering::Less
+    } else if b.1.before(&a.1) {
+        Ordering::Greater
+    } else {
+        a.0.cmp(&b.0)
+    }
+}
+
+/// Whether the first is the better one.
 fn better<K: Copy, M: Metric + Copy>(a: &Offer<K, M>, b: &Offer<K, M>) -> bool
     ensures { result ≡ offer_beats M.before a.now b.now }
 {
-    a.metric.before(&b.metric) || !b.metric.before(&a.metric) && a.source.cmp(&b.source).is_lt()
+    rank((a.source, a.metric), (b.source, b.metric)).is_lt()
 }
 
 /// The best of the offers of a key that count.

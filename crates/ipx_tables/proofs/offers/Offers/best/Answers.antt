@@ -16,4 +16,4 @@ returns-in_err-best-clause-none g c =
 pub returns-clause-least : goal.returns-clause-least
 returns-clause-least g c =
     let said = rw c.deref.ensures.value at c.best_of.ensures in
-    rw (← c.self.view_is) (scanned g.met.K.Ord.total g.met.M.Metric.strict c.args.key.now c.args.now _ c.self.invariant.0.apart (Some c.in_ok-best.best) (sym c.in_ok-best.was ∙ said)).0.best
+    rw (← c.self.view_is) (scanned g.met.K.Ord.total g.met.M.Metric.strict c.args.key.now c.args.now _ c.self.invariant.0.apart (Some c.in_ok-best.best) (sym c.in_ok-best.was ∙ said)).0
