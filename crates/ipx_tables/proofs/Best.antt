@@ -1,5 +1,5 @@
 -- The best of a list of offers.
-use Rattle.std.proofs.Common.{◌≡◌, ℕ, Bool, true, false, cond, List, [], ◌∷◌, Option, Some, None, ◌⊎◌, inl, inr, refl, sym, ap, ◌∙◌, subst, arith}
+use Rattle.std.proofs.Common.{◌≡◌, ℕ, Bool, true, false, cond, List, [], ◌∷◌, Option, Some, None, ◌⊎◌, inl, inr, refl, sym, ap, ◌∙◌, arith}
 use mathlib.Core.Bool.{true≢false, ◌&&◌}
 use Rattle.std.specs.List.{AllByRecursion}
 use Rattle.std.specs.Option.{unwrap_or, IfSome, IfNone}
@@ -12,10 +12,10 @@ use Rattle.std.proofs.lemmas.List.MinMax.{ranks_by}
 use Rattle.ipx_tables.specs.declared.source.Source.{Source}
 use Rattle.ipx_tables.specs.declared.offer.Offer.{Offer}
 use Rattle.ipx_tables.specs.Order.{IsStrictTotal}
-use Rattle.ipx_tables.specs.Content.{content, heard_key, said_of, IsApart, pair_of, is_young, is_same, source_cmp}
+use Rattle.ipx_tables.specs.Content.{content, said_of, IsApart, pair_of, is_young, is_same, source_cmp}
 use Rattle.ipx_tables.specs.Best.{metric_cmp, rank_cmp, is_better, IsBest, NoneCounts}
 use Rattle.ipx_tables.specs.Scan.{is_candidate, told_of, offer_beats, better_of, best_from}
-use Rattle.ipx_tables.proofs.Lists.{source_total, same_equiv, found_same, none_told}
+use Rattle.ipx_tables.proofs.Lists.{source_total, same_equiv, found_same}
 
 -- of some item of the list it holds
 abbrev pub SomeIn : {X : Type 0} → (X → Type 0) → List X → Type 0
@@ -138,7 +138,7 @@ module _ {K M : Type 0} {cmp : K → K → Ordering} (o : IsTotalOrder cmp) {bef
   joined Greater b h k = cc
 
   -- sources that tie are as good
-  as_good : (s u : Source) (m : M) (r : Source × M) → source_cmp s u ≡ Equal → is_better before (s, m) r ≡ is_better before (u, m) r
+  pub as_good : (s u : Source) (m : M) (r : Source × M) → source_cmp s u ≡ Equal → is_better before (s, m) r ≡ is_better before (u, m) r
   as_good s u m r h = ap is_lt ((rank_total strict).congr (s, m) (u, m) r (ap (λ v. ordering_then v (source_cmp s u)) (tied_itself (metric_total strict) m) ∙ h))
 
   -- what is found is a candidate
@@ -174,32 +174,6 @@ module _ {K M : Type 0} {cmp : K → K → Ordering} (o : IsTotalOrder cmp) {bef
   from_found (x ∷ os) r a (inr f) = let rest = from_found os r a.1 f in
       (rest.0, (ap (λ v. cond v (Some (x.metric, x.heard)) (content cmp os (key, r.source))) (apart_other x os (key, r.source) a.0 rest.1.0) ∙ rest.1.0, rest.1.1))
 
-  -- an earlier offer is of another pair than one that has a key
-  key_other : (x : Offer K M) (os : List (Offer K M)) (p : K × Source) (k : K) → content cmp os (pair_of x) ≡ None → heard_key cmp os p ≡ Some k → is_same cmp (pair_of x) p ≡ false
-  key_other x os p k n h =
-      let gone = none_told (same_equiv o) (λ o. o.key) os (pair_of x) n in
-      let alike = found_same (same_equiv o) (λ (o : Offer K M). o.key) os (pair_of x) p in
-      elim (is_same cmp (pair_of x) p) as (λ b. is_same cmp (pair_of x) p ≡ b → b ≡ false) [ true ↦ λ e. let two = alike e in cc | false ↦ λ e. refl ] refl
-
-  -- its key is the one heard last
-  pub from_key : (os : List (Offer K M)) (r : Offer K M) → IsApart (is_same cmp) os → IsFrom (is_candidate cmp key now) (offer_beats before) r os → heard_key cmp os (pair_of r) ≡ Some r.key
-  from_key [] r a f = absurd f
-  from_key (x ∷ os) r a (inl f) =
-      subst (λ (v : Offer K M). heard_key cmp (x ∷ os) (pair_of v) ≡ Some v.key) (sym f.1)
-      (ap (λ b. cond b (Some x.key) (heard_key cmp os (pair_of x))) ((same_equiv o).refl (pair_of x)))
-  from_key (x ∷ os) r a (inr f) = let rest = from_key os r a.1 f in
-      ap (λ b. cond b (Some x.key) (heard_key cmp os (pair_of r))) (key_other x os (pair_of r) r.key a.0 rest) ∙ rest
-
-  equal_of : (r : Ordering) → is_eq r ≡ true → r ≡ Equal
-  equal_of Less h = cc
-  equal_of Equal h = refl
-  equal_of Greater h = cc
-
-  pub from_ties : (os : List (Offer K M)) (r : Offer K M) → IsFrom (is_candidate cmp key now) (offer_beats before) r os → cmp r.key key ≡ Equal
-  from_ties [] r f = absurd f
-  from_ties (x ∷ os) r (inl f) = ap (λ (v : Offer K M). cmp v.key key) f.1 ∙ equal_of _ (split_true _ _ f.0).0
-  from_ties (x ∷ os) r (inr f) = from_ties os r f
-
   pub none_found : (os : List (Offer K M)) → AllByRecursion (λ o. is_candidate cmp key now o ≡ false) os → NoneCounts (content cmp os) key now
   none_found [] n s m t h = cc
   none_found (x ∷ os) n s m t h = elim (is_same cmp (pair_of x) (key, s)) as (λ v. is_same cmp (pair_of x) (key, s) ≡ v → cond v (Some (x.metric, x.heard)) (content cmp os (key, s)) ≡ Some (m, t) → is_young now t ≡ false) [
@@ -210,32 +184,15 @@ module _ {K M : Type 0} {cmp : K → K → Ordering} (o : IsTotalOrder cmp) {bef
     | false ↦ λ e g. none_found os n.1 s m t g
   ] refl h
 
-  -- the best of the key, with the key as it was heard
-  pub record IsBestOffer (os : List (Offer K M)) (r : Offer K M) : Type 0 where
-    pub best : IsBest before (content cmp os) key now (told_of r)
-    pub as_heard : heard_key cmp os (pair_of r) ≡ Some r.key
-    pub ties : cmp r.key key ≡ Equal
-
   -- what a scan gives is the best
-  pub scanned : (os : List (Offer K M)) → IsApart (is_same cmp) os → (r : Option (Offer K M)) → r ≡ best_from (is_candidate cmp key now) (offer_beats before) None os → IfSome r (IsBestOffer os) × IfNone r (NoneCounts (content cmp os) key now)
+  pub scanned : (os : List (Offer K M)) → IsApart (is_same cmp) os → (r : Option (Offer K M)) → r ≡ best_from (is_candidate cmp key now) (offer_beats before) None os → IfSome r (λ v. IsBest before (content cmp os) key now (told_of v)) × IfNone r (NoneCounts (content cmp os) key now)
   scanned os a None h = (tt, none_found os (best_none (is_candidate cmp key now) (offer_beats before) w os None (sym h)).1)
   scanned os a (Some r) h = elim (best_is_from (is_candidate cmp key now) (offer_beats before) w os None r (sym h)) [
     | inl none ↦ cc
     | inr from ↦
         let stands = from_found os r a from in
         let beats = (best_beats (is_candidate cmp key now) (offer_beats before) w os None r (sym h)).1 in (
-          record {
-            best = record { moment = stands.0; stands = stands.1.0; counts = stands.1.1; least = beats_found os r beats };
-            as_heard = from_key os r a from;
-            ties = from_ties os r from;
-          },
+          record { moment = stands.0; stands = stands.1.0; counts = stands.1.1; least = beats_found os r beats },
           tt,
         )
   ]
-
--- the best of a key is that of each that ties with it
-pub best_tied : {K M : Type 0} {cmp : K → K → Ordering} (o : IsTotalOrder cmp) {before : M → M → Bool} (os : List (Offer K M)) (a b : K) (now : ℕ) (v : Source × M) → cmp a b ≡ Equal → IsBest before (content cmp os) a now v → IsBest before (content cmp os) b now v
-best_tied {K} {M} {cmp} o os a b now v ties is =
-    let same : (s : Source) → is_same cmp (a, s) (b, s) ≡ true = λ s. ap (λ r. is_eq (ordering_then r (source_cmp s s))) ties ∙ ap is_eq (tied_itself source_total s) in
-    let alike : (s : Source) → content cmp os (a, s) ≡ content cmp os (b, s) = λ s. found_same (same_equiv o) said_of os (a, s) (b, s) (same s) in
-    record { moment = is.moment; stands = sym (alike v.0) ∙ is.stands; counts = is.counts; least = λ s m t h y. is.least s m t (alike s ∙ h) y }

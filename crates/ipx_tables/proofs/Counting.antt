@@ -1,7 +1,8 @@
 -- Lists of offers that say the same, none of them twice, are as long.
-use Rattle.std.proofs.Common.{◌≡◌, ℕ, Bool, List, [], ◌∷◌, length, Some, None, refl, sym, ◌∙◌, arith}
+use Rattle.std.proofs.Common.{◌≡◌, ℕ, Bool, List, [], ◌∷◌, length, Some, None, refl, sym, ap, ◌∙◌, arith}
 use Rattle.std.specs.List.{remove}
 use Rattle.std.specs.Cmp.{IsEquivalence}
+use Rattle.std.proofs.lemmas.List.{get_or_default}
 use Rattle.std.proofs.lemmas.List.Edits.{length-remove}
 use Rattle.ipx_tables.specs.declared.source.Source.{Source}
 use Rattle.ipx_tables.specs.declared.offer.Offer.{Offer}
@@ -15,8 +16,9 @@ module _ {K M : Type 0} {same : K × Source → K × Source → Bool} (e : IsEqu
   head_found o os = grind (arith, e.refl (pair_of o))
 
   place_found : (o : Offer K M) (ps : List (Offer K M)) → found same said_of ps (pair_of o) ≡ Some (o.metric, o.heard) → (i : ℕ) × IsAt same ps (pair_of o) i
-  place_found o ps h = let there = found_member e ps (pair_of o) (o.metric, o.heard) h in
-      (there.0, record { in_range = there.1.0; here = λ d. (there.1.1 d).0 })
+  place_found o ps h =
+      let f = found_member e ps (pair_of o) (o.metric, o.heard) h in
+      (f.there.0, record { in_range = f.there.1; here = λ d. ap (λ v. same (pair_of v) (pair_of o)) (get_or_default ps f.there.0 d f.offer f.there.1 ∙ f.there.2) ∙ f.same_pair })
 
   -- what the others say is what is said without the offer
   others_say : (o : Offer K M) (os ps : List (Offer K M)) (i : ℕ) → found same said_of os (pair_of o) ≡ None → IsApart same ps → IsAt same ps (pair_of o) i → ((p : K × Source) → found same said_of (o ∷ os) p ≡ found same said_of ps p) → (q : K × Source) → found same said_of os q ≡ found same said_of (remove ps i) q

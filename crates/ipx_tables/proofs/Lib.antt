@@ -1,7 +1,7 @@
 pub mod Lists
 pub mod Best
 pub mod Listed
-pub mod Places
 pub mod LastWord
+pub mod Expiry
 pub mod Unique
 pub mod Counting

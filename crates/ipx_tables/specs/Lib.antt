@@ -7,3 +7,4 @@ pub mod Calls
 pub mod Sorted
 pub mod Listing
 pub mod Scan
+pub mod Expiry

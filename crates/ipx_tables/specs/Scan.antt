@@ -1,14 +1,11 @@
 -- Words of the private functions that scan a list of offers.
 use Rattle.std.specs.Prelude.{◌≡◌, ℕ, ◌<◌, Bool, true, cond, ◌&&◌, List, [], ◌∷◌, Option, Some, None, length, slice_index_or}
-use Rattle.std.specs.List.{All}
 use Rattle.std.specs.declared.cmp.Ordering.{Ordering}
-use Rattle.std.specs.Ordering.{is_eq}
+use Rattle.std.specs.Ordering.{is_eq, ordering_then}
 use Rattle.ipx_tables.specs.declared.source.Source.{Source}
 use Rattle.ipx_tables.specs.declared.offer.Offer.{Offer}
-use Rattle.ipx_tables.specs.Content.{content, heard_key, is_young, pair_of}
-use Rattle.ipx_tables.specs.Best.{IsBest, is_better}
-use Rattle.ipx_tables.specs.Sorted.{IsRising, IsAtKey}
-use Rattle.ipx_tables.specs.Listing.{listed_key}
+use Rattle.ipx_tables.specs.Content.{is_young, pair_of}
+use Rattle.ipx_tables.specs.Best.{rank_cmp, is_better}
 
 -- the offer at place i is of this key and source
 pub record IsAt {K M : Type 0} (same : K × Source → K × Source → Bool) (os : List (Offer K M)) (p : K × Source) (i : ℕ) : Type 0 where
@@ -37,9 +34,10 @@ module _ {X : Type 0} (test : X → Bool) (beats : X → X → Bool) where
   best_from best [] = best
   best_from best (x ∷ xs) = best_from (cond (test x) (Some (better_of best x)) best) xs
 
--- a listing of the keys of the first n offers
-pub record IsListedSoFar {K M : Type 0} (cmp : K → K → Ordering) (before : M → M → Bool) (os : List (Offer K M)) (now n : ℕ) (listed : List (K × Source × M)) : Type 0 where
-  pub in_order : IsRising cmp listed_key listed
-  pub are_best : All (λ item. IsBest before (content cmp os) item.0 now (item.1, item.2)) listed
-  pub as_heard : All (λ item. heard_key cmp os (item.0, item.1) ≡ Some item.0) listed
-  pub all_so_far : (j : ℕ) (d : Offer K M) → j < n → is_young now (slice_index_or os j d).heard ≡ true → (i : ℕ) × IsAtKey cmp listed_key listed (slice_index_or os j d).key i
+-- an offer that counts, as an item of a listing
+abbrev pub item_of : {K M : Type 0} → ℕ → Offer K M → Option (K × Source × M)
+item_of now o = cond (is_young now o.heard) (Some (o.key, o.source, o.metric)) None
+
+-- by key, and of one key the better one first
+abbrev pub item_cmp : {K M : Type 0} → (K → K → Ordering) → (M → M → Bool) → K × Source × M → K × Source × M → Ordering
+item_cmp cmp before a b = ordering_then (cmp a.0 b.0) (rank_cmp before (a.1, a.2) (b.1, b.2))

@@ -1,50 +1,46 @@
-//! Listing the best offer of each key, by key.
+//! The items of a listing, and their order.
 
-ghost use Rattle.std.specs.Prelude.{◌≡◌, ◌+◌, ◌<◌, IsOk, OnOk, IfOk, IfErr, length};
-ghost use Rattle.ipx_tables.specs.Content.{IsApart, content, is_same};
-ghost use Rattle.ipx_tables.specs.Best.{NoneCounts};
-ghost use Rattle.ipx_tables.specs.Sorted.{IsRising, IsAtKey, IsGapFor};
-ghost use Rattle.ipx_tables.specs.Listing.{listed_key};
-ghost use Rattle.ipx_tables.specs.Scan.{IsListedSoFar};
+ghost use Rattle.std.specs.Prelude.{◌≡◌, false, IsOk, IfOk, IfErr, All};
+ghost use Rattle.std.specs.List.{filter_map};
+ghost use Rattle.ipx_tables.specs.Content.{is_young};
+ghost use Rattle.ipx_tables.specs.Scan.{item_of, item_cmp};
 
 use crate::fault::TableFault;
 use crate::metric::Metric;
 use crate::offer::Offer;
-use crate::scan::best_of;
+use crate::scan::{counts, rank};
 use crate::source::Source;
+use std::alloc::Global;
+use std::cmp::Ordering;
 
-/// Lists the best of the key of one offer, unless it is listed.
-pub fn add_best<K: Ord + Copy, M: Metric + Copy>(
-    listed: &mut Vec<(K, Source, M)>,
+/// Each offer that counts, as an item of a listing.
+pub fn items_that_count<K: Copy, M: Copy>(
+    alloc: Global,
     offers: &[Offer<K, M>],
-    at: usize,
     now: u64,
-) -> Result<(), TableFault>
-    requires apart { IsApart (is_same K.cmp) offers.now }
-    requires within { at < length offers.now }
-    requires so_far { IsListedSoFar K.cmp M.before offers.now now at listed.old.items }
-    ensures so_far { OnOk result
-        (IsListedSoFar K.cmp M.before offers.now now (at + 1) listed.new.items) }
+) -> Result<Vec<(K, Source, M)>, TableFault>
+    ensures items { IfOk result (λ v. v.items ≡ filter_map (item_of now) offers.now) }
     ensures fault { IfErr result (λ e. e ≡ TableFault.OutOfMemory) }
-    ensures no_memory { ((key : K) → NoneCounts (content K.cmp offers.now) key now) → IsOk result }
+    ensures no_memory_if_none { All (λ o. is_young now o.heard ≡ false) offers.now → IsOk result }
 {
-    let key = offers[at].key;
-    match place_of_key(listed, key) {
-        Ok(_) => Ok(()),
-        Err(place) => {
-            if let Some(best) = best_of(offers, key, now) {
-                listed.insert(place, (best.key, best.source, best.metric))?;
-            }
-            Ok(())
+    let mut items = Vec::new(alloc);
+    for offer in offers {
+        if counts(now, offer.heard) {
+            items.push((offer.key, offer.source, offer.metric))?;
         }
     }
+    Ok(items)
 }
 
-/// Where the key is among keys that rise, or where it would go.
-fn place_of_key<K: Ord + Copy, M: Copy>(listed: &[(K, Source, M)], key: K) -> Result<usize, usize>
-    requires { IsRising K.cmp listed_key listed.now }
-    ensures found { IfOk result (IsAtKey K.cmp listed_key listed.now key) }
-    ensures absent { IfErr result (IsGapFor K.cmp listed_key listed.now key) }
+/// By key, and of one key the better one first.
+pub fn listing_order<K: Ord + Copy, M: Metric + Copy>(
+    a: &(K, Source, M),
+    b: &(K, Source, M),
+) -> Ordering
+    ensures { result ≡ item_cmp K.cmp M.before a.now b.now }
 {
-    listed.binary_search_by(|item| item.0.cmp(&key))
+    match a.0.cmp(&b.0) {
+        Ordering::Equal => rank((a.1, a.2), (b.1, b.2)),
+        unequal => unequal,
+    }
 }

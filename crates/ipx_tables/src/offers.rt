@@ -6,10 +6,10 @@ ghost use Rattle.ipx_tables.specs.Best.{IsBest, NoneCounts};
 ghost use Rattle.ipx_tables.specs.Listing.{IsListing};
 
 use crate::fault::TableFault;
-use crate::listing::add_best;
+use crate::listing::{items_that_count, listing_order};
 use crate::metric::Metric;
 use crate::offer::Offer;
-use crate::scan::{best_of, keep_young, place_of};
+use crate::scan::{best_of, expiry, keep_young, place_of};
 use crate::source::Source;
 use std::alloc::Global;
 use std::marker::Model;
@@ -20,17 +20,21 @@ use std::marker::Model;
 #[derive(Drop)]
 pub struct Offers<K: Ord + Copy, M: Metric + Copy> {
     most: usize,
+    /// No offer is old before this moment. It may be too early, which costs one scan.
+    none_old_before: u64,
     offers: Vec<Offer<K, M>>,
 }
 
 impl<K: Ord + Copy, M: Metric + Copy> Model for Offers<K, M> {
     ghost use Rattle.ipx_tables.specs.Content.{Table, IsTable};
+    ghost use Rattle.ipx_tables.specs.Expiry.{NoneOldBefore};
 
     ghost Value = { Table K M };
 
     ghost view = { λ o. record { most = o.most; offers = o.offers.items } };
 
-    ghost invariant = { λ o. IsTable K.cmp (record { most = o.most; offers = o.offers.items }) };
+    ghost invariant = { λ o. IsTable K.cmp (record { most = o.most; offers = o.offers.items })
+        × NoneOldBefore o.none_old_before o.offers.items };
 }
 
 impl<K: Ord + Copy, M: Metric + Copy> Offers<K, M> {
@@ -41,6 +45,7 @@ impl<K: Ord + Copy, M: Metric + Copy> Offers<K, M> {
     {
         Offers {
             most,
+            none_old_before: u64::MAX,
             offers: Vec::new(alloc),
         }
     }
@@ -93,6 +98,7 @@ impl<K: Ord + Copy, M: Metric + Copy> Offers<K, M> {
             }
             return Ok(());
         }
+        self.none_old_before = self.none_old_before.min(expiry(now));
         let offer = Offer {
             key,
             source,
@@ -111,6 +117,9 @@ impl<K: Ord + Copy, M: Metric + Copy> Offers<K, M> {
     }
 
     /// Takes out for good each offer that was heard three minutes ago or earlier.
+    ///
+    /// Mostly none is that old, and one comparison shows it.
+    #[inline]
     pub fn age(&mut self, now: u64)
         ensures aged { (p : K × Source) → content K.cmp self.new.offers p
             ≡ after_age (content K.cmp self.old.offers) now p }
@@ -123,7 +132,10 @@ impl<K: Ord + Copy, M: Metric + Copy> Offers<K, M> {
         ensures most { self.new.most ≡ self.old.most }
         ensures valid { IsTable K.cmp self.new }
     {
-        keep_young(&mut self.offers, now);
+        if now < self.none_old_before {
+            return;
+        }
+        self.none_old_before = keep_young(&mut self.offers, now);
     }
 
     /// The best of the offers of this key that count: those heard less than three minutes ago.
@@ -149,11 +161,9 @@ impl<K: Ord + Copy, M: Metric + Copy> Offers<K, M> {
         ensures no_memory_if_none { ((key : K) → NoneCounts (content K.cmp self.now.offers) key now) → IsOk result }
         ensures valid { IsTable K.cmp self.now }
     {
-        let offers = self.offers.as_slice();
-        let mut listed: Vec<(K, Source, M)> = Vec::new(alloc);
-        for at in 0..offers.len() {
-            add_best(&mut listed, offers, at, now)?;
-        }
+        let mut listed = items_that_count(alloc, &self.offers, now)?;
+        listed.sort_unstable_by(|a, b| listing_order(a, b));
+        listed.dedup_by(|item, kept| item.0.cmp(&kept.0).is_eq());
         Ok(listed)
     }
 }

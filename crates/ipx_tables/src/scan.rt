@@ -1,29 +1,52 @@
 //! Reading a list of offers from its front to its end.
 
-ghost use Rattle.std.specs.Prelude.{◌≡◌, None, MatchOption};
+ghost use Rattle.std.specs.Prelude.{◌≡◌, ℕ, ◌+◌, ◌-◌, ◌^◌, ◌<◌, ◌≤◌, None, MatchOption, min};
 ghost use Rattle.std.specs.List.{filter};
 ghost use Rattle.ipx_tables.specs.Content.{content, is_same, is_young};
+ghost use Rattle.ipx_tables.specs.Expiry.{NoneOldBefore};
+ghost use Rattle.ipx_tables.specs.Best.{rank_cmp};
 ghost use Rattle.ipx_tables.specs.Scan.{IsAt, best_from, is_candidate, offer_beats};
 
 use crate::metric::Metric;
 use crate::offer::Offer;
 use crate::source::Source;
+use std::cmp::Ordering;
 
 /// How long an offer counts after it was heard, in milliseconds.
 const LIFE: u64 = 180_000;
 
 /// Whether an offer of this moment counts.
-fn counts(now: u64, moment: u64) -> bool
+pub fn counts(now: u64, moment: u64) -> bool
     ensures { result ≡ is_young now moment }
 {
     now.saturating_sub(moment) < LIFE
 }
 
-/// Whether the first is the better one: by metric, then by the lower port and the lower neighbour.
+/// The moment from which an offer of this moment counts no more.
+pub fn expiry(moment: u64) -> u64
+    ensures { result ≡ min (moment + 180000) (2 ^ 64 - 1) }
+{
+    moment.saturating_add(LIFE)
+}
+
+/// The better one first: by metric, then by the lower port and the lower neighbour.
+pub fn rank<M: Metric + Copy>(a: (Source, M), b: (Source, M)) -> Ordering
+    ensures { result ≡ rank_cmp M.before a b }
+{
+    if a.1.before(&b.1) {
+        Ordering::Less
+    } else if b.1.before(&a.1) {
+        Ordering::Greater
+    } else {
+        a.0.cmp(&b.0)
+    }
+}
+
+/// Whether the first is the better one.
 fn better<K: Copy, M: Metric + Copy>(a: &Offer<K, M>, b: &Offer<K, M>) -> bool
     ensures { result ≡ offer_beats M.before a.now b.now }
 {
-    a.metric.before(&b.metric) || !b.metric.before(&a.metric) && a.source.cmp(&b.source).is_lt()
+    rank((a.source, a.metric), (b.source, b.metric)).is_lt()
 }
 
 /// The best of the offers of a key that count.
@@ -66,9 +89,27 @@ pub fn place_of<K: Ord + Copy, M: Copy>(
     None
 }
 
-/// Takes out each offer that counts no more.
-pub fn keep_young<K: Copy, M: Copy>(offers: &mut Vec<Offer<K, M>>, now: u64)
-    ensures { offers.new.items ≡ filter (λ o. is_young now o.heard) offers.old.items }
+/// Takes out each offer that counts no more. The result is the moment until which all others do.
+#[inline(never)] // so that whoever ages a table has only the comparison in line
+pub fn keep_young<K: Copy, M: Copy>(offers: &mut Vec<Offer<K, M>>, now: u64) -> u64
+    ensures young { offers.new.items ≡ filter (λ o. is_young now o.heard) offers.old.items }
+    ensures until { NoneOldBefore result offers.new.items }
+    ensures no_later { (moment : ℕ) → moment < 2 ^ 64 → NoneOldBefore moment offers.new.items
+        → moment ≤ result }
 {
     offers.retain(|offer| counts(now, offer.heard));
+    first_expiry(offers)
+}
+
+/// The moment until which all offers count.
+fn first_expiry<K: Copy, M: Copy>(offers: &[Offer<K, M>]) -> u64
+    ensures until { NoneOldBefore result offers.now }
+    ensures no_later { (moment : ℕ) → moment < 2 ^ 64 → NoneOldBefore moment offers.now
+        → moment ≤ result }
+{
+    offers
+        .iter()
+        .map(|offer| expiry(offer.heard))
+        .min()
+        .unwrap_or(u64::MAX)
 }
