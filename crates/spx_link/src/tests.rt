@@ -3,8 +3,10 @@
 ghost use Rattle.std.specs.Prelude.{◌<◌, ◌≤◌, All, IfOk, length};
 ghost use Rattle.spx_link.specs.Limits.{end_stream};
 
+mod by_id;
+
 use crate::link::Link;
-use crate::{Links, LinksFault, Numbers, OfferFault, Received, Sent, State, Unit};
+use crate::{Numbers, OfferFault, Received, Sent, State, Unit};
 use ipx_wire::{Address, Fragment, Network, Node, Socket, SpxHeader};
 use std::alloc::{AllocError, Global};
 use std::process::Abort;
@@ -120,17 +122,6 @@ fn link_rows(rt: HostRuntime) -> Result<(), Fail> {
         assert_eq!(rt; link.numbers().out, out, "at {ack} {limit}");
         assert_eq!(rt; link.numbers().room, room, "at {ack} {limit}");
     }
-    let mut links = Links::new(alloc);
-    for id in 1..17u16 {
-        assert_eq!(rt; links.dial(alloc, HERE, there(), 8, 0)?, id);
-    }
-    assert_eq!(rt;
-        links.dial(alloc, HERE, there(), 8, 0),
-        Err(LinksFault::TooMany)
-    );
-    assert!(rt; links.release(3));
-    assert!(rt; !links.release(3));
-    assert_eq!(rt; links.dial(alloc, HERE, there(), 8, 0)?, 0x0011);
     Ok(())
 }
 
@@ -253,26 +244,11 @@ fn unit_again(alloc: Global) -> Result<Vec<Unit>, AllocError>
     }
 }
 
-/// Each call that can want memory: where it is refused once, nothing changed, and the same call
-/// again succeeds. Run it with each allocation refused.
+/// Each call of a link that can want memory: where it is refused once, nothing changed, and the same
+/// call again succeeds. Run it with each allocation refused.
 #[test]
 fn refused_memory(rt: HostRuntime) -> Result<(), Fail> {
     let alloc = rt.alloc();
-    let mut links = Links::new(alloc);
-    if links.dial(alloc, HERE, there(), 8, 0).is_err() {
-        assert_eq!(rt; links.after(0), None);
-        links.dial(alloc, HERE, there(), 8, 0)?;
-    }
-    for turn in 2..9u16 {
-        if links
-            .accept(alloc, HERE, there(), &system(0, 7), 8, 0)
-            .is_err()
-        {
-            assert_eq!(rt; links.after(turn - 1), None);
-            links.accept(alloc, HERE, there(), &system(0, 7), 8, 0)?;
-        }
-        assert_eq!(rt; links.after(turn - 1), Some(turn));
-    }
     let mut link = joined(&rt, alloc, 7)?;
     for seq in 0..5u16 {
         let before = link.numbers();
@@ -294,115 +270,18 @@ fn refused_memory(rt: HostRuntime) -> Result<(), Fail> {
         }
         assert_eq!(rt; sent(&mut link, 0), Some(Sent::Unit));
     }
-    if link.end(alloc) == Err(OfferFault::OutOfMemory) {
-        assert_eq!(rt; link.state(), State::Live);
-        link.end(alloc)?;
-    }
-    assert_eq!(rt; link.state(), State::Ending);
+    Ok(())
+}
+
+/// The same of the end, behind no unit.
+#[test]
+fn refused_end(rt: HostRuntime) -> Result<(), Fail> {
+    let alloc = rt.alloc();
     let mut ending = joined(&rt, alloc, 7)?;
     if ending.end(alloc) == Err(OfferFault::OutOfMemory) {
         assert_eq!(rt; ending.state(), State::Live);
         ending.end(alloc)?;
     }
     assert_eq!(rt; ending.state(), State::Ending);
-    Ok(())
-}
-
-/// The calls by id that can want memory: where one is refused, its link and the other are as they
-/// were, and the same call again succeeds. Run it with each allocation refused.
-#[test]
-fn refused_memory_by_id(rt: HostRuntime) -> Result<(), Fail> {
-    let alloc = rt.alloc();
-    let mut links = Links::new(alloc);
-    for id in 1..3u16 {
-        if links.dial(alloc, HERE, there(), 8, 0).is_err() {
-            assert_eq!(rt; links.after(id - 1), None);
-            links.dial(alloc, HERE, there(), 8, 0)?;
-        }
-    }
-    assert!(rt; links.get(1).is_some());
-    let joined = links.receive(alloc, 1, &system(0, 7), &[], 0)?;
-    assert_eq!(rt; joined, Received::Joined);
-    for seq in 0..5u16 {
-        assert!(rt; links.get(1).is_some());
-        if links.receive(alloc, 1, &unit(0, seq), b"a", 0) == Err(OfferFault::OutOfMemory) {
-            let held = links.get(1).map(|link| link.numbers().held);
-            assert_eq!(rt; held, Some(seq));
-            assert!(rt; links.get(1).is_some());
-            links.receive(alloc, 1, &unit(0, seq), b"a", 0)?;
-        }
-        let held = links.get(1).map(|link| link.numbers().held);
-        assert_eq!(rt; held, Some(seq + 1));
-    }
-    for _ in 0..5 {
-        assert!(rt; links.get(1).is_some());
-        if links.offer(alloc, 1, unit_again(alloc)?) == Err(OfferFault::OutOfMemory) {
-            assert!(rt; links.get(1).is_some());
-            links.offer(alloc, 1, unit_again(alloc)?)?;
-        }
-    }
-    assert!(rt; links.get(1).is_some());
-    if links.end(alloc, 1) == Err(OfferFault::OutOfMemory) {
-        let state = links.get(1).map(|link| link.state());
-        assert_eq!(rt; state, Some(State::Live));
-        assert!(rt; links.get(1).is_some());
-        links.end(alloc, 1)?;
-    }
-    let state = links.get(1).map(|link| link.state());
-    assert_eq!(rt; state, Some(State::Ending));
-    let state = links.get(2).map(|link| link.state());
-    assert_eq!(rt; state, Some(State::Opening));
-    Ok(())
-}
-
-/// Each call by id, on a link that dials and on one that accepts.
-#[test]
-fn by_id(rt: HostRuntime) -> Result<(), Fail> {
-    let alloc = rt.alloc();
-    let mut links = Links::new(alloc);
-    let id = links.dial(alloc, HERE, there(), 8, 0)?;
-    let request = system(0, 7);
-    let other = links.accept(alloc, HERE, there(), &request, 8, 0)?;
-    assert_eq!(rt; (id, other), (1, 2));
-    assert_eq!(rt; links.after(0), Some(1));
-    assert_eq!(rt; links.after(1), Some(2));
-    assert_eq!(rt; links.after(2), None);
-    assert_eq!(rt; links.accepted(there(), 1), Some(2));
-    assert_eq!(rt; links.accepted(there(), 2), None);
-    assert_eq!(rt; links.find(HERE, there(), 1), Some(1));
-    assert_eq!(rt; links.find(Socket(0x5000), there(), 1), None);
-    assert_eq!(rt; links.find(HERE, there(), 3), None);
-    assert!(rt; links.get(1).is_some());
-    let what = links.poll(1, 0).map(|packet| packet.what);
-    assert_eq!(rt; what, Some(Sent::Request));
-    assert!(rt; links.get(1).is_some());
-    assert_eq!(rt;
-        links.receive(alloc, 1, &request, &[], 0)?,
-        Received::Joined
-    );
-    assert!(rt; links.get(1).is_some());
-    links.offer(alloc, 1, one_unit(alloc, 0x61)?)?;
-    assert!(rt; links.get(1).is_some());
-    links.end(alloc, 1)?;
-    assert!(rt; links.get(1).is_some());
-    assert_eq!(rt;
-        links.receive(alloc, 1, &unit(0, 0), b"a", 0)?,
-        Received::Kept
-    );
-    assert!(rt; links.get(1).is_some());
-    assert_eq!(rt; links.take(1).map(|u| u.stream), Some(0));
-    assert!(rt; links.get(1).is_some());
-    links.owe_reply(1);
-    assert!(rt; links.get(1).is_some());
-    let what = links.poll(1, 0).map(|packet| packet.what);
-    assert_eq!(rt; what, Some(Sent::Reply));
-    assert!(rt; links.get(1).is_some());
-    links.lose(1);
-    let state = links.get(1).map(|link| link.state());
-    assert_eq!(rt; state, Some(State::Lost));
-    let state = links.get(2).map(|link| link.state());
-    assert_eq!(rt; state, Some(State::Live));
-    let ends = links.get(2).map(|link| (link.local(), link.remote()));
-    assert_eq!(rt; ends, Some((HERE, there())));
     Ok(())
 }
