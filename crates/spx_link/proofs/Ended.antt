@@ -1,5 +1,5 @@
 -- Which of the answers to a unit that is kept comes.
-use Rattle.std.proofs.Common.{◌≡◌, ℕ, ◌↔◌, Bool, true, false, refl, ap, sym, ◌∙◌, if◌then◌else◌, ◌==◌, ◌&&◌, nat_le, nat_lt, List, eqb-true, arith}
+use Rattle.std.proofs.Common.{◌≡◌, ℕ, ◌↔◌, true, refl, ap, ◌==◌, nat_le, nat_lt, List, eqb-true, arith}
 use Rattle.std.proofs.lemmas.Bool.Decides.{nat_tests}
 use Rattle.ipx_wire.specs.declared.spx.SpxHeader.{SpxHeader}
 use Rattle.spx_link.specs.declared.received.Received.{Received}
