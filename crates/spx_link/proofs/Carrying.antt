@@ -39,9 +39,9 @@ lost_says : (l : LinkView) → PollSays l (None, P.lost l)
 lost_says l =
     record { gives = tt; units = record { queued = refl; held = refl }; endings = record { end_queued = refl; peer_ended = refl }; state = inr (refl, refl) }
 
-request_says : (l : LinkView) (now : ℕ) → PollSays l (P.requests l now)
-request_says l now = record {
-  gives = record { from = refl; read = refl; allows = refl; kind = record { to = refl; unit = refl; number = refl; body = refl } };
+request_says : (l : LinkView) (now : ℕ) → l.state ≡ States.Opening → PollSays l (P.requests l now)
+request_says l now opening = record {
+  gives = record { from = refl; read = refl; allows = refl; kind = (record { to = refl; unit = refl; number = refl; body = refl }, opening) };
   units = record { queued = refl; held = refl };
   endings = record { end_queued = refl; peer_ended = refl };
   state = inl refl;
@@ -60,7 +60,7 @@ other_says l m o given queue held queued ended state =
 -- ---- a unit
 
 carries : (l : LinkView) (u : Unit) (seq : ℕ) → Carries l u (P.with_unit l Sents.Unit u seq)
-carries l u seq = record { to = refl; unit = refl; system = refl }
+carries l u seq = record { to = refl; unit = refl; body = refl; system = refl }
 
 -- a unit that is stamped is the same unit
 stamped : (l : LinkView) (place : ℕ) (q new : Queued) → slice_get l.queue place ≡ Some q → new.unit ≡ q.unit → map unit_of (set l.queue place new) ≡ queued_units l
@@ -105,7 +105,7 @@ again_says l now place q at out working =
           place = place;
           outstanding = out;
           queued = unit_at l place q at;
-          carries = record { to = refl; unit = refl; system = refl };
+          carries = record { to = refl; unit = refl; body = refl; system = refl };
           number = refl;
           working = working;
         };
@@ -174,22 +174,22 @@ reply_says l now =
     (record { from = refl; read = refl; allows = refl; kind = record { to = refl; unit = refl; number = refl; body = refl } }) refl refl refl refl refl)
     (λ _. unit_says l now))
 
-requests_say : (l : LinkView) (now : ℕ) → PollSays l (P.poll_request l now)
-requests_say l now =
+requests_say : (l : LinkView) (now : ℕ) → l.state ≡ States.Opening → PollSays l (P.poll_request l now)
+requests_say l now opening =
     by_test (PollSays l) ((l.asked_count == 0) || due l.asked_at now) (P.requests_or_lost l now) (None, l)
-    (λ _. by_test (PollSays l) (nat_le most_sends l.asked_count) (None, P.lost l) (P.requests l now) (λ _. lost_says l) (λ _. request_says l now))
+    (λ _. by_test (PollSays l) (nat_le most_sends l.asked_count) (None, P.lost l) (P.requests l now) (λ _. lost_says l) (λ _. request_says l now opening))
     (λ _. none_says l)
 
-poll_at_says : (s : State) (l : LinkView) (now : ℕ) → PollSays l (poll_at s l now)
-poll_at_says States.Opening l now = requests_say l now
-poll_at_says States.Live l now = reply_says l now
-poll_at_says States.Ending l now = reply_says l now
-poll_at_says States.PeerEnded l now = reply_says l now
-poll_at_says States.Confirmed l now = reply_says l now
-poll_at_says States.Lost l now = none_says l
+poll_at_says : (s : State) (l : LinkView) (now : ℕ) → l.state ≡ s → PollSays l (poll_at s l now)
+poll_at_says States.Opening l now e = requests_say l now e
+poll_at_says States.Live l now e = reply_says l now
+poll_at_says States.Ending l now e = reply_says l now
+poll_at_says States.PeerEnded l now e = reply_says l now
+poll_at_says States.Confirmed l now e = reply_says l now
+poll_at_says States.Lost l now e = none_says l
 
 pub poll_says : (l : LinkView) (now : ℕ) → PollSays l (poll_link l now)
-poll_says l now = poll_at_says l.state l now
+poll_says l now = poll_at_says l.state l now refl
 
 -- ---- units as they are sent
 

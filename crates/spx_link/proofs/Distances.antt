@@ -1,7 +1,7 @@
 -- Distances between the marks of positions.
 use Rattle.std.proofs.Common.{ℕ, ◌≡◌, ◌≢◌, ◌↔◌, ◌+◌, ◌-◌, ◌<◌, ◌≤◌, ◌&&◌, nat_le, nat_lt, max, if◌then◌else◌, arith}
 use Rattle.std.proofs.lemmas.Bool.Decides.{nat_tests}
-use Rattle.spx_link.specs.Marks.{mark, distance, outstanding_after, room_after}
+use Rattle.spx_link.specs.Marks.{acknowledged, mark, distance, outstanding_after, room_after}
 
 -- ---- marks
 
@@ -42,6 +42,15 @@ read_between base out sent ack beyond e a current stale = grind (arith, nat_test
 pub acknowledgement_read : (bound base out sent ack before : ℕ) → bound ≤ 32768 → base + out ≡ sent → out ≤ bound → ack ≤ sent → before ≤ ack + bound → sent < before + 32768 → max base ack + outstanding_after (mark sent) out (mark ack) ≡ sent
 acknowledgement_read bound base out sent ack before r e o a b c =
     read_between base out sent ack (distance (mark ack) (distance (mark sent) out)) e a
+    (λ le. acknowledgement_current base out sent ack e (omega arith) le a)
+    (λ lt. acknowledgement_stale bound base out sent ack before r e lt b c)
+
+taken_between : (base out sent ack beyond : ℕ) → base + out ≡ sent → ack ≤ sent → (base ≤ ack → base + beyond ≡ ack) → (ack < base → out < beyond) → base + (if nat_le beyond out then beyond else 0) ≡ max base ack
+taken_between base out sent ack beyond e a current stale = grind (arith, nat_tests)
+
+pub acknowledgement_taken : (bound base out sent ack before : ℕ) → bound ≤ 32768 → base + out ≡ sent → out ≤ bound → ack ≤ sent → before ≤ ack + bound → sent < before + 32768 → base + acknowledged (mark sent) out (mark ack) ≡ max base ack
+acknowledgement_taken bound base out sent ack before r e o a b c =
+    taken_between base out sent ack (distance (mark ack) (distance (mark sent) out)) e a
     (λ le. acknowledgement_current base out sent ack e (omega arith) le a)
     (λ lt. acknowledgement_stale bound base out sent ack before r e lt b c)
 

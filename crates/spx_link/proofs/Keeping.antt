@@ -35,33 +35,33 @@ pub record PollKeeps (l : LinkView) (r : Option OutgoingView × LinkView) : Type
   pub same : SamePeer l r.1
 
 none_keeps : (l : LinkView) → PollKeeps l (None, l)
-none_keeps l = record { numbers = refl; same = record { ends = record { own = refl; local = refl; remote = refl }; peer = refl } }
+none_keeps l = record { numbers = refl; same = record { ends = record { own = refl; local = refl; remote = refl; accepted = refl }; peer = refl } }
 
 lost_keeps : (l : LinkView) → PollKeeps l (None, P.lost l)
-lost_keeps l = record { numbers = refl; same = record { ends = record { own = refl; local = refl; remote = refl }; peer = refl } }
+lost_keeps l = record { numbers = refl; same = record { ends = record { own = refl; local = refl; remote = refl; accepted = refl }; peer = refl } }
 
 request_keeps : (l : LinkView) (now : ℕ) → PollKeeps l (P.poll_request l now)
 request_keeps l now =
     either (PollKeeps l) ((l.asked_count == 0) || due l.asked_at now) (P.requests_or_lost l now) (None, l)
-    (either (PollKeeps l) (nat_le most_sends l.asked_count) (None, P.lost l) (P.requests l now) (lost_keeps l) (record { numbers = refl; same = record { ends = record { own = refl; local = refl; remote = refl }; peer = refl } }))
+    (either (PollKeeps l) (nat_le most_sends l.asked_count) (None, P.lost l) (P.requests l now) (lost_keeps l) (record { numbers = refl; same = record { ends = record { own = refl; local = refl; remote = refl; accepted = refl }; peer = refl } }))
     (none_keeps l)
 
 probe_keeps : (l : LinkView) (now : ℕ) → PollKeeps l (P.poll_probe l now)
 probe_keeps l now =
     either (PollKeeps l) (P.may_probe l now) (P.probes_or_lost l now) (None, l)
-    (either (PollKeeps l) (nat_le most_sends l.probes) (None, P.lost l) (P.probes_once l now) (lost_keeps l) (record { numbers = refl; same = record { ends = record { own = refl; local = refl; remote = refl }; peer = refl } }))
+    (either (PollKeeps l) (nat_le most_sends l.probes) (None, P.lost l) (P.probes_once l now) (lost_keeps l) (record { numbers = refl; same = record { ends = record { own = refl; local = refl; remote = refl; accepted = refl }; peer = refl } }))
     (none_keeps l)
 
 ack_keeps : (l : LinkView) (now : ℕ) → PollKeeps l (P.poll_ack l now)
 ack_keeps l now =
     either (PollKeeps l) l.owes_ack (P.acknowledges l now) (P.poll_probe l now)
-    (record { numbers = refl; same = record { ends = record { own = refl; local = refl; remote = refl }; peer = refl } })
+    (record { numbers = refl; same = record { ends = record { own = refl; local = refl; remote = refl; accepted = refl }; peer = refl } })
     (probe_keeps l now)
 
 sends_again_keeps : (l : LinkView) (now place : ℕ) (q : Option Queued) → PollKeeps l (P.sends_again_or_lost l now place q)
 sends_again_keeps l now place None = none_keeps l
 sends_again_keeps l now place (Some q) =
-    either (PollKeeps l) (nat_le most_sends q.count) (None, P.lost l) (P.sends_again l now place q) (lost_keeps l) (record { numbers = refl; same = record { ends = record { own = refl; local = refl; remote = refl }; peer = refl } })
+    either (PollKeeps l) (nat_le most_sends q.count) (None, P.lost l) (P.sends_again l now place q) (lost_keeps l) (record { numbers = refl; same = record { ends = record { own = refl; local = refl; remote = refl; accepted = refl }; peer = refl } })
 
 late_keeps : (l : LinkView) (now : ℕ) (place : Option ℕ) → PollKeeps l (P.poll_late l now place)
 late_keeps l now None = ack_keeps l now
@@ -69,14 +69,14 @@ late_keeps l now (Some place) = sends_again_keeps l now place (slice_get l.queue
 
 sends_keeps : (l : LinkView) (now : ℕ) (q : Option Queued) → PollKeeps l (P.sends l now q)
 sends_keeps l now None = none_keeps l
-sends_keeps l now (Some q) = record { numbers = refl; same = record { ends = record { own = refl; local = refl; remote = refl }; peer = refl } }
+sends_keeps l now (Some q) = record { numbers = refl; same = record { ends = record { own = refl; local = refl; remote = refl; accepted = refl }; peer = refl } }
 
 reply_keeps : (l : LinkView) (now : ℕ) → PollKeeps l (P.poll_reply l now)
 reply_keeps l now =
     either (PollKeeps l) l.owes_reply (P.replies l now) (P.poll_confirm l now)
-    (record { numbers = refl; same = record { ends = record { own = refl; local = refl; remote = refl }; peer = refl } })
+    (record { numbers = refl; same = record { ends = record { own = refl; local = refl; remote = refl; accepted = refl }; peer = refl } })
     (either (PollKeeps l) l.owes_confirm (P.confirms l now) (P.poll_unit l now)
-    (record { numbers = refl; same = record { ends = record { own = refl; local = refl; remote = refl }; peer = refl } })
+    (record { numbers = refl; same = record { ends = record { own = refl; local = refl; remote = refl; accepted = refl }; peer = refl } })
     (either (PollKeeps l) (P.may_send l) (P.sends l now (slice_get l.queue l.out)) (P.poll_again l now)
     (sends_keeps l now (slice_get l.queue l.out))
     (late_keeps l now (P.late_if_working l now))))
@@ -108,6 +108,12 @@ opening_requests l now opening =
     let P : State → Type 0 = λ s. IfRequest (poll_at s l now).0 in
     subst P (sym opening) (request_alone l now)
 
+-- a link that was given up gives nothing
+pub lost_alone : (l : LinkView) (now : ℕ) → l.state ≡ States.Lost → (poll_link l now).0 ≡ None
+lost_alone l now lost =
+    let P : State → Type 0 = λ s. (poll_at s l now).0 ≡ None in
+    subst P (sym lost) refl
+
 -- ---- receive
 
 pub record ReadKeeps (l : LinkView) (h : SpxHeader) (r : Received × LinkView) : Type 0 where
@@ -116,22 +122,22 @@ pub record ReadKeeps (l : LinkView) (h : SpxHeader) (r : Received × LinkView) :
   pub not_joined : r.0 ≡ Joined → ⊥
 
 stranger_keeps : (l : LinkView) (h : SpxHeader) → ReadKeeps l h (Stranger, l)
-stranger_keeps l h = record { numbers = refl; same = record { ends = record { own = refl; local = refl; remote = refl }; peer = refl }; not_joined = λ e. cc }
+stranger_keeps l h = record { numbers = refl; same = record { ends = record { own = refl; local = refl; remote = refl; accepted = refl }; peer = refl }; not_joined = λ e. cc }
 
 -- what the rules for a system packet and for a unit do after the numbers were read
 system_keeps : (l : LinkView) (h : SpxHeader) → ReadKeeps l h (R.read_system (R.read_numbers l h) h)
 system_keeps l h =
     let m : LinkView = R.read_numbers l h in
     either (ReadKeeps l h) (R.may_confirm m h) (Confirmed, record (R.with_ack_owed m h.wants_ack) { state = States.Confirmed }) (System, R.with_ack_owed m h.wants_ack)
-    (record { numbers = refl; same = record { ends = record { own = refl; local = refl; remote = refl }; peer = refl }; not_joined = λ e. cc })
-    (record { numbers = refl; same = record { ends = record { own = refl; local = refl; remote = refl }; peer = refl }; not_joined = λ e. cc })
+    (record { numbers = refl; same = record { ends = record { own = refl; local = refl; remote = refl; accepted = refl }; peer = refl }; not_joined = λ e. cc })
+    (record { numbers = refl; same = record { ends = record { own = refl; local = refl; remote = refl; accepted = refl }; peer = refl }; not_joined = λ e. cc })
 
 out_of_turn_keeps : (l : LinkView) (h : SpxHeader) → ReadKeeps l h (R.out_of_turn (R.read_numbers l h) h)
 out_of_turn_keeps l h =
     let m : LinkView = R.read_numbers l h in
     either (ReadKeeps l h) (nat_lt (R.beyond_expected m h) (free m)) (Ahead, record m { owes_ack = true }) (OverAllocation, record m { owes_ack = true })
-    (record { numbers = refl; same = record { ends = record { own = refl; local = refl; remote = refl }; peer = refl }; not_joined = λ e. cc })
-    (record { numbers = refl; same = record { ends = record { own = refl; local = refl; remote = refl }; peer = refl }; not_joined = λ e. cc })
+    (record { numbers = refl; same = record { ends = record { own = refl; local = refl; remote = refl; accepted = refl }; peer = refl }; not_joined = λ e. cc })
+    (record { numbers = refl; same = record { ends = record { own = refl; local = refl; remote = refl; accepted = refl }; peer = refl }; not_joined = λ e. cc })
 
 -- the numbers with so many units held
 abbrev with_held : Numbers → ℕ → Numbers
@@ -141,16 +147,16 @@ keep_keeps : (l : LinkView) (h : SpxHeader) (body : List ℕ) → ReadKeeps l h 
 keep_keeps l h body =
     let m : LinkView = R.read_numbers l h in
     either (ReadKeeps l h) (h.stream == end_stream) (PeerEnded, R.keep_end m h) (Kept, R.keep_unit m h body)
-    (record { numbers = ap (with_held (numbers_of (R.keep_end m h))) (length-append l.held (record { stream = h.stream; last = h.last; body = record { items = [] } } ∷ [])); same = record { ends = record { own = refl; local = refl; remote = refl }; peer = refl }; not_joined = λ e. cc })
-    (record { numbers = ap (with_held (numbers_of (R.keep_unit m h body))) (length-append l.held (record { stream = h.stream; last = h.last; body = record { items = body } } ∷ [])); same = record { ends = record { own = refl; local = refl; remote = refl }; peer = refl }; not_joined = λ e. cc })
+    (record { numbers = ap (with_held (numbers_of (R.keep_end m h))) (length-append l.held (record { stream = h.stream; last = h.last; body = record { items = [] } } ∷ [])); same = record { ends = record { own = refl; local = refl; remote = refl; accepted = refl }; peer = refl }; not_joined = λ e. cc })
+    (record { numbers = ap (with_held (numbers_of (R.keep_unit m h body))) (length-append l.held (record { stream = h.stream; last = h.last; body = record { items = body } } ∷ [])); same = record { ends = record { own = refl; local = refl; remote = refl; accepted = refl }; peer = refl }; not_joined = λ e. cc })
 
 repeated_keeps : (l : LinkView) (h : SpxHeader) → ReadKeeps l h (Repeat, R.repeated (R.read_numbers l h) h)
 repeated_keeps l h =
     let m : LinkView = R.read_numbers l h in
     let Q : LinkView → Type 0 = λ n. ReadKeeps l h (Repeat, n) in
     either Q ((h.stream == end_stream) && m.peer_ended) (record m { owes_confirm = true }) (record m { owes_ack = true })
-    (record { numbers = refl; same = record { ends = record { own = refl; local = refl; remote = refl }; peer = refl }; not_joined = λ e. cc })
-    (record { numbers = refl; same = record { ends = record { own = refl; local = refl; remote = refl }; peer = refl }; not_joined = λ e. cc })
+    (record { numbers = refl; same = record { ends = record { own = refl; local = refl; remote = refl; accepted = refl }; peer = refl }; not_joined = λ e. cc })
+    (record { numbers = refl; same = record { ends = record { own = refl; local = refl; remote = refl; accepted = refl }; peer = refl }; not_joined = λ e. cc })
 
 unit_keeps : (l : LinkView) (h : SpxHeader) (body : List ℕ) → ReadKeeps l h (R.read_unit (R.read_numbers l h) h body)
 unit_keeps l h body =
@@ -158,7 +164,7 @@ unit_keeps l h body =
     either (ReadKeeps l h) (nat_le 32768 (R.beyond_expected m h)) (Repeat, R.repeated m h) (R.not_behind m h body)
     (repeated_keeps l h)
     (either (ReadKeeps l h) m.peer_ended (Ahead, m) (R.in_turn m h body)
-    (record { numbers = refl; same = record { ends = record { own = refl; local = refl; remote = refl }; peer = refl }; not_joined = λ e. cc })
+    (record { numbers = refl; same = record { ends = record { own = refl; local = refl; remote = refl; accepted = refl }; peer = refl }; not_joined = λ e. cc })
     (either (ReadKeeps l h) (R.is_next m h) (R.keep m h body) (R.out_of_turn m h) (keep_keeps l h body) (out_of_turn_keeps l h)))
 
 joined_keeps : (l : LinkView) (h : SpxHeader) (body : List ℕ) → ReadKeeps l h (R.receive_joined l h body)
@@ -178,12 +184,12 @@ of_read : (l : LinkView) (h : SpxHeader) (r : Received × LinkView) → ReadKeep
 of_read l h r k = record { numbers = k.numbers; ends = k.same.ends; peer = λ _. k.same.peer; joins = λ e. absurd (k.not_joined e) }
 
 joins_so : (l : LinkView) (h : SpxHeader) → l.state ≡ States.Opening → R.is_reply l h ≡ true → Joins l (R.read_numbers (R.joined l h) h) h
-joins_so l h opening reply = record { before = opening; after = refl; peer = refl; above = grind (arith, nat_tests); below = grind (arith, nat_tests); unit = grind (arith, nat_tests) }
+joins_so l h opening reply = record { before = opening; after = refl; to = grind (arith, nat_tests); peer = refl; above = grind (arith, nat_tests); below = grind (arith, nat_tests); unit = grind (arith, nat_tests) }
 
 reply_receive_keeps : (l : LinkView) (h : SpxHeader) → l.state ≡ States.Opening → ReceiveKeeps l h (R.receive_reply l h)
 reply_receive_keeps l h opening =
     either_by (ReceiveKeeps l h) (R.is_reply l h) (Joined, R.read_numbers (R.joined l h) h) (Stranger, l)
-    (λ reply. record { numbers = refl; ends = record { own = refl; local = refl; remote = refl }; peer = λ n. absurd (n refl); joins = λ _. joins_so l h opening reply })
+    (λ reply. record { numbers = refl; ends = record { own = refl; local = refl; remote = refl; accepted = refl }; peer = λ n. absurd (n refl); joins = λ _. joins_so l h opening reply })
     (of_read l h (Stranger, l) (stranger_keeps l h))
 
 receive_at_keeps : (s : State) (l : LinkView) (h : SpxHeader) (body : List ℕ) → l.state ≡ s → ReceiveKeeps l h (receive_at s l h body)
@@ -206,10 +212,10 @@ pub record TakeKeeps (l m : LinkView) : Type 0 where
 take_held_keeps : (l : LinkView) (us : List units.Unit) → l.held ≡ us → TakeKeeps l (take_held l us).1
 take_held_keeps l [] e =
     let none : length l.held ≡ 0 = ap length e in
-    record { numbers = ap (with_held (numbers_of l)) (omega (arith, none)); same = record { ends = record { own = refl; local = refl; remote = refl }; peer = refl } }
+    record { numbers = ap (with_held (numbers_of l)) (omega (arith, none)); same = record { ends = record { own = refl; local = refl; remote = refl; accepted = refl }; peer = refl } }
 take_held_keeps l (u ∷ us) e =
     let more : length l.held ≡ suc (length us) = ap length e in
-    record { numbers = ap (with_held (numbers_of l)) (omega (arith, more)); same = record { ends = record { own = refl; local = refl; remote = refl }; peer = refl } }
+    record { numbers = ap (with_held (numbers_of l)) (omega (arith, more)); same = record { ends = record { own = refl; local = refl; remote = refl; accepted = refl }; peer = refl } }
 
 pub take_keeps : (l : LinkView) → TakeKeeps l (take_link l).1
 take_keeps l = take_held_keeps l l.held refl

@@ -2,6 +2,7 @@ pub mod Apart
 pub mod Calls
 pub mod Carrying
 pub mod Distances
+pub mod Ended
 pub mod Found
 pub mod Keeping
 pub mod Lesser

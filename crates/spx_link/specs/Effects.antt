@@ -1,6 +1,8 @@
 -- What the calls of a link do to its numbers and to the ends of its connection, apart from moments and marks.
-use Rattle.std.specs.Prelude.{◌≡◌, ⊤, true, ◌+◌, ◌-◌, ◌<◌, [], Option, Some, None}
+use Rattle.std.specs.Prelude.{◌≡◌, ⊤, ℕ, Bool, true, ◌+◌, ◌-◌, ◌<◌, [], Option, Some, None}
 use Rattle.ipx_wire.specs.declared.spx.SpxHeader.{SpxHeader}
+use Rattle.ipx_wire.specs.declared.address.Socket.{Socket}
+use Rattle.ipx_wire.specs.declared.address.Address.{Address}
 use Rattle.spx_link.specs.declared.numbers.Numbers.{Numbers}
 use Rattle.spx_link.specs.declared.outgoing.Sent.{Sent}
 use Rattle.spx_link.specs.declared.outgoing.Sent.TheVariants as Sents
@@ -57,21 +59,32 @@ numbers_after_take n = record n { held = n.held - 1 }
 
 -- ---- the ends
 
--- the id here, the socket here and the address there never change
+-- the id here, the socket here and the address there never change, nor does which side asked
 pub record SameEnds (old new : LinkView) : Type 0 where
   pub own : new.own ≡ old.own
   pub local : new.local ≡ old.local
   pub remote : new.remote ≡ old.remote
+  pub accepted : new.accepted ≡ old.accepted
 
 -- nor does the peer's id
 pub record SamePeer (old new : LinkView) : Type 0 where
   pub ends : SameEnds old new
   pub peer : new.peer ≡ old.peer
 
--- a link that joined was opening before, and is live with the id that the reply came from, which has no unit
+-- the ends of a new link, and whether the other side asked for it
+pub record HasEnds (l : LinkView) (id : ℕ) (socket : Socket) (address : Address) (peer_id : ℕ) (was_asked : Bool) : Type 0 where
+  pub own : l.own ≡ id
+  pub local : l.local ≡ socket
+  pub remote : l.remote ≡ address
+  pub peer : l.peer ≡ peer_id
+  pub accepted : l.accepted ≡ was_asked
+
+-- a link that joined was opening before, and is live with the id that the reply came from. The reply was to its own
+-- id, and carries no unit
 pub record Joins (old new : LinkView) (h : SpxHeader) : Type 0 where
   pub before : old.state ≡ Opening
   pub after : new.state ≡ Live
+  pub to : h.to_id ≡ old.own
   pub peer : new.peer ≡ h.from_id
   pub above : 0 < h.from_id
   pub below : h.from_id < no_id

@@ -4,7 +4,7 @@ use Rattle.spx_link.specs.declared.unit.Unit.{Unit}
 use Rattle.spx_link.specs.declared.outgoing.Sent.{Sent}
 use Rattle.spx_link.specs.declared.outgoing.Sent.TheVariants as Sents
 use Rattle.spx_link.specs.declared.state.State.{State}
-use Rattle.spx_link.specs.declared.state.State.TheVariants.{Lost}
+use Rattle.spx_link.specs.declared.state.State.TheVariants.{Lost, Opening}
 use Rattle.spx_link.specs.Limits.{confirm_stream, no_id}
 use Rattle.spx_link.specs.LinkView.{LinkView, is_working}
 use Rattle.spx_link.specs.Marks.{mark}
@@ -23,6 +23,7 @@ pub record IsWithoutUnit (l : LinkView) (id : ℕ) (o : OutgoingView) : Type 0 w
 pub record Carries (l : LinkView) (u : Unit) (o : OutgoingView) : Type 0 where
   pub to : o.header.to_id ≡ l.peer
   pub unit : unit_in o.header o.body ≡ as_sent u
+  pub body : o.body ≡ u.body.items
   pub system : is_system o.header ≡ (u.stream == confirm_stream)
 
 -- the next unit of the queue, under the next number, where the peer allows one more
@@ -44,8 +45,9 @@ pub record IsOutstandingUnit (l : LinkView) (o : OutgoingView) : Type 0 where
   pub number : o.header.seq ≡ mark (base l + place)
   pub working : is_working l.state ≡ true
 
+-- a request is given while opening alone
 abbrev pub IsOfKind : Sent → LinkView → OutgoingView → Type 0
-IsOfKind Sents.Request l o = IsWithoutUnit l no_id o
+IsOfKind Sents.Request l o = IsWithoutUnit l no_id o × (l.state ≡ Opening)
 IsOfKind Sents.Reply l o = IsWithoutUnit l l.peer o
 IsOfKind Sents.Confirm l o = IsWithoutUnit l l.peer o
 IsOfKind Sents.Unit l o = IsNextUnit l o

@@ -13,7 +13,7 @@ unit_of q = q.unit
 abbrev pub queued_units : LinkView → List Unit
 queued_units l = map unit_of l.queue
 
--- a unit as it is sent: an end has no end mark and no body
+-- a unit as its peer reads it: the end of a connection has no body, and ends no message
 abbrev pub as_sent : Unit → Unit
 as_sent u =
     record {

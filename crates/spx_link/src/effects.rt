@@ -1,16 +1,16 @@
 //! What the calls of a link do to its numbers, its units, its state and the ends of its connection:
 //! laws of their functions.
 
-ghost use Rattle.std.specs.Prelude.{◌≡◌, ◌≢◌, ◌↔◌, ◌<◌, ◌++◌, ℕ, [], ◌∷◌, true, false, drop, IfSome, List};
+ghost use Rattle.std.specs.Prelude.{◌≡◌, ◌≢◌, ◌↔◌, ◌<◌, ◌++◌, ℕ, [], ◌∷◌, true, false, drop, IfSome, List, None};
 ghost use Rattle.ipx_wire.specs.declared.spx.SpxHeader.{SpxHeader};
 ghost use Rattle.ipx_wire.specs.declared.address.Socket.{Socket};
 ghost use Rattle.ipx_wire.specs.declared.address.Address.{Address};
 ghost use Rattle.spx_link.specs.declared.unit.Unit as units;
-ghost use Rattle.spx_link.specs.declared.received.Received.TheVariants.{Confirmed, Joined, Stranger};
+ghost use Rattle.spx_link.specs.declared.received.Received.TheVariants.{Confirmed, Joined, PeerEnded, Stranger};
 ghost use Rattle.spx_link.specs.declared.state.State.TheVariants.{Ending, Live, Lost, Opening};
-ghost use Rattle.spx_link.specs.Effects.{IfRequest, Joins, SameEnds, SamePeer, numbers_after_poll, numbers_after_received, numbers_after_take};
+ghost use Rattle.spx_link.specs.Effects.{HasEnds, IfRequest, Joins, SameEnds, SamePeer, numbers_after_poll, numbers_after_received, numbers_after_take};
 ghost use Rattle.spx_link.specs.Given.{IsGiven, StaysOrIsLost};
-ghost use Rattle.spx_link.specs.Limits.{end_stream};
+ghost use Rattle.spx_link.specs.Limits.{end_stream, no_id};
 ghost use Rattle.spx_link.specs.LinkView.{LinkView, numbers_of};
 ghost use Rattle.spx_link.specs.Marks.{acknowledged, room_after};
 ghost use Rattle.spx_link.specs.Offer.{accepted_from, dialed, end_link, first_of, lose_link, offer_link, owe_reply_link, take_link, the_end};
@@ -49,6 +49,11 @@ pub fn opening_gives_requests()
     ensures { (l : LinkView) (now : ℕ) → l.state ≡ Opening → IfRequest (poll_link l now).0 }
 {}
 
+/// A link that was given up sends nothing more.
+pub fn lost_gives_nothing()
+    ensures { (l : LinkView) (now : ℕ) → l.state ≡ Lost → (poll_link l now).0 ≡ None }
+{}
+
 /// A packet that is read changes the numbers by its acknowledge number and its allocation, and by
 /// the unit that is kept. The peer's id changes where a link joins alone, and it joins from Opening
 /// alone.
@@ -59,9 +64,11 @@ pub fn receive_changes()
     ensures joins { (l : LinkView) (h : SpxHeader) (body : List ℕ) → (receive_link l h body).0 ≡ Joined → Joins l (receive_link l h body).1 h }
 {}
 
-/// The unit of a packet is kept just where it is in turn, and is then held behind the others.
+/// The unit of a packet is kept just where it is in turn, and is then held behind the others. The
+/// answer tells whether it was the peer's end.
 pub fn receive_keeps_units()
     ensures kept { (l : LinkView) (h : SpxHeader) (body : List ℕ) → (is_kept (receive_link l h body).0 ≡ true) ↔ IsInTurn l h }
+    ensures end { (l : LinkView) (h : SpxHeader) (body : List ℕ) → ((receive_link l h body).0 ≡ PeerEnded) ↔ (IsInTurn l h × (h.stream ≡ end_stream)) }
     ensures held { (l : LinkView) (h : SpxHeader) (body : List ℕ) → is_kept (receive_link l h body).0 ≡ true → (receive_link l h body).1.held ≡ l.held ++ unit_in h body ∷ [] }
     ensures same { (l : LinkView) (h : SpxHeader) (body : List ℕ) → is_kept (receive_link l h body).0 ≡ false → (receive_link l h body).1.held ≡ l.held }
 {}
@@ -124,6 +131,15 @@ pub fn new_links_are_empty()
     ensures accepted { (own : ℕ) (s : Socket) (a : Address) (h : SpxHeader) (buffers now : ℕ) → IsEmpty (accepted_from own s a h buffers now) buffers (room_after 0 0 h.limit) }
 {}
 
+/// A link has the id, the socket and the address that it is given. One that asks is opening and
+/// knows no id of the peer. One that was asked has the id that the request came from, and is marked
+/// as accepted.
+pub fn new_links_have_their_ends()
+    ensures dialed { (own : ℕ) (s : Socket) (a : Address) (buffers now : ℕ) → HasEnds (dialed own s a buffers now) own s a no_id false }
+    ensures accepted { (own : ℕ) (s : Socket) (a : Address) (h : SpxHeader) (buffers now : ℕ) → HasEnds (accepted_from own s a h buffers now) own s a h.from_id true }
+    ensures asks { (own : ℕ) (s : Socket) (a : Address) (buffers now : ℕ) → (dialed own s a buffers now).state ≡ Opening }
+{}
+
 /// The other calls change neither a number nor an end.
 pub fn others_change_no_number()
     ensures offer { (l : LinkView) (us : List units.Unit) → (numbers_of (offer_link l us) ≡ numbers_of l) × SamePeer l (offer_link l us) }
@@ -132,10 +148,8 @@ pub fn others_change_no_number()
     ensures lose { (l : LinkView) → (numbers_of (lose_link l) ≡ numbers_of l) × SamePeer l (lose_link l) }
 {}
 
-/// An accepted link starts Live with a reply owed, and with the room that the request's allocation
-/// leaves.
+/// An accepted link starts Live with a reply owed.
 pub fn accepted_owes_its_reply()
     ensures state { (own : ℕ) (s : Socket) (a : Address) (h : SpxHeader) (buffers now : ℕ) → (accepted_from own s a h buffers now).state ≡ Live }
     ensures reply { (own : ℕ) (s : Socket) (a : Address) (h : SpxHeader) (buffers now : ℕ) → (accepted_from own s a h buffers now).owes_reply ≡ true }
-    ensures room { (own : ℕ) (s : Socket) (a : Address) (h : SpxHeader) (buffers now : ℕ) → (accepted_from own s a h buffers now).room ≡ room_after 0 0 h.limit }
 {}

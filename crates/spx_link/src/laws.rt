@@ -8,7 +8,7 @@
 
 ghost use Rattle.std.specs.Prelude.{ℕ, ◌≡◌, ◌≢◌, ◌↔◌, ◌+◌, ◌<◌, ◌≤◌, max};
 ghost use Rattle.spx_link.specs.Limits.{most_room};
-ghost use Rattle.spx_link.specs.Marks.{mark, distance, outstanding_after, room_after};
+ghost use Rattle.spx_link.specs.Marks.{acknowledged, mark, distance, outstanding_after, room_after};
 
 /// What marks say of positions.
 pub fn marks()
@@ -38,6 +38,10 @@ pub fn acknowledgement()
     ensures read { (bound base out sent ack before : ℕ) → bound ≤ 32768 → base + out ≡ sent → out ≤ bound → ack ≤ sent
         → before ≤ ack + bound → sent < before + 32768
         → max base ack + outstanding_after (mark sent) out (mark ack) ≡ sent }
+    // Those below it are taken away.
+    ensures taken { (bound base out sent ack before : ℕ) → bound ≤ 32768 → base + out ≡ sent → out ≤ bound → ack ≤ sent
+        → before ≤ ack + bound → sent < before + 32768
+        → base + acknowledged (mark sent) out (mark ack) ≡ max base ack }
 {}
 
 /// An allocation that allows the positions below `allows`, so that it carries the mark of the one

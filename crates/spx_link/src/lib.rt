@@ -23,10 +23,11 @@ mod tests;
 mod unit;
 
 pub use effects::{
-    accepted_owes_its_reply, new_links_are_empty, opening_gives_requests, others_change_no_number,
-    others_keep_units, poll_changes, poll_gives, poll_keeps_units, receive_changes,
-    receive_changes_states, receive_drops_units, receive_keeps_units, receive_reads_its_own,
-    take_changes, take_gives_the_first, units_are_sent_as_they_are, units_queue_in_order,
+    accepted_owes_its_reply, lost_gives_nothing, new_links_are_empty, new_links_have_their_ends,
+    opening_gives_requests, others_change_no_number, others_keep_units, poll_changes, poll_gives,
+    poll_keeps_units, receive_changes, receive_changes_states, receive_drops_units,
+    receive_keeps_units, receive_reads_its_own, take_changes, take_gives_the_first,
+    units_are_sent_as_they_are, units_queue_in_order,
 };
 pub use fault::{LinksFault, OfferFault};
 pub use laws::{acknowledgement, allocation, marks, sequence};
