@@ -5,7 +5,7 @@ use crate::inputs::{
     routes, routes_and_services,
 };
 use crate::plain::spx::MOST_DATA;
-use crate::scripts::{Script, bytes, disturbed, passing, silent, wrapping};
+use crate::scripts::{Script, all_altered, bytes, crowded, disturbed, passing, silent, wrapping};
 use crate::{ours, pairs, theirs};
 use std::rc::Rc;
 
@@ -223,8 +223,9 @@ pub fn check_answers() {
 /// Stops the program unless both pairs of links answer the same bytes to the same scripts, and
 /// unless these come to each kind of packet, answer and state.
 pub fn check_links() {
-    let scripts = [passing(PASSED, OFFERED[0], BUFFERS), wrapping()]
+    let scripts = [passing(PASSED, OFFERED[0], BUFFERS), wrapping(), crowded()]
         .into_iter()
+        .chain(all_altered())
         .chain(silent())
         .chain(disturbed(200));
     let (mut calls, mut count) = (0, 0);

@@ -101,6 +101,15 @@ impl Script {
         }
     }
 
+    /// Hands over the last packet of the other end, altered and then as it is.
+    fn hand_over_both(&mut self, to: usize, alter: &impl Fn(&mut Vec<u8>)) {
+        let packet = self.wires[1 - to].last().cloned().unwrap_or_default();
+        let mut other = packet.clone();
+        alter(&mut other);
+        self.hand_over(to, &other);
+        self.hand_over(to, &packet);
+    }
+
     fn offer(&mut self, end: usize, bytes: &[u8], unit: usize) {
         let answer = self.call(b'O', end, bytes, unit);
         self.offered[usize::from(answer[0])] += 1;
@@ -223,6 +232,55 @@ pub fn disturbed(count: u64) -> impl Iterator<Item = Script> {
         script.disturb(1500, &mut Chance(seed * 0x9e37_79b9));
         script
     })
+}
+
+/// A reply, a unit, an end and a confirmation, each altered before it comes as it is.
+fn altered(alter: impl Fn(&mut Vec<u8>)) -> Script {
+    let mut script = Script::new(ROOM, 2);
+    script.poll(FAR);
+    script.hand_over_both(NEAR, &alter);
+    script.offer(NEAR, b"ab", 1);
+    for _ in 0..2 {
+        script.poll(NEAR);
+        script.hand_over_both(FAR, &alter);
+    }
+    script.take(FAR);
+    script.poll(FAR);
+    script.hand_over_both(NEAR, &alter);
+    script.call(b'E', NEAR, &[], 0);
+    script.poll(NEAR);
+    script.hand_over_both(FAR, &alter);
+    script.take(FAR);
+    script.take(FAR);
+    script.poll(FAR);
+    script.hand_over_both(NEAR, &alter);
+    script
+}
+
+/// Each bit of a header altered, then ids that no link has, and data where there was none.
+pub fn all_altered() -> impl Iterator<Item = Script> {
+    let bits = (0..96).map(|bit| altered(|packet| packet[bit / 8] ^= 1 << (bit % 8)));
+    let ids = [0, 0xfe, 0xff]
+        .into_iter()
+        .map(|id| altered(|packet| packet[2..4].copy_from_slice(&[0xff, id])));
+    let data = [altered(|packet| packet.extend(b"data"))];
+    bits.chain(ids).chain(data)
+}
+
+/// An allocation over the most units that may be outstanding, and more units than that.
+pub fn crowded() -> Script {
+    let mut script = Script::new(ROOM, 8);
+    script.poll(FAR);
+    let mut reply = script.wires[FAR][0].clone();
+    reply[10] = 0x20;
+    script.hand_over(NEAR, &reply);
+    for _ in 0..3 {
+        script.offer(NEAR, &bytes(400), 1);
+    }
+    for _ in 0..1100 {
+        script.poll(NEAR);
+    }
+    script
 }
 
 /// Nobody answers: the request, a unit and a probe are sent ten times each, in turn in three scripts.

@@ -3,11 +3,12 @@
 use ipx_bench::rows::{all, check_answers, check_links, check_row};
 use std::time::{Duration, Instant};
 
-/// How long the calls of one repetition take at least, and how long the repetitions of a row. Many
-/// short repetitions find a moment at which nothing else runs.
+/// How long the calls of one repetition take at least, how long the repetitions of a row, and how
+/// often all rows are gone through. Many short repetitions, some of them much later than others,
+/// find a moment at which nothing else runs.
 const REPETITION: Duration = Duration::from_millis(2);
-const ROW: Duration = Duration::from_millis(2500);
-const MOST_REPETITIONS: u32 = 500;
+const ROW: Duration = Duration::from_millis(600);
+const TIMES: u32 = 4;
 
 type Loop = dyn Fn(u32) -> u64;
 
@@ -62,25 +63,35 @@ fn in_words(rate: f64) -> String {
     }
 }
 
+/// Runs both sides in turn.
+fn repeat_both(ours: &mut Side, theirs: &mut Side) {
+    let start = Instant::now();
+    while start.elapsed() < ROW {
+        ours.repeat();
+        theirs.repeat();
+    }
+}
+
 fn main() {
     check_answers();
     check_links();
     println!();
+    let rows = all();
+    rows.iter().for_each(check_row);
+    let mut sides = rows
+        .iter()
+        .map(|row| (Side::new(&*row.ours), Side::new(&*row.theirs)))
+        .collect::<Vec<_>>();
+    for _ in 0..TIMES {
+        for (ours, theirs) in &mut sides {
+            repeat_both(ours, theirs);
+        }
+    }
     println!(
         "{:<36} {:>12} {:>12} {:>12} {:>12} {:>8}",
         "calls a second", "ours", "plain Rust", "ours ns", "plain ns", "ratio"
     );
-    for row in all() {
-        check_row(&row);
-        let start = Instant::now();
-        let (mut ours, mut theirs) = (Side::new(&*row.ours), Side::new(&*row.theirs));
-        for _ in 0..MOST_REPETITIONS {
-            ours.repeat();
-            theirs.repeat();
-            if start.elapsed() > ROW {
-                break;
-            }
-        }
+    for (row, (ours, theirs)) in rows.iter().zip(&sides) {
         let calls = f64::from(row.calls);
         let (ours, theirs) = (ours.seconds() / calls, theirs.seconds() / calls);
         println!(
