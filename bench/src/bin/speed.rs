@@ -1,4 +1,4 @@
-//! How many calls a second both routers make.
+//! How many calls a second both sides make: the proved router and links, and the plain ones.
 
 use ipx_bench::rows::{all, check_answers, check_links, check_row};
 use std::time::{Duration, Instant};
@@ -19,7 +19,7 @@ fn time(calls: &Loop, rounds: u32) -> Duration {
 }
 
 /// One side of a row: its rounds, and the shortest times of a loop of no rounds, which only makes
-/// the router, and of all rounds.
+/// the router or the pair of links, and of all rounds.
 struct Side<'a> {
     calls: &'a Loop,
     rounds: u32,
