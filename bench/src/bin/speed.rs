@@ -1,6 +1,6 @@
 //! How many calls a second both sides make: the proved router and links, and the plain ones.
 
-use ipx_bench::rows::{all, check_answers, check_links, check_row};
+use ipx_bench::rows::{Row, all, check_answers, check_links, check_row};
 use std::time::{Duration, Instant};
 
 /// How long the calls of one repetition take at least, how long the repetitions of a row, and how
@@ -63,13 +63,34 @@ fn in_words(rate: f64) -> String {
     }
 }
 
-/// Runs both sides in turn.
+/// Runs both sides of a row in turn.
 fn repeat_both(ours: &mut Side, theirs: &mut Side) {
     let start = Instant::now();
     while start.elapsed() < ROW {
         ours.repeat();
         theirs.repeat();
     }
+}
+
+/// Goes through all rows.
+fn repeat_all(sides: &mut [(Side, Side)]) {
+    for (ours, theirs) in sides {
+        repeat_both(ours, theirs);
+    }
+}
+
+fn print(row: &Row, ours: &Side, theirs: &Side) {
+    let calls = f64::from(row.calls);
+    let (ours, theirs) = (ours.seconds() / calls, theirs.seconds() / calls);
+    println!(
+        "{:<36} {:>12} {:>12} {:>12.1} {:>12.1} {:>8.3}",
+        row.name,
+        in_words(1.0 / ours),
+        in_words(1.0 / theirs),
+        ours * 1e9,
+        theirs * 1e9,
+        theirs / ours
+    );
 }
 
 fn main() {
@@ -82,26 +103,12 @@ fn main() {
         .iter()
         .map(|row| (Side::new(&*row.ours), Side::new(&*row.theirs)))
         .collect::<Vec<_>>();
-    for _ in 0..TIMES {
-        for (ours, theirs) in &mut sides {
-            repeat_both(ours, theirs);
-        }
-    }
+    (0..TIMES).for_each(|_| repeat_all(&mut sides));
     println!(
         "{:<36} {:>12} {:>12} {:>12} {:>12} {:>8}",
         "calls a second", "ours", "plain Rust", "ours ns", "plain ns", "ratio"
     );
     for (row, (ours, theirs)) in rows.iter().zip(&sides) {
-        let calls = f64::from(row.calls);
-        let (ours, theirs) = (ours.seconds() / calls, theirs.seconds() / calls);
-        println!(
-            "{:<36} {:>12} {:>12} {:>12.1} {:>12.1} {:>8.3}",
-            row.name,
-            in_words(1.0 / ours),
-            in_words(1.0 / theirs),
-            ours * 1e9,
-            theirs * 1e9,
-            theirs / ours
-        );
+        print(row, ours, theirs);
     }
 }
