@@ -12,6 +12,9 @@ pub const FIRST_LEARNED: u32 = 0x1000;
 /// How many packets are handed over in turn.
 pub const VARIETY: usize = 64;
 
+/// How many datagrams are refused in turn.
+const REFUSED: u32 = 1024;
+
 /// Records of one size, one behind the other.
 pub struct Records {
     pub bytes: Vec<u8>,
@@ -103,28 +106,36 @@ pub fn packets(size: usize, network: impl Fn(u32) -> u32) -> Records {
     Records::of(LEAD + size, (0..VARIETY as u32).map(one))
 }
 
-/// Datagrams of a size over 1,500 that are no packets, for one cause or another.
+/// A step of a linear congruential rule, whose upper bits look like chance.
+fn stepped(number: u32) -> u32 {
+    number.wrapping_mul(1_664_525).wrapping_add(1_013_904_223)
+}
+
+/// Datagrams of a size over 1,500 that are no packets, for one cause of four. The causes follow no
+/// short cycle, which a processor's branch predictor would learn.
 pub fn refused(size: usize) -> Records {
     let end = || End {
         network: 0x22,
         node: node(5),
         socket: 0x4000,
     };
+    let mut chance = 0;
     let one = |k: u32| {
+        chance = stepped(chance);
         let mut bytes = datagram(0, 4, end(), end(), &[]);
-        let length = match k * 7 % 16 % 4 {
+        let length = match chance >> 30 {
             0 => size as u32 + 1 + k,
             1 => k % 30,
             2 => 1501 + k % (size as u32 - 1500),
             _ => {
-                bytes[1] = k as u8;
+                bytes[1] = (k % 255) as u8;
                 30
             }
         };
         bytes[2..4].copy_from_slice(&(length as u16).to_be_bytes());
         (1, bytes)
     };
-    Records::of(LEAD + size, (0..VARIETY as u32).map(one))
+    Records::of(LEAD + size, (0..REFUSED).map(one))
 }
 
 /// A control packet by broadcast from the neighbour on a port.

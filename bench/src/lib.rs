@@ -1,4 +1,4 @@
-//! The proved router beside a plain one: the same inputs, the same loops, the same answers.
+//! The proved router and links beside plain ones: the same inputs, loops and answers.
 
 pub mod inputs;
 pub mod ours;

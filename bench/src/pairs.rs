@@ -97,10 +97,10 @@ fn unit_digest(unit: &Unit) -> u64 {
     mixed(kind, ends_digest(unit.body.as_slice()))
 }
 
-fn cut(bytes: &[u8], size: usize) -> Vec<Unit> {
+fn cut(bytes: &[u8], size: usize, stream: u8, last: bool) -> Vec<Unit> {
     let units = bytes.chunks(size).map(|piece| Unit {
-        stream: 0,
-        last: false,
+        stream,
+        last,
         body: Fragment::new(piece),
     });
     units.collect()
@@ -147,9 +147,17 @@ fn pump(pair: &mut Pair, turns: usize, now: u64) -> u64 {
 }
 
 fn pass_part(pair: &mut Pair, bytes: &[u8], now: u64) -> Option<u64> {
-    let units = cut(bytes, MOST_DATA);
+    let units = cut(bytes, MOST_DATA, 0, false);
     pair.near.link()?.offer(units).ok()?;
     Some(pump(pair, bytes.len(), now))
+}
+
+fn pass_all(pair: &mut Pair, bytes: &[u8], offered: usize, now: u64) -> u64 {
+    let mut digest = 0;
+    for part in bytes.chunks(offered) {
+        digest = mixed(digest, pass_part(pair, part, now).unwrap_or(3));
+    }
+    digest
 }
 
 #[inline(never)]
@@ -158,11 +166,9 @@ pub fn pass(bytes: &[u8], offered: usize, buffers: u16, rounds: u32) -> u64 {
         return 0;
     };
     let mut digest = pump(&mut pair, 1, 0);
-    for _ in 0..rounds {
-        for part in bytes.chunks(offered) {
-            let passed = pass_part(&mut pair, part, 0).unwrap_or(3);
-            digest = mixed(digest, passed);
-        }
+    for round in 0..rounds {
+        let passed = pass_all(&mut pair, bytes, offered, u64::from(round));
+        digest = mixed(digest, passed);
     }
     digest
 }
@@ -171,6 +177,9 @@ pub fn pass(bytes: &[u8], offered: usize, buffers: u16, rounds: u32) -> u64 {
 
 /// How many bytes stand before the bytes of an event.
 pub const LEAD: usize = 16;
+
+/// The last stream that is a user's own.
+pub const LAST_STREAM: u8 = 0xfd;
 
 fn write_bytes(bytes: &[u8], out: &mut Vec<u8>) {
     out.extend((bytes.len() as u64).to_be_bytes());
@@ -232,10 +241,10 @@ fn write_numbers(link: &Link, out: &mut Vec<u8>) {
 /// Makes the call of an event, and writes what it answered and the numbers of the link.
 pub fn play(pair: &mut Pair, record: &[u8], out: &mut Vec<u8>) -> Option<()> {
     let (lead, rest) = record.split_first_chunk::<LEAD>()?;
-    let [call, which, moment @ .., a, b, c, d, _, _] = *lead;
+    let [call, which, moment @ .., a, b, c, d, stream, mark] = *lead;
     let now = u64::from_be_bytes(moment);
     let bytes = &rest[..usize::from(u16::from_be_bytes([a, b])).min(rest.len())];
-    let size = u16::from_be_bytes([c, d]).max(1);
+    let size = usize::from(u16::from_be_bytes([c, d]).max(1));
     let end = match which {
         0 => &mut pair.near,
         _ => &mut pair.far,
@@ -243,7 +252,10 @@ pub fn play(pair: &mut Pair, record: &[u8], out: &mut Vec<u8>) -> Option<()> {
     match call {
         b'P' => play_poll(end, now, out),
         b'D' => play_packet(end, bytes, out)?,
-        b'O' => write_offered(end.link()?.offer(cut(bytes, size.into())), out),
+        b'O' => {
+            let units = cut(bytes, size, stream.min(LAST_STREAM), mark != 0);
+            write_offered(end.link()?.offer(units), out);
+        }
         b'T' => {
             write_unit(end.link()?.peek(), out);
             write_unit(end.link()?.take().as_ref(), out);

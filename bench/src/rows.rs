@@ -1,12 +1,13 @@
-//! What is measured: calls of both routers on the same inputs.
+//! What is measured: calls of both routers and of both pairs of links on the same inputs.
 
 use crate::inputs::{
     FIRST_LEARNED, LEAD, PORT_NETWORKS, Records, asking, fifty_of, others, packets, refused,
     routes, routes_and_services,
 };
 use crate::plain::spx::MOST_DATA;
-use crate::scripts::{Script, bytes, disturbed, passing, silent, wrapping};
+use crate::scripts::{Met, Script, bytes, scripts};
 use crate::{ours, pairs, theirs};
+use std::hint::black_box;
 use std::rc::Rc;
 
 /// A call that is measured, on both sides.
@@ -139,7 +140,8 @@ fn tell() -> Row {
     }
 }
 
-/// Bytes that pass over a pair of links that stands. A call is a unit.
+/// Bytes that pass over a pair of links that stands. A call is a unit. Neither side's compiler
+/// knows how many are offered and how many buffers there are.
 fn pass(offered: usize) -> Row {
     let data = Rc::new(bytes(PASSED));
     let same = Rc::clone(&data);
@@ -147,8 +149,12 @@ fn pass(offered: usize) -> Row {
     Row {
         name: format!("SPX units, {BUFFERS} buffers, {offered} offered"),
         calls: PASSED.div_ceil(MOST_DATA) as u32,
-        ours: Box::new(move |rounds| ours::pass(&data, part, BUFFERS, rounds)),
-        theirs: Box::new(move |rounds| pairs::pass(&same, part, BUFFERS, rounds)),
+        ours: Box::new(move |rounds| {
+            ours::pass(&data, black_box(part), black_box(BUFFERS), rounds)
+        }),
+        theirs: Box::new(move |rounds| {
+            pairs::pass(&same, black_box(part), black_box(BUFFERS), rounds)
+        }),
     }
 }
 
@@ -220,54 +226,34 @@ pub fn check_answers() {
     }
 }
 
+/// Stops the program unless both pairs of links answer to a script what was answered when it was
+/// made.
+fn check_script(script: &Script) {
+    let Script {
+        events,
+        size,
+        buffers,
+        answers,
+        ..
+    } = script;
+    let ours = ours::played(events, *size, *buffers);
+    let theirs = pairs::played(events, *size, *buffers).unwrap_or_default();
+    assert!(theirs == *answers, "a script is not played as it was made");
+    assert!(ours == theirs, "the answers of links differ");
+}
+
 /// Stops the program unless both pairs of links answer the same bytes to the same scripts, and
-/// unless these come to each kind of packet, answer and state.
+/// unless these come to each kind of packet, answer, state and unit.
 pub fn check_links() {
-    let scripts = [passing(PASSED, OFFERED[0], BUFFERS), wrapping()]
-        .into_iter()
-        .chain(silent())
-        .chain(disturbed(200));
     let (mut calls, mut count) = (0, 0);
-    let mut seen: [Vec<u32>; 4] = Default::default();
-    for script in scripts {
-        let Script {
-            events,
-            size,
-            buffers,
-            answers,
-            ..
-        } = &script;
-        let ours = ours::played(events, *size, *buffers);
-        let theirs = pairs::played(events, *size, *buffers).unwrap_or_default();
-        assert!(theirs == *answers, "a script is not played as it was made");
-        assert!(ours == theirs, "the answers of links differ");
-        calls += events.len() / size;
-        count += answers.len();
-        let tallies: [&[u32]; 4] = [
-            &script.sent,
-            &script.received,
-            &script.offered,
-            &script.states,
-        ];
-        for (sum, tally) in seen.iter_mut().zip(tallies) {
-            sum.resize(tally.len(), 0);
-            sum.iter_mut()
-                .zip(tally)
-                .for_each(|(all, more)| *all += more);
-        }
+    let mut met = Met::default();
+    for script in scripts(PASSED, OFFERED[0], BUFFERS) {
+        check_script(&script);
+        calls += script.events.len() / script.size;
+        count += script.answers.len();
+        met.add(&script.met);
     }
-    let [sent, received, offered, states] = &seen;
-    let met = |tally: &[u32]| tally.iter().all(|times| *times > 0);
-    assert!(met(sent), "a kind of packet was not sent: {sent:?}");
-    assert!(
-        met(&received[..9]) && met(&received[16..]),
-        "not answered: {received:?}"
-    );
-    assert!(
-        met(&[offered[0], offered[25], offered[26]]),
-        "not refused: {offered:?}"
-    );
-    assert!(met(states), "a state was not met: {states:?}");
+    met.check();
     println!("same answers: links, {calls} calls, {count} bytes");
 }
 

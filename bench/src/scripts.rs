@@ -1,9 +1,16 @@
-//! Scripts of calls of a pair of links, made by a fixed rule.
+//! Scripts of calls of a pair of links.
 //!
 //! A script is made while a plain pair plays it, so that packets which were sent can be handed over
 //! later, again, altered or never.
 
-use crate::pairs::{LEAD, Pair, play};
+mod making;
+mod met;
+
+pub use making::{bytes, scripts};
+pub use met::Met;
+
+use crate::pairs::{LAST_STREAM, LEAD, Pair, play};
+use crate::plain::link::State;
 use crate::plain::spx::{MOST_DATA, ROOM};
 
 /// A script of events of one size for a new pair with so many buffers, and what the plain pair
@@ -13,16 +20,31 @@ pub struct Script {
     pub size: usize,
     pub buffers: u16,
     pub answers: Vec<u8>,
-    /// How often each kind of packet was sent, and each number answered.
-    pub sent: [u32; 7],
-    pub received: [u32; 18],
-    pub offered: [u32; 27],
-    pub states: [u32; 6],
+    pub met: Met,
     pair: Pair,
     now: u64,
     /// The packets of the near end and of the far one, and how many of them came or were lost.
     wires: [Vec<Vec<u8>>; 2],
     passed: [usize; 2],
+}
+
+/// How bytes that are offered become units: of which size, on which stream, and with the mark or
+/// without.
+#[derive(Clone, Copy, Default)]
+struct Cut {
+    size: usize,
+    stream: u8,
+    last: bool,
+}
+
+impl Cut {
+    /// Units of a size on stream 0, without the mark.
+    fn units(size: usize) -> Self {
+        Cut {
+            size,
+            ..Cut::default()
+        }
+    }
 }
 
 const NEAR: usize = 0;
@@ -48,10 +70,7 @@ impl Script {
             size: LEAD + room,
             buffers,
             answers: Vec::new(),
-            sent: [0; 7],
-            received: [0; 18],
-            offered: [0; 27],
-            states: [0; 6],
+            met: Met::default(),
             pair: Pair::new(buffers).expect("a pair of links"),
             now: 0,
             wires: [Vec::new(), Vec::new()],
@@ -60,36 +79,36 @@ impl Script {
     }
 
     /// Adds an event, plays it, and gives what was answered.
-    fn call(&mut self, call: u8, end: usize, bytes: &[u8], unit: usize) -> Vec<u8> {
+    fn call(&mut self, call: u8, end: usize, bytes: &[u8], cut: Cut) -> Vec<u8> {
         let start = self.events.len();
         self.events.extend([call, end as u8]);
         self.events.extend(self.now.to_be_bytes());
         self.events.extend((bytes.len() as u16).to_be_bytes());
-        self.events.extend((unit as u16).to_be_bytes());
-        self.events.extend([0, 0]);
+        self.events.extend((cut.size as u16).to_be_bytes());
+        self.events.extend([cut.stream, u8::from(cut.last)]);
         self.events.extend(bytes);
         self.events.resize(start + self.size, 0);
         let mut answer = Vec::new();
         play(&mut self.pair, &self.events[start..], &mut answer).expect("a link at each end");
-        self.states[usize::from(answer[answer.len() - 13])] += 1;
+        self.met.states[usize::from(answer[answer.len() - 13])] += 1;
         self.answers.extend(&answer);
         answer
     }
 
     /// Whether a packet was sent.
     fn poll(&mut self, end: usize) -> bool {
-        let answer = self.call(b'P', end, &[], 0);
+        let answer = self.call(b'P', end, &[], Cut::default());
         if answer[0] == 0 {
             return false;
         }
-        self.sent[usize::from(answer[1])] += 1;
+        self.met.sent[usize::from(answer[1])] += 1;
         self.wires[end].push(answer[10..answer.len() - 13].to_vec());
         true
     }
 
     fn hand_over(&mut self, to: usize, packet: &[u8]) {
-        let answer = self.call(b'D', to, packet, 0);
-        self.received[usize::from(answer[0])] += 1;
+        let answer = self.call(b'D', to, packet, Cut::default());
+        self.met.received[usize::from(answer[0])] += 1;
     }
 
     /// Hands over the next packet for an end, if there is one.
@@ -101,14 +120,49 @@ impl Script {
         }
     }
 
-    fn offer(&mut self, end: usize, bytes: &[u8], unit: usize) {
-        let answer = self.call(b'O', end, bytes, unit);
-        self.offered[usize::from(answer[0])] += 1;
+    /// Hands over the last packet of the other end, altered and then as it is.
+    fn hand_over_both(&mut self, to: usize, alter: &impl Fn(&mut Vec<u8>)) {
+        let packet = self.wires[1 - to].last().cloned().unwrap_or_default();
+        let mut other = packet.clone();
+        alter(&mut other);
+        self.hand_over(to, &other);
+        self.hand_over(to, &packet);
+    }
+
+    fn offer(&mut self, end: usize, bytes: &[u8], cut: Cut) {
+        let answer = self.call(b'O', end, bytes, cut);
+        self.met.offered[usize::from(answer[0])] += 1;
+    }
+
+    /// Asks for the end of the connection.
+    fn end(&mut self, end: usize) {
+        let answer = self.call(b'E', end, &[], Cut::default());
+        self.met.offered[usize::from(answer[0])] += 1;
     }
 
     /// Whether a unit was there.
     fn take(&mut self, end: usize) -> bool {
-        self.call(b'T', end, &[], 0)[0] == 1
+        let answer = self.call(b'T', end, &[], Cut::default());
+        let [is_there, stream, mark, ..] = answer[..] else {
+            return false;
+        };
+        if is_there == 1 {
+            self.met.add_unit(stream, mark);
+        }
+        is_there == 1
+    }
+
+    /// Whether units were there.
+    fn take_all(&mut self, end: usize) -> bool {
+        let mut came = false;
+        while self.take(end) {
+            came = true;
+        }
+        came
+    }
+
+    fn poll_all(&mut self, end: usize) {
+        while self.poll(end) {}
     }
 
     fn carry_all(&mut self, from: usize) {
@@ -117,24 +171,32 @@ impl Script {
         }
     }
 
-    /// The calls of the timed loop, but that units are offered one by one.
-    fn pass(&mut self, bytes: &[u8], unit: usize, offered: usize) {
-        self.carry_all(FAR);
-        for part in bytes.chunks(unit * offered) {
-            part.chunks(unit)
-                .for_each(|bytes| self.offer(NEAR, bytes, unit));
-            loop {
-                self.carry_all(NEAR);
-                let mut came = false;
-                while self.take(FAR) {
-                    came = true;
-                }
-                self.carry_all(FAR);
-                if !came {
-                    break;
-                }
-            }
+    /// Offers bytes to the near end, so many by each call.
+    fn offer_each(&mut self, bytes: &[u8], count: usize, cut: Cut) {
+        for part in bytes.chunks(count) {
+            self.offer(NEAR, part, cut);
         }
+    }
+
+    /// Carries packets to and fro, and takes what came. Whether something came.
+    fn turn(&mut self) -> bool {
+        self.carry_all(NEAR);
+        let came = self.take_all(FAR);
+        self.carry_all(FAR);
+        came
+    }
+
+    /// The calls of the timed loop, but that units are offered one by one.
+    fn pass(&mut self, bytes: &[u8], cut: Cut, offered: usize) {
+        self.carry_all(FAR);
+        for part in bytes.chunks(cut.size * offered) {
+            self.offer_each(part, cut.size, cut);
+            self.turn_while_units_come();
+        }
+    }
+
+    fn turn_while_units_come(&mut self) {
+        while self.turn() {}
     }
 
     /// A packet of another end, in a byte or in its length not as it was sent.
@@ -157,91 +219,56 @@ impl Script {
         let bytes = (0..count)
             .map(|_| chance.below(256) as u8)
             .collect::<Vec<_>>();
-        let unit = 1 + chance.below(MOST_DATA.min(self.size - LEAD - 12));
-        self.offer(end, &bytes, unit.max(count / 8));
+        let most = MOST_DATA.min(self.size - LEAD - 12);
+        let cut = Cut {
+            size: (1 + chance.below(most)).max(count / 8),
+            stream: [0, 1, 0x7f, LAST_STREAM][chance.below(4)],
+            last: chance.below(3) == 0,
+        };
+        self.offer(end, &bytes, cut);
     }
 
-    /// Calls by chance, over wires that lose, repeat and alter packets.
+    /// A call by chance, over wires that lose, repeat and alter packets.
+    fn step(&mut self, end: usize, chance: &mut Chance) {
+        match chance.below(400) {
+            0..130 => _ = self.poll(end),
+            130..240 => self.hand_over_next(end),
+            240..270 => {
+                let most = self.wires[end].len();
+                self.passed[end] = most.min(self.passed[end] + 1);
+            }
+            270..290 if !self.wires[1 - end].is_empty() => {
+                let packets = &self.wires[1 - end];
+                let packet = packets[chance.below(packets.len())].clone();
+                self.hand_over(end, &packet);
+            }
+            270..300 => self.hand_over_altered(end, chance),
+            300..320 => self.offer_some(end, chance),
+            320..360 => _ = self.take(end),
+            360..380 => self.now += chance.below(300) as u64,
+            380..394 => self.now += 500,
+            394 => self.now = self.now.saturating_sub(chance.below(2000) as u64),
+            395 | 396 => _ = self.call(b'R', end, &[], Cut::default()),
+            397 | 398 => self.end(end),
+            _ if chance.below(8) == 0 => _ = self.call(b'L', end, &[], Cut::default()),
+            _ => {}
+        }
+    }
+
     fn disturb(&mut self, steps: usize, chance: &mut Chance) {
         for _ in 0..steps {
             let end = chance.below(2);
-            match chance.below(400) {
-                0..130 => _ = self.poll(end),
-                130..240 => self.hand_over_next(end),
-                240..270 => {
-                    let most = self.wires[end].len();
-                    self.passed[end] = most.min(self.passed[end] + 1);
-                }
-                270..290 if !self.wires[1 - end].is_empty() => {
-                    let packets = &self.wires[1 - end];
-                    let packet = packets[chance.below(packets.len())].clone();
-                    self.hand_over(end, &packet);
-                }
-                270..300 => self.hand_over_altered(end, chance),
-                300..320 => self.offer_some(end, chance),
-                320..360 => _ = self.take(end),
-                360..380 => self.now += chance.below(300) as u64,
-                380..394 => self.now += 500,
-                394 => self.now = self.now.saturating_sub(chance.below(2000) as u64),
-                395 | 396 => _ = self.call(b'R', end, &[], 0),
-                397 | 398 => {
-                    let answer = self.call(b'E', end, &[], 0);
-                    self.offered[usize::from(answer[0])] += 1;
-                }
-                _ if chance.below(8) == 0 => _ = self.call(b'L', end, &[], 0),
-                _ => {}
-            }
+            self.step(end, chance);
         }
     }
-}
 
-/// Bytes of a fixed rule.
-pub fn bytes(count: usize) -> Vec<u8> {
-    (0..count).map(|i| (i * 7 % 251) as u8).collect()
-}
-
-/// Bytes pass over wires that lose nothing.
-pub fn passing(count: usize, offered: usize, buffers: u16) -> Script {
-    let mut script = Script::new(ROOM, buffers);
-    script.pass(&bytes(count), MOST_DATA, offered);
-    script
-}
-
-/// Units of one byte pass until their numbers are about to wrap, and then wires lose packets.
-pub fn wrapping() -> Script {
-    let mut script = Script::new(40, 8);
-    script.pass(&bytes(65_500), 1, 8);
-    script.disturb(4000, &mut Chance(1));
-    script
-}
-
-/// Calls by chance, with a seed for each script.
-pub fn disturbed(count: u64) -> impl Iterator<Item = Script> {
-    (1..=count).map(|seed| {
-        let buffers = [1, 2, 8, 1024][seed as usize % 4];
-        let mut script = Script::new(ROOM + 4, buffers);
-        script.disturb(1500, &mut Chance(seed * 0x9e37_79b9));
-        script
-    })
-}
-
-/// Nobody answers: the request, a unit and a probe are sent ten times each, in turn in three scripts.
-pub fn silent() -> impl Iterator<Item = Script> {
-    [0, 1, 2].into_iter().map(|which| {
-        let mut script = Script::new(ROOM, 1);
-        if which > 0 {
-            script.carry_all(FAR);
-            script.offer(NEAR, b"abc", 1);
-            script.poll(NEAR);
-        }
-        if which > 1 {
-            script.hand_over_next(FAR);
-            script.carry_all(FAR);
-        }
+    /// Time passes and nobody answers, until the near end gives the connection up.
+    fn wait_in_vain(&mut self) {
         for _ in 0..24 {
-            script.now += 250;
-            script.poll(NEAR);
+            self.now += 250;
+            self.poll(NEAR);
         }
-        script
-    })
+        let state = self.pair.near.link().map(|link| link.state());
+        assert_eq!(state, Some(State::Lost), "the near end did not give up");
+    }
 }

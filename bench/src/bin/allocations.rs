@@ -1,4 +1,4 @@
-//! How often a call of each router takes memory, and how much.
+//! How often a call of each side takes memory, and how much.
 //!
 //! The linker has each call of the C allocator go through the functions here (`--wrap`), on both
 //! sides alike. Timing is done by another program, which counts nothing.
@@ -79,7 +79,7 @@ fn counted(calls: &dyn Fn(u32) -> u64, rounds: u32) -> (f64, f64) {
     ((after.0 - before.0) as f64, (after.1 - before.1) as f64)
 }
 
-/// Allocations and bytes a call, without those that make the router.
+/// Allocations and bytes a call, without those that make the router or the pair of links.
 fn a_call(calls: &dyn Fn(u32) -> u64, a_round: u32) -> (f64, f64) {
     const ROUNDS: u32 = 2;
     let (none, all) = (counted(calls, 0), counted(calls, ROUNDS));

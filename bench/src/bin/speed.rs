@@ -1,13 +1,14 @@
-//! How many calls a second both routers make.
+//! How many calls a second both sides make: the proved router and links, and the plain ones.
 
-use ipx_bench::rows::{all, check_answers, check_links, check_row};
+use ipx_bench::rows::{Row, all, check_answers, check_links, check_row};
 use std::time::{Duration, Instant};
 
-/// How long the calls of one repetition take at least, and how long the repetitions of a row. Many
-/// short repetitions find a moment at which nothing else runs.
+/// How long the calls of one repetition take at least, how long the repetitions of a row, and how
+/// often all rows are gone through. Many short repetitions, some of them much later than others,
+/// find a moment at which nothing else runs.
 const REPETITION: Duration = Duration::from_millis(2);
-const ROW: Duration = Duration::from_millis(2500);
-const MOST_REPETITIONS: u32 = 500;
+const ROW: Duration = Duration::from_millis(600);
+const TIMES: u32 = 4;
 
 type Loop = dyn Fn(u32) -> u64;
 
@@ -18,7 +19,7 @@ fn time(calls: &Loop, rounds: u32) -> Duration {
 }
 
 /// One side of a row: its rounds, and the shortest times of a loop of no rounds, which only makes
-/// the router, and of all rounds.
+/// the router or the pair of links, and of all rounds.
 struct Side<'a> {
     calls: &'a Loop,
     rounds: u32,
@@ -62,35 +63,52 @@ fn in_words(rate: f64) -> String {
     }
 }
 
+/// Runs both sides of a row in turn.
+fn repeat_both(ours: &mut Side, theirs: &mut Side) {
+    let start = Instant::now();
+    while start.elapsed() < ROW {
+        ours.repeat();
+        theirs.repeat();
+    }
+}
+
+/// Goes through all rows.
+fn repeat_all(sides: &mut [(Side, Side)]) {
+    for (ours, theirs) in sides {
+        repeat_both(ours, theirs);
+    }
+}
+
+fn print(row: &Row, ours: &Side, theirs: &Side) {
+    let calls = f64::from(row.calls);
+    let (ours, theirs) = (ours.seconds() / calls, theirs.seconds() / calls);
+    println!(
+        "{:<36} {:>12} {:>12} {:>12.1} {:>12.1} {:>8.3}",
+        row.name,
+        in_words(1.0 / ours),
+        in_words(1.0 / theirs),
+        ours * 1e9,
+        theirs * 1e9,
+        theirs / ours
+    );
+}
+
 fn main() {
     check_answers();
     check_links();
     println!();
+    let rows = all();
+    rows.iter().for_each(check_row);
+    let mut sides = rows
+        .iter()
+        .map(|row| (Side::new(&*row.ours), Side::new(&*row.theirs)))
+        .collect::<Vec<_>>();
+    (0..TIMES).for_each(|_| repeat_all(&mut sides));
     println!(
         "{:<36} {:>12} {:>12} {:>12} {:>12} {:>8}",
         "calls a second", "ours", "plain Rust", "ours ns", "plain ns", "ratio"
     );
-    for row in all() {
-        check_row(&row);
-        let start = Instant::now();
-        let (mut ours, mut theirs) = (Side::new(&*row.ours), Side::new(&*row.theirs));
-        for _ in 0..MOST_REPETITIONS {
-            ours.repeat();
-            theirs.repeat();
-            if start.elapsed() > ROW {
-                break;
-            }
-        }
-        let calls = f64::from(row.calls);
-        let (ours, theirs) = (ours.seconds() / calls, theirs.seconds() / calls);
-        println!(
-            "{:<36} {:>12} {:>12} {:>12.1} {:>12.1} {:>8.3}",
-            row.name,
-            in_words(1.0 / ours),
-            in_words(1.0 / theirs),
-            ours * 1e9,
-            theirs * 1e9,
-            theirs / ours
-        );
+    for (row, (ours, theirs)) in rows.iter().zip(&sides) {
+        print(row, ours, theirs);
     }
 }

@@ -1,5 +1,9 @@
-//! A plain, safe router and a plain, safe link of the same contracts, to be measured beside the
+//! A plain, safe router of the same contracts, and plain, safe links, to be measured beside the
 //! proved ones.
+//!
+//! Of the calls of the proved links these have, of the same contracts, the ones that are measured or
+//! compared: dial, accept, get, offer, end, poll, receive, peek, take, owe_reply and lose. They lack
+//! those by which a host finds its links and lets go of them: find, accepted, after and release.
 
 pub mod control;
 pub mod link;

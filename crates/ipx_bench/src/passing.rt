@@ -14,26 +14,29 @@ use std::alloc::Global;
 const MOST_DATA: usize = 534;
 
 /// The unit of so many bytes. What is past its room is left out.
-fn unit_of(piece: &[u8]) -> Unit
-    ensures { result.stream ≡ 0 }
+fn unit_of(piece: &[u8], stream: u8, last: bool) -> Unit
+    ensures { result.stream ≡ stream }
 {
     let mut body = Fragment::new();
     let _ = body.try_extend_from_slice(piece);
-    Unit {
-        stream: 0,
-        last: false,
-        body,
-    }
+    Unit { stream, last, body }
 }
 
-/// Bytes, cut into units of a size.
-pub fn cut(alloc: Global, bytes: &[u8], size: usize) -> Result<Vec<Unit>, OutOfMemory>
-    requires { 1 ≤ size }
+/// Bytes, cut into units of a size, each of this stream and with this mark.
+pub fn cut(
+    alloc: Global,
+    bytes: &[u8],
+    size: usize,
+    stream: u8,
+    last: bool,
+) -> Result<Vec<Unit>, OutOfMemory>
+    requires size { 1 ≤ size }
+    requires stream { stream < end_stream }
     ensures { IfOk result (λ v. All (λ u. u.stream < end_stream) v.items) }
 {
     let mut units = Vec::with_capacity(alloc, bytes.len().div_ceil(size))?;
     for piece in bytes.chunks(size) {
-        units.push(unit_of(piece))?;
+        units.push(unit_of(piece, stream, last))?;
     }
     Ok(units)
 }
@@ -120,15 +123,30 @@ fn pass(alloc: Global, pair: &mut Pair, bytes: &[u8], now: u64) -> Result<u64, O
     ensures near { IsLive pair.new.near.links pair.new.near.id }
     ensures far { IsLive pair.new.far.links pair.new.far.id }
 {
-    let units = cut(alloc, bytes, MOST_DATA)?;
+    let units = cut(alloc, bytes, MOST_DATA, 0, false)?;
     match pair.near.links.offer(alloc, pair.near.id, units) {
         Ok(()) => Ok(pump(alloc, pair, bytes.len(), now)),
         Err(_) => Err(OutOfMemory),
     }
 }
 
-/// Passes bytes from one end of a connection to the other, again and again. So many of them are
-/// offered by one call.
+/// Passes bytes, of which so many are offered by one call. Answers the digest of what passed.
+fn pass_all(alloc: Global, pair: &mut Pair, bytes: &[u8], offered: usize, now: u64) -> u64
+    requires near { IsLive pair.old.near.links pair.old.near.id }
+    requires far { IsLive pair.old.far.links pair.old.far.id }
+    requires offered { 1 ≤ offered }
+    ensures near { IsLive pair.new.near.links pair.new.near.id }
+    ensures far { IsLive pair.new.far.links pair.new.far.id }
+{
+    let mut digest = 0;
+    for part in bytes.chunks(offered) {
+        digest = mixed(digest, pass(alloc, pair, part, now).unwrap_or(3));
+    }
+    digest
+}
+
+/// Passes bytes from one end of a connection to the other, again and again, each time at a later
+/// moment. So many of them are offered by one call.
 ///
 /// Answers the digest of all packets, of what came of them, and of the units taken.
 #[unsafe(no_mangle)]
@@ -146,11 +164,9 @@ pub extern "C" fn ipx_bench_pass(
         return 0;
     };
     let mut digest = pump(alloc, &mut pair, 1, 0);
-    for _ in 0..rounds {
-        for part in bytes.chunks(offered) {
-            let passed = pass(alloc, &mut pair, part, 0).unwrap_or(3);
-            digest = mixed(digest, passed);
-        }
+    for round in 0..rounds {
+        let passed = pass_all(alloc, &mut pair, bytes, offered, u64::from(round));
+        digest = mixed(digest, passed);
     }
     digest
 }

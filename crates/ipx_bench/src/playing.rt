@@ -1,7 +1,8 @@
 //! A pair of links that is called as a script says, written out as bytes, to be held against another
 //! pair's answers.
 
-ghost use Rattle.std.specs.Prelude.{◌≤◌, ◌+◌, length};
+ghost use Rattle.std.specs.Prelude.{◌≤◌, ◌<◌, ◌+◌, length};
+ghost use Rattle.spx_link.specs.Limits.{end_stream};
 ghost use Rattle.spx_link.specs.Links.{IsLive};
 
 use crate::faults::{offer_number, spx_number};
@@ -12,8 +13,12 @@ use spx_link::{OfferFault, Unit};
 use std::alloc::Global;
 
 /// How many bytes stand before the bytes of an event: what it is, which end (0 the near one), its
-/// moment in 8, how many bytes count in 2, the size of a unit in 2, and 2 that are not read.
+/// moment in 8, how many bytes count in 2, the size of a unit in 2, its stream, and its mark (0 for
+/// none).
 const LEAD: usize = 16;
+
+/// The last stream that is a user's own.
+const LAST_STREAM: u8 = 0xfd;
 
 fn number_at(event: &[u8], at: usize) -> u16
     requires { at + 2 ≤ length event.now }
@@ -27,6 +32,14 @@ fn moment_of(event: &[u8]) -> u64
     let mut moment = [0; 8];
     moment.copy_from_slice(&event[2..10]);
     u64::from_be_bytes(moment)
+}
+
+/// The stream of the units of an event.
+fn stream_of(event: &[u8]) -> u8
+    requires { 16 ≤ length event.now }
+    ensures { result < end_stream }
+{
+    event[14].min(LAST_STREAM)
 }
 
 /// The bytes of an event that count.
@@ -100,14 +113,16 @@ fn play_packet(
 fn play_offer(
     alloc: Global,
     end: &mut End,
-    bytes: &[u8],
-    size: u16,
+    event: &[u8],
     out: &mut Vec<u8>,
 ) -> Result<(), OutOfMemory>
-    requires { IsLive end.old.links end.old.id }
+    requires live { IsLive end.old.links end.old.id }
+    requires whole { 16 ≤ length event.now }
     ensures { IsLive end.new.links end.new.id }
 {
-    let units = cut(alloc, bytes, usize::from(size.max(1)))?;
+    let size = usize::from(number_at(event, 12).max(1));
+    let last = event[15] != 0;
+    let units = cut(alloc, bytes_of(event), size, stream_of(event), last)?;
     write_offered(out, end.links.offer(alloc, end.id, units))
 }
 
@@ -147,7 +162,7 @@ fn play(alloc: Global, end: &mut End, event: &[u8], out: &mut Vec<u8>) -> Result
     match event[0] {
         b'P' => play_poll(end, now, out)?,
         b'D' => play_packet(alloc, end, now, bytes, out)?,
-        b'O' => play_offer(alloc, end, bytes, number_at(event, 12), out)?,
+        b'O' => play_offer(alloc, end, event, out)?,
         b'T' => play_take(end, out)?,
         b'E' => write_offered(out, end.links.end(alloc, end.id))?,
         b'R' => end.links.owe_reply(end.id),
