@@ -3,8 +3,8 @@
 use ipx_bench::rows::{Row, all, check_answers, check_links, check_row};
 use std::time::{Duration, Instant};
 
-/// How long the calls of one repetition take at least, how long the repetitions of a row, and how
-/// often all rows are gone through. Many short repetitions, some of them much later than others,
+/// How long the calls of one repetition take at least (and no less than what comes before them), how
+/// long the repetitions of a row, and how often all rows are gone through. Many short repetitions, some of them much later than others,
 /// find a moment at which nothing else runs.
 const REPETITION: Duration = Duration::from_millis(2);
 const ROW: Duration = Duration::from_millis(600);
@@ -31,8 +31,9 @@ impl<'a> Side<'a> {
     fn new(calls: &'a Loop) -> Self {
         let mut rounds = 1;
         let none = time(calls, 0);
+        let least = REPETITION.max(none);
         let mut all = time(calls, rounds);
-        while all.saturating_sub(none) < REPETITION {
+        while all.saturating_sub(none) < least {
             rounds *= 2;
             all = time(calls, rounds);
         }
