@@ -1,12 +1,12 @@
 -- What `hop` writes for what it reads.
 use Rattle.std.specs.Prelude.{◌≡◌, ℕ, List, [], ◌∷◌, None, MatchOption}
-use Rattle.ipx_router.specs.Routing.{Routing}
-use Rattle.ipx_router.specs.Answer.{Answer, Answers}
+use Rattle.ipx_router.specs.RouterView.{RouterView}
+use Rattle.ipx_router.specs.Answer.{OutcomeView, Answers}
 use Rattle.ipx_commands.specs.Text.{packet_of_text}
 use Rattle.ipx_commands.specs.Line.{lines_of, status_of, bad_line}
 
 -- the router that the packet comes to: port 1 on network 11, port 2 on network 22
-abbrev pub hop_routing : Routing
+abbrev pub hop_routing : RouterView
 hop_routing = record {
   ports = record { network = record { 0 = 0x11 }; node = record { 0 = 0 ∷ 0 ∷ 0x7f ∷ 0 ∷ 0 ∷ 1 ∷ [] }; cost = 1 }
       ∷ record { network = record { 0 = 0x22 }; node = record { 0 = 0 ∷ 0 ∷ 0x7f ∷ 0 ∷ 0 ∷ 2 ∷ [] }; cost = 1 }
@@ -19,7 +19,7 @@ hop_routing = record {
 -- the lines and the status for bytes: those of the router's answer
 abbrev pub HopAnswers : List ℕ → List ℕ → ℕ → Type 0
 HopAnswers bytes lines status =
-    (a : Answer) × (after : Routing) × Answers hop_routing 1 bytes 0 a after × (lines ≡ lines_of a) × (status ≡ status_of a)
+    (a : OutcomeView) × (after : RouterView) × Answers hop_routing 1 bytes 0 a after × (lines ≡ lines_of a) × (status ≡ status_of a)
 
 -- the line and the status for a text: for the bytes that it stands for, or those of a bad line
 abbrev pub HopWrites : List ℕ → List ℕ → ℕ → Type 0

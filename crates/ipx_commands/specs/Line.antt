@@ -12,8 +12,8 @@ use Rattle.ipx_control.specs.declared.fault.ControlFault.{ControlFault}
 use Rattle.ipx_control.specs.declared.fault.ControlFault.TheVariants as control
 use Rattle.ipx_router.specs.declared.reason.Reason.{Reason}
 use Rattle.ipx_router.specs.declared.reason.Reason.TheVariants.{Bad, Propagated, NotOurs, NoRoute, HopLimit, BadControl, TableFull}
-use Rattle.ipx_router.specs.Packets.{Sending}
-use Rattle.ipx_router.specs.Answer.{Answer, Sent, Replied, Heard, Refused}
+use Rattle.ipx_router.specs.Packets.{SendingView}
+use Rattle.ipx_router.specs.Answer.{OutcomeView, Forward, Replies, Heard, Dropped}
 
 -- a fault's number and name, and its values
 abbrev pub fault_text : IpxFault → List ℕ
@@ -44,26 +44,26 @@ reason_text (BadControl fault) = control_fault_text fault
 reason_text TableFull = codes "(24) TableFull"
 
 -- a packet that is sent: its port, the next node and its bytes
-abbrev pub sending_text : Sending → List ℕ
+abbrev pub sending_text : SendingView → List ℕ
 sending_text s = decimal s.port ++ (codes " " ++ (encode_lower s.next.0 ++ (codes " " ++ encode_lower s.bytes)))
 
-abbrev pub sending_line : Sending → List ℕ
+abbrev pub sending_line : SendingView → List ℕ
 sending_line s = codes "reply " ++ (sending_text s ++ 10 ∷ [])
 
 -- the lines of an answer: one for each reply
-abbrev pub lines_of : Answer → List ℕ
-lines_of (Sent port next bytes) =
+abbrev pub lines_of : OutcomeView → List ℕ
+lines_of (Forward port next bytes) =
     codes "forward " ++ (sending_text (record { port = port; next = next; bytes = bytes }) ++ 10 ∷ [])
-lines_of (Replied sent) = flat_map sending_line sent
+lines_of (Replies sent) = flat_map sending_line sent
 lines_of (Heard count) = codes "heard " ++ (decimal count ++ 10 ∷ [])
-lines_of (Refused reason) = codes "dropped " ++ (reason_text reason ++ 10 ∷ [])
+lines_of (Dropped reason) = codes "dropped " ++ (reason_text reason ++ 10 ∷ [])
 
 -- the status that goes with them
-abbrev pub status_of : Answer → ℕ
-status_of (Sent port next bytes) = 0
-status_of (Replied sent) = 0
+abbrev pub status_of : OutcomeView → ℕ
+status_of (Forward port next bytes) = 0
+status_of (Replies sent) = 0
 status_of (Heard count) = 0
-status_of (Refused reason) = 1
+status_of (Dropped reason) = 1
 
 -- the line for a first line that is none
 abbrev pub bad_line : List ℕ

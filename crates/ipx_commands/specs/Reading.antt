@@ -4,11 +4,11 @@ use Rattle.ipx_wire.specs.declared.packet.IpxHeader.{IpxHeader}
 use Rattle.ipx_wire.specs.declared.fault.IpxFault.{IpxFault}
 use Rattle.ipx_wire.specs.declared.spx.SpxHeader.{SpxHeader}
 use Rattle.ipx_wire.specs.declared.spx.fault.SpxFault.{SpxFault}
-use Rattle.ipx_wire.specs.Ipx.{Datagram, IsIpx, ipx_fault, view}
+use Rattle.ipx_wire.specs.Ipx.{PacketView, IsIpx, ipx_fault, view}
 use Rattle.ipx_wire.specs.Spx.{IsSpx, spx_fault}
 use Rattle.ipx_control.specs.declared.fault.ControlFault.{ControlFault}
-use Rattle.ipx_control.specs.Rip.{RipMessage, IsRip, rip_fault, rip_view}
-use Rattle.ipx_control.specs.Sap.{SapMessage, IsSap, sap_fault, sap_view}
+use Rattle.ipx_control.specs.Rip.{RipView, IsRip, rip_fault, rip_view}
+use Rattle.ipx_control.specs.Sap.{SapView, IsSap, sap_fault, sap_view}
 use Rattle.ipx_commands.specs.declared.reading.Contents as code
 use Rattle.ipx_commands.specs.declared.reading.Contents.TheVariants as bodies
 use Rattle.ipx_commands.specs.declared.reading.Reading as readings_of
@@ -36,8 +36,8 @@ protocol_of h = if h.kind == 5 then Spx else protocol_at h.to.socket.0
 pub data Content : Type 0 where
   Plain : Content
   OfSpx : SpxHeader → List ℕ → Content
-  OfRip : RipMessage → Content
-  OfSap : SapMessage → Content
+  OfRip : RipView → Content
+  OfSap : SapView → Content
 
 abbrev pub content_view : code.Contents → Content
 content_view bodies.Plain = Plain
@@ -48,8 +48,8 @@ content_view (bodies.OfSap sap) = OfSap (sap_view sap)
 -- a body's bytes hold this; only those of SPX, RIP and SAP are read
 abbrev pub IsContent : Protocol → List ℕ → Content → Type 0
 IsContent Spx body c = (h : SpxHeader) × (payload : List ℕ) × IsSpx h payload body × (c ≡ OfSpx h payload)
-IsContent Rip body c = (m : RipMessage) × (tail : List ℕ) × IsRip m body tail × (c ≡ OfRip m)
-IsContent Sap body c = (m : SapMessage) × (tail : List ℕ) × IsSap m body tail × (c ≡ OfSap m)
+IsContent Rip body c = (m : RipView) × (tail : List ℕ) × IsRip m body tail × (c ≡ OfRip m)
+IsContent Sap body c = (m : SapView) × (tail : List ℕ) × IsSap m body tail × (c ≡ OfSap m)
 IsContent Other body c = c ≡ Plain
 
 -- the fault that refuses a body of RIP or SAP
@@ -64,7 +64,7 @@ pub data Datum : Type 0 where
   NoPacket : IpxFault → Datum
   NoSpx : SpxFault → Datum
   NoControl : ControlFault → Datum
-  Holds : Datagram → Content → Datum
+  Holds : PacketView → Content → Datum
 
 abbrev pub reading_view : readings_of.Reading → Datum
 reading_view (readings.NoPacket fault) = NoPacket fault
@@ -75,6 +75,6 @@ reading_view (readings.Holds packet contents) = Holds (view packet) (content_vie
 -- the bytes are read as this
 abbrev pub IsReading : List ℕ → Datum → Type 0
 IsReading bytes (NoPacket f) = ipx_fault bytes ≡ Some f
-IsReading bytes (NoSpx f) = (d : Datagram) × (tail : List ℕ) × IsIpx d bytes tail × (protocol_of d.header ≡ Spx) × (spx_fault d.body ≡ Some f)
-IsReading bytes (NoControl f) = (d : Datagram) × (tail : List ℕ) × IsIpx d bytes tail × (body_fault (protocol_of d.header) d.body ≡ Some f)
+IsReading bytes (NoSpx f) = (d : PacketView) × (tail : List ℕ) × IsIpx d bytes tail × (protocol_of d.header ≡ Spx) × (spx_fault d.body ≡ Some f)
+IsReading bytes (NoControl f) = (d : PacketView) × (tail : List ℕ) × IsIpx d bytes tail × (body_fault (protocol_of d.header) d.body ≡ Some f)
 IsReading bytes (Holds d c) = (tail : List ℕ) × IsIpx d bytes tail × IsContent (protocol_of d.header) d.body c

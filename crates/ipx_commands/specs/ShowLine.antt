@@ -6,7 +6,7 @@ use Rattle.std.specs.Int.{w16, w32, to_be_bytes}
 use Rattle.hex.specs.Hex.{encode_lower}
 use Rattle.ipx_wire.specs.declared.address.Address.{Address}
 use Rattle.ipx_wire.specs.declared.spx.SpxHeader.{SpxHeader}
-use Rattle.ipx_wire.specs.Ipx.{Datagram}
+use Rattle.ipx_wire.specs.Ipx.{PacketView}
 use Rattle.ipx_control.specs.declared.rip.RipEntry.{RipEntry}
 use Rattle.ipx_control.specs.declared.sap.ServiceEntry.{ServiceEntry}
 use Rattle.ipx_control.specs.Rip as rip
@@ -20,7 +20,7 @@ address_text a =
     encode_lower (to_be_bytes w32 a.network.0) ++ (codes " " ++ (encode_lower a.node.0 ++ (codes " " ++ encode_lower (to_be_bytes w16 a.socket.0))))
 
 -- the three lines of a packet's header
-abbrev pub header_lines : Datagram → List ℕ
+abbrev pub header_lines : PacketView → List ℕ
 header_lines d =
     codes "ipx hops " ++ (decimal d.header.hops ++ (codes " kind " ++ (decimal d.header.kind ++ (codes " body " ++ (decimal (length d.body)
     ++ (codes "\nto " ++ (address_text d.header.to ++ (codes "\nfrom " ++ (address_text d.header.from ++ 10 ∷ [])))))))))
@@ -56,7 +56,7 @@ abbrev pub rip_entry_line : RipEntry → List ℕ
 rip_entry_line e =
     codes "net " ++ (encode_lower (to_be_bytes w32 e.network.0) ++ (codes " hops " ++ (decimal e.hops ++ (codes " ticks " ++ (decimal e.ticks ++ 10 ∷ [])))))
 
-abbrev pub rip_lines : rip.RipMessage → List ℕ
+abbrev pub rip_lines : rip.RipView → List ℕ
 rip_lines (rip.Request entries) = codes "rip request " ++ (decimal (length entries) ++ (codes "\n" ++ flat_map rip_entry_line entries))
 rip_lines (rip.Response entries) = codes "rip response " ++ (decimal (length entries) ++ (codes "\n" ++ flat_map rip_entry_line entries))
 
@@ -76,7 +76,7 @@ service_line e =
 abbrev pub reach : Bool → List ℕ
 reach nearest = if nearest then codes "nearest" else codes "general"
 
-abbrev pub sap_lines : sap.SapMessage → List ℕ
+abbrev pub sap_lines : sap.SapView → List ℕ
 sap_lines (sap.Query nearest kind) = codes "sap " ++ (reach nearest ++ (codes " query " ++ (encode_lower (to_be_bytes w16 kind) ++ 10 ∷ [])))
 sap_lines (sap.Response nearest services) =
     codes "sap " ++ (reach nearest ++ (codes " response " ++ (decimal (length services) ++ (codes "\n" ++ flat_map service_line services))))

@@ -9,8 +9,8 @@ use Rattle.ipx_wire.specs.declared.address.Address.{Address}
 use Rattle.ipx_wire.specs.Ipx.{IsBytes, address_bytes}
 use Rattle.ipx_control.specs.declared.rip.RipEntry.{RipEntry}
 use Rattle.ipx_control.specs.declared.sap.ServiceEntry.{ServiceEntry}
-use Rattle.ipx_control.specs.Rip.{RipMessage, rip_entries, rip_entry_bytes, rip_operation}
-use Rattle.ipx_control.specs.Sap.{HoldsBytes, SapMessage, Query, Response, query_operation, response_operation, sap_services, service_bytes}
+use Rattle.ipx_control.specs.Rip.{RipView, rip_entries, rip_entry_bytes, rip_operation}
+use Rattle.ipx_control.specs.Sap.{HoldsBytes, SapView, Query, Response, query_operation, response_operation, sap_services, service_bytes}
 use Rattle.ipx_control.proofs.SapPackets.{sap_bytes}
 
 IsBytes-append : (xs ys : List ℕ) → IsBytes xs → IsBytes ys → IsBytes (xs ++ ys)
@@ -40,7 +40,7 @@ IsBytes-rip_entry e =
     IsBytes-append (big_bytes 4 e.network.0 ++ big_bytes 2 e.hops) (big_bytes 2 e.ticks)
     (IsBytes-append (big_bytes 4 e.network.0) (big_bytes 2 e.hops) (IsBytes-number 4 e.network.0) (IsBytes-number 2 e.hops)) (IsBytes-number 2 e.ticks)
 
-pub IsBytes-rip : (m : RipMessage) → IsBytes (big_bytes 2 (rip_operation m) ++ flat_map rip_entry_bytes (rip_entries m))
+pub IsBytes-rip : (m : RipView) → IsBytes (big_bytes 2 (rip_operation m) ++ flat_map rip_entry_bytes (rip_entries m))
 IsBytes-rip m =
     IsBytes-append (big_bytes 2 (rip_operation m)) (flat_map rip_entry_bytes (rip_entries m)) (IsBytes-number 2 (rip_operation m))
     (IsBytes-entries rip_entry_bytes (λ e. Unit {0}) (λ e _. IsBytes-rip_entry e) (rip_entries m) (λ k d lt. tt))
@@ -56,7 +56,7 @@ IsBytes-service e b =
     let two = IsBytes-append (big_bytes 2 e.kind ++ e.name) (address_bytes e.at) one (IsBytes-address e.at b.node) in
     IsBytes-append (big_bytes 2 e.kind ++ e.name ++ address_bytes e.at) (big_bytes 2 e.hops) two (IsBytes-number 2 e.hops)
 
-pub IsBytes-sap : (m : SapMessage) → All HoldsBytes (sap_services m) → IsBytes (sap_bytes m)
+pub IsBytes-sap : (m : SapView) → All HoldsBytes (sap_services m) → IsBytes (sap_bytes m)
 IsBytes-sap (Query nearest kind) b =
     IsBytes-append (big_bytes 2 (query_operation nearest)) (big_bytes 2 kind) (IsBytes-number 2 (query_operation nearest)) (IsBytes-number 2 kind)
 IsBytes-sap (Response nearest services) b =

@@ -8,7 +8,7 @@ use Rattle.byteorder.specs.Numbers.{big_number-reads_back}
 use Rattle.ipx_wire.specs.Ipx.{IsBytes, IsWritten, number}
 use Rattle.ipx_control.specs.declared.rip.RipEntry.{RipEntry}
 use Rattle.ipx_control.specs.Entries.{AreEntries}
-use Rattle.ipx_control.specs.Rip.{IsRip, IsRipEntry, IsRipEntryInRange, IsRipInRange, RipMessage, Request, Response, rip_entries, rip_entry_bytes, rip_fault, rip_operation}
+use Rattle.ipx_control.specs.Rip.{IsRip, IsRipEntry, IsRipEntryInRange, IsRipInRange, RipView, Request, Response, rip_entries, rip_entry_bytes, rip_fault, rip_operation}
 use Rattle.ipx_control.proofs.Fields.{IsBytes-drop, four_alike, number-append, two_alike}
 use Rattle.std.proofs.lemmas.Bool.{eqb-true, le-ltb, ltb-false}
 use Rattle.ipx_control.specs.declared.fault.ControlFault.TheVariants.{NoOperation, TooManyEntries, UnknownOperation}
@@ -53,11 +53,11 @@ rip_entry_alike e xs ys p q l m x y r =
 -- ---- a packet
 
 -- an operation is read back
-operation_read : (m : RipMessage) (rest : List ℕ) → number 2 0 (big_bytes 2 (rip_operation m) ++ rest) ≡ rip_operation m
+operation_read : (m : RipView) (rest : List ℕ) → number 2 0 (big_bytes 2 (rip_operation m) ++ rest) ≡ rip_operation m
 operation_read (Request es) rest = refl
 operation_read (Response es) rest = refl
 
-pub rip_read : (m : RipMessage) (tail : List ℕ) → IsRipInRange m → length tail < 8 → IsRip m ((big_bytes 2 (rip_operation m) ++ flat_map rip_entry_bytes (rip_entries m)) ++ tail) tail
+pub rip_read : (m : RipView) (tail : List ℕ) → IsRipInRange m → length tail < 8 → IsRip m ((big_bytes 2 (rip_operation m) ++ flat_map rip_entry_bytes (rip_entries m)) ++ tail) tail
 rip_read m tail r short = record {
   has_operation = omega arith;
   operation = operation_read m (flat_map rip_entry_bytes (rip_entries m) ++ tail);
@@ -66,7 +66,7 @@ rip_read m tail r short = record {
   short_tail = short;
 }
 
-pub same_rip : (m n : RipMessage) (bytes s t : List ℕ) → IsRip m bytes s → IsRip n bytes t → (m ≡ n) × (s ≡ t)
+pub same_rip : (m n : RipView) (bytes s t : List ℕ) → IsRip m bytes s → IsRip n bytes t → (m ≡ n) × (s ≡ t)
 same_rip (Request es) (Request fs) bytes s t x y =
     let same = same_entries IsRipEntry 8 same_rip_entry es fs (drop 2 bytes) s t x.short_tail y.short_tail x.entries y.entries in
     (ap Request same.0, same.1)
@@ -76,7 +76,7 @@ same_rip (Response es) (Response fs) bytes s t x y =
     let same = same_entries IsRipEntry 8 same_rip_entry es fs (drop 2 bytes) s t x.short_tail y.short_tail x.entries y.entries in
     (ap Response same.0, same.1)
 
-pub rip_more : (m : RipMessage) (bytes tail : List ℕ) → length tail < 8 → IsRip m bytes [] → IsRip m (bytes ++ tail) tail
+pub rip_more : (m : RipView) (bytes tail : List ℕ) → length tail < 8 → IsRip m bytes [] → IsRip m (bytes ++ tail) tail
 rip_more m bytes tail short x = record {
   has_operation = omega (arith, x.has_operation, length-append bytes tail);
   operation = number-append 2 0 bytes tail x.has_operation ∙ x.operation;
@@ -86,23 +86,23 @@ rip_more m bytes tail short x = record {
   short_tail = short;
 }
 
-pub rip_alike : (m : RipMessage) (xs ys tail : List ℕ) → IsBytes xs → IsBytes ys → IsRip m xs tail → IsRip m ys tail → xs ≡ ys
+pub rip_alike : (m : RipView) (xs ys tail : List ℕ) → IsBytes xs → IsBytes ys → IsRip m xs tail → IsRip m ys tail → xs ≡ ys
 rip_alike m xs ys tail p q x y =
     let rest = entries_alike IsRipEntry 8 rip_entry_alike (rip_entries m) (drop 2 xs) (drop 2 ys) tail (IsBytes-drop 2 xs p) (IsBytes-drop 2 ys q) x.entries y.entries in
     two_alike xs ys p q x.has_operation y.has_operation (x.operation ∙ sym y.operation) rest
 
 -- how many entries a packet has
-pub rip_count : (m : RipMessage) (bytes tail : List ℕ) → IsRip m bytes tail → (length bytes - 2) / 8 ≡ length (rip_entries m)
+pub rip_count : (m : RipView) (bytes tail : List ℕ) → IsRip m bytes tail → (length bytes - 2) / 8 ≡ length (rip_entries m)
 rip_count m bytes tail x =
     omega (arith, x.short_tail, length-entries IsRipEntry 8 (rip_entries m) (drop 2 bytes) tail x.entries, length-drop 2 bytes)
 
 -- an operation is one of two
-pub rip_known : (m : RipMessage) (bytes tail : List ℕ) → IsRip m bytes tail → number 2 0 bytes ≢ 1 → number 2 0 bytes ≢ 2 → ⊥
+pub rip_known : (m : RipView) (bytes tail : List ℕ) → IsRip m bytes tail → number 2 0 bytes ≢ 1 → number 2 0 bytes ≢ 2 → ⊥
 rip_known (Request es) bytes tail x one two = one x.operation
 rip_known (Response es) bytes tail x one two = two x.operation
 
 -- what was read is the packet
-pub rip_found : (m : RipMessage) (bytes tail : List ℕ) → 2 ≤ length bytes → number 2 0 bytes ≡ rip_operation m → AreEntries IsRipEntry 8 (rip_entries m) (drop 2 bytes) tail
+pub rip_found : (m : RipView) (bytes tail : List ℕ) → 2 ≤ length bytes → number 2 0 bytes ≡ rip_operation m → AreEntries IsRipEntry 8 (rip_entries m) (drop 2 bytes) tail
     → length tail < 8 → (length bytes - 2) / 8 ≤ 50 → IsRip m bytes tail
 rip_found m bytes tail room operation entries short few = record {
   has_operation = room;
@@ -113,7 +113,7 @@ rip_found m bytes tail room operation entries short few = record {
 }
 
 -- what was written is the packet
-pub rip_written : (m : RipMessage) (old xs : List ℕ) (k : ℕ) → IsRipInRange m → IsWritten old (big_bytes 2 (rip_operation m) ++ flat_map rip_entry_bytes (rip_entries m)) xs k → IsRip m (take k xs) []
+pub rip_written : (m : RipView) (old xs : List ℕ) (k : ℕ) → IsRipInRange m → IsWritten old (big_bytes 2 (rip_operation m) ++ flat_map rip_entry_bytes (rip_entries m)) xs k → IsRip m (take k xs) []
 rip_written m old xs k r was =
     let bytes = big_bytes 2 (rip_operation m) ++ flat_map rip_entry_bytes (rip_entries m) in
     subst (λ (t : List ℕ). IsRip m t []) (append-nil bytes ∙ sym (written-front old bytes xs k was)) (rip_read m [] r (omega arith))
@@ -127,8 +127,8 @@ entry_in_is : (bytes : List ℕ) → IsRipEntry (entry_in bytes) bytes
 unfolding entry_in
 entry_in_is bytes = record { network = refl; hops = refl; ticks = refl }
 
-rip_of : (m : List RipEntry → RipMessage) (n : ℕ) → ((es : List RipEntry) → rip_operation (m es) ≡ n) → ((es : List RipEntry) → rip_entries (m es) ≡ es) → (bytes : List ℕ) → 2 ≤ length bytes
-    → number 2 0 bytes ≡ n → (length bytes - 2) / 8 ≤ 50 → (p : RipMessage) × (tail : List ℕ) × IsRip p bytes tail
+rip_of : (m : List RipEntry → RipView) (n : ℕ) → ((es : List RipEntry) → rip_operation (m es) ≡ n) → ((es : List RipEntry) → rip_entries (m es) ≡ es) → (bytes : List ℕ) → 2 ≤ length bytes
+    → number 2 0 bytes ≡ n → (length bytes - 2) / 8 ≤ 50 → (p : RipView) × (tail : List ℕ) × IsRip p bytes tail
 rip_of m n operation entries bytes room said few =
     let behind = drop 2 bytes in
     let count = (length bytes - 2) / 8 in
@@ -138,7 +138,7 @@ rip_of m n operation entries bytes room said few =
     let are = subst (λ (xs : List RipEntry). AreEntries IsRipEntry 8 xs behind tail) (sym (entries es)) there.2 in
     (m es, tail, rip_found (m es) bytes tail room (said ∙ sym (operation es)) are (omega (arith, length-drop 2 bytes, length-drop (count * 8) behind)) few)
 
-pub rip_without_fault : (bytes : List ℕ) → rip_fault bytes ≡ None → (m : RipMessage) × (tail : List ℕ) × IsRip m bytes tail
+pub rip_without_fault : (bytes : List ℕ) → rip_fault bytes ≡ None → (m : RipView) × (tail : List ℕ) × IsRip m bytes tail
 rip_without_fault bytes none =
     let said = number 2 0 bytes in
     let count = (length bytes - 2) / 8 in
@@ -150,7 +150,7 @@ rip_without_fault bytes none =
       | inr two ↦ rip_of Response 2 (λ _. refl) (λ _. refl) bytes room (eqb-true said 2 two) few
     ]
 
-pub no_fault_of_rip : (m : RipMessage) (bytes tail : List ℕ) → IsRip m bytes tail → rip_fault bytes ≡ None
+pub no_fault_of_rip : (m : RipView) (bytes tail : List ℕ) → IsRip m bytes tail → rip_fault bytes ≡ None
 no_fault_of_rip (Request es) bytes tail x =
     let room = le-ltb (length bytes) 2 x.has_operation in
     let few = le-ltb 50 ((length bytes - 2) / 8) (omega (arith, x.limit, rip_count (Request es) bytes tail x)) in

@@ -9,7 +9,7 @@ use Rattle.ipx_wire.specs.declared.address.Address.{Address}
 use Rattle.ipx_wire.specs.Ipx.{IsAddress, IsBytes, IsWritten, address_bytes, number}
 use Rattle.ipx_control.specs.declared.sap.ServiceEntry.{ServiceEntry}
 use Rattle.ipx_control.specs.Entries.{AreEntries}
-use Rattle.ipx_control.specs.Sap.{IsSap, IsSapQuery, IsSapResponse, IsSapInRange, IsSapTail, AreServicesInRange, IsServiceEntry, IsServiceEntryInRange, SapMessage, Query, Response, query_operation, response_operation, sap_fault, service_bytes}
+use Rattle.ipx_control.specs.Sap.{IsSap, IsSapQuery, IsSapResponse, IsSapInRange, IsSapTail, AreServicesInRange, IsServiceEntry, IsServiceEntryInRange, SapView, Query, Response, query_operation, response_operation, sap_fault, service_bytes}
 use Rattle.ipx_control.proofs.Fields.{IsBytes-drop, number-append, part_alike, two_alike}
 use Rattle.ipx_control.proofs.Addresses.{IsAddress-append, address_alike, address_read, length-address, same_address}
 use Rattle.std.proofs.lemmas.Bool.{eqb-true, le-ltb, ltb-false}
@@ -96,11 +96,11 @@ response_read nearest services tail r short = record {
   short_tail = short;
 }
 
-abbrev pub sap_bytes : SapMessage → List ℕ
+abbrev pub sap_bytes : SapView → List ℕ
 sap_bytes (Query nearest kind) = query_bytes nearest kind
 sap_bytes (Response nearest services) = response_bytes nearest services
 
-pub sap_read : (m : SapMessage) (tail : List ℕ) → IsSapInRange m → IsSapTail m tail → IsSap m (sap_bytes m ++ tail) tail
+pub sap_read : (m : SapView) (tail : List ℕ) → IsSapInRange m → IsSapTail m tail → IsSap m (sap_bytes m ++ tail) tail
 sap_read (Query nearest kind) tail r fits = query_read nearest kind tail r
 sap_read (Response nearest services) tail r fits = response_read nearest services tail r fits
 
@@ -122,7 +122,7 @@ query_is_no_response true false e = omega (arith, e)
 query_is_no_response false true e = omega (arith, e)
 query_is_no_response false false e = omega (arith, e)
 
-pub same_sap : (m n : SapMessage) (bytes s t : List ℕ) → IsSap m bytes s → IsSap n bytes t → (m ≡ n) × (s ≡ t)
+pub same_sap : (m n : SapView) (bytes s t : List ℕ) → IsSap m bytes s → IsSap n bytes t → (m ≡ n) × (s ≡ t)
 same_sap (Query a j) (Query b k) bytes s t x y =
     let flag : a ≡ b = same_flag_query a b (sym x.operation ∙ y.operation) in
     let kind : j ≡ k = sym x.service ∙ y.service in
@@ -134,7 +134,7 @@ same_sap (Response a es) (Response b fs) bytes s t x y =
     let same = same_entries IsServiceEntry 64 same_service es fs (drop 2 bytes) s t x.short_tail y.short_tail x.entries y.entries in
     (rw (flag, same.0) refl, same.1)
 
-pub sap_more : (m : SapMessage) (bytes tail : List ℕ) → IsSapTail m tail → IsSap m bytes [] → IsSap m (bytes ++ tail) tail
+pub sap_more : (m : SapView) (bytes tail : List ℕ) → IsSapTail m tail → IsSap m bytes [] → IsSap m (bytes ++ tail) tail
 sap_more (Query nearest kind) bytes tail fits x = record {
   has_query = omega (arith, x.has_query, length-append bytes tail);
   operation = number-append 2 0 bytes tail (omega (arith, x.has_query)) ∙ x.operation;
@@ -150,7 +150,7 @@ sap_more (Response nearest services) bytes tail fits x = record {
   short_tail = fits;
 }
 
-pub sap_alike : (m : SapMessage) (xs ys tail : List ℕ) → IsBytes xs → IsBytes ys → IsSap m xs tail → IsSap m ys tail → xs ≡ ys
+pub sap_alike : (m : SapView) (xs ys tail : List ℕ) → IsBytes xs → IsBytes ys → IsSap m xs tail → IsSap m ys tail → xs ≡ ys
 sap_alike (Query nearest kind) xs ys tail p q x y =
     let at2 : drop 2 xs ≡ drop 2 ys = two_alike (drop 2 xs) (drop 2 ys) (IsBytes-drop 2 xs p) (IsBytes-drop 2 ys q) (omega (arith, x.has_query, length-drop 2 xs)) (omega (arith, y.has_query, length-drop 2 ys)) (x.service ∙ sym y.service) (drop-drop 2 2 xs ∙ x.rest ∙ sym y.rest ∙ sym (drop-drop 2 2 ys)) in
     two_alike xs ys p q (omega (arith, x.has_query)) (omega (arith, y.has_query)) (x.operation ∙ sym y.operation) at2
@@ -169,7 +169,7 @@ response_operation_is n (inl four) = rw four refl
 response_operation_is n (inr two) = rw two refl
 
 -- bytes with the operation of a response and too many services are no packet
-pub too_many_services : (m : SapMessage) (bytes tail : List ℕ) → IsSap m bytes tail → number 2 0 bytes ≢ 1 → number 2 0 bytes ≢ 3 → 7 < (length bytes - 2) / 64 → ⊥
+pub too_many_services : (m : SapView) (bytes tail : List ℕ) → IsSap m bytes tail → number 2 0 bytes ≢ 1 → number 2 0 bytes ≢ 3 → 7 < (length bytes - 2) / 64 → ⊥
 too_many_services (Query true kind) bytes tail x one three many = three x.operation
 too_many_services (Query false kind) bytes tail x one three many = one x.operation
 too_many_services (Response nearest services) bytes tail x one three many = omega (arith, x.limit, many, service_count nearest services bytes tail x)
@@ -210,11 +210,11 @@ service_in_is : (bytes : List ℕ) → IsServiceEntry (service_in bytes) bytes
 unfolding service_in
 service_in_is bytes = record { kind = refl; name = refl; at = record { network = refl; node = refl; socket = refl }; hops = refl }
 
-query_of : (nearest : Bool) (bytes : List ℕ) → 4 ≤ length bytes → number 2 0 bytes ≡ query_operation nearest → (m : SapMessage) × (tail : List ℕ) × IsSap m bytes tail
+query_of : (nearest : Bool) (bytes : List ℕ) → 4 ≤ length bytes → number 2 0 bytes ≡ query_operation nearest → (m : SapView) × (tail : List ℕ) × IsSap m bytes tail
 query_of nearest bytes room said = (Query nearest (number 2 2 bytes), drop 4 bytes, record { has_query = room; operation = said; service = refl; rest = refl })
 
 response_of : (nearest : Bool) (bytes : List ℕ) → 2 ≤ length bytes → number 2 0 bytes ≡ response_operation nearest → (length bytes - 2) / 64 ≤ 7
-    → (m : SapMessage) × (tail : List ℕ) × IsSap m bytes tail
+    → (m : SapView) × (tail : List ℕ) × IsSap m bytes tail
 response_of nearest bytes room said few =
     let behind = drop 2 bytes in
     let count = (length bytes - 2) / 64 in
@@ -223,7 +223,7 @@ response_of nearest bytes room said few =
     let tail = drop (count * 64) behind in
     (Response nearest services, tail, response_found nearest services bytes tail room said there.2 (omega (arith, length-drop 2 bytes, length-drop (count * 64) behind)) few)
 
-pub sap_without_fault : (bytes : List ℕ) → sap_fault bytes ≡ None → (m : SapMessage) × (tail : List ℕ) × IsSap m bytes tail
+pub sap_without_fault : (bytes : List ℕ) → sap_fault bytes ≡ None → (m : SapView) × (tail : List ℕ) × IsSap m bytes tail
 sap_without_fault bytes none =
     let said = number 2 0 bytes in
     let count = (length bytes - 2) / 64 in
@@ -251,7 +251,7 @@ response_tests : (nearest : Bool) (n : ℕ) → n ≡ response_operation nearest
 response_tests true n e = rw e (refl, refl)
 response_tests false n e = rw e (refl, refl)
 
-pub no_fault_of_sap : (m : SapMessage) (bytes tail : List ℕ) → IsSap m bytes tail → sap_fault bytes ≡ None
+pub no_fault_of_sap : (m : SapView) (bytes tail : List ℕ) → IsSap m bytes tail → sap_fault bytes ≡ None
 no_fault_of_sap (Query nearest kind) bytes tail x =
     let room = le-ltb (length bytes) 2 (omega (arith, x.has_query)) in
     no_query_fault (nat_lt (length bytes) 2) _ _ _ _ _ _ _ _ room (query_tests nearest (number 2 0 bytes) x.operation) (le-ltb (length bytes) 4 x.has_query)

@@ -10,19 +10,19 @@ use Rattle.ipx_control.specs.declared.rip.Rip.TheVariants as rips
 use Rattle.ipx_control.specs.Entries.{AreEntries, entries_fault}
 
 -- a RIP packet without where its entries lie in memory
-pub data RipMessage : Type 0 where
-  Request : List RipEntry → RipMessage
-  Response : List RipEntry → RipMessage
+pub data RipView : Type 0 where
+  Request : List RipEntry → RipView
+  Response : List RipEntry → RipView
 
-abbrev pub rip_view : Rip → RipMessage
+abbrev pub rip_view : Rip → RipView
 rip_view (rips.Request entries) = Request entries.items
 rip_view (rips.Response entries) = Response entries.items
 
-abbrev pub rip_operation : RipMessage → ℕ
+abbrev pub rip_operation : RipView → ℕ
 rip_operation (Request entries) = 1
 rip_operation (Response entries) = 2
 
-abbrev pub rip_entries : RipMessage → List RipEntry
+abbrev pub rip_entries : RipView → List RipEntry
 rip_entries (Request entries) = entries
 rip_entries (Response entries) = entries
 
@@ -33,7 +33,7 @@ pub record IsRipEntry (e : RipEntry) (bytes : List ℕ) : Type 0 where
   pub ticks : number 2 6 bytes ≡ e.ticks
 
 -- the bytes are the packet, operation 2 and then at most 50 entries, and a tail that is shorter than an entry
-pub record IsRip (m : RipMessage) (bytes tail : List ℕ) : Type 0 where
+pub record IsRip (m : RipView) (bytes tail : List ℕ) : Type 0 where
   pub has_operation : 2 ≤ length bytes
   pub operation : number 2 0 bytes ≡ rip_operation m
   pub entries : AreEntries IsRipEntry 8 (rip_entries m) (drop 2 bytes) tail
@@ -54,12 +54,12 @@ pub record IsRipEntryInRange (e : RipEntry) : Type 0 where
   pub ticks : e.ticks < 2 ^ 16
 
 -- what a packet can hold
-pub record IsRipInRange (m : RipMessage) : Type 0 where
+pub record IsRipInRange (m : RipView) : Type 0 where
   pub entries : All IsRipEntryInRange (rip_entries m)
   pub limit : length (rip_entries m) ≤ 50
 
 -- how many bytes a packet takes
-abbrev pub rip_size : RipMessage → ℕ
+abbrev pub rip_size : RipView → ℕ
 rip_size m = 2 + 8 * length (rip_entries m)
 
 -- the bytes of an entry

@@ -10,16 +10,16 @@ use Rattle.ipx_control.specs.declared.sap.Sap.TheVariants as saps
 use Rattle.ipx_control.specs.Entries.{AreEntries, entries_fault}
 
 -- a SAP packet without where its services lie in memory; the flag says whether it is about the nearest service
-pub data SapMessage : Type 0 where
-  Query : Bool → ℕ → SapMessage
-  Response : Bool → List ServiceEntry → SapMessage
+pub data SapView : Type 0 where
+  Query : Bool → ℕ → SapView
+  Response : Bool → List ServiceEntry → SapView
 
-abbrev pub sap_view : Sap → SapMessage
+abbrev pub sap_view : Sap → SapView
 sap_view (saps.Query nearest kind) = Query nearest kind
 sap_view (saps.Response nearest services) = Response nearest services.items
 
 -- the services that a packet names
-abbrev pub sap_services : SapMessage → List ServiceEntry
+abbrev pub sap_services : SapView → List ServiceEntry
 sap_services (Query nearest kind) = []
 sap_services (Response nearest services) = services
 
@@ -53,7 +53,7 @@ pub record IsSapResponse (nearest : Bool) (services : List ServiceEntry) (bytes 
   pub short_tail : length tail < 64
 
 -- the bytes are the packet, and then the tail
-abbrev pub IsSap : SapMessage → List ℕ → List ℕ → Type 0
+abbrev pub IsSap : SapView → List ℕ → List ℕ → Type 0
 IsSap (Query nearest kind) bytes tail = IsSapQuery nearest kind bytes tail
 IsSap (Response nearest services) bytes tail = IsSapResponse nearest services bytes tail
 
@@ -84,22 +84,22 @@ pub record AreServicesInRange (services : List ServiceEntry) : Type 0 where
   pub each : All IsServiceEntryInRange services
   pub limit : length services ≤ 7
 
-abbrev pub IsSapInRange : SapMessage → Type 0
+abbrev pub IsSapInRange : SapView → Type 0
 IsSapInRange (Query nearest kind) = kind < 2 ^ 16
 IsSapInRange (Response nearest services) = AreServicesInRange services
 
 -- which tails may stand behind a packet: any behind a query, a short one behind a response
-abbrev pub IsSapTail : SapMessage → List ℕ → Type 0
+abbrev pub IsSapTail : SapView → List ℕ → Type 0
 IsSapTail (Query nearest kind) tail = Unit {0}
 IsSapTail (Response nearest services) tail = length tail < 64
 
 -- how many services a packet may not pass
-abbrev pub IsSapWithinLimit : SapMessage → Type 0
+abbrev pub IsSapWithinLimit : SapView → Type 0
 IsSapWithinLimit (Query nearest kind) = Unit {0}
 IsSapWithinLimit (Response nearest services) = length services ≤ 7
 
 -- how many bytes a packet takes
-abbrev pub sap_size : SapMessage → ℕ
+abbrev pub sap_size : SapView → ℕ
 sap_size (Query nearest kind) = 4
 sap_size (Response nearest services) = 2 + 64 * length services
 

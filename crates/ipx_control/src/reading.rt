@@ -2,8 +2,8 @@
 
 ghost use Rattle.std.specs.Prelude.{◌≡◌, ◌≤◌, ◌<◌, ◌⊎◌, List, [], ℕ, length, take, drop, IfOk, IfErr, IsOk, IsOkAnd, Some, None};
 ghost use Rattle.ipx_control.specs.Entries.{AreEntries};
-ghost use Rattle.ipx_control.specs.Rip.{IsRip, IsRipEntry, RipMessage, rip_entries, rip_fault, rip_view};
-ghost use Rattle.ipx_control.specs.Sap.{IsSap, IsServiceEntry, SapMessage, sap_fault, sap_services, sap_view};
+ghost use Rattle.ipx_control.specs.Rip.{IsRip, IsRipEntry, RipView, rip_entries, rip_fault, rip_view};
+ghost use Rattle.ipx_control.specs.Sap.{IsSap, IsServiceEntry, SapView, sap_fault, sap_services, sap_view};
 
 use crate::fault::ControlFault;
 use crate::rip::{Rip, RipEntry};
@@ -41,14 +41,14 @@ pub fn decode_rip(alloc: Global, bytes: &[u8]) -> Result<Rip, ControlFault>
     // What is read is what the bytes are.
     ensures found { IfOk result (λ v. (tail : List ℕ) × IsRip (rip_view v) bytes.now tail) }
     // Each packet is read, unless memory ran out.
-    ensures only { (m : RipMessage) (tail : List ℕ) → IsRip m bytes.now tail
+    ensures only { (m : RipView) (tail : List ℕ) → IsRip m bytes.now tail
         → IsOkAnd result (λ v. rip_view v ≡ m) ⊎ (result ≡ Err ControlFault.OutOfMemory) }
     // Which fault it is, and that there is none. Want of memory is no answer to bytes of no packet.
     ensures fault { IfErr result (λ f.
         ((f ≡ ControlFault.OutOfMemory) × (rip_fault bytes.now ≡ None)) ⊎ (rip_fault bytes.now ≡ Some f)) }
     ensures whole { IfOk result (λ _. rip_fault bytes.now ≡ None) }
     // Only entries take memory.
-    ensures no_memory { (m : RipMessage) (tail : List ℕ) → IsRip m bytes.now tail → rip_entries m ≡ [] → IsOk result }
+    ensures no_memory { (m : RipView) (tail : List ℕ) → IsRip m bytes.now tail → rip_entries m ≡ [] → IsOk result }
 {
     if bytes.len() < 2 {
         return Err(ControlFault::NoOperation);
@@ -108,14 +108,14 @@ pub fn decode_sap(alloc: Global, bytes: &[u8]) -> Result<Sap, ControlFault>
     // What is read is what the bytes are.
     ensures found { IfOk result (λ v. (tail : List ℕ) × IsSap (sap_view v) bytes.now tail) }
     // Each packet is read, unless memory ran out.
-    ensures only { (m : SapMessage) (tail : List ℕ) → IsSap m bytes.now tail
+    ensures only { (m : SapView) (tail : List ℕ) → IsSap m bytes.now tail
         → IsOkAnd result (λ v. sap_view v ≡ m) ⊎ (result ≡ Err ControlFault.OutOfMemory) }
     // Which fault it is, and that there is none. Want of memory is no answer to bytes of no packet.
     ensures fault { IfErr result (λ f.
         ((f ≡ ControlFault.OutOfMemory) × (sap_fault bytes.now ≡ None)) ⊎ (sap_fault bytes.now ≡ Some f)) }
     ensures whole { IfOk result (λ _. sap_fault bytes.now ≡ None) }
     // Only services take memory.
-    ensures no_memory { (m : SapMessage) (tail : List ℕ) → IsSap m bytes.now tail → sap_services m ≡ [] → IsOk result }
+    ensures no_memory { (m : SapView) (tail : List ℕ) → IsSap m bytes.now tail → sap_services m ≡ [] → IsOk result }
 {
     if bytes.len() < 2 {
         return Err(ControlFault::NoOperation);

@@ -12,17 +12,17 @@ use Rattle.ipx_control.specs.declared.sap.ServiceEntry.{ServiceEntry}
 use Rattle.ipx_control.specs.Rip as rip
 use Rattle.ipx_control.specs.Sap as sap
 use Rattle.ipx_router.specs.declared.packets.Recipient.{Recipient}
-use Rattle.ipx_router.specs.Packets.{AreCutOf, AreRoutePackets, AreServicePackets, IsRipPacket, IsSapPacket, Sending, sending_of, sendings}
+use Rattle.ipx_router.specs.Packets.{AreCutOf, AreRoutePackets, AreServicePackets, IsRipPacket, IsSapPacket, SendingView, sending_of, sendings}
 use Rattle.ipx_router.specs.Adding.{AddsPackets, IsLeftToAdd}
 
-pub sendings_push : (old : List Reply) (r : Reply) (later : List Sending) → sendings (old ++ r ∷ []) ++ later ≡ sendings old ++ (sending_of r ∷ later)
+pub sendings_push : (old : List Reply) (r : Reply) (later : List SendingView) → sendings (old ++ r ∷ []) ++ later ≡ sendings old ++ (sending_of r ∷ later)
 sendings_push [] r later = refl
-sendings_push (x ∷ old) r later = ap (λ (t : List Sending). sending_of x ∷ t) (sendings_push old r later)
+sendings_push (x ∷ old) r later = ap (λ (t : List SendingView). sending_of x ∷ t) (sendings_push old r later)
 
 pub sendings_one : (old : List Reply) (r : Reply) → sendings (old ++ r ∷ []) ≡ sendings old ++ (sending_of r ∷ [])
 sendings_one old r = sym (append-nil (sendings (old ++ r ∷ []))) ∙ sendings_push old r []
 
-module _ {E : Type 0} (most : ℕ) (IsPacketOf : List E → Sending → Type 0) (entries rest : List E) (old new : List Reply) (left : IsLeftToAdd (AreCutOf most IsPacketOf) entries rest old new) where
+module _ {E : Type 0} (most : ℕ) (IsPacketOf : List E → SendingView → Type 0) (entries rest : List E) (old new : List Reply) (left : IsLeftToAdd (AreCutOf most IsPacketOf) entries rest old new) where
   -- one more packet
   pub cut_more : (r : Reply) → 0 < length rest → IsPacketOf (take most rest) (sending_of r) → IsLeftToAdd (AreCutOf most IsPacketOf) entries (drop most rest) old (new ++ r ∷ [])
   cut_more r some is later cut =
@@ -33,15 +33,15 @@ module _ {E : Type 0} (most : ℕ) (IsPacketOf : List E → Sending → Type 0) 
   pub cut_done : rest ≡ [] → AddsPackets (AreCutOf most IsPacketOf entries) old new
   cut_done none = let w = left [] none in (w.0, sym (append-nil (sendings new)) ∙ w.1, w.2)
 
-pub cut_none : {E : Type 0} (most : ℕ) (IsPacketOf : List E → Sending → Type 0) (entries : List E) (old : List Reply) → IsLeftToAdd (AreCutOf most IsPacketOf) entries entries old old
+pub cut_none : {E : Type 0} (most : ℕ) (IsPacketOf : List E → SendingView → Type 0) (entries : List E) (old : List Reply) → IsLeftToAdd (AreCutOf most IsPacketOf) entries entries old old
 cut_none most IsPacketOf entries old later cut = (later, refl, cut)
 
 -- packets of which each leaves by one port all leave by it
-pub cut_port : {E : Type 0} (most : ℕ) (IsPacketOf : List E → Sending → Type 0) (number : ℕ) → ((part : List E) (s : Sending) → IsPacketOf part s → s.port ≡ number)
-    → (entries : List E) (sent : List Sending) → AreCutOf most IsPacketOf entries sent → All (λ (s : Sending). s.port ≡ number) sent
-cut_port most IsPacketOf number by entries [] cut = All-nil (λ (s : Sending). s.port ≡ number)
+pub cut_port : {E : Type 0} (most : ℕ) (IsPacketOf : List E → SendingView → Type 0) (number : ℕ) → ((part : List E) (s : SendingView) → IsPacketOf part s → s.port ≡ number)
+    → (entries : List E) (sent : List SendingView) → AreCutOf most IsPacketOf entries sent → All (λ (s : SendingView). s.port ≡ number) sent
+cut_port most IsPacketOf number by entries [] cut = All-nil (λ (s : SendingView). s.port ≡ number)
 cut_port most IsPacketOf number by entries (s ∷ sent) cut =
-    All-cons (λ (s : Sending). s.port ≡ number) s sent (by (take most entries) s cut.1) (cut_port most IsPacketOf number by (drop most entries) sent cut.2)
+    All-cons (λ (s : SendingView). s.port ≡ number) s sent (by (take most entries) s cut.1) (cut_port most IsPacketOf number by (drop most entries) sent cut.2)
 
 -- what is taken of a list of at most so many is taken of the list
 pub take_fewer : {E : Type 0} (most n : ℕ) (xs : List E) → n ≡ min (length xs) most → (take n xs ≡ take most xs) × (drop n xs ≡ drop most xs)
@@ -52,11 +52,11 @@ take_fewer most n xs e = elim (cases_lt most (length xs)) [
       (take_all n xs (omega arith) ∙ sym (take_all most xs (omega arith)), drop_all n xs (omega arith) ∙ sym (drop_all most xs (omega arith)))
 ]
 
-pub route_packets_port : (to : Recipient) (entries : List RipEntry) (sent : List Sending) → AreRoutePackets to entries sent → All (λ (s : Sending). s.port ≡ to.number) sent
+pub route_packets_port : (to : Recipient) (entries : List RipEntry) (sent : List SendingView) → AreRoutePackets to entries sent → All (λ (s : SendingView). s.port ≡ to.number) sent
 route_packets_port to entries sent cut =
     cut_port 50 (λ part. IsRipPacket to (rip.Response part)) to.number (λ part s p. let q : IsRipPacket to (rip.Response part) s = p in q.port) entries sent cut
 
-pub service_packets_port : (to : Recipient) (nearest : Bool) (entries : List ServiceEntry) (sent : List Sending) → AreServicePackets to nearest entries sent → All (λ (s : Sending). s.port ≡ to.number) sent
+pub service_packets_port : (to : Recipient) (nearest : Bool) (entries : List ServiceEntry) (sent : List SendingView) → AreServicePackets to nearest entries sent → All (λ (s : SendingView). s.port ≡ to.number) sent
 service_packets_port to nearest entries sent cut =
     cut_port 7 (λ part. IsSapPacket to (sap.Response nearest part)) to.number (λ part s p. let q : IsSapPacket to (sap.Response nearest part) s = p in q.port) entries sent cut
 

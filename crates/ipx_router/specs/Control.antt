@@ -8,7 +8,7 @@ use Rattle.ipx_router.specs.declared.port.Port.{Port}
 use Rattle.ipx_router.specs.declared.port.PortNow.{PortNow}
 use Rattle.ipx_router.specs.declared.packets.Recipient.{Recipient}
 use Rattle.ipx_router.specs.declared.control.Concern.{Concern}
-use Rattle.ipx_router.specs.declared.control.Concern.TheVariants.{Refused, Rip, Sap, Passing}
+use Rattle.ipx_router.specs.declared.control.Concern.TheVariants.{Dropped, Rip, Sap, Passing}
 use Rattle.ipx_router.specs.declared.reason.Reason.TheVariants.{Propagated, NotOurs}
 use Rattle.ipx_router.specs.Packets.{rip_socket, sap_socket}
 
@@ -31,14 +31,14 @@ concern_on_network arrived h =
     if is_from_neighbour arrived h then (
     if h.to.socket.0 == rip_socket then Rip
     else if h.to.socket.0 == sap_socket then Sap
-    else Refused NotOurs
+    else Dropped NotOurs
     )
-    else Refused NotOurs
+    else Dropped NotOurs
 
 -- packets of type 20 are not propagated; what is for the network at hand is control, or not ours
 abbrev pub concern_of : Port → IpxHeader → Concern
 concern_of arrived h =
-    if h.kind == 20 then Refused Propagated
+    if h.kind == 20 then Dropped Propagated
     else if (h.to.network.0 == 0) || (h.to.network.0 == arrived.network.0) then concern_on_network arrived h
     else Passing
 

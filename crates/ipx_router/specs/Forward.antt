@@ -2,7 +2,7 @@
 use Rattle.std.specs.Prelude.{ℕ, ◌+◌, List, [], Option, Some, None, nat_le, ◌==◌, if◌then◌else◌, unwrap_or}
 use Rattle.ipx_wire.specs.declared.address.Node.{Node}
 use Rattle.ipx_wire.specs.declared.packet.IpxHeader.{IpxHeader}
-use Rattle.ipx_wire.specs.Ipx.{Datagram, IsIpx}
+use Rattle.ipx_wire.specs.Ipx.{PacketView, IsIpx}
 use Rattle.ipx_router.specs.declared.port.Port.{Port}
 use Rattle.ipx_router.specs.declared.reason.Reason.{Reason}
 use Rattle.ipx_router.specs.declared.reason.Reason.TheVariants.{NoRoute, HopLimit}
@@ -41,5 +41,5 @@ one_hop_on arrived h = record h {
 }
 
 -- the bytes are the packet one hop on, and nothing behind it
-abbrev pub IsOneHopOn : Port → Datagram → List ℕ → Type 0
+abbrev pub IsOneHopOn : Port → PacketView → List ℕ → Type 0
 IsOneHopOn arrived d bytes = IsIpx (record d { header = one_hop_on arrived d.header }) bytes []

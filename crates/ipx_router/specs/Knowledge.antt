@@ -9,7 +9,7 @@ use Rattle.ipx_tables.specs.Content.{Content, IsTable, Table, content, after_age
 use Rattle.ipx_tables.specs.Route.{network_cmp}
 use Rattle.ipx_tables.specs.Service.{service_key_cmp}
 use Rattle.ipx_router.specs.declared.port.Port.{Port}
-use Rattle.ipx_router.specs.Routing.{Routing}
+use Rattle.ipx_router.specs.RouterView.{RouterView}
 
 abbrev pub Routes : Type 0
 Routes = Content Network RouteMetric
@@ -48,14 +48,14 @@ known_aged ports routes services now = record {
   services = after_age (services_in services) now;
 }
 
-abbrev pub known_at : Routing → ℕ → Known
+abbrev pub known_at : RouterView → ℕ → Known
 known_at r now = known_aged r.ports r.routes r.services now
 
 -- the tables of a router
 abbrev pub Tables : Type 0
 Tables = Table Network RouteMetric × Table ServiceKey ServiceMetric
 
-abbrev pub tables : Routing → Tables
+abbrev pub tables : RouterView → Tables
 tables r = (r.routes, r.services)
 
 -- no network and no service stands twice from one source, and they are 1,024 and 4,096 at most
@@ -71,7 +71,7 @@ pub record HoldsKnown (k : Known) (new : Tables) : Type 0 where
   pub services : HoldsServices new.1 k.services
 
 -- all that a router's calls leave as it was, but for the offers that it holds
-pub record KeepsRest (old new : Routing) : Type 0 where
+pub record KeepsRest (old new : RouterView) : Type 0 where
   pub ports : new.ports ≡ old.ports
   pub most_routes : new.routes.most ≡ old.routes.most
   pub most_services : new.services.most ≡ old.services.most

@@ -5,13 +5,13 @@ use Rattle.ipx_tables.specs.declared.route.RouteMetric.{RouteMetric}
 use Rattle.ipx_tables.specs.declared.source.Source.{Source}
 use Rattle.ipx_router.specs.declared.port.Port.{Port}
 use Rattle.ipx_router.specs.Knowledge.{AreTables, Routes, Tables, routes_in}
-use Rattle.ipx_router.specs.Packets.{Sending}
+use Rattle.ipx_router.specs.Packets.{SendingView}
 
 abbrev pub IsPortNumber : ℕ → ℕ → Type 0
 IsPortNumber count port = (1 ≤ port) × (port ≤ count)
 
 -- each packet leaves by a port that is there
-abbrev pub AreOnPorts : ℕ → List Sending → Type 0
+abbrev pub AreOnPorts : ℕ → List SendingView → Type 0
 AreOnPorts count sent = All (λ s. IsPortNumber count s.port) sent
 
 -- each route was heard on a port that is there

@@ -10,7 +10,7 @@ use Rattle.ipx_router.specs.declared.packets.Recipient.{Recipient}
 use Rattle.ipx_router.specs.Knowledge.{Known, Routes, Services}
 use Rattle.ipx_router.specs.Control.{broadcast}
 use Rattle.ipx_router.specs.Told.{AreToldRoutes, AreToldServices}
-use Rattle.ipx_router.specs.Packets.{Sending, AreRoutePackets, AreServicePackets, IsRipPacket, IsSapPacket, rip_socket, sap_socket}
+use Rattle.ipx_router.specs.Packets.{SendingView, AreRoutePackets, AreServicePackets, IsRipPacket, IsSapPacket, rip_socket, sap_socket}
 
 -- all nodes of a port's network, at a socket
 abbrev pub all_nodes : ℕ → Port → ℕ → Recipient
@@ -26,23 +26,23 @@ abbrev pub all_asked : RipEntry
 all_asked = record { network = record { 0 = 4294967295 }; hops = 65535; ticks = 65535 }
 
 -- the packets by which a router asks on a port
-abbrev pub AreAsked : ℕ → Port → List Sending → Type 0
-AreAsked number port sent = (a b : Sending) × (sent ≡ a ∷ b ∷ [])
+abbrev pub AreAsked : ℕ → Port → List SendingView → Type 0
+AreAsked number port sent = (a b : SendingView) × (sent ≡ a ∷ b ∷ [])
     × IsRipPacket (all_nodes number port rip_socket) (rip.Request (all_asked ∷ [])) a
     × IsSapPacket (all_nodes number port sap_socket) (sap.Query false 65535) b
 
 -- the packets by which a router asks on its ports, which are numbered from a first one on
-abbrev pub AreStarts : ℕ → List Port → List Sending → Type 0
+abbrev pub AreStarts : ℕ → List Port → List SendingView → Type 0
 AreStarts number [] sent = sent ≡ []
-AreStarts number (port ∷ ports) sent = (first rest : List Sending) × (sent ≡ first ++ rest)
+AreStarts number (port ∷ ports) sent = (first rest : List SendingView) × (sent ≡ first ++ rest)
     × AreAsked number port first × AreStarts (number + 1) ports rest
 
 -- the packets that tell what is known on one port: routes, and then services
-pub record AreTold (ports : List Port) (routes : Routes) (services : Services) (at : PortNow) (sent : List Sending) : Type 0 where
+pub record AreTold (ports : List Port) (routes : Routes) (services : Services) (at : PortNow) (sent : List SendingView) : Type 0 where
   pub told_routes : List RipEntry
   pub told_services : List ServiceEntry
-  pub route_packets : List Sending
-  pub service_packets : List Sending
+  pub route_packets : List SendingView
+  pub service_packets : List SendingView
   pub are : sent ≡ route_packets ++ service_packets
   pub of_routes : AreToldRoutes ports routes at told_routes
   pub of_services : AreToldServices services at told_services
@@ -50,9 +50,9 @@ pub record AreTold (ports : List Port) (routes : Routes) (services : Services) (
   pub in_service_packets : AreServicePackets (all_nodes at.number at.port sap_socket) false told_services service_packets
 
 -- the packets of each port, which are numbered from a first one on
-abbrev pub AreTellings : List Port → Routes → Services → ℕ → ℕ → List Port → List Sending → Type 0
+abbrev pub AreTellings : List Port → Routes → Services → ℕ → ℕ → List Port → List SendingView → Type 0
 AreTellings ports routes services now number [] sent = sent ≡ []
-AreTellings ports routes services now number (port ∷ later) sent = (first rest : List Sending) × (sent ≡ first ++ rest)
+AreTellings ports routes services now number (port ∷ later) sent = (first rest : List SendingView) × (sent ≡ first ++ rest)
     × AreTold ports routes services (record { number = number; port = port; now = now }) first
     × AreTellings ports routes services now (number + 1) later rest
 
@@ -62,7 +62,7 @@ is_due None now = true
 is_due (Some last) now = nat_le 60000 (now - last)
 
 -- the packets by which a router tells what it knows, if it is time, and when it told last then
-abbrev pub Tells : Known → Option ℕ → ℕ → List Sending → Option ℕ → Type 0
+abbrev pub Tells : Known → Option ℕ → ℕ → List SendingView → Option ℕ → Type 0
 Tells k last now sent told = MatchBool (is_due last now)
     (AreTellings k.ports k.routes k.services now 1 k.ports sent × (told ≡ Some now))
     ((sent ≡ []) × (told ≡ last))

@@ -10,7 +10,7 @@ ghost use Rattle.ipx_tables.specs.Service.{service_key_cmp};
 ghost use Rattle.ipx_router.specs.Knowledge.{AreTables, known_aged, known_in, routes_in, services_in};
 ghost use Rattle.ipx_router.specs.Packets.{sendings};
 ghost use Rattle.ipx_router.specs.Control.{concern_of};
-ghost use Rattle.ipx_router.specs.Answer.{AnswersByConcern, AnswersBytes, AnswersRip, AnswersSap, Heard, HoldsPacket, IsOnPort, LeavesByConcern, LeavesBytes, LeavesRoutes, LeavesServices, Onward, OnwardForEachReading, Refused, RepliesRoutes, RepliesServices, view};
+ghost use Rattle.ipx_router.specs.Answer.{AnswersByConcern, AnswersBytes, AnswersRip, AnswersSap, Heard, HoldsPacket, IsOnPort, LeavesByConcern, LeavesBytes, LeavesRoutes, LeavesServices, Onward, OnwardForEachReading, Dropped, RepliesRoutes, RepliesServices, view};
 ghost use Rattle.ipx_router.specs.Ports.{AreFromPorts, IsPortNumber};
 
 use crate::asking::{asked_routes, asked_services};
@@ -68,7 +68,7 @@ fn reply_services(
 
 fn outcome_of_hearing(heard: Result<u16, TableFault>) -> Result<Outcome, OutOfMemory>
     ensures answer { IfOk result (λ o. MatchResult heard (λ n. view o ≡ Heard n)
-        (λ f. (f ≡ TableFault.Full) × (view o ≡ Refused Reason.TableFull))) }
+        (λ f. (f ≡ TableFault.Full) × (view o ≡ Dropped Reason.TableFull))) }
     ensures refused { OnErr result (heard ≡ Err TableFault.OutOfMemory) }
 {
     match heard {
@@ -166,7 +166,7 @@ fn answer_packet(
     ensures sources { AreFromPorts (length ports.now) (routes_in routes.new) }
 {
     match concern_with(at.port, packet.header) {
-        Concern::Refused(reason) => return Ok(Outcome::Dropped(reason)),
+        Concern::Dropped(reason) => return Ok(Outcome::Dropped(reason)),
         Concern::Rip => return answer_rip(alloc, ports, routes, at, packet),
         Concern::Sap => return answer_sap(alloc, services, at, packet),
         Concern::Passing => return pass_along(alloc, ports, routes, at, datagram, packet),

@@ -11,7 +11,7 @@ use ipx_wire::IpxHeader;
 
 /// What a packet is to the router.
 pub enum Concern {
-    Refused(Reason),
+    Dropped(Reason),
     Rip,
     Sap,
     Passing,
@@ -29,7 +29,7 @@ fn on_network(arrived: Port, header: IpxHeader) -> Concern
     ensures { result ≡ concern_on_network arrived header }
 {
     if !comes_from_neighbour(arrived, header) {
-        return Concern::Refused(Reason::NotOurs);
+        return Concern::Dropped(Reason::NotOurs);
     }
     if header.to.socket == RIP_SOCKET {
         return Concern::Rip;
@@ -37,14 +37,14 @@ fn on_network(arrived: Port, header: IpxHeader) -> Concern
     if header.to.socket == SAP_SOCKET {
         return Concern::Sap;
     }
-    Concern::Refused(Reason::NotOurs)
+    Concern::Dropped(Reason::NotOurs)
 }
 
 pub fn concern_with(arrived: Port, header: IpxHeader) -> Concern
     ensures { result ≡ concern_of arrived header }
 {
     if header.kind == 20 {
-        return Concern::Refused(Reason::Propagated);
+        return Concern::Dropped(Reason::Propagated);
     }
     if header.to.network.0 == 0 || header.to.network == arrived.network {
         return on_network(arrived, header);

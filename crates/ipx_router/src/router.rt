@@ -29,10 +29,10 @@ pub struct Router {
 }
 
 impl Model for Router {
-    ghost use Rattle.ipx_router.specs.Routing.{Routing};
+    ghost use Rattle.ipx_router.specs.RouterView.{RouterView};
     ghost use Rattle.ipx_router.specs.Ports.{IsSound};
 
-    ghost Value = { Routing };
+    ghost Value = { RouterView };
 
     ghost view = { λ r. record { ports = r.ports.items; routes = r.routes; services = r.services; told = r.told } };
 

@@ -2,7 +2,7 @@ use Rattle.std.proofs.Common.{◌+◌, List, [], append-nil, refl, sym, subst}
 use Rattle.std.proofs.lemmas.List.{drop_all, drop_more}
 use Rattle.ipx_router.specs.declared.port.Port.{Port}
 use Rattle.ipx_router.specs.Knowledge.{routes_in, services_in}
-use Rattle.ipx_router.specs.Packets.{Sending, sendings}
+use Rattle.ipx_router.specs.Packets.{SendingView, sendings}
 use Rattle.ipx_router.specs.Telling.{AreTellings}
 use Rattle.ipx_router.proofs.Tellings.{tellings_more, tellings_there}
 use Rattle.ipx_router.proofs.ToldRoutes.{no_port}
@@ -16,7 +16,7 @@ loop-i-preserved c =
 all_told_so_far : (c : After-loop-i) → AreTellings c.args.ports.now (routes_in c.args.routes.now) (services_in c.args.services.now) c.args.now 1 c.args.ports.now (sendings c.loop-i.told.items)
 all_told_so_far c =
     let over = drop_all c.loop-i.i c.args.ports.now c.loop-i-test.false in
-    let P : List Port → List Sending → Type 0 = AreTellings c.args.ports.now (routes_in c.args.routes.now) (services_in c.args.services.now) c.args.now (c.loop-i.i + 1) in
+    let P : List Port → List SendingView → Type 0 = AreTellings c.args.ports.now (routes_in c.args.routes.now) (services_in c.args.services.now) c.args.now (c.loop-i.i + 1) in
     subst (AreTellings c.args.ports.now (routes_in c.args.routes.now) (services_in c.args.services.now) c.args.now 1 c.args.ports.now) (append-nil (sendings c.loop-i.told.items))
     (c.loop-i.invariant [] (subst (λ (ps : List Port). P ps []) (sym over) refl))
 
