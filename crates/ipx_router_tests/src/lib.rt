@@ -11,6 +11,8 @@ mod metrics;
 #[cfg(test)]
 mod offers;
 #[cfg(test)]
+mod ports;
+#[cfg(test)]
 mod refused;
 #[cfg(test)]
 mod rip;
