@@ -9,9 +9,9 @@ mod full;
 #[cfg(test)]
 mod metrics;
 #[cfg(test)]
-mod offers;
+mod new_router;
 #[cfg(test)]
-mod ports;
+mod offers;
 #[cfg(test)]
 mod refused;
 #[cfg(test)]
