@@ -16,6 +16,11 @@ fn neighbour(last: u8) -> Source {
     }
 }
 
+/// How far the network is, by a neighbour's word.
+fn metric(ticks: u16, hops: u16) -> RouteMetric {
+    RouteMetric { ticks, hops }
+}
+
 fn print_best(rt: &impl Print, routes: &RouteTable, now: u64) -> Result<()> {
     let Some((_, metric)) = routes.best(&NETWORK, now) else {
         println!(rt; "table: no route")?;
@@ -31,28 +36,10 @@ fn print_best(rt: &impl Print, routes: &RouteTable, now: u64) -> Result<()> {
 /// does not count any more. Moments are milliseconds.
 pub fn hear_and_age(rt: &impl Print, alloc: Global) -> Result<()> {
     let mut routes = route_table(alloc);
-    routes.hear(
-        alloc,
-        NETWORK,
-        neighbour(3),
-        RouteMetric { ticks: 3, hops: 5 },
-        0,
-    )?;
-    routes.hear(
-        alloc,
-        NETWORK,
-        neighbour(4),
-        RouteMetric { ticks: 4, hops: 1 },
-        0,
-    )?;
+    routes.hear(alloc, NETWORK, neighbour(3), metric(3, 5), 0)?;
+    routes.hear(alloc, NETWORK, neighbour(4), metric(4, 1), 0)?;
     print_best(rt, &routes, 0)?;
-    routes.hear(
-        alloc,
-        NETWORK,
-        neighbour(3),
-        RouteMetric { ticks: 3, hops: 16 },
-        0,
-    )?;
+    routes.hear(alloc, NETWORK, neighbour(3), metric(3, 16), 0)?;
     print_best(rt, &routes, 179_999)?;
     routes.age(180_000);
     print_best(rt, &routes, 180_000)
