@@ -1,6 +1,7 @@
 //! One end of an SPX connection, as exact functions of its 16-bit numbers (Novell SPX).
 #![tactic(auto)]
 
+mod buffers;
 mod effects;
 mod fault;
 mod forwards;
