@@ -25,8 +25,12 @@ use Rattle.spx_link.proofs.Carrying.{by_test}
 abbrev turn : Bool → Bool → Bool → Bool → Bool
 turn own system ended next = own && (not system && (not ended && next))
 
+-- there is a buffer for it, and it was not kept before
+abbrev wanted : LinkView → SpxHeader → Bool
+wanted l h = not (nat_le 32768 (distance h.seq l.expected)) && (nat_lt (distance h.seq l.expected) (free l) && not (R.is_taken (distance h.seq l.expected) l.ahead))
+
 abbrev in_turn : LinkView → SpxHeader → Bool
-in_turn l h = turn (is_own l h) (is_system h) l.peer_ended (is_next l h)
+in_turn l h = turn (is_own l h) (is_system h) l.peer_ended (wanted l h)
 
 of_another : (own system ended next : Bool) → own ≡ false → false ≡ turn own system ended next
 of_another true system ended next e = cc
@@ -57,9 +61,26 @@ of_all true true ended next a b c d = cc
 of_all true false true next a b c d = cc
 of_all true false false false a b c d = cc
 
--- a unit that is behind is not the next one
-behind_not_next : (beyond free : ℕ) → nat_le 32768 beyond ≡ true → ((beyond == 0) && nat_lt 0 free) ≡ false
-behind_not_next beyond free far = grind (arith, nat_tests)
+not_behind : (behind room taken : Bool) → behind ≡ true → (not behind && (room && not taken)) ≡ false
+not_behind true room taken e = refl
+not_behind false room taken e = cc
+
+not_over : (behind room taken : Bool) → room ≡ false → (not behind && (room && not taken)) ≡ false
+not_over true room taken e = refl
+not_over false true taken e = cc
+not_over false false taken e = refl
+
+not_again : (behind room taken : Bool) → taken ≡ true → (not behind && (room && not taken)) ≡ false
+not_again true room taken e = refl
+not_again false false taken e = refl
+not_again false true true e = refl
+not_again false true false e = cc
+
+so_wanted : (behind room taken : Bool) → behind ≡ false → room ≡ true → taken ≡ false → (not behind && (room && not taken)) ≡ true
+so_wanted false true false a b c = refl
+so_wanted true room taken a b c = cc
+so_wanted false false taken a b c = cc
+so_wanted false true true a b c = cc
 
 -- ---- what a rule says
 
@@ -72,11 +93,32 @@ pub record Course (l : LinkView) (h : SpxHeader) (r : Received × LinkView) : Ty
   pub stranger : r.0 ≡ Stranger → r.1 ≡ l
   pub done : r.0 ≡ Confirmed → IsDone l r.1
 
+both_tests : (b : Bool) → b ≡ true → b ≡ false → ⊥
+both_tests true e f = cc
+both_tests false e f = cc
+
 -- the unit
 pub record Keeps (l : LinkView) (h : SpxHeader) (body : List ℕ) (r : Received × LinkView) : Type 0 where
   pub turns : is_kept r.0 ≡ in_turn l h
-  pub kept : is_kept r.0 ≡ true → r.1.held ≡ l.held ++ unit_in h body ∷ []
-  pub other : is_kept r.0 ≡ false → r.1.held ≡ l.held
+  pub held : is_kept r.0 ≡ true → r.1.held ≡ l.held ++ newly_held l h body
+  pub ahead : r.0 ≡ Kept → r.1.ahead ≡ drop (length (newly_held l h body)) (kept_with l h body)
+  pub none_ahead : r.0 ≡ PeerEnded → r.1.ahead ≡ []
+  pub same : is_kept r.0 ≡ false → (r.1.held ≡ l.held) × (r.1.ahead ≡ l.ahead)
+  pub ends : r.0 ≡ PeerEnded → R.any_end (newly_held l h body) ≡ true
+  pub goes_on : r.0 ≡ Kept → R.any_end (newly_held l h body) ≡ false
+
+-- an answer that keeps none
+unkept : (l m : LinkView) (h : SpxHeader) (body : List ℕ) (a : Received) → is_kept a ≡ in_turn l h → is_kept a ≡ false → m.held ≡ l.held → m.ahead ≡ l.ahead → Keeps l h body (a, m)
+unkept l m h body a turns not_kept held ahead =
+    record {
+      turns = turns;
+      held = λ e. absurd (both_tests (is_kept a) e not_kept);
+      ahead = λ e. absurd (both_tests (is_kept a) (ap is_kept e) not_kept);
+      none_ahead = λ e. absurd (both_tests (is_kept a) (ap is_kept e) not_kept);
+      same = λ _. (held, ahead);
+      ends = λ e. absurd (both_tests (is_kept a) (ap is_kept e) not_kept);
+      goes_on = λ e. absurd (both_tests (is_kept a) (ap is_kept e) not_kept);
+    }
 
 pub record ReadSays (l : LinkView) (h : SpxHeader) (body : List ℕ) (r : Received × LinkView) : Type 0 where
   pub course : Course l h r
@@ -85,7 +127,7 @@ pub record ReadSays (l : LinkView) (h : SpxHeader) (body : List ℕ) (r : Receiv
 stranger_says : (l : LinkView) (h : SpxHeader) (body : List ℕ) → false ≡ in_turn l h → ReadSays l h body (Stranger, l)
 stranger_says l h body other = record {
   course = record { state = refl; end_queued = refl; peer_ended = refl; queue = λ no. absurd (no refl); stranger = λ _. refl; done = λ e. cc };
-  unit = record { turns = other; kept = λ e. cc; other = λ _. refl };
+  unit = UNKEPT(other);
 }
 
 empty_of : {A : Type 0} (xs : List A) → (length xs == 0) ≡ true → xs ≡ []
@@ -109,7 +151,7 @@ confirmed_says l h body system may =
         stranger = λ e. cc;
         done = λ _. record { end_queued = (and_parts l.end_queued others more).0; queue = empty_of m.queue (and_parts (length m.queue == 0) (not (is_confirmed l.state)) rest).0 };
       };
-      unit = record { turns = of_system (is_own l h) (is_system h) l.peer_ended (is_next l h) system; kept = λ e. cc; other = λ _. refl };
+      unit = UNKEPT(of_system (is_own l h) (is_system h) l.peer_ended (wanted l h) system);
     }
 
 system_says : (l : LinkView) (h : SpxHeader) (body : List ℕ) → is_system h ≡ true → ReadSays l h body (R.read_system (R.read_numbers l h) h)
@@ -119,7 +161,7 @@ system_says l h body system =
     (λ may. confirmed_says l h body system may)
     (λ _. record {
       course = record { state = refl; end_queued = refl; peer_ended = refl; queue = λ _. refl; stranger = λ e. cc; done = λ e. cc };
-      unit = record { turns = of_system (is_own l h) (is_system h) l.peer_ended (is_next l h) system; kept = λ e. cc; other = λ _. refl };
+      unit = UNKEPT(of_system (is_own l h) (is_system h) l.peer_ended (wanted l h) system);
     })
 
 repeated_says : (l : LinkView) (h : SpxHeader) (body : List ℕ) → false ≡ in_turn l h → ReadSays l h body (Repeat, R.repeated (R.read_numbers l h) h)
@@ -128,11 +170,11 @@ repeated_says l h body other =
     by_test (λ (n : LinkView). ReadSays l h body (Repeat, n)) ((h.stream == end_stream) && m.peer_ended) (record m { owes_confirm = true }) (record m { owes_ack = true })
     (λ _. record {
       course = record { state = refl; end_queued = refl; peer_ended = refl; queue = λ _. refl; stranger = λ e. cc; done = λ e. cc };
-      unit = record { turns = other; kept = λ e. cc; other = λ _. refl };
+      unit = UNKEPT(other);
     })
     (λ _. record {
       course = record { state = refl; end_queued = refl; peer_ended = refl; queue = λ _. refl; stranger = λ e. cc; done = λ e. cc };
-      unit = record { turns = other; kept = λ e. cc; other = λ _. refl };
+      unit = UNKEPT(other);
     })
 
 out_of_turn_says : (l : LinkView) (h : SpxHeader) (body : List ℕ) → false ≡ in_turn l h → ReadSays l h body (R.out_of_turn (R.read_numbers l h) h)
@@ -141,11 +183,11 @@ out_of_turn_says l h body other =
     by_test (ReadSays l h body) (nat_lt (R.beyond_expected m h) (free m)) (Ahead, record m { owes_ack = true }) (OverAllocation, record m { owes_ack = true })
     (λ _. record {
       course = record { state = refl; end_queued = refl; peer_ended = refl; queue = λ _. refl; stranger = λ e. cc; done = λ e. cc };
-      unit = record { turns = other; kept = λ e. cc; other = λ _. refl };
+      unit = UNKEPT(other);
     })
     (λ _. record {
       course = record { state = refl; end_queued = refl; peer_ended = refl; queue = λ _. refl; stranger = λ e. cc; done = λ e. cc };
-      unit = record { turns = other; kept = λ e. cc; other = λ _. refl };
+      unit = UNKEPT(other);
     })
 
 -- the unit that a packet carries, by whether it is an end
@@ -177,15 +219,15 @@ unit_says : (l : LinkView) (h : SpxHeader) (body : List ℕ) → is_own l h ≡ 
 unit_says l h body own unit =
     let m : LinkView = R.read_numbers l h in
     by_test (ReadSays l h body) (nat_le 32768 (R.beyond_expected m h)) (Repeat, R.repeated m h) (R.not_behind m h body)
-    (λ far. repeated_says l h body (of_other_place (is_own l h) (is_system h) l.peer_ended (is_next l h) (behind_not_next (R.beyond_expected l h) (free l) far)))
+    (λ far. repeated_says l h body (of_other_place (is_own l h) (is_system h) l.peer_ended (wanted l h) (behind_not_next (R.beyond_expected l h) (free l) far)))
     (λ _. by_test (ReadSays l h body) m.peer_ended (Ahead, m) (R.in_turn m h body)
     (λ ended. record {
       course = record { state = refl; end_queued = refl; peer_ended = refl; queue = λ _. refl; stranger = λ e. cc; done = λ e. cc };
-      unit = record { turns = of_ended (is_own l h) (is_system h) l.peer_ended (is_next l h) ended; kept = λ e. cc; other = λ _. refl };
+      unit = UNKEPT(of_ended (is_own l h) (is_system h) l.peer_ended (wanted l h) ended);
     })
     (λ more. by_test (ReadSays l h body) (is_next m h) (R.keep m h body) (R.out_of_turn m h)
-    (λ next. keep_says l h body (of_all (is_own l h) (is_system h) l.peer_ended (is_next l h) own unit more next))
-    (λ place. out_of_turn_says l h body (of_other_place (is_own l h) (is_system h) l.peer_ended (is_next l h) place))))
+    (λ next. keep_says l h body (of_all (is_own l h) (is_system h) l.peer_ended (wanted l h) own unit more next))
+    (λ place. out_of_turn_says l h body (of_other_place (is_own l h) (is_system h) l.peer_ended (wanted l h) place))))
 
 joined_says : (l : LinkView) (h : SpxHeader) (body : List ℕ) → ReadSays l h body (R.receive_joined l h body)
 joined_says l h body =
@@ -193,7 +235,7 @@ joined_says l h body =
     (λ own. by_test (ReadSays l h body) (is_system h) (R.read_system (R.read_numbers l h) h) (R.read_unit (R.read_numbers l h) h body)
     (λ system. system_says l h body system)
     (λ unit. unit_says l h body own unit))
-    (λ other. stranger_says l h body (of_another (is_own l h) (is_system h) l.peer_ended (is_next l h) other))
+    (λ other. stranger_says l h body (of_another (is_own l h) (is_system h) l.peer_ended (wanted l h) other))
 
 -- ---- any packet
 
@@ -204,10 +246,10 @@ pub record ReceiveSays (l : LinkView) (h : SpxHeader) (body : List ℕ) (r : Rec
   pub other : is_kept r.0 ≡ false → r.1.held ≡ l.held
   pub own : (r.0 ≡ Stranger → ⊥) → (r.0 ≡ Joined → ⊥) → (is_joined l.state ≡ true) × (is_own l h ≡ true)
 
-next_alone : (l : LinkView) (h : SpxHeader) → is_next l h ≡ true → (distance h.seq l.expected ≡ 0) × (0 < free l)
+next_alone : (l : LinkView) (h : SpxHeader) → wanted l h ≡ true → (distance h.seq l.expected ≡ 0) × (0 < free l)
 next_alone l h e = (grind (arith, nat_tests), grind (arith, nat_tests))
 
-next_of : (l : LinkView) (h : SpxHeader) → distance h.seq l.expected ≡ 0 → 0 < free l → is_next l h ≡ true
+next_of : (l : LinkView) (h : SpxHeader) → distance h.seq l.expected ≡ 0 → 0 < free l → wanted l h ≡ true
 next_of l h a b = grind (arith, nat_tests)
 
 not_true : (b : Bool) → not b ≡ true → b ≡ false
@@ -242,7 +284,7 @@ of_joined l h body joined =
       course = says.course;
       turns = (
         λ kept. is_in_turn l h joined (sym says.unit.turns ∙ kept),
-        λ t. says.unit.turns ∙ sym (of_all (is_own l h) (is_system h) l.peer_ended (is_next l h) t.own t.unit t.more (next_of l h t.next t.room)),
+        λ t. says.unit.turns ∙ sym (of_all (is_own l h) (is_system h) l.peer_ended (wanted l h) t.own t.unit t.more (next_of l h t.next t.room)),
       );
       kept = says.unit.kept;
       other = says.unit.other;
