@@ -237,6 +237,22 @@ settle_lies items capacity count size more laid is =
       count_is = omega arith;
     }
 
+-- those that are held now and those that stay ahead are all that was kept
+pub leading_joins : (us : List Unit) (xs : List (Option Unit)) → lies (us ++ leading xs) (drop (length (leading xs)) xs) ≡ lies us xs
+leading_joins us xs = sym (lies_more us (leading xs) (drop (length (leading xs)) xs)) ∙ ap (lies us) (sym (leading_rest xs))
+
+pub after_held : (us : List Unit) (xs : List (Option Unit)) (k : ℕ) → slice_get (lies us xs) (length us + k) ≡ slice_get xs k
+after_held [] xs k = ap (λ (n : ℕ). slice_get xs n) (omega arith)
+after_held (u ∷ us) xs k =
+    let next : length (u ∷ us) + k ≡ suc (length us + k) = omega arith in
+    ap (λ (n : ℕ). slice_get (lies (u ∷ us) xs) n) next ∙ after_held us xs k
+
+pub put_read : (k : ℕ) (u : Unit) (xs : List (Option Unit)) → slice_get (put k u xs) k ≡ Some (Some u)
+put_read zero u [] = refl
+put_read zero u (x ∷ xs) = refl
+put_read (suc k) u [] = put_read k u []
+put_read (suc k) u (x ∷ xs) = put_read k u xs
+
 -- the ring is cut behind them
 pub cut_lies : (items after : List (Option Unit)) (count : ℕ) (us : List Unit) (xs : List (Option Unit)) → Lies items count us xs → after ≡ take count items → Lies after count us []
 cut_lies items after count us xs l is =
@@ -256,13 +272,13 @@ pub put_becomes : (items after : List (Option Unit)) (capacity same count size p
 put_becomes items after capacity same count size place k u b laid view is cap at less =
     let P : BuffersView → Type 0 = λ v. k < left v → Becomes after same count size (record v { ahead = put k u v.ahead }) in
     subst P view (λ fits.
-      let l = put_keeps items after capacity count size place k u laid is at fits in
-      let us : List Unit = there (take count items) in
-      let xs : List (Option Unit) = put k u (drop count items) in
-      record {
-        laid = laid_of after same count size us xs l (cap ∙ laid.sized) (put_fits items capacity count size k u laid fits);
-        is = seen_of after count size us xs l;
-      }) less
+    let l = put_keeps items after capacity count size place k u laid is at fits in
+    let us : List Unit = there (take count items) in
+    let xs : List (Option Unit) = put k u (drop count items) in
+    record {
+      laid = laid_of after same count size us xs l (cap ∙ laid.sized) (put_fits items capacity count size k u laid fits);
+      is = seen_of after count size us xs l;
+    }) less
 
 -- the first unit goes
 first_gone : (items after : List (Option Unit)) (count : ℕ) (us : List Unit) (xs : List (Option Unit)) → Lies items count us xs → after ≡ drop 1 items → (count ≡ 0 → ⊥) → Lies after (count - 1) (drop 1 us) xs

@@ -56,13 +56,7 @@ impl Links {
     }
 
     /// What `Link::receive` does, by a live id. It takes no memory. The caller owes a body of at most 534 bytes.
-    pub fn receive(
-        &mut self,
-        id: u16,
-        header: &SpxHeader,
-        body: &[u8],
-        now: u64,
-    ) -> Received
+    pub fn receive(&mut self, id: u16, header: &SpxHeader, body: &[u8], now: u64) -> Received
         requires live { IsLive self.old id }
         requires fits { length body.now ≤ 534 }
         ensures gives { IfSome (link_at self.old id) (λ l. result ≡ (R.receive_link l header.now body.now).0) }

@@ -6,5 +6,5 @@ abbrev pub invariant-loop-place : goal.invariant-loop-place
 invariant-loop-place l = record {
   count : l.count + length (leading (drop l.place l.ring.items)) ≡ length (leading (drop l.from l.ring.items));
   ended : any_end (leading (drop l.place l.ring.items)) ≡ any_end (leading (drop l.from l.ring.items));
-  steps : l.count + l.from ≡ l.place
+  steps : l.count + l.from ≡ l.place;
 }
