@@ -19,8 +19,6 @@ mod queue;
 mod receive;
 mod received;
 mod state;
-#[cfg(test)]
-mod tests;
 mod unit;
 
 pub use effects::{
