@@ -1,12 +1,12 @@
 -- Which of the answers to a unit that is kept comes, and where the unit then stands.
-use Rattle.std.proofs.Common.{◌≡◌, ℕ, ◌+◌, ◌↔◌, zero, suc, true, false, refl, ap, sym, ◌∙◌, List, [], ◌∷◌, ◌++◌, map, length, drop, Bool, Option, Some, None, slice_get, arith}
+use Rattle.std.proofs.Common.{◌≡◌, ℕ, ◌+◌, ◌↔◌, true, false, refl, ap, ◌∙◌, List, ◌++◌, map, length, Bool, Option, Some, slice_get}
 use Rattle.ipx_wire.specs.declared.spx.SpxHeader.{SpxHeader}
 use Rattle.spx_link.specs.declared.unit.Unit as units
 use Rattle.spx_link.specs.declared.received.Received.{Received}
 use Rattle.spx_link.specs.declared.received.Received.TheVariants.{Joined, Kept, Repeat, Ahead, OverAllocation, System, PeerEnded, Confirmed, Stranger}
 use Rattle.spx_link.specs.LinkView.{LinkView}
 use Rattle.spx_link.specs.Marks.{distance}
-use Rattle.spx_link.specs.Receive.{is_kept, put, any_end, receive_link}
+use Rattle.spx_link.specs.Receive.{is_kept, any_end, receive_link}
 use Rattle.spx_link.specs.Turns.{IsInTurn, kept, kept_with, newly_held}
 use Rattle.spx_link.specs.Units.{unit_in}
 use Rattle.spx_link.proofs.Laying.{leading_joins, put_read, after_held}

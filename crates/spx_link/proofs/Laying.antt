@@ -5,7 +5,6 @@ use Rattle.std.specs.Option.{option_copied}
 use Rattle.std.proofs.lemmas.List.{take-append-drop, length-take-le, length-map, map-append, append-nil}
 use Rattle.spx_link.specs.declared.unit.Unit.{Unit}
 use Rattle.spx_link.specs.LinkView.{is_end}
-use Rattle.spx_link.specs.Receive as R
 use Rattle.spx_link.specs.Receive.{put, is_taken, leading, any_end}
 use Rattle.spx_link.specs.Buffers.{BuffersView, IsLaid, there, unit_there, left, settled}
 

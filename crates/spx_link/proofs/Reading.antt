@@ -1,5 +1,5 @@
 -- Which packets' units are kept, and what each rule of receive does to the units and to how far a connection has come.
-use Rattle.std.proofs.Common.{◌≡◌, ℕ, ◌<◌, ◌↔◌, Bool, true, false, refl, ap, sym, ◌∙◌, if◌then◌else◌, ◌==◌, ◌&&◌, not, nat_le, nat_lt, List, [], ◌∷◌, ◌++◌, map, drop, length, Option, eqb-true, arith}
+use Rattle.std.proofs.Common.{◌≡◌, ℕ, ◌<◌, ◌↔◌, Bool, true, false, refl, ap, sym, ◌∙◌, ◌==◌, ◌&&◌, not, nat_le, nat_lt, List, [], ◌∷◌, ◌++◌, map, drop, length, Option, eqb-true, arith}
 use Rattle.std.proofs.lemmas.Bool.{and_parts}
 use Rattle.std.proofs.lemmas.Bool.Decides.{nat_tests}
 use Rattle.std.proofs.lemmas.List.{drop-map, map-append}
@@ -17,7 +17,7 @@ use Rattle.spx_link.specs.Offer.{queued, first_of, take_link, take_held}
 use Rattle.spx_link.specs.Receive as R
 use Rattle.spx_link.specs.Receive.{is_kept, is_own, is_system, receive_link, receive_at}
 use Rattle.spx_link.specs.Turns.{is_joined, IsInTurn, state_after, ended_after, IsDone, kept_with, newly_held}
-use Rattle.spx_link.specs.Units.{unit_of, queued_units, unit_in, SameEndings}
+use Rattle.spx_link.specs.Units.{unit_of, queued_units, SameEndings}
 use Rattle.spx_link.proofs.Carrying.{by_test}
 
 -- ---- the unit that is in turn

@@ -2,18 +2,16 @@
 #![tactic(auto)]
 
 mod buffers;
-mod effects;
+pub mod effects;
 mod fault;
-mod forwards;
-mod laws;
+pub mod laws;
 mod limits;
 mod link;
 mod links;
-mod machine;
+pub mod machine;
 mod numbers;
 mod offer;
 mod outgoing;
-mod places;
 mod poll;
 mod queue;
 mod receive;

@@ -8,10 +8,13 @@ ghost use Rattle.spx_link.specs.Offer.{accepted_from, dialed};
 ghost use Rattle.spx_link.specs.Sound.{IsSound, ids_of};
 ghost use Rattle.spx_link.specs.declared.fault.LinksFault.TheVariants as LinksFaults;
 
+mod by_id;
+mod lookup;
+
 use crate::fault::LinksFault;
 use crate::limits::MOST_LINKS;
 use crate::link::Link;
-use crate::places::{is_live, least_above, least_accepted, link_in, next_free, remove_link};
+use crate::links::lookup::{is_live, least_above, least_accepted, link_in, next_free, remove_link};
 use ipx_wire::{Address, Socket, SpxHeader};
 use std::alloc::Global;
 use std::marker::Model;

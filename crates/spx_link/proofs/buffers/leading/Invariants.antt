@@ -1,4 +1,4 @@
-use Rattle.std.proofs.Common.{◌≡◌, ◌+◌, ◌≤◌, drop, length}
+use Rattle.std.proofs.Common.{◌≡◌, ◌+◌, drop, length}
 use Rattle.spx_link.specs.Receive.{leading, any_end}
 use Rattle.spx_link.proofs.buffers.leading.Given as goal
 

@@ -1,4 +1,4 @@
-use Rattle.std.proofs.Common.{◌≡◌, refl, sym, ap, subst, ◌∙◌, slice_set, ◌-◌, ◌≤◌, length}
+use Rattle.std.proofs.Common.{refl, sym, ap, subst, ◌∙◌, slice_set, ◌-◌, ◌≤◌, length}
 use Rattle.std.specs.Option.{option_copied_mut}
 use Rattle.spx_link.specs.Units.{unit_in}
 use Rattle.circular_buffer.specs.Buffer.{buffer}

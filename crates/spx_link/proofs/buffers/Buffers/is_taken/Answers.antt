@@ -1,4 +1,4 @@
-use Rattle.std.proofs.Common.{◌≡◌, ◌+◌, ap, subst, ◌∙◌, slice_get, arith}
+use Rattle.std.proofs.Common.{◌≡◌, ◌+◌, subst, ◌∙◌, slice_get, arith}
 use Rattle.spx_link.specs.Buffers.{BuffersView, unit_there}
 use Rattle.spx_link.specs.Receive.{is_taken}
 use Rattle.spx_link.proofs.Laying.{some_copied, taken_there}

@@ -1,4 +1,4 @@
-use Rattle.std.proofs.Common.{◌≡◌, ◌+◌, ◌≤◌, ap, sym, subst, ◌∙◌, ℕ, length, drop, take, true, false, arith}
+use Rattle.std.proofs.Common.{◌+◌, ◌≤◌, ap, sym, ◌∙◌, ℕ, length, drop, take, arith}
 use Rattle.spx_link.specs.Receive.{leading, any_end}
 use Rattle.spx_link.proofs.Laying.{settle_fits, open_becomes, cut_becomes}
 use Rattle.spx_link.proofs.buffers.Buffers.settle.Goals as goal

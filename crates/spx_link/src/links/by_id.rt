@@ -14,8 +14,8 @@ ghost use Rattle.spx_link.specs.declared.fault.OfferFault.TheVariants as OfferFa
 
 use crate::fault::OfferFault;
 use crate::links::Links;
+use crate::links::lookup::{link_at_place, place_of};
 use crate::outgoing::{Chosen, Outgoing};
-use crate::places::{link_at_place, place_of};
 use crate::received::Received;
 use crate::unit::Unit;
 use ipx_wire::SpxHeader;
