@@ -1,6 +1,6 @@
 use Rattle.std.proofs.Common.{ℕ, ◌<◌, IsSome}
 use Rattle.spx_link.specs.Links.{id_after, link_of}
-use Rattle.spx_link.proofs.places.next_free.Given as goal
+use Rattle.spx_link.proofs.links.lookup.next_free.Given as goal
 
 -- each id before this one is live
 abbrev pub invariant-loop-steps : goal.invariant-loop-steps

@@ -1,7 +1,7 @@
 use Rattle.std.proofs.Common.{not, ◌==◌, rules}
 use Rattle.std.proofs.lemmas.Fn.{filter_same}
 use Rattle.spx_link.specs.LinkView.{LinkView}
-use Rattle.spx_link.proofs.places.remove_link.Goals as goal
+use Rattle.spx_link.proofs.links.lookup.remove_link.Goals as goal
 
 pub returns : goal.returns
 returns c =

@@ -2,7 +2,7 @@ use Rattle.std.proofs.Common.{◌≡◌, ℕ, Option, ap, sym, subst, ◌∙◌,
 use Rattle.spx_link.specs.Leasts.{IsLeastId, lesser_of, IsOver}
 use Rattle.spx_link.specs.Sound.{own_of}
 use Rattle.spx_link.proofs.Lesser.{least_step}
-use Rattle.spx_link.proofs.places.least_above.Goals as goal
+use Rattle.spx_link.proofs.links.lookup.least_above.Goals as goal
 
 pub loop-link-preserved : goal.loop-link-preserved
 loop-link-preserved c =

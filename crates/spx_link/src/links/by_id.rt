@@ -14,8 +14,8 @@ ghost use Rattle.spx_link.specs.declared.fault.OfferFault.TheVariants as OfferFa
 
 use crate::fault::OfferFault;
 use crate::links::Links;
+use crate::links::lookup::{link_at_place, place_of};
 use crate::outgoing::{Chosen, Outgoing};
-use crate::places::{link_at_place, place_of};
 use crate::received::Received;
 use crate::unit::Unit;
 use ipx_wire::SpxHeader;
@@ -55,25 +55,15 @@ impl Links {
         link_at_place(&self.links, place).carry(chosen)
     }
 
-    /// What `Link::receive` does, by a live id. The caller owes a body of at most 534 bytes.
-    pub fn receive(
-        &mut self,
-        alloc: Global,
-        id: u16,
-        header: &SpxHeader,
-        body: &[u8],
-        now: u64,
-    ) -> Result<Received, OfferFault>
+    /// What `Link::receive` does, by a live id. It takes no memory. The caller owes a body of at most 534 bytes.
+    pub fn receive(&mut self, id: u16, header: &SpxHeader, body: &[u8], now: u64) -> Received
         requires live { IsLive self.old id }
         requires fits { length body.now ≤ 534 }
-        ensures gives { IfSome (link_at self.old id) (λ l. IfOk result (λ r. r ≡ (R.receive_link l header.now body.now).0)) }
-        ensures leaves { IfSome (link_at self.old id) (λ l. OnOk result (ChangesOnly self.old self.new id (R.receive_link l header.now body.now).1)) }
-        ensures memory { IfErr result (λ f. f ≡ OfferFaults.OutOfMemory) }
-        ensures wanted { IfSome (link_at self.old id) (λ l. OnErr result (IsTrue (R.is_kept (R.receive_link l header.now body.now).0))) }
-        ensures unchanged { OnErr result (self.new ≡ self.old) }
+        ensures gives { IfSome (link_at self.old id) (λ l. result ≡ (R.receive_link l header.now body.now).0) }
+        ensures leaves { IfSome (link_at self.old id) (λ l. ChangesOnly self.old self.new id (R.receive_link l header.now body.now).1) }
     {
         let place = place_of(&self.links, id);
-        self.links[place].receive(alloc, header, body, now)
+        self.links[place].receive(header, body, now)
     }
 
     /// What `Link::offer` does, by a live id. The caller owes streams under FE.

@@ -1,6 +1,6 @@
 use Rattle.std.proofs.Common.{arith}
 use Rattle.spx_link.proofs.Rounds.{not_all_live}
-use Rattle.spx_link.proofs.places.next_free.Goals as goal
+use Rattle.spx_link.proofs.links.lookup.next_free.Goals as goal
 
 pub unreachable-requires : goal.unreachable-requires
 unreachable-requires c =
