@@ -91,9 +91,7 @@ fn pass(rt: &impl Print, alloc: Global, from: &mut Side, to: &mut Side) -> Resul
         return Ok(());
     };
     print_packet(rt, alloc, from.name, &packet)?;
-    let received = to
-        .links
-        .receive(alloc, to.id, &packet.header, packet.body, 0)?;
+    let received = to.links.receive(to.id, &packet.header, packet.body, 0);
     let name = to.name;
     println!(rt; "{name}: {received:?}")?;
     Ok(())
