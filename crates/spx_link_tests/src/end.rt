@@ -135,7 +135,7 @@ impl End {
         if self.links.get(1).is_none() {
             return Err(OfferFault::NotLive);
         }
-        self.links.receive(self.alloc, 1, header, body, now)
+        Ok(self.links.receive(1, header, body, now))
     }
 
     /// Queues units. A link that is gone is not live.
