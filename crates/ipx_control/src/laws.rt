@@ -7,6 +7,7 @@ ghost use Rattle.ipx_control.specs.Sap.{HoldsBytes, IsSap, IsSapInRange, IsSapTa
 
 use crate::rip::{RIP_ENTRY_SIZE, RIP_MAX_ENTRIES};
 use crate::sap::{SAP_MAX_SERVICES, SERVICE_SIZE};
+use ipx_wire::field_laws;
 
 /// The constants are the sizes and limits of the two protocols.
 pub fn control_constants_are_assigned()
@@ -25,20 +26,26 @@ pub fn rip_has_bytes()
     ensures { (m : RipView) → IsRipInRange m → (bytes : List ℕ)
         × ((tail : List ℕ) → length tail < rip_entry_size → IsRip m (bytes ++ tail) tail)
         × IsBytes bytes }
-{}
+{
+    field_laws();
+}
 
 /// Bytes that are a RIP packet with nothing behind it are that packet with any short tail behind
 /// it.
 pub fn rip_before_any_tail()
     ensures { (m : RipView) (bytes tail : List ℕ) → length tail < rip_entry_size
         → IsRip m bytes [] → IsRip m (bytes ++ tail) tail }
-{}
+{
+    field_laws();
+}
 
 /// A RIP packet and what follows it have one list of bytes.
 pub fn rip_is_one_list_of_bytes()
     ensures { (m : RipView) (a b tail : List ℕ) → IsBytes a → IsBytes b
         → IsRip m a tail → IsRip m b tail → a ≡ b }
-{}
+{
+    field_laws();
+}
 
 /// Bytes have no RIP fault just where they are a RIP packet.
 pub fn rip_fault_is_of_no_rip()
@@ -52,27 +59,35 @@ pub fn rip_fault_is_of_no_rip()
 pub fn bytes_are_one_sap()
     ensures { (m n : SapView) (bytes s t : List ℕ) → IsSap m bytes s → IsSap n bytes t
         → (m ≡ n) × (s ≡ t) }
-{}
+{
+    field_laws();
+}
 
 /// Each SAP packet in range has bytes, which are read as it with any tail that may stand behind it.
 pub fn sap_has_bytes()
     ensures { (m : SapView) → IsSapInRange m → (bytes : List ℕ)
         × ((tail : List ℕ) → IsSapTail m tail → IsSap m (bytes ++ tail) tail)
         × (All HoldsBytes (sap_services m) → IsBytes bytes) }
-{}
+{
+    field_laws();
+}
 
 /// Bytes that are a SAP packet with nothing behind it are that packet with any tail that may stand
 /// behind it.
 pub fn sap_before_any_tail()
     ensures { (m : SapView) (bytes tail : List ℕ) → IsSapTail m tail → IsSap m bytes []
         → IsSap m (bytes ++ tail) tail }
-{}
+{
+    field_laws();
+}
 
 /// A SAP packet and what follows it have one list of bytes.
 pub fn sap_is_one_list_of_bytes()
     ensures { (m : SapView) (a b tail : List ℕ) → IsBytes a → IsBytes b
         → IsSap m a tail → IsSap m b tail → a ≡ b }
-{}
+{
+    field_laws();
+}
 
 /// Bytes have no SAP fault just where they are a SAP packet.
 pub fn sap_fault_is_of_no_sap()

@@ -6,6 +6,7 @@ ghost use Rattle.ipx_control.specs.Rip.{IsRip, IsRipEntry, RipView, rip_entries,
 ghost use Rattle.ipx_control.specs.Sap.{IsSap, IsServiceEntry, SapView, sap_fault, sap_services, sap_view, service_size};
 
 use crate::fault::ControlFault;
+use crate::laws::bytes_are_one_sap;
 use crate::rip::{RIP_ENTRY_SIZE, RIP_MAX_ENTRIES, Rip, RipEntry};
 use crate::sap::{SAP_MAX_SERVICES, SERVICE_SIZE, Sap, ServiceEntry};
 use byteorder::{BigEndian, ByteOrder};
@@ -146,6 +147,7 @@ pub fn decode_sap(alloc: Global, bytes: &[u8]) -> Result<Sap, ControlFault>
         return Err(ControlFault::TooManyEntries(count));
     }
     let services = services_in(alloc, &bytes[2..])?;
+    bytes_are_one_sap();
     Ok(Sap::Response {
         nearest: operation == 4,
         services,

@@ -10,7 +10,7 @@ ghost use Rattle.ipx_control.specs.Sap.{IsSap, IsSapWithinLimit, IsServiceEntryI
 use crate::rip::{RIP_ENTRY_SIZE, Rip, RipEntry};
 use crate::sap::{SERVICE_SIZE, Sap, ServiceEntry};
 use byteorder::{BigEndian, ByteOrder};
-use ipx_wire::put_address;
+use ipx_wire::{field_laws, put_address};
 
 fn put_rip_entry(out: &mut [u8], entry: RipEntry)
     requires { rip_entry_size ≤ length out.old }
@@ -123,6 +123,7 @@ pub fn encode_sap_into(sap: &Sap, out: &mut [u8]) -> usize
             return 4;
         }
         Sap::Response { nearest, services } => {
+            field_laws();
             put_response(out, *nearest, services);
             return 2 + SERVICE_SIZE * services.len();
         }

@@ -3,7 +3,7 @@ use Rattle.std.specs.Prelude.{◌==◌}
 use Rattle.std.proofs.lemmas.List.{take_rest}
 use Rattle.ipx_control.specs.Entries.{AreEntries}
 use Rattle.ipx_control.specs.Sap.{IsServiceEntry, Response}
-use Rattle.ipx_control.proofs.SapPackets.{response_found, response_operation_is, same_sap, too_many_services}
+use Rattle.ipx_control.proofs.SapPackets.{response_found, response_operation_is, too_many_services}
 use Rattle.ipx_control.proofs.reading.decode_sap.Goals as goal
 
 pub returns-then-count-gt-SAP_MAX_SERVICES-clause-only : goal.returns-then-count-gt-SAP_MAX_SERVICES-clause-only
@@ -23,4 +23,4 @@ returns-clause-found c =
 pub returns-clause-only : goal.returns-clause-only
 returns-clause-only c =
     let found = returns-clause-found c in
-    λ m tail x. inl (same_sap (Response (c.read_u16-operation.result == 4) c.in_ok-services.services.items) m c.args.bytes.now found.0 tail found.1 x).0
+    λ m tail x. inl (c.bytes_are_one_sap.ensures (Response (c.read_u16-operation.result == 4) c.in_ok-services.services.items) m c.args.bytes.now found.0 tail found.1 x).0
