@@ -2,18 +2,19 @@
 
 ghost use Rattle.std.specs.Prelude.{◌≡◌, ◌≤◌, ◌<◌, ◌⊎◌, List, [], ℕ, length, take, drop, IfOk, IfErr, IsOk, IsOkAnd, Some, None};
 ghost use Rattle.ipx_control.specs.Entries.{AreEntries};
-ghost use Rattle.ipx_control.specs.Rip.{IsRip, IsRipEntry, RipView, rip_entries, rip_fault, rip_view};
-ghost use Rattle.ipx_control.specs.Sap.{IsSap, IsServiceEntry, SapView, sap_fault, sap_services, sap_view};
+ghost use Rattle.ipx_control.specs.Rip.{IsRip, IsRipEntry, RipView, rip_entries, rip_entry_size, rip_fault, rip_view};
+ghost use Rattle.ipx_control.specs.Sap.{IsSap, IsServiceEntry, SapView, sap_fault, sap_services, sap_view, service_size};
 
 use crate::fault::ControlFault;
-use crate::rip::{Rip, RipEntry};
-use crate::sap::{Sap, ServiceEntry};
+use crate::laws::bytes_are_one_sap;
+use crate::rip::{RIP_ENTRY_SIZE, RIP_MAX_ENTRIES, Rip, RipEntry};
+use crate::sap::{SAP_MAX_SERVICES, SERVICE_SIZE, Sap, ServiceEntry};
 use byteorder::{BigEndian, ByteOrder};
 use ipx_wire::{Network, OutOfMemory, address_at};
 use std::alloc::Global;
 
 fn rip_entry_at(bytes: &[u8]) -> RipEntry
-    requires { 8 ≤ length bytes.now }
+    requires { rip_entry_size ≤ length bytes.now }
     ensures { IsRipEntry result bytes.now }
 {
     RipEntry {
@@ -25,13 +26,15 @@ fn rip_entry_at(bytes: &[u8]) -> RipEntry
 
 /// The entries that fit into the bytes.
 fn rip_entries_in(alloc: Global, bytes: &[u8]) -> Result<Vec<RipEntry>, OutOfMemory>
-    ensures found { IfOk result (λ v. (tail : List ℕ) × AreEntries IsRipEntry 8 v.items bytes.now tail × (length tail < 8)) }
-    ensures no_memory { length bytes.now < 8 → IsOk result }
+    ensures found { IfOk result (λ v. (tail : List ℕ)
+        × AreEntries IsRipEntry rip_entry_size v.items bytes.now tail
+        × (length tail < rip_entry_size)) }
+    ensures no_memory { length bytes.now < rip_entry_size → IsOk result }
 {
-    let count = bytes.len() / 8;
+    let count = bytes.len() / RIP_ENTRY_SIZE;
     let mut entries = Vec::with_capacity(alloc, count)?;
     for place in 0..count {
-        entries.push(rip_entry_at(&bytes[8 * place..]))?;
+        entries.push(rip_entry_at(&bytes[RIP_ENTRY_SIZE * place..]))?;
     }
     Ok(entries)
 }
@@ -45,10 +48,12 @@ pub fn decode_rip(alloc: Global, bytes: &[u8]) -> Result<Rip, ControlFault>
         → IsOkAnd result (λ v. rip_view v ≡ m) ⊎ (result ≡ Err ControlFault.OutOfMemory) }
     // Which fault it is, and that there is none. Want of memory is no answer to bytes of no packet.
     ensures fault { IfErr result (λ f.
-        ((f ≡ ControlFault.OutOfMemory) × (rip_fault bytes.now ≡ None)) ⊎ (rip_fault bytes.now ≡ Some f)) }
+        ((f ≡ ControlFault.OutOfMemory) × (rip_fault bytes.now ≡ None))
+        ⊎ (rip_fault bytes.now ≡ Some f)) }
     ensures whole { IfOk result (λ _. rip_fault bytes.now ≡ None) }
     // Only entries take memory.
-    ensures no_memory { (m : RipView) (tail : List ℕ) → IsRip m bytes.now tail → rip_entries m ≡ [] → IsOk result }
+    ensures no_memory { (m : RipView) (tail : List ℕ) → IsRip m bytes.now tail
+        → rip_entries m ≡ [] → IsOk result }
 {
     if bytes.len() < 2 {
         return Err(ControlFault::NoOperation);
@@ -57,8 +62,8 @@ pub fn decode_rip(alloc: Global, bytes: &[u8]) -> Result<Rip, ControlFault>
     if operation != 1 && operation != 2 {
         return Err(ControlFault::UnknownOperation(operation));
     }
-    let count = (bytes.len() - 2) / 8;
-    if count > 50 {
+    let count = (bytes.len() - 2) / RIP_ENTRY_SIZE;
+    if count > RIP_MAX_ENTRIES {
         return Err(ControlFault::TooManyEntries(count));
     }
     let entries = rip_entries_in(alloc, &bytes[2..])?;
@@ -78,7 +83,7 @@ fn name_at(bytes: &[u8]) -> [u8; 48]
 }
 
 fn service_at(bytes: &[u8]) -> ServiceEntry
-    requires { 64 ≤ length bytes.now }
+    requires { service_size ≤ length bytes.now }
     ensures { IsServiceEntry result bytes.now }
 {
     ServiceEntry {
@@ -91,13 +96,15 @@ fn service_at(bytes: &[u8]) -> ServiceEntry
 
 /// The services that fit into the bytes.
 fn services_in(alloc: Global, bytes: &[u8]) -> Result<Vec<ServiceEntry>, OutOfMemory>
-    ensures found { IfOk result (λ v. (tail : List ℕ) × AreEntries IsServiceEntry 64 v.items bytes.now tail × (length tail < 64)) }
-    ensures no_memory { length bytes.now < 64 → IsOk result }
+    ensures found { IfOk result (λ v. (tail : List ℕ)
+        × AreEntries IsServiceEntry service_size v.items bytes.now tail
+        × (length tail < service_size)) }
+    ensures no_memory { length bytes.now < service_size → IsOk result }
 {
-    let count = bytes.len() / 64;
+    let count = bytes.len() / SERVICE_SIZE;
     let mut services = Vec::with_capacity(alloc, count)?;
     for place in 0..count {
-        services.push(service_at(&bytes[64 * place..]))?;
+        services.push(service_at(&bytes[SERVICE_SIZE * place..]))?;
     }
     Ok(services)
 }
@@ -112,10 +119,12 @@ pub fn decode_sap(alloc: Global, bytes: &[u8]) -> Result<Sap, ControlFault>
         → IsOkAnd result (λ v. sap_view v ≡ m) ⊎ (result ≡ Err ControlFault.OutOfMemory) }
     // Which fault it is, and that there is none. Want of memory is no answer to bytes of no packet.
     ensures fault { IfErr result (λ f.
-        ((f ≡ ControlFault.OutOfMemory) × (sap_fault bytes.now ≡ None)) ⊎ (sap_fault bytes.now ≡ Some f)) }
+        ((f ≡ ControlFault.OutOfMemory) × (sap_fault bytes.now ≡ None))
+        ⊎ (sap_fault bytes.now ≡ Some f)) }
     ensures whole { IfOk result (λ _. sap_fault bytes.now ≡ None) }
     // Only services take memory.
-    ensures no_memory { (m : SapView) (tail : List ℕ) → IsSap m bytes.now tail → sap_services m ≡ [] → IsOk result }
+    ensures no_memory { (m : SapView) (tail : List ℕ) → IsSap m bytes.now tail
+        → sap_services m ≡ [] → IsOk result }
 {
     if bytes.len() < 2 {
         return Err(ControlFault::NoOperation);
@@ -133,11 +142,12 @@ pub fn decode_sap(alloc: Global, bytes: &[u8]) -> Result<Sap, ControlFault>
     if operation != 2 && operation != 4 {
         return Err(ControlFault::UnknownOperation(operation));
     }
-    let count = (bytes.len() - 2) / 64;
-    if count > 7 {
+    let count = (bytes.len() - 2) / SERVICE_SIZE;
+    if count > SAP_MAX_SERVICES {
         return Err(ControlFault::TooManyEntries(count));
     }
     let services = services_in(alloc, &bytes[2..])?;
+    bytes_are_one_sap();
     Ok(Sap::Response {
         nearest: operation == 4,
         services,

@@ -2,6 +2,12 @@
 
 use ipx_wire::Network;
 
+/// The bytes of an entry of a RIP packet.
+pub(crate) const RIP_ENTRY_SIZE: usize = 8;
+
+/// The most entries of a RIP packet.
+pub const RIP_MAX_ENTRIES: usize = 50;
+
 /// A network of a RIP packet (Novell IPX Router Specification, RIP packet structure).
 ///
 /// In a request network FFFFFFFF asks for all. Hops of 16 or more say that it is not reached.

@@ -2,6 +2,12 @@
 
 use ipx_wire::Address;
 
+/// The bytes of a service of a SAP packet.
+pub(crate) const SERVICE_SIZE: usize = 64;
+
+/// The most services of a SAP response.
+pub const SAP_MAX_SERVICES: usize = 7;
+
 /// A service of a SAP packet (Novell IPX Router Specification, SAP packet structure).
 ///
 /// `kind` is the service type. All 48 bytes are the name; its text ends before the first zero

@@ -4,17 +4,17 @@ ghost use Rattle.std.specs.Prelude.{◌≡◌, ◌≤◌, ◌<◌, ◌^◌, ◌+
 ghost use Rattle.std.specs.List.{flat_map};
 ghost use Rattle.byteorder.specs.Endian.{big_bytes};
 ghost use Rattle.ipx_wire.specs.Ipx.{IsWritten};
-ghost use Rattle.ipx_control.specs.Rip.{IsRip, IsRipEntryInRange, rip_entries, rip_entry_bytes, rip_size, rip_view};
-ghost use Rattle.ipx_control.specs.Sap.{IsSap, IsSapWithinLimit, IsServiceEntryInRange, query_operation, response_operation, sap_size, sap_view, service_bytes};
+ghost use Rattle.ipx_control.specs.Rip.{IsRip, IsRipEntryInRange, rip_entries, rip_entry_bytes, rip_entry_size, rip_max_entries, rip_size, rip_view};
+ghost use Rattle.ipx_control.specs.Sap.{IsSap, IsSapWithinLimit, IsServiceEntryInRange, query_operation, response_operation, sap_size, sap_view, service_bytes, service_size};
 
-use crate::rip::{Rip, RipEntry};
-use crate::sap::{Sap, ServiceEntry};
+use crate::rip::{RIP_ENTRY_SIZE, Rip, RipEntry};
+use crate::sap::{SERVICE_SIZE, Sap, ServiceEntry};
 use byteorder::{BigEndian, ByteOrder};
-use ipx_wire::put_address;
+use ipx_wire::{field_laws, put_address};
 
 fn put_rip_entry(out: &mut [u8], entry: RipEntry)
-    requires { 8 ≤ length out.old }
-    ensures written { out.new ≡ rip_entry_bytes entry ++ drop 8 out.old }
+    requires { rip_entry_size ≤ length out.old }
+    ensures written { out.new ≡ rip_entry_bytes entry ++ drop rip_entry_size out.old }
     ensures range { IsRipEntryInRange entry }
 {
     BigEndian::write_u32(out, entry.network.0);
@@ -23,18 +23,21 @@ fn put_rip_entry(out: &mut [u8], entry: RipEntry)
 }
 
 fn put_rip_entries(out: &mut [u8], entries: &[RipEntry])
-    requires { 8 * length entries.now ≤ length out.old }
-    ensures written { IsWritten out.old (flat_map rip_entry_bytes entries.now) out.new (8 * length entries.now) }
+    requires { rip_entry_size * length entries.now ≤ length out.old }
+    ensures written { IsWritten out.old (flat_map rip_entry_bytes entries.now) out.new
+        (rip_entry_size * length entries.now) }
     ensures range { All IsRipEntryInRange entries.now }
 {
     for (place, entry) in entries.iter().enumerate() {
-        put_rip_entry(&mut out[8 * place..], *entry);
+        put_rip_entry(&mut out[RIP_ENTRY_SIZE * place..], *entry);
     }
 }
 
 fn put_rip(out: &mut [u8], operation: u16, entries: &[RipEntry])
-    requires { 2 + 8 * length entries.now ≤ length out.old }
-    ensures written { IsWritten out.old (big_bytes 2 operation ++ flat_map rip_entry_bytes entries.now) out.new (2 + 8 * length entries.now) }
+    requires { 2 + rip_entry_size * length entries.now ≤ length out.old }
+    ensures written { IsWritten out.old
+        (big_bytes 2 operation ++ flat_map rip_entry_bytes entries.now) out.new
+        (2 + rip_entry_size * length entries.now) }
     ensures range { All IsRipEntryInRange entries.now }
 {
     BigEndian::write_u16(out, operation);
@@ -44,7 +47,7 @@ fn put_rip(out: &mut [u8], operation: u16, entries: &[RipEntry])
 /// Writes a RIP packet of at most 50 entries to the front of the buffer, and answers how many
 /// bytes it takes: 2, and 8 for each entry.
 pub fn encode_rip_into(rip: &Rip, out: &mut [u8]) -> usize
-    requires limit { length (rip_entries (rip_view rip.now)) ≤ 50 }
+    requires limit { length (rip_entries (rip_view rip.now)) ≤ rip_max_entries }
     requires room { rip_size (rip_view rip.now) ≤ length out.old }
     ensures count { result ≡ rip_size (rip_view rip.now) }
     ensures written { IsRip (rip_view rip.now) (take result out.new) [] }
@@ -53,18 +56,18 @@ pub fn encode_rip_into(rip: &Rip, out: &mut [u8]) -> usize
     match rip {
         Rip::Request(entries) => {
             put_rip(out, 1, entries);
-            return 2 + 8 * entries.len();
+            return 2 + RIP_ENTRY_SIZE * entries.len();
         }
         Rip::Response(entries) => {
             put_rip(out, 2, entries);
-            return 2 + 8 * entries.len();
+            return 2 + RIP_ENTRY_SIZE * entries.len();
         }
     }
 }
 
 fn put_service(out: &mut [u8], entry: ServiceEntry)
-    requires { 64 ≤ length out.old }
-    ensures written { out.new ≡ service_bytes entry ++ drop 64 out.old }
+    requires { service_size ≤ length out.old }
+    ensures written { out.new ≡ service_bytes entry ++ drop service_size out.old }
     ensures range { IsServiceEntryInRange entry }
 {
     BigEndian::write_u16(out, entry.kind);
@@ -74,18 +77,20 @@ fn put_service(out: &mut [u8], entry: ServiceEntry)
 }
 
 fn put_services(out: &mut [u8], services: &[ServiceEntry])
-    requires { 64 * length services.now ≤ length out.old }
-    ensures written { IsWritten out.old (flat_map service_bytes services.now) out.new (64 * length services.now) }
+    requires { service_size * length services.now ≤ length out.old }
+    ensures written { IsWritten out.old (flat_map service_bytes services.now) out.new
+        (service_size * length services.now) }
     ensures range { All IsServiceEntryInRange services.now }
 {
     for (place, entry) in services.iter().enumerate() {
-        put_service(&mut out[64 * place..], *entry);
+        put_service(&mut out[SERVICE_SIZE * place..], *entry);
     }
 }
 
 fn put_query(out: &mut [u8], nearest: bool, kind: u16)
     requires { 4 ≤ length out.old }
-    ensures written { IsWritten out.old (big_bytes 2 (query_operation nearest) ++ big_bytes 2 kind) out.new 4 }
+    ensures written { IsWritten out.old
+        (big_bytes 2 (query_operation nearest) ++ big_bytes 2 kind) out.new 4 }
     ensures range { kind < 2 ^ 16 }
 {
     BigEndian::write_u16(out, if nearest { 3 } else { 1 });
@@ -93,8 +98,10 @@ fn put_query(out: &mut [u8], nearest: bool, kind: u16)
 }
 
 fn put_response(out: &mut [u8], nearest: bool, services: &[ServiceEntry])
-    requires { 2 + 64 * length services.now ≤ length out.old }
-    ensures written { IsWritten out.old (big_bytes 2 (response_operation nearest) ++ flat_map service_bytes services.now) out.new (2 + 64 * length services.now) }
+    requires { 2 + service_size * length services.now ≤ length out.old }
+    ensures written { IsWritten out.old
+        (big_bytes 2 (response_operation nearest) ++ flat_map service_bytes services.now) out.new
+        (2 + service_size * length services.now) }
     ensures range { All IsServiceEntryInRange services.now }
 {
     BigEndian::write_u16(out, if nearest { 4 } else { 2 });
@@ -116,8 +123,9 @@ pub fn encode_sap_into(sap: &Sap, out: &mut [u8]) -> usize
             return 4;
         }
         Sap::Response { nearest, services } => {
+            field_laws();
             put_response(out, *nearest, services);
-            return 2 + 64 * services.len();
+            return 2 + SERVICE_SIZE * services.len();
         }
     }
 }

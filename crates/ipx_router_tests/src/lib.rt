@@ -13,6 +13,8 @@ mod new_router;
 #[cfg(test)]
 mod offers;
 #[cfg(test)]
+mod prefixes;
+#[cfg(test)]
 mod refused;
 #[cfg(test)]
 mod rip;

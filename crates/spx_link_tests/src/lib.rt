@@ -9,6 +9,8 @@ mod closing;
 #[cfg(test)]
 mod end;
 #[cfg(test)]
+mod ipx;
+#[cfg(test)]
 mod messages;
 #[cfg(test)]
 mod refused;
@@ -16,3 +18,5 @@ mod refused;
 mod rows;
 #[cfg(test)]
 mod spx;
+#[cfg(test)]
+mod wire_texts;

@@ -7,4 +7,4 @@ use Rattle.ipx_control.proofs.RipPackets.{rip_read}
 use Rattle.ipx_control.proofs.laws.rip_has_bytes.Goals as goal
 
 pub returns : goal.returns
-returns c = λ m r. (big_bytes 2 (rip_operation m) ++ flat_map rip_entry_bytes (rip_entries m), λ tail short. rip_read m tail r short, IsBytes-rip m)
+returns c = λ m r. (big_bytes 2 (rip_operation m) ++ flat_map rip_entry_bytes (rip_entries m), λ tail short. rip_read m tail r short, IsBytes-rip c.field_laws.ensures m)

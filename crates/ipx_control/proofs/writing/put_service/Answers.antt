@@ -1,7 +1,7 @@
 use Rattle.std.proofs.Common.{refl, rules}
 use Rattle.byteorder.specs.Endian.{big_bytes}
 use Rattle.ipx_wire.specs.Ipx.{IsWritten, address_bytes}
-use Rattle.ipx_control.proofs.Addresses.{length-address}
+use Rattle.ipx_control.proofs.SapPackets.{length-address}
 use Rattle.ipx_control.proofs.Parts.{write-part, write-rest}
 use Rattle.ipx_control.proofs.writing.put_service.Goals as goal
 
