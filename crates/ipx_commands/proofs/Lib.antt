@@ -6,3 +6,5 @@ pub mod Inputs
 pub mod Places
 pub mod Protocols
 pub mod VectorLines
+pub mod Readings
+pub mod Outputs

@@ -11,12 +11,12 @@ abbrev pub input_lines : List ℕ → List (List ℕ)
 input_lines input = slice_split (λ b. b == 10) input
 
 -- a line is skipped, or a vector, or of no known form; a vector is the number of the fault that its datagram must have, 0 for none, and the datagram
-pub data LineForm : Type 0 where
-  Skipped : LineForm
-  Vector : ℕ → List ℕ → LineForm
-  Malformed : LineForm
+pub data LineView : Type 0 where
+  Skipped : LineView
+  Vector : ℕ → List ℕ → LineView
+  Malformed : LineView
 
-abbrev pub line_view : code.Line → LineForm
+abbrev pub line_view : code.Line → LineView
 line_view lines.Skipped = Skipped
 line_view (lines.Vector number bytes) = Vector number bytes.items
 line_view lines.Malformed = Malformed
@@ -31,18 +31,18 @@ fault_number digits =
     else None
 
 -- a vector, where there is a number and the text is hex
-abbrev pub vector_of : Option ℕ → Option (List ℕ) → LineForm
+abbrev pub vector_of : Option ℕ → Option (List ℕ) → LineView
 vector_of None bytes = Malformed
 vector_of (Some number) None = Malformed
 vector_of (Some number) (Some bytes) = Vector number bytes
 
 -- what stands behind `bad `: a number, the first blank and a text in hex
-abbrev pub bad_vector : List ℕ → Option ℕ → LineForm
+abbrev pub bad_vector : List ℕ → Option ℕ → LineView
 bad_vector rest None = Malformed
 bad_vector rest (Some blank) = vector_of (fault_number (take blank rest)) (result_ok (decode_of (drop (blank + 1) rest)))
 
 -- a line of blanks alone, or that begins with `#`, is skipped; else it is `ok HEX` or `bad N HEX`
-abbrev pub line_form : List ℕ → LineForm
+abbrev pub line_form : List ℕ → LineView
 line_form line =
     if list_all (λ b. b == 32) line then Skipped
     else if starts_with nat_eq line (codes "#") then Skipped

@@ -12,7 +12,7 @@ use Rattle.ipx_control.specs.declared.sap.ServiceEntry.{ServiceEntry}
 use Rattle.ipx_control.specs.Rip as rip
 use Rattle.ipx_control.specs.Sap as sap
 use Rattle.ipx_commands.specs.Line.{control_fault_text, fault_text, spx_fault_text}
-use Rattle.ipx_commands.specs.Reading.{Content, Plain, OfSpx, OfRip, OfSap, Datum, NoPacket, NoSpx, NoControl, Holds}
+use Rattle.ipx_commands.specs.Reading.{ContentsView, Plain, OfSpx, OfRip, OfSap, ReadingView, NoPacket, NoSpx, NoControl, Holds}
 
 -- a network in 8 hex digits, a node in 12 and a socket in 4
 abbrev pub address_text : Address → List ℕ
@@ -82,21 +82,21 @@ sap_lines (sap.Response nearest services) =
     codes "sap " ++ (reach nearest ++ (codes " response " ++ (decimal (length services) ++ (codes "\n" ++ flat_map service_line services))))
 
 -- the lines of what a body holds
-abbrev pub content_lines : Content → List ℕ
-content_lines Plain = []
-content_lines (OfSpx h payload) = spx_line h payload
-content_lines (OfRip m) = rip_lines m
-content_lines (OfSap m) = sap_lines m
+abbrev pub contents_lines : ContentsView → List ℕ
+contents_lines Plain = []
+contents_lines (OfSpx h payload) = spx_line h payload
+contents_lines (OfRip m) = rip_lines m
+contents_lines (OfSap m) = sap_lines m
 
 -- all the lines of a datagram
-abbrev pub reading_lines : Datum → List ℕ
+abbrev pub reading_lines : ReadingView → List ℕ
 reading_lines (NoPacket f) = codes "refused " ++ (fault_text f ++ 10 ∷ [])
 reading_lines (NoSpx f) = codes "refused " ++ (spx_fault_text f ++ 10 ∷ [])
 reading_lines (NoControl f) = codes "refused " ++ (control_fault_text f ++ 10 ∷ [])
-reading_lines (Holds d c) = header_lines d ++ content_lines c
+reading_lines (Holds d c) = header_lines d ++ contents_lines c
 
 -- the status that goes with them
-abbrev pub reading_status : Datum → ℕ
+abbrev pub reading_status : ReadingView → ℕ
 reading_status (NoPacket f) = 1
 reading_status (NoSpx f) = 1
 reading_status (NoControl f) = 1

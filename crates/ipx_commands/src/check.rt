@@ -5,7 +5,7 @@ ghost use Rattle.std.specs.Io.KnownBytes.{Appends};
 ghost use Rattle.ipx_commands.specs.Text.{IsInput};
 ghost use Rattle.ipx_commands.specs.Reading.{reading_view};
 ghost use Rattle.ipx_commands.specs.CheckLine.{Malformed as no_line, Vector as vector, input_lines, line_form};
-ghost use Rattle.ipx_commands.specs.Check.{CheckWrites, ChecksLines, Failed as told_failed, IsVerdict, Verdict as Told, check_status, control_fault_number, failed_line, failed_lines, ipx_fault_number, last_line, outcome, spx_fault_number, verdict_view};
+ghost use Rattle.ipx_commands.specs.Check.{CheckWrites, ChecksLines, Failed as told_failed, IsVerdict, VerdictView, check_status, control_fault_number, failed_line, failed_lines, ipx_fault_number, last_line, outcome, spx_fault_number, verdict_view};
 ghost use Rattle.ipx_commands.specs.Tally.{IsTally};
 
 use crate::check_line::{Line, read_line};
@@ -118,7 +118,7 @@ fn note(alloc: Global, tally: &mut Tally, verdict: Verdict) -> Result<(), AllocE
     requires lines { tally.old.lines ≤ 1000001 }
     requires vectors { tally.old.vectors ≤ tally.old.lines }
     requires failed { tally.old.failed ≤ tally.old.lines }
-    ensures { OnOk result ((vs : List Told) → IsTally vs tally.old → IsTally (vs ++ verdict_view verdict ∷ []) tally.new) }
+    ensures { OnOk result ((vs : List VerdictView) → IsTally vs tally.old → IsTally (vs ++ verdict_view verdict ∷ []) tally.new) }
 {
     let place = tally.lines + 1;
     match verdict {
@@ -145,7 +145,7 @@ fn note(alloc: Global, tally: &mut Tally, verdict: Verdict) -> Result<(), AllocE
 /// The lines and the status where a line of no known form comes next.
 fn lines_at_bad_line(alloc: Global, tally: &Tally) -> Result<(String, u8), OutOfMemory>
     requires { tally.now.lines ≤ 1000001 }
-    ensures { IfOk result (λ r. (vs : List Told) → IsTally vs tally.now → (string_bytes r.0 ≡ failed_lines vs ++ last_line false vs) × (r.1 ≡ check_status false vs)) }
+    ensures { IfOk result (λ r. (vs : List VerdictView) → IsTally vs tally.now → (string_bytes r.0 ≡ failed_lines vs ++ last_line false vs) × (r.1 ≡ check_status false vs)) }
 {
     let text = tally.text.as_str();
     let place = tally.lines + 1;
@@ -154,7 +154,7 @@ fn lines_at_bad_line(alloc: Global, tally: &Tally) -> Result<(String, u8), OutOf
 
 /// The lines and the status where all lines were read.
 fn lines_at_end(alloc: Global, tally: &Tally) -> Result<(String, u8), OutOfMemory>
-    ensures { IfOk result (λ r. (vs : List Told) → IsTally vs tally.now → (string_bytes r.0 ≡ failed_lines vs ++ last_line true vs) × (r.1 ≡ check_status true vs)) }
+    ensures { IfOk result (λ r. (vs : List VerdictView) → IsTally vs tally.now → (string_bytes r.0 ≡ failed_lines vs ++ last_line true vs) × (r.1 ≡ check_status true vs)) }
 {
     let text = tally.text.as_str();
     let vectors = tally.vectors;

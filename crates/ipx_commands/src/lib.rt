@@ -5,6 +5,7 @@ mod check;
 mod check_line;
 mod hop;
 mod input;
+mod laws;
 mod line;
 mod output;
 mod place;
@@ -14,6 +15,7 @@ mod show_line;
 
 pub use check::do_check;
 pub use hop::do_hop;
+pub use laws::{check_is_one, reading_is_one, show_is_one};
 pub use output::tell_no_memory;
 pub use show::do_show;
 
