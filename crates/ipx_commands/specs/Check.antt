@@ -39,7 +39,8 @@ outcome (NoSpx f) = spx_fault_number f
 outcome (NoControl f) = control_fault_number f
 outcome (Holds d c) = 0
 
--- what a line tells: it is no vector, or a vector whose datagram has the outcome that it wants, or not
+-- what a line tells: it is no vector, or a vector whose datagram has the outcome that it wants,
+-- or another one
 pub data VerdictView : Type 0 where
   NoVector : VerdictView
   Passed : VerdictView
@@ -52,7 +53,8 @@ verdict_view verdicts.Failed = Failed
 
 abbrev pub IsVerdict : LineView → VerdictView → Type 0
 IsVerdict Skipped v = v ≡ NoVector
-IsVerdict (Vector number bytes) v = (r : ReadingView) × IsReading bytes r × (v ≡ (if outcome r == number then Passed else Failed))
+IsVerdict (Vector number bytes) v = (r : ReadingView) × IsReading bytes r
+    × (v ≡ (if outcome r == number then Passed else Failed))
 IsVerdict Malformed v = ⊥
 
 abbrev pub is_known : LineView → Bool
@@ -79,22 +81,29 @@ failed_line place Failed = codes "line " ++ (decimal place ++ 10 ∷ [])
 abbrev pub failed_lines : List VerdictView → List ℕ
 failed_lines vs = flat_map (λ p. failed_line p.0 p.1) (enumerate_from 1 vs)
 
--- the last line: how many vectors there were and how many failed, or, where a line of no known form follows, its number
+-- the last line: how many vectors there were and how many failed, or, where a line of no known form
+-- follows, its number
 abbrev pub last_line : Bool → List VerdictView → List ℕ
-last_line true vs = codes "checked " ++ (decimal (count_by is_vector vs) ++ (codes " failed " ++ (decimal (count_by is_failed vs) ++ 10 ∷ [])))
+last_line true vs =
+    codes "checked " ++ (decimal (count_by is_vector vs)
+    ++ (codes " failed " ++ (decimal (count_by is_failed vs) ++ 10 ∷ [])))
 last_line false vs = codes "line " ++ (decimal (length vs + 1) ++ codes " bad\n")
 
 abbrev pub check_status : Bool → List VerdictView → ℕ
 check_status true vs = if count_by is_failed vs == 0 then 0 else 1
 check_status false vs = 2
 
--- what is written for lines: what those tell that stand before the first one of no known form, and a last line
+-- what is written for lines: what those tell that stand before the first one of no known form, and
+-- a last line
 abbrev pub ChecksLines : List LineView → List ℕ → ℕ → Type 0
 ChecksLines lines text status =
     (vs : List VerdictView) × AllZip IsVerdict (take_while is_known lines) vs
-    × (text ≡ failed_lines vs ++ last_line (list_all is_known lines) vs) × (status ≡ check_status (list_all is_known lines) vs)
+    × (text ≡ failed_lines vs ++ last_line (list_all is_known lines) vs)
+    × (status ≡ check_status (list_all is_known lines) vs)
 
 -- what is written for an input: a bad line 0 where it is over 1,000,000 bytes
 abbrev pub CheckWrites : List ℕ → List ℕ → ℕ → Type 0
 CheckWrites input text status =
-    MatchBool (nat_lt 1000000 (length input)) ((text ≡ codes "line 0 bad\n") × (status ≡ 2)) (ChecksLines (map line_form (input_lines input)) text status)
+    MatchBool (nat_lt 1000000 (length input))
+    ((text ≡ codes "line 0 bad\n") × (status ≡ 2))
+    (ChecksLines (map line_form (input_lines input)) text status)

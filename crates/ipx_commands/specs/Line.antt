@@ -45,7 +45,8 @@ reason_text TableFull = codes "(24) TableFull"
 
 -- a packet that is sent: its port, the next node and its bytes
 abbrev pub sending_text : SendingView → List ℕ
-sending_text s = decimal s.port ++ (codes " " ++ (encode_lower s.next.0 ++ (codes " " ++ encode_lower s.bytes)))
+sending_text s =
+    decimal s.port ++ (codes " " ++ (encode_lower s.next.0 ++ (codes " " ++ encode_lower s.bytes)))
 
 abbrev pub sending_line : SendingView → List ℕ
 sending_line s = codes "reply " ++ (sending_text s ++ 10 ∷ [])
@@ -53,7 +54,8 @@ sending_line s = codes "reply " ++ (sending_text s ++ 10 ∷ [])
 -- the lines of an answer: one for each reply
 abbrev pub lines_of : OutcomeView → List ℕ
 lines_of (Forward port next bytes) =
-    codes "forward " ++ (sending_text (record { port = port; next = next; bytes = bytes }) ++ 10 ∷ [])
+    codes "forward "
+    ++ (sending_text (record { port = port; next = next; bytes = bytes }) ++ 10 ∷ [])
 lines_of (Replies sent) = flat_map sending_line sent
 lines_of (Heard count) = codes "heard " ++ (decimal count ++ 10 ∷ [])
 lines_of (Dropped reason) = codes "dropped " ++ (reason_text reason ++ 10 ∷ [])

@@ -47,7 +47,8 @@ contents_view (bodies.OfSap sap) = OfSap (sap_view sap)
 
 -- a body's bytes hold this; only those of SPX, RIP and SAP are read
 abbrev pub IsContents : Protocol → List ℕ → ContentsView → Type 0
-IsContents Spx body c = (h : SpxHeader) × (payload : List ℕ) × IsSpx h payload body × (c ≡ OfSpx h payload)
+IsContents Spx body c =
+    (h : SpxHeader) × (payload : List ℕ) × IsSpx h payload body × (c ≡ OfSpx h payload)
 IsContents Rip body c = (m : RipView) × (tail : List ℕ) × IsRip m body tail × (c ≡ OfRip m)
 IsContents Sap body c = (m : SapView) × (tail : List ℕ) × IsSap m body tail × (c ≡ OfSap m)
 IsContents Other body c = c ≡ Plain
@@ -75,6 +76,9 @@ reading_view (readings.Holds packet contents) = Holds (view packet) (contents_vi
 -- the bytes are read as this
 abbrev pub IsReading : List ℕ → ReadingView → Type 0
 IsReading bytes (NoPacket f) = ipx_fault bytes ≡ Some f
-IsReading bytes (NoSpx f) = (d : PacketView) × (tail : List ℕ) × IsIpx d bytes tail × (protocol_of d.header ≡ Spx) × (spx_fault d.body ≡ Some f)
-IsReading bytes (NoControl f) = (d : PacketView) × (tail : List ℕ) × IsIpx d bytes tail × (body_fault (protocol_of d.header) d.body ≡ Some f)
-IsReading bytes (Holds d c) = (tail : List ℕ) × IsIpx d bytes tail × IsContents (protocol_of d.header) d.body c
+IsReading bytes (NoSpx f) = (d : PacketView) × (tail : List ℕ) × IsIpx d bytes tail
+    × (protocol_of d.header ≡ Spx) × (spx_fault d.body ≡ Some f)
+IsReading bytes (NoControl f) = (d : PacketView) × (tail : List ℕ) × IsIpx d bytes tail
+    × (body_fault (protocol_of d.header) d.body ≡ Some f)
+IsReading bytes (Holds d c) =
+    (tail : List ℕ) × IsIpx d bytes tail × IsContents (protocol_of d.header) d.body c

@@ -95,7 +95,9 @@ fn verdict_on(alloc: Global, number: u8, bytes: &[u8]) -> Result<Verdict, OutOfM
 
 /// What a line tells, if it is of a known form.
 fn verdict_of(alloc: Global, line: &[u8]) -> Result<Option<Verdict>, OutOfMemory>
-    ensures { IfOk result (λ o. MatchOption o (line_form line.now ≡ no_line) (λ v. IsVerdict (line_form line.now) (verdict_view v))) }
+    ensures { IfOk result (λ o. MatchOption o
+        (line_form line.now ≡ no_line)
+        (λ v. IsVerdict (line_form line.now) (verdict_view v))) }
 {
     match read_line(alloc, line)? {
         Line::Malformed => return Ok(None),
@@ -118,7 +120,8 @@ fn note(alloc: Global, tally: &mut Tally, verdict: Verdict) -> Result<(), AllocE
     requires lines { tally.old.lines ≤ 1000001 }
     requires vectors { tally.old.vectors ≤ tally.old.lines }
     requires failed { tally.old.failed ≤ tally.old.lines }
-    ensures { OnOk result ((vs : List VerdictView) → IsTally vs tally.old → IsTally (vs ++ verdict_view verdict ∷ []) tally.new) }
+    ensures { OnOk result ((vs : List VerdictView) → IsTally vs tally.old
+        → IsTally (vs ++ verdict_view verdict ∷ []) tally.new) }
 {
     let place = tally.lines + 1;
     match verdict {
@@ -145,7 +148,8 @@ fn note(alloc: Global, tally: &mut Tally, verdict: Verdict) -> Result<(), AllocE
 /// The lines and the status where a line of no known form comes next.
 fn lines_at_bad_line(alloc: Global, tally: &Tally) -> Result<(String, u8), OutOfMemory>
     requires { tally.now.lines ≤ 1000001 }
-    ensures { IfOk result (λ r. (vs : List VerdictView) → IsTally vs tally.now → (string_bytes r.0 ≡ failed_lines vs ++ last_line false vs) × (r.1 ≡ check_status false vs)) }
+    ensures { IfOk result (λ r. (vs : List VerdictView) → IsTally vs tally.now
+        → (string_bytes r.0 ≡ failed_lines vs ++ last_line false vs) × (r.1 ≡ check_status false vs)) }
 {
     let text = tally.text.as_str();
     let place = tally.lines + 1;
@@ -154,7 +158,8 @@ fn lines_at_bad_line(alloc: Global, tally: &Tally) -> Result<(String, u8), OutOf
 
 /// The lines and the status where all lines were read.
 fn lines_at_end(alloc: Global, tally: &Tally) -> Result<(String, u8), OutOfMemory>
-    ensures { IfOk result (λ r. (vs : List VerdictView) → IsTally vs tally.now → (string_bytes r.0 ≡ failed_lines vs ++ last_line true vs) × (r.1 ≡ check_status true vs)) }
+    ensures { IfOk result (λ r. (vs : List VerdictView) → IsTally vs tally.now
+        → (string_bytes r.0 ≡ failed_lines vs ++ last_line true vs) × (r.1 ≡ check_status true vs)) }
 {
     let text = tally.text.as_str();
     let vectors = tally.vectors;
@@ -169,7 +174,8 @@ fn lines_at_end(alloc: Global, tally: &Tally) -> Result<(String, u8), OutOfMemor
 /// The lines and the status for lines of vectors.
 fn check_lines(alloc: Global, input: &[u8]) -> Result<(String, u8), OutOfMemory>
     requires { length input.now ≤ 1000000 }
-    ensures { IfOk result (λ r. ChecksLines (map line_form (input_lines input.now)) (string_bytes r.0) r.1) }
+    ensures { IfOk result (λ r.
+        ChecksLines (map line_form (input_lines input.now)) (string_bytes r.0) r.1) }
 {
     let mut tally = Tally {
         text: String::new(alloc),
@@ -204,8 +210,10 @@ fn lines_for_input(alloc: Global, input: &[u8]) -> Result<(String, u8), OutOfMem
 /// status 1 of a read or write fault, after which nothing more is written, or of want of memory,
 /// which writes `fault (14) OutOfMemory`.
 pub fn do_check<R: Read, W: Write>(alloc: Global, reader: &mut R, writer: &mut W) -> Result<u8, u8>
-    ensures written { IfOk result (λ status. (input : List ℕ) × IsInput (R.remaining reader.old) input × (lines : List ℕ)
-        × CheckWrites input lines status × Appends (W.contents writer.old) (W.contents writer.new) lines) }
+    ensures written { IfOk result (λ status.
+        (input : List ℕ) × IsInput (R.remaining reader.old) input
+        × (lines : List ℕ) × CheckWrites input lines status
+        × Appends (W.contents writer.old) (W.contents writer.new) lines) }
     ensures fault { IfErr result (λ status. status ≡ 1) }
 {
     let input = match read_up_to(alloc, reader, MOST + 1) {

@@ -86,12 +86,14 @@ fn line_for_text(alloc: Global, text: &[u8]) -> Result<(String, u8), OutOfMemory
 /// becomes of it on port 1 of a router with two ports.
 ///
 /// `Ok` is the status that goes with the lines that were written: 0 for a packet that goes on, is
-/// answered or is heard, 1 for one that is dropped, 2 for text that is no packet in hex. `Err` is the status 1 of a read or
-/// write fault, after which nothing more is written, or of want of memory, which writes
-/// `fault (14) OutOfMemory`.
+/// answered or is heard, 1 for one that is dropped, 2 for text that is no packet in hex. `Err` is the
+/// status 1 of a read or write fault, after which nothing more is written, or of want of memory,
+/// which writes `fault (14) OutOfMemory`.
 pub fn do_hop<R: Read, W: Write>(alloc: Global, reader: &mut R, writer: &mut W) -> Result<u8, u8>
-    ensures written { IfOk result (λ status. (input : List ℕ) × IsInput (R.remaining reader.old) input × (line : List ℕ)
-        × HopWrites input line status × Appends (W.contents writer.old) (W.contents writer.new) line) }
+    ensures written { IfOk result (λ status.
+        (input : List ℕ) × IsInput (R.remaining reader.old) input
+        × (line : List ℕ) × HopWrites input line status
+        × Appends (W.contents writer.old) (W.contents writer.new) line) }
     ensures fault { IfErr result (λ status. status ≡ 1) }
 {
     let text = match read_up_to(alloc, reader, MOST + 1) {

@@ -42,8 +42,10 @@ fn contents_at<'a>(
     socket: Socket,
     body: &'a [u8],
 ) -> Result<Contents<'a>, ControlFault>
-    ensures found { IfOk result (λ c. IsContents (protocol_at socket.0) body.now (contents_view c)) }
-    ensures fault { IfErr result (λ f. (f ≡ ControlFault.OutOfMemory) ⊎ (body_fault (protocol_at socket.0) body.now ≡ Some f)) }
+    ensures found { IfOk result (λ c.
+        IsContents (protocol_at socket.0) body.now (contents_view c)) }
+    ensures fault { IfErr result (λ f. (f ≡ ControlFault.OutOfMemory)
+        ⊎ (body_fault (protocol_at socket.0) body.now ≡ Some f)) }
 {
     if socket.0 == 0x453 {
         let rip = decode_rip(alloc, body)?;

@@ -40,8 +40,9 @@ fn lines_for_text(alloc: Global, text: &str) -> Result<(String, u8), OutOfMemory
 /// refused, 2 for text that is no hex. `Err` is the status 1 of a write fault, after which nothing
 /// more is written, or of want of memory, which writes `fault (14) OutOfMemory`.
 pub fn do_show<W: Write>(alloc: Global, text: &str, writer: &mut W) -> Result<u8, u8>
-    ensures written { IfOk result (λ status. (lines : List ℕ)
-        × ShowWrites text.now lines status × Appends (W.contents writer.old) (W.contents writer.new) lines) }
+    ensures written { IfOk result (λ status.
+        (lines : List ℕ) × ShowWrites text.now lines status
+        × Appends (W.contents writer.old) (W.contents writer.new) lines) }
     ensures fault { IfErr result (λ status. status ≡ 1) }
 {
     write_lines(writer, lines_for_text(alloc, text))
