@@ -18,10 +18,3 @@ pub use hop::do_hop;
 pub use laws::{check_is_one, reading_is_one, show_is_one};
 pub use output::tell_no_memory;
 pub use show::do_show;
-
-#[cfg(test)]
-mod check_tests;
-#[cfg(test)]
-mod show_tests;
-#[cfg(test)]
-mod tests;
