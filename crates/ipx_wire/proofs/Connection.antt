@@ -1,9 +1,9 @@
 -- A datagram is one packet of a connection at most, and its sequence number stands at its place.
-use Rattle.std.proofs.Common.{◌≡◌, ◌≤◌, ℕ, ◌+◌, List, ◌++◌, length, drop, arith, sym, ap, ◌∙◌, subst}
+use Rattle.std.proofs.Common.{◌≡◌, ℕ, List, ◌++◌, drop, arith, sym, ap, ◌∙◌, subst}
 use Rattle.std.proofs.lemmas.List.{drop-drop}
 use Rattle.byteorder.specs.Endian.{big_number}
 use Rattle.ipx_wire.specs.declared.spx.SpxHeader.{SpxHeader}
-use Rattle.ipx_wire.specs.Ipx.{PacketView, number}
+use Rattle.ipx_wire.specs.Ipx.{PacketView}
 use Rattle.ipx_wire.specs.Spx.{IsSpx}
 use Rattle.ipx_wire.specs.Connection.{IsConnectionPacket, sequence_in}
 use Rattle.ipx_wire.proofs.RoundTrip.{number_more, same_packet}

@@ -1,8 +1,8 @@
 -- Bytes have no fault just where they are a packet: for IPX, and for SPX.
-use Rattle.std.proofs.Common.{◌≡◌, ◌≤◌, ◌<◌, ℕ, ◌+◌, ◌-◌, List, ◌++◌, Bool, true, false, Some, None, length, take, drop, arith, sym, ap, ◌∙◌, refl, take-append-drop, eq-eqb}
+use Rattle.std.proofs.Common.{◌≡◌, ◌≤◌, ℕ, ◌-◌, List, Bool, true, false, Some, None, length, take, drop, arith, sym, ◌∙◌, refl, take-append-drop, eq-eqb}
 use Rattle.std.specs.Prelude.{nat_lt, ◌==◌, if◌then◌else◌, slice_index}
 use Rattle.std.proofs.lemmas.Bool.{eqb-true, le-ltb, ltb-false}
-use Rattle.std.proofs.lemmas.List.{drop-drop, length-drop, length-take}
+use Rattle.std.proofs.lemmas.List.{length-drop, length-take}
 use Rattle.ipx_wire.specs.declared.address.Address.{Address}
 use Rattle.ipx_wire.specs.declared.packet.IpxHeader.{IpxHeader}
 use Rattle.ipx_wire.specs.declared.fault.IpxFault.{IpxFault}
