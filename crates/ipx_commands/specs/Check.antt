@@ -2,35 +2,13 @@
 use Rattle.std.specs.Prelude.{◌≡◌, ℕ, ◌+◌, Bool, true, false, List, [], ◌∷◌, ◌++◌, length, map, codes, count_by, nat_lt, ◌==◌, if◌then◌else◌, MatchBool}
 use Rattle.std.specs.List.{AllZip, enumerate_from, flat_map, list_all, take_while}
 use Rattle.std.specs.Fmt.{decimal}
-use Rattle.ipx_wire.specs.declared.fault.IpxFault.{IpxFault}
-use Rattle.ipx_wire.specs.declared.fault.IpxFault.TheVariants.{Short, Checksummed, LengthShort, Truncated, TooLong}
-use Rattle.ipx_wire.specs.declared.spx.fault.SpxFault.{SpxFault}
-use Rattle.ipx_wire.specs.declared.spx.fault.SpxFault.TheVariants.{SpxShort, OverSize}
-use Rattle.ipx_control.specs.declared.fault.ControlFault.{ControlFault}
-use Rattle.ipx_control.specs.declared.fault.ControlFault.TheVariants.{NoOperation, UnknownOperation, TooManyEntries, QueryShort, OutOfMemory}
+use Rattle.ipx_wire.specs.Ipx.{ipx_fault_number}
+use Rattle.ipx_wire.specs.Spx.{spx_fault_number}
+use Rattle.ipx_control.specs.Fault.{control_fault_number}
 use Rattle.ipx_commands.specs.declared.check.Verdict as code
 use Rattle.ipx_commands.specs.declared.check.Verdict.TheVariants as verdicts
 use Rattle.ipx_commands.specs.Reading.{ReadingView, NoPacket, NoSpx, NoControl, Holds, IsReading}
 use Rattle.ipx_commands.specs.CheckLine.{LineView, Skipped, Vector, Malformed, input_lines, line_form}
-
--- a fault's number
-abbrev pub ipx_fault_number : IpxFault → ℕ
-ipx_fault_number (Short have) = 1
-ipx_fault_number (Checksummed value) = 2
-ipx_fault_number (LengthShort value) = 3
-ipx_fault_number (Truncated said have) = 4
-ipx_fault_number (TooLong value) = 5
-
-abbrev pub spx_fault_number : SpxFault → ℕ
-spx_fault_number (SpxShort have) = 6
-spx_fault_number (OverSize have) = 7
-
-abbrev pub control_fault_number : ControlFault → ℕ
-control_fault_number NoOperation = 8
-control_fault_number (UnknownOperation n) = 9
-control_fault_number (TooManyEntries n) = 10
-control_fault_number (QueryShort have) = 11
-control_fault_number OutOfMemory = 12
 
 -- the number of the fault that refuses a datagram, 0 where none does
 abbrev pub outcome : ReadingView → ℕ

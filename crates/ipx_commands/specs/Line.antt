@@ -6,34 +6,54 @@ use Rattle.hex.specs.Hex.{encode_lower}
 use Rattle.std.specs.Int.{w32, to_be_bytes}
 use Rattle.ipx_wire.specs.declared.fault.IpxFault.{IpxFault}
 use Rattle.ipx_wire.specs.declared.fault.IpxFault.TheVariants.{Short, Checksummed, LengthShort, Truncated, TooLong}
+use Rattle.ipx_wire.specs.Ipx.{ipx_fault_number}
+use Rattle.ipx_wire.specs.Spx.{spx_fault_number}
 use Rattle.ipx_wire.specs.declared.spx.fault.SpxFault.{SpxFault}
 use Rattle.ipx_wire.specs.declared.spx.fault.SpxFault.TheVariants.{SpxShort, OverSize}
 use Rattle.ipx_control.specs.declared.fault.ControlFault.{ControlFault}
 use Rattle.ipx_control.specs.declared.fault.ControlFault.TheVariants as control
+use Rattle.ipx_control.specs.Fault.{control_fault_number}
 use Rattle.ipx_router.specs.declared.reason.Reason.{Reason}
 use Rattle.ipx_router.specs.declared.reason.Reason.TheVariants.{Bad, Propagated, NotOurs, NoRoute, HopLimit, BadControl, TableFull}
 use Rattle.ipx_router.specs.Packets.{SendingView}
 use Rattle.ipx_router.specs.Answer.{OutcomeView, Forward, Replies, Heard, Dropped}
 
--- a fault's number and name, and its values
+-- a number in brackets, and what it stands for
+abbrev pub numbered : ℕ → List ℕ → List ℕ
+numbered number name = codes "(" ++ (decimal number ++ (codes ") " ++ name))
+
+-- a fault's name and its values
+abbrev pub fault_name : IpxFault → List ℕ
+fault_name (Short have) = codes "Short " ++ decimal have
+fault_name (Checksummed value) = codes "Checksummed " ++ decimal value
+fault_name (LengthShort value) = codes "LengthShort " ++ decimal value
+fault_name (Truncated said have) =
+    codes "Truncated " ++ (decimal said ++ (codes " " ++ decimal have))
+fault_name (TooLong value) = codes "TooLong " ++ decimal value
+
+abbrev pub spx_fault_name : SpxFault → List ℕ
+spx_fault_name (SpxShort have) = codes "SpxShort " ++ decimal have
+spx_fault_name (OverSize have) = codes "OverSize " ++ decimal have
+
+abbrev pub control_fault_name : ControlFault → List ℕ
+control_fault_name control.NoOperation = codes "NoOperation"
+control_fault_name (control.UnknownOperation operation) =
+    codes "UnknownOperation " ++ decimal operation
+control_fault_name (control.TooManyEntries count) = codes "TooManyEntries " ++ decimal count
+control_fault_name (control.QueryShort have) = codes "QueryShort " ++ decimal have
+control_fault_name control.OutOfMemory = codes "OutOfMemory"
+
+-- a fault with its number
 abbrev pub fault_text : IpxFault → List ℕ
-fault_text (Short have) = codes "(1) Short " ++ decimal have
-fault_text (Checksummed value) = codes "(2) Checksummed " ++ decimal value
-fault_text (LengthShort value) = codes "(3) LengthShort " ++ decimal value
-fault_text (Truncated said have) = codes "(4) Truncated " ++ (decimal said ++ (codes " " ++ decimal have))
-fault_text (TooLong value) = codes "(5) TooLong " ++ decimal value
+fault_text fault = numbered (ipx_fault_number fault) (fault_name fault)
 
 abbrev pub spx_fault_text : SpxFault → List ℕ
-spx_fault_text (SpxShort have) = codes "(6) SpxShort " ++ decimal have
-spx_fault_text (OverSize have) = codes "(7) OverSize " ++ decimal have
+spx_fault_text fault = numbered (spx_fault_number fault) (spx_fault_name fault)
 
 abbrev pub control_fault_text : ControlFault → List ℕ
-control_fault_text control.NoOperation = codes "(8) NoOperation"
-control_fault_text (control.UnknownOperation operation) = codes "(9) UnknownOperation " ++ decimal operation
-control_fault_text (control.TooManyEntries count) = codes "(10) TooManyEntries " ++ decimal count
-control_fault_text (control.QueryShort have) = codes "(11) QueryShort " ++ decimal have
-control_fault_text control.OutOfMemory = codes "(12) OutOfMemory"
+control_fault_text fault = numbered (control_fault_number fault) (control_fault_name fault)
 
+-- a reason is printed with its number; one that holds a fault is printed as that fault
 abbrev pub reason_text : Reason → List ℕ
 reason_text (Bad fault) = fault_text fault
 reason_text Propagated = codes "(19) Propagated"

@@ -5,15 +5,14 @@ ghost use Rattle.std.specs.Io.KnownBytes.{Appends};
 ghost use Rattle.ipx_commands.specs.Text.{IsInput};
 ghost use Rattle.ipx_commands.specs.Reading.{reading_view};
 ghost use Rattle.ipx_commands.specs.CheckLine.{Malformed as no_line, Vector as vector, input_lines, line_form};
-ghost use Rattle.ipx_commands.specs.Check.{CheckWrites, ChecksLines, Failed as told_failed, IsVerdict, VerdictView, check_status, control_fault_number, failed_line, failed_lines, ipx_fault_number, last_line, outcome, spx_fault_number, verdict_view};
+ghost use Rattle.ipx_commands.specs.Check.{CheckWrites, ChecksLines, Failed as told_failed, IsVerdict, VerdictView, check_status, failed_line, failed_lines, last_line, outcome, verdict_view};
 ghost use Rattle.ipx_commands.specs.Tally.{IsTally};
 
 use crate::check_line::{Line, read_line};
 use crate::input::{InputFault, read_up_to};
 use crate::output::{tell_no_memory, write_lines};
 use crate::reading::{Reading, read_datagram};
-use ipx_control::ControlFault;
-use ipx_wire::{IpxFault, OutOfMemory, SpxFault};
+use ipx_wire::OutOfMemory;
 use std::alloc::{AllocError, Global};
 use std::io::{Read, Write};
 
@@ -38,48 +37,15 @@ pub struct Tally {
     failed: usize,
 }
 
-fn number_of_ipx_fault(fault: IpxFault) -> u8
-    ensures { result ≡ ipx_fault_number fault }
-{
-    match fault {
-        IpxFault::Short(_) => 1,
-        IpxFault::Checksummed(_) => 2,
-        IpxFault::LengthShort(_) => 3,
-        IpxFault::Truncated(_, _) => 4,
-        IpxFault::TooLong(_) => 5,
-    }
-}
-
-fn number_of_spx_fault(fault: SpxFault) -> u8
-    ensures { result ≡ spx_fault_number fault }
-{
-    match fault {
-        SpxFault::SpxShort(_) => 6,
-        SpxFault::OverSize(_) => 7,
-    }
-}
-
-fn number_of_control_fault(fault: ControlFault) -> u8
-    ensures { result ≡ control_fault_number fault }
-{
-    match fault {
-        ControlFault::NoOperation => 8,
-        ControlFault::UnknownOperation(_) => 9,
-        ControlFault::TooManyEntries(_) => 10,
-        ControlFault::QueryShort(_) => 11,
-        ControlFault::OutOfMemory => 12,
-    }
-}
-
 /// The number of the fault that refuses a datagram, 0 where none does.
 fn outcome_of(reading: &Reading<'_>) -> u8
     ensures { result ≡ outcome (reading_view reading.now) }
 {
     match reading {
-        Reading::NoPacket(fault) => return number_of_ipx_fault(*fault),
-        Reading::NoSpx(fault) => return number_of_spx_fault(*fault),
-        Reading::NoControl(fault) => return number_of_control_fault(*fault),
-        Reading::Holds(_, _) => return 0,
+        Reading::NoPacket(fault) => fault.number(),
+        Reading::NoSpx(fault) => fault.number(),
+        Reading::NoControl(fault) => fault.number(),
+        Reading::Holds(_, _) => 0,
     }
 }
 

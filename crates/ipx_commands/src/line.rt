@@ -4,46 +4,77 @@ ghost use Rattle.std.specs.Prelude.{◌≡◌, IfOk, string_bytes};
 ghost use Rattle.std.specs.List.{flat_map};
 ghost use Rattle.ipx_router.specs.Answer.{view};
 ghost use Rattle.ipx_router.specs.Packets.{sending_of, sendings};
-ghost use Rattle.ipx_commands.specs.Line.{control_fault_text, fault_text, lines_of, reason_text, sending_line, sending_text, spx_fault_text, status_of};
+ghost use Rattle.ipx_commands.specs.Line.{control_fault_name, control_fault_text, fault_name, fault_text, lines_of, numbered, reason_text, sending_line, sending_text, spx_fault_name, spx_fault_text, status_of};
 
 use ipx_control::ControlFault;
 use ipx_router::{Outcome, Reason, Reply};
 use ipx_wire::{IpxFault, SpxFault};
 use std::alloc::{AllocError, Global};
 
+/// A number in brackets, and what it stands for.
+fn numbered_text(alloc: Global, number: u8, name: &str) -> Result<String, AllocError>
+    ensures { IfOk result (λ t. string_bytes t ≡ numbered number name.now) }
+{
+    format!(in alloc; "({number}) {name}")
+}
+
+fn fault_to_name(alloc: Global, fault: IpxFault) -> Result<String, AllocError>
+    ensures { IfOk result (λ t. string_bytes t ≡ fault_name fault) }
+{
+    match fault {
+        IpxFault::Short(have) => format!(in alloc; "Short {have}"),
+        IpxFault::Checksummed(value) => format!(in alloc; "Checksummed {value}"),
+        IpxFault::LengthShort(value) => format!(in alloc; "LengthShort {value}"),
+        IpxFault::Truncated(said, have) => format!(in alloc; "Truncated {said} {have}"),
+        IpxFault::TooLong(value) => format!(in alloc; "TooLong {value}"),
+    }
+}
+
+fn spx_fault_to_name(alloc: Global, fault: SpxFault) -> Result<String, AllocError>
+    ensures { IfOk result (λ t. string_bytes t ≡ spx_fault_name fault) }
+{
+    match fault {
+        SpxFault::SpxShort(have) => format!(in alloc; "SpxShort {have}"),
+        SpxFault::OverSize(have) => format!(in alloc; "OverSize {have}"),
+    }
+}
+
+fn control_fault_to_name(alloc: Global, fault: ControlFault) -> Result<String, AllocError>
+    ensures { IfOk result (λ t. string_bytes t ≡ control_fault_name fault) }
+{
+    match fault {
+        ControlFault::NoOperation => String::from_str(alloc, "NoOperation"),
+        ControlFault::UnknownOperation(operation) => {
+            format!(in alloc; "UnknownOperation {operation}")
+        }
+        ControlFault::TooManyEntries(count) => format!(in alloc; "TooManyEntries {count}"),
+        ControlFault::QueryShort(have) => format!(in alloc; "QueryShort {have}"),
+        ControlFault::OutOfMemory => String::from_str(alloc, "OutOfMemory"),
+    }
+}
+
+/// A fault of an IPX header: its number, its name and its values.
 pub fn fault_to_text(alloc: Global, fault: IpxFault) -> Result<String, AllocError>
     ensures { IfOk result (λ t. string_bytes t ≡ fault_text fault) }
 {
-    match fault {
-        IpxFault::Short(have) => format!(in alloc; "(1) Short {have}"),
-        IpxFault::Checksummed(value) => format!(in alloc; "(2) Checksummed {value}"),
-        IpxFault::LengthShort(value) => format!(in alloc; "(3) LengthShort {value}"),
-        IpxFault::Truncated(said, have) => format!(in alloc; "(4) Truncated {said} {have}"),
-        IpxFault::TooLong(value) => format!(in alloc; "(5) TooLong {value}"),
-    }
+    let name = fault_to_name(alloc, fault)?;
+    numbered_text(alloc, fault.number(), &name)
 }
 
+/// The same of an SPX header.
 pub fn spx_fault_to_text(alloc: Global, fault: SpxFault) -> Result<String, AllocError>
     ensures { IfOk result (λ t. string_bytes t ≡ spx_fault_text fault) }
 {
-    match fault {
-        SpxFault::SpxShort(have) => format!(in alloc; "(6) SpxShort {have}"),
-        SpxFault::OverSize(have) => format!(in alloc; "(7) OverSize {have}"),
-    }
+    let name = spx_fault_to_name(alloc, fault)?;
+    numbered_text(alloc, fault.number(), &name)
 }
 
+/// The same of a RIP or SAP packet.
 pub fn control_fault_to_text(alloc: Global, fault: ControlFault) -> Result<String, AllocError>
     ensures { IfOk result (λ t. string_bytes t ≡ control_fault_text fault) }
 {
-    match fault {
-        ControlFault::NoOperation => String::from_str(alloc, "(8) NoOperation"),
-        ControlFault::UnknownOperation(operation) => {
-            format!(in alloc; "(9) UnknownOperation {operation}")
-        }
-        ControlFault::TooManyEntries(count) => format!(in alloc; "(10) TooManyEntries {count}"),
-        ControlFault::QueryShort(have) => format!(in alloc; "(11) QueryShort {have}"),
-        ControlFault::OutOfMemory => String::from_str(alloc, "(12) OutOfMemory"),
-    }
+    let name = control_fault_to_name(alloc, fault)?;
+    numbered_text(alloc, fault.number(), &name)
 }
 
 pub fn reason_to_text(alloc: Global, reason: Reason) -> Result<String, AllocError>
