@@ -50,7 +50,7 @@ is_failed NoVector = false
 is_failed Passed = false
 is_failed Failed = true
 
--- the line of a vector that failed, on the line of a number
+-- written for a vector that failed: the number of its line, from 1
 abbrev pub failed_line : ℕ → VerdictView → List ℕ
 failed_line place NoVector = []
 failed_line place Passed = []

@@ -80,7 +80,6 @@ lines_of (Replies sent) = flat_map sending_line sent
 lines_of (Heard count) = codes "heard " ++ (decimal count ++ 10 ∷ [])
 lines_of (Dropped reason) = codes "dropped " ++ (reason_text reason ++ 10 ∷ [])
 
--- the status that goes with them
 abbrev pub status_of : OutcomeView → ℕ
 status_of (Forward port next bytes) = 0
 status_of (Replies sent) = 0

@@ -6,7 +6,7 @@ use Rattle.ipx_commands.specs.Line.{bad_line}
 use Rattle.ipx_commands.specs.Reading.{ReadingView, IsReading}
 use Rattle.ipx_commands.specs.ShowLine.{reading_lines, reading_status}
 
--- the lines and the status for a datagram
+-- the lines and the status of what a datagram is read as
 abbrev pub Shows : List ℕ → List ℕ → ℕ → Type 0
 Shows bytes lines status = (r : ReadingView) × IsReading bytes r
     × (lines ≡ reading_lines r) × (status ≡ reading_status r)

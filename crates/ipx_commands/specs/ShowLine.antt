@@ -27,7 +27,6 @@ header_lines d =
     ++ (codes " body " ++ (decimal (length d.body) ++ (codes "\nto " ++ (address_text d.header.to
     ++ (codes "\nfrom " ++ (address_text d.header.from ++ 10 ∷ [])))))))))
 
--- a bit of the connection control
 abbrev pub bit_text : Bool → List ℕ
 bit_text bit = if bit then codes "1" else codes "0"
 
@@ -40,11 +39,11 @@ control_text h =
 abbrev pub word_text : ℕ → List ℕ
 word_text n = encode_lower (to_be_bytes w16 n)
 
--- the two connection ids
+-- the connection ids, of the sender and of the receiver
 abbrev pub ids_text : SpxHeader → List ℕ
 ids_text h = codes "from " ++ (word_text h.from_id ++ (codes " to " ++ word_text h.to_id))
 
--- the three counts of units
+-- sequence number, acknowledgement and allocation
 abbrev pub counts_text : SpxHeader → List ℕ
 counts_text h =
     codes "seq " ++ (word_text h.seq ++ (codes " ack " ++ (word_text h.ack
@@ -57,7 +56,7 @@ spx_line h payload =
     ++ (codes " " ++ (ids_text h ++ (codes " " ++ (counts_text h
     ++ (codes " body " ++ (decimal (length payload) ++ 10 ∷ [])))))))))
 
--- a network of a RIP packet
+-- 8 hex digits, and hops and ticks in decimal
 abbrev pub rip_entry_line : RipEntry → List ℕ
 rip_entry_line e =
     codes "net " ++ (encode_lower (to_be_bytes w32 e.network.0) ++ (codes " hops " ++ (decimal e.hops
@@ -84,7 +83,7 @@ name_text name =
     if length (before_first (λ b. b == 0) name) == 0 then codes "-"
     else flat_map name_byte (before_first (λ b. b == 0) name)
 
--- a service of a SAP packet
+-- its type in 4 hex digits, its name, where it is, and hops in decimal
 abbrev pub service_line : ServiceEntry → List ℕ
 service_line e =
     codes "service " ++ (encode_lower (to_be_bytes w16 e.kind) ++ (codes " " ++ (name_text e.name
@@ -101,21 +100,19 @@ sap_lines (sap.Response nearest services) =
     codes "sap " ++ (reach nearest ++ (codes " response " ++ (decimal (length services)
     ++ (codes "\n" ++ flat_map service_line services))))
 
--- the lines of what a body holds
 abbrev pub contents_lines : ContentsView → List ℕ
 contents_lines Plain = []
 contents_lines (OfSpx h payload) = spx_line h payload
 contents_lines (OfRip m) = rip_lines m
 contents_lines (OfSap m) = sap_lines m
 
--- all the lines of a datagram
+-- the header and what the body holds, or the fault, on one line
 abbrev pub reading_lines : ReadingView → List ℕ
 reading_lines (NoPacket f) = codes "refused " ++ (fault_text f ++ 10 ∷ [])
 reading_lines (NoSpx f) = codes "refused " ++ (spx_fault_text f ++ 10 ∷ [])
 reading_lines (NoControl f) = codes "refused " ++ (control_fault_text f ++ 10 ∷ [])
 reading_lines (Holds d c) = header_lines d ++ contents_lines c
 
--- the status that goes with them
 abbrev pub reading_status : ReadingView → ℕ
 reading_status (NoPacket f) = 1
 reading_status (NoSpx f) = 1

@@ -16,10 +16,10 @@ use ipx_wire::OutOfMemory;
 use std::alloc::{AllocError, Global};
 use std::io::{Read, Write};
 
-/// The longest input.
+/// The longest input, in bytes.
 const MOST: usize = 1_000_000;
 
-/// What a line tells.
+/// Whether the datagram of a line has the outcome that the line wants.
 #[derive(Clone, Copy)]
 pub enum Verdict {
     NoVector,
@@ -59,7 +59,7 @@ fn verdict_on(alloc: Global, number: u8, bytes: &[u8]) -> Result<Verdict, OutOfM
     Ok(Verdict::Failed)
 }
 
-/// What a line tells, if it is of a known form.
+/// `None` is a line of no known form.
 fn verdict_of(alloc: Global, line: &[u8]) -> Result<Option<Verdict>, OutOfMemory>
     ensures { IfOk result (λ o. MatchOption o
         (line_form line.now ≡ no_line)
@@ -81,7 +81,7 @@ fn failed_to_line(alloc: Global, place: usize) -> Result<String, AllocError>
     format!(in alloc; "line {place}\n")
 }
 
-/// One more verdict.
+/// Counts one more line; where its vector failed, the line is written.
 fn note(alloc: Global, tally: &mut Tally, verdict: Verdict) -> Result<(), AllocError>
     requires lines { tally.old.lines ≤ 1000001 }
     requires vectors { tally.old.vectors ≤ tally.old.lines }
@@ -137,7 +137,6 @@ fn lines_at_end(alloc: Global, tally: &Tally) -> Result<(String, u8), OutOfMemor
     Ok((lines, 1))
 }
 
-/// The lines and the status for lines of vectors.
 fn check_lines(alloc: Global, input: &[u8]) -> Result<(String, u8), OutOfMemory>
     requires { length input.now ≤ 1000000 }
     ensures { IfOk result (λ r.
@@ -158,7 +157,6 @@ fn check_lines(alloc: Global, input: &[u8]) -> Result<(String, u8), OutOfMemory>
     lines_at_end(alloc, &tally)
 }
 
-/// The lines and the status for an input.
 fn lines_for_input(alloc: Global, input: &[u8]) -> Result<(String, u8), OutOfMemory>
     ensures { IfOk result (λ r. CheckWrites input.now (string_bytes r.0) r.1) }
 {
@@ -168,8 +166,8 @@ fn lines_for_input(alloc: Global, input: &[u8]) -> Result<(String, u8), OutOfMem
     check_lines(alloc, input)
 }
 
-/// Reads lines of vectors, at most 1,000,000 bytes, and writes which of them have another outcome
-/// than they want, and how many vectors there were and how many failed.
+/// The command `check`: reads lines of vectors, at most 1,000,000 bytes, and writes which of them have
+/// another outcome than they want, and how many vectors there were and how many failed.
 ///
 /// `Ok` is the status that goes with the lines that were written: 0 where all vectors passed, 1
 /// where one failed, 2 for a line of no known form and for an input that is too long. `Err` is the

@@ -70,7 +70,6 @@ fn bad_vector_in(alloc: Global, rest: &[u8]) -> Result<Line, OutOfMemory>
     }
 }
 
-/// What a line is.
 pub fn read_line(alloc: Global, line: &[u8]) -> Result<Line, OutOfMemory>
     ensures { IfOk result (λ l. line_view l ≡ line_form line.now) }
 {

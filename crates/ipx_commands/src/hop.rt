@@ -15,7 +15,7 @@ use ipx_wire::{Network, Node, OutOfMemory};
 use std::alloc::Global;
 use std::io::{Read, Write};
 
-/// The longest text.
+/// The longest text, in bytes, with its line end.
 const MOST: usize = 4096;
 
 fn cut_line_end(text: &[u8]) -> &[u8]
@@ -72,7 +72,6 @@ fn line_for_bytes(alloc: Global, bytes: &[u8]) -> Result<(String, u8), OutOfMemo
     Ok((lines, status))
 }
 
-/// The line and the status for a text.
 fn line_for_text(alloc: Global, text: &[u8]) -> Result<(String, u8), OutOfMemory>
     ensures { IfOk result (λ r. HopWrites text.now (string_bytes r.0) r.1) }
 {
@@ -82,7 +81,7 @@ fn line_for_text(alloc: Global, text: &[u8]) -> Result<(String, u8), OutOfMemory
     }
 }
 
-/// Reads one packet in hex, at most 4,096 bytes of text with at most one line end, and writes what
+/// The command `hop`: reads one packet in hex, at most 4,096 bytes of text with at most one line end, and writes what
 /// becomes of it on port 1 of a router with two ports.
 ///
 /// `Ok` is the status that goes with the lines that were written: 0 for a packet that goes on, is

@@ -140,7 +140,7 @@ pub fn outcome_lines(alloc: Global, outcome: &Outcome) -> Result<String, AllocEr
     }
 }
 
-/// The status that goes with an outcome.
+/// 1 for a packet that was dropped, else 0.
 pub fn outcome_status(outcome: &Outcome) -> u8
     ensures { result ≡ status_of (view outcome.now) }
 {

@@ -58,7 +58,8 @@ fn contents_at<'a>(
     Ok(Contents::Plain)
 }
 
-/// What a datagram is. Packet type 5 is SPX, whatever the socket.
+/// Reads a datagram and what its body holds. Packet type 5 is SPX, whatever the socket; else the
+/// destination socket says what the body is. It wants memory for the entries of RIP and SAP alone.
 pub fn read_datagram(alloc: Global, bytes: &[u8]) -> Result<Reading<'_>, OutOfMemory>
     ensures { IfOk result (λ r. IsReading bytes.now (reading_view r)) }
 {

@@ -221,7 +221,7 @@ fn contents_to_lines(alloc: Global, contents: &Contents<'_>) -> Result<String, A
     }
 }
 
-/// The lines of what a datagram is.
+/// The header, and what the body holds; or the fault, on one line.
 pub fn reading_to_lines(alloc: Global, reading: &Reading<'_>) -> Result<String, AllocError>
     ensures { IfOk result (λ t. string_bytes t ≡ reading_lines (reading_view reading.now)) }
 {
@@ -246,7 +246,7 @@ pub fn reading_to_lines(alloc: Global, reading: &Reading<'_>) -> Result<String, 
     }
 }
 
-/// The status that goes with it.
+/// 0 for a packet, 1 for one that is refused.
 pub fn reading_to_status(reading: &Reading<'_>) -> u8
     ensures { result ≡ reading_status (reading_view reading.now) }
 {

@@ -40,7 +40,7 @@ fn plain_task(command: &str) -> Option<Task<'_>>
 fn show_task<'a>(command: &str, packet: &'a str) -> Option<Task<'a>>
     ensures { IfSome result (λ t. (name : List ℕ) → AsksFor (name ∷ command.now ∷ packet.now ∷ []) t) }
 {
-    if command != "show" || packet.starts_with("-") {
+    if command != "show" || packet.as_bytes().starts_with(b"-") {
         return None;
     }
     Some(Task::Show(packet))
