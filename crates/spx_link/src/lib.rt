@@ -18,8 +18,6 @@ mod queue;
 mod receive;
 mod received;
 mod state;
-#[cfg(test)]
-mod tests;
 mod unit;
 
 pub use effects::{
