@@ -1,23 +1,16 @@
 -- What a packet is to a router, by its header: control for the router itself, or on its way to another network.
-use Rattle.std.specs.Prelude.{◌==◌, ◌||◌, ◌&&◌, Bool, not, nat_eq, [], ◌∷◌, if◌then◌else◌}
+use Rattle.std.specs.Prelude.{◌==◌, ◌||◌, ◌&&◌, Bool, not, nat_eq, if◌then◌else◌}
 use Rattle.std.specs.Cmp.Lexicographic.{pointwise}
 use Rattle.ipx_wire.specs.declared.address.Node.{Node}
 use Rattle.ipx_wire.specs.declared.packet.IpxHeader.{IpxHeader}
-use Rattle.ipx_tables.specs.declared.source.Source.{Source}
 use Rattle.ipx_router.specs.declared.port.Port.{Port}
-use Rattle.ipx_router.specs.declared.port.PortNow.{PortNow}
-use Rattle.ipx_router.specs.declared.packets.Recipient.{Recipient}
-use Rattle.ipx_router.specs.declared.control.Concern.{Concern}
-use Rattle.ipx_router.specs.declared.control.Concern.TheVariants.{Dropped, Rip, Sap, Passing}
+use Rattle.ipx_router.specs.declared.classify.Concern.{Concern}
+use Rattle.ipx_router.specs.declared.classify.Concern.TheVariants.{Dropped, Rip, Sap, Forward}
 use Rattle.ipx_router.specs.declared.reason.Reason.TheVariants.{Propagated, NotOurs}
-use Rattle.ipx_router.specs.Packets.{rip_socket, sap_socket}
+use Rattle.ipx_router.specs.Packets.{broadcast, rip_socket, sap_socket}
 
 abbrev pub is_node : Node → Node → Bool
 is_node a b = pointwise nat_eq a.0 b.0
-
--- node FFFFFFFFFFFF is all nodes of a network
-abbrev pub broadcast : Node
-broadcast = record { 0 = 255 ∷ 255 ∷ 255 ∷ 255 ∷ 255 ∷ 255 ∷ [] }
 
 -- it is for the port at which it came in, or for all nodes there, and comes from another node of that network
 abbrev pub is_from_neighbour : Port → IpxHeader → Bool
@@ -40,12 +33,4 @@ abbrev pub concern_of : Port → IpxHeader → Concern
 concern_of arrived h =
     if h.kind == 20 then Dropped Propagated
     else if (h.to.network.0 == 0) || (h.to.network.0 == arrived.network.0) then concern_on_network arrived h
-    else Passing
-
--- whom a request or query is answered
-abbrev pub asker : PortNow → IpxHeader → Recipient
-asker at h = record { number = at.number; port = at.port; node = h.from.node; socket = h.from.socket }
-
--- whom a response is heard from
-abbrev pub source_of : PortNow → IpxHeader → Source
-source_of at h = record { port = at.number; neighbour = h.from.node }
+    else Forward

@@ -1,20 +1,22 @@
 //! What a packet is to a router, by its header.
 
 ghost use Rattle.std.specs.Prelude.{◌≡◌};
-ghost use Rattle.ipx_router.specs.Control.{asker, concern_of, concern_on_network, is_from_neighbour, source_of};
+ghost use Rattle.ipx_router.specs.Classify.{concern_of, concern_on_network, is_from_neighbour};
 
-use crate::packets::{BROADCAST, RIP_SOCKET, Recipient, SAP_SOCKET};
-use crate::port::{Port, PortNow};
+use crate::packets::{BROADCAST, RIP_SOCKET, SAP_SOCKET};
+use crate::port::Port;
 use crate::reason::Reason;
-use ipx_tables::Source;
 use ipx_wire::IpxHeader;
 
 /// What a packet is to the router.
 pub enum Concern {
     Dropped(Reason),
+    /// It is for the router's RIP socket.
     Rip,
+    /// It is for the router's SAP socket.
     Sap,
-    Passing,
+    /// It is for another network.
+    Forward,
 }
 
 fn comes_from_neighbour(arrived: Port, header: IpxHeader) -> bool
@@ -49,27 +51,5 @@ pub fn concern_with(arrived: Port, header: IpxHeader) -> Concern
     if header.to.network.0 == 0 || header.to.network == arrived.network {
         return on_network(arrived, header);
     }
-    Concern::Passing
-}
-
-/// Whom a request or query is answered.
-pub fn recipient_of(at: PortNow, header: IpxHeader) -> Recipient
-    ensures { result ≡ asker at header }
-{
-    Recipient {
-        number: at.number,
-        port: at.port,
-        node: header.from.node,
-        socket: header.from.socket,
-    }
-}
-
-/// Whom a response is heard from.
-pub fn neighbour_of(at: PortNow, header: IpxHeader) -> Source
-    ensures { result ≡ source_of at header }
-{
-    Source {
-        port: at.number,
-        neighbour: header.from.node,
-    }
+    Concern::Forward
 }

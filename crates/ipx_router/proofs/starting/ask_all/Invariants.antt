@@ -1,7 +1,7 @@
 use Rattle.std.proofs.Common.{◌+◌, ◌++◌, List, drop}
 use Rattle.ipx_router.specs.Packets.{SendingView, sendings}
-use Rattle.ipx_router.specs.Telling.{AreStarts}
-use Rattle.ipx_router.proofs.telling.ask_all.Given as goal
+use Rattle.ipx_router.specs.Starting.{AreStarts}
+use Rattle.ipx_router.proofs.starting.ask_all.Given as goal
 
 abbrev pub invariant-loop-i : goal.invariant-loop-i
 invariant-loop-i l =

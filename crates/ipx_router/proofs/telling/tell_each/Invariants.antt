@@ -2,7 +2,7 @@ use Rattle.std.proofs.Common.{◌+◌, ◌++◌, List, drop}
 use Rattle.ipx_router.specs.Knowledge.{routes_in, services_in}
 use Rattle.ipx_router.specs.Packets.{SendingView, sendings}
 use Rattle.ipx_router.specs.Telling.{AreTellings}
-use Rattle.ipx_router.proofs.telling.tell_all.Given as goal
+use Rattle.ipx_router.proofs.telling.tell_each.Given as goal
 
 abbrev pub invariant-loop-i : goal.invariant-loop-i
 invariant-loop-i l = (later : List SendingView)

@@ -2,11 +2,11 @@ use Rattle.std.proofs.Common.{◌+◌, List, [], append-nil, refl, sym, subst}
 use Rattle.std.proofs.lemmas.List.{drop_all, drop_more}
 use Rattle.ipx_router.specs.declared.port.Port.{Port}
 use Rattle.ipx_router.specs.Packets.{sendings}
-use Rattle.ipx_router.specs.Telling.{AreStarts}
+use Rattle.ipx_router.specs.Starting.{AreStarts}
 use Rattle.ipx_router.proofs.Tellings.{starts_more, starts_there}
 use Rattle.ipx_router.proofs.ToldRoutes.{no_port}
-use Rattle.ipx_router.proofs.telling.ask_all.Goals as goal
-use Rattle.ipx_router.proofs.telling.ask_all.Goals.{After-loop-i}
+use Rattle.ipx_router.proofs.starting.ask_all.Goals as goal
+use Rattle.ipx_router.proofs.starting.ask_all.Goals.{After-loop-i}
 
 pub loop-i-preserved : goal.loop-i-preserved
 loop-i-preserved c =

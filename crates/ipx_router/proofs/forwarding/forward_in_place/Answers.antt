@@ -1,6 +1,6 @@
 use Rattle.std.proofs.Common.{◌+◌}
 use Rattle.ipx_wire.specs.Ipx.{with_hops}
-use Rattle.ipx_router.proofs.forwarding.step_on.Goals as goal
+use Rattle.ipx_router.proofs.forwarding.forward_in_place.Goals as goal
 
 pub returns-then-header-eq0 : goal.returns-then-header-eq0
 returns-then-header-eq0 c = λ body tail is. rw c.if-header-eq0.true
