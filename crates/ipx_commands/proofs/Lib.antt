@@ -8,3 +8,4 @@ pub mod Protocols
 pub mod VectorLines
 pub mod Readings
 pub mod Outputs
+pub mod HopOutputs

@@ -2,7 +2,8 @@
 use Rattle.std.specs.Prelude.{◌≡◌, ℕ, List, [], ◌∷◌, None, MatchOption}
 use Rattle.ipx_router.specs.declared.port.Port.{Port}
 use Rattle.ipx_router.specs.RouterView.{RouterView}
-use Rattle.ipx_router.specs.Answer.{OutcomeView, Answers}
+use Rattle.ipx_router.specs.OutcomeView.{OutcomeView}
+use Rattle.ipx_router.specs.Answer.{Receives}
 use Rattle.ipx_commands.specs.Text.{packet_of_text}
 use Rattle.ipx_commands.specs.Line.{lines_of, status_of, bad_line}
 
@@ -29,11 +30,14 @@ hop_routing = record {
   told = None;
 }
 
+-- what that router answers to bytes that come in on port 1
+abbrev pub HopOutcome : List ℕ → OutcomeView → Type 0
+HopOutcome bytes a = (after : RouterView) × Receives hop_routing 1 bytes 0 a after
+
 -- the lines and the status for bytes: those of the router's answer
 abbrev pub HopAnswers : List ℕ → List ℕ → ℕ → Type 0
 HopAnswers bytes lines status =
-    (a : OutcomeView) × (after : RouterView) × Answers hop_routing 1 bytes 0 a after
-    × (lines ≡ lines_of a) × (status ≡ status_of a)
+    (a : OutcomeView) × HopOutcome bytes a × (lines ≡ lines_of a) × (status ≡ status_of a)
 
 -- the line and the status for a text: for the bytes that it stands for, or those of a bad line
 abbrev pub HopWrites : List ℕ → List ℕ → ℕ → Type 0

@@ -6,6 +6,7 @@ use Rattle.hex.specs.Hex.{encode_lower}
 use Rattle.std.specs.Int.{w32, to_be_bytes}
 use Rattle.ipx_wire.specs.declared.fault.IpxFault.{IpxFault}
 use Rattle.ipx_wire.specs.declared.fault.IpxFault.TheVariants.{Short, Checksummed, LengthShort, Truncated, TooLong}
+use Rattle.ipx_wire.specs.declared.address.Network.{Network}
 use Rattle.ipx_wire.specs.Ipx.{ipx_fault_number}
 use Rattle.ipx_wire.specs.Spx.{spx_fault_number}
 use Rattle.ipx_wire.specs.declared.spx.fault.SpxFault.{SpxFault}
@@ -16,7 +17,8 @@ use Rattle.ipx_control.specs.Fault.{control_fault_number}
 use Rattle.ipx_router.specs.declared.reason.Reason.{Reason}
 use Rattle.ipx_router.specs.declared.reason.Reason.TheVariants.{Bad, Propagated, NotOurs, NoRoute, HopLimit, BadControl, TableFull}
 use Rattle.ipx_router.specs.Packets.{SendingView}
-use Rattle.ipx_router.specs.Answer.{OutcomeView, Forward, Replies, Heard, Dropped}
+use Rattle.ipx_router.specs.Reason.{reason_number}
+use Rattle.ipx_router.specs.OutcomeView.{OutcomeView, Forward, Replies, Heard, Dropped}
 
 -- a number in brackets, and what it stands for
 abbrev pub numbered : ℕ → List ℕ → List ℕ
@@ -53,15 +55,19 @@ spx_fault_text fault = numbered (spx_fault_number fault) (spx_fault_name fault)
 abbrev pub control_fault_text : ControlFault → List ℕ
 control_fault_text fault = numbered (control_fault_number fault) (control_fault_name fault)
 
+abbrev pub no_route_name : Network → List ℕ
+no_route_name network = codes "NoRoute " ++ encode_lower (to_be_bytes w32 network.0)
+
 -- a reason is printed with its number; one that holds a fault is printed as that fault
 abbrev pub reason_text : Reason → List ℕ
 reason_text (Bad fault) = fault_text fault
-reason_text Propagated = codes "(19) Propagated"
-reason_text NotOurs = codes "(20) NotOurs"
-reason_text (NoRoute network) = codes "(21) NoRoute " ++ encode_lower (to_be_bytes w32 network.0)
-reason_text HopLimit = codes "(22) HopLimit"
+reason_text Propagated = numbered (reason_number Propagated) (codes "Propagated")
+reason_text NotOurs = numbered (reason_number NotOurs) (codes "NotOurs")
+reason_text (NoRoute network) =
+    numbered (reason_number (NoRoute network)) (no_route_name network)
+reason_text HopLimit = numbered (reason_number HopLimit) (codes "HopLimit")
 reason_text (BadControl fault) = control_fault_text fault
-reason_text TableFull = codes "(24) TableFull"
+reason_text TableFull = numbered (reason_number TableFull) (codes "TableFull")
 
 -- a packet that is sent: its port, the next node and its bytes
 abbrev pub sending_text : SendingView → List ℕ

@@ -4,13 +4,14 @@ ghost use Rattle.std.specs.Prelude.{◌≡◌, IfErr, IfOk, ℕ, List, string_by
 ghost use Rattle.std.specs.Option.{option_map};
 ghost use Rattle.std.specs.Io.KnownBytes.{Appends};
 ghost use Rattle.ipx_commands.specs.Text.{IsInput, packet_of_text, without_line_end};
-ghost use Rattle.ipx_commands.specs.Hop.{HopAnswers, HopWrites, hop_routing};
+ghost use Rattle.ipx_router.specs.OutcomeView.{view};
+ghost use Rattle.ipx_commands.specs.Hop.{HopAnswers, HopOutcome, HopWrites, hop_routing};
 
 use crate::input::{InputFault, read_up_to};
 use crate::line::{outcome_lines, outcome_status};
 use crate::output::tell_no_memory;
 use hex::FromHexError;
-use ipx_router::{Port, Router};
+use ipx_router::{Outcome, Port, Router};
 use ipx_wire::{Network, Node, OutOfMemory};
 use std::alloc::Global;
 use std::io::{Read, Write};
@@ -61,12 +62,20 @@ fn hop_router(alloc: Global) -> Result<Router, OutOfMemory>
     }
 }
 
-/// The lines and the status for bytes that come in on port 1.
-fn line_for_bytes(alloc: Global, bytes: &[u8]) -> Result<(String, u8), OutOfMemory>
-    ensures { IfOk result (λ r. HopAnswers bytes.now (string_bytes r.0) r.1) }
+/// What becomes of bytes that come in on port 1.
+fn outcome_for_bytes(alloc: Global, bytes: &[u8]) -> Result<Outcome, OutOfMemory>
+    ensures { IfOk result (λ o. HopOutcome bytes.now (view o)) }
 {
     let mut router = hop_router(alloc)?;
     let outcome = router.receive(alloc, 1, bytes, 0)?;
+    Ok(outcome)
+}
+
+/// The lines and the status for those bytes.
+fn line_for_bytes(alloc: Global, bytes: &[u8]) -> Result<(String, u8), OutOfMemory>
+    ensures { IfOk result (λ r. HopAnswers bytes.now (string_bytes r.0) r.1) }
+{
+    let outcome = outcome_for_bytes(alloc, bytes)?;
     let lines = outcome_lines(alloc, &outcome)?;
     let status = outcome_status(&outcome);
     Ok((lines, status))

@@ -2,12 +2,14 @@
 
 ghost use Rattle.std.specs.Prelude.{◌≡◌, ℕ, List};
 ghost use Rattle.ipx_commands.specs.Reading.{IsReading, ReadingView};
+ghost use Rattle.ipx_commands.specs.Hop.{HopWrites};
 ghost use Rattle.ipx_commands.specs.Show.{ShowWrites};
 ghost use Rattle.ipx_commands.specs.Check.{CheckWrites};
 
 use ipx_control::{
     bytes_are_one_rip, bytes_are_one_sap, rip_fault_is_of_no_rip, sap_fault_is_of_no_sap,
 };
+use ipx_router::answer_is_one;
 use ipx_wire::{
     bytes_are_one_packet, bytes_are_one_spx_packet, ipx_fault_is_of_no_packet,
     spx_fault_is_of_no_spx_packet,
@@ -25,6 +27,14 @@ pub fn reading_is_one()
     spx_fault_is_of_no_spx_packet();
     rip_fault_is_of_no_rip();
     sap_fault_is_of_no_sap();
+}
+
+/// What `hop` writes for a text, and the status, are one.
+pub fn hop_is_one()
+    ensures { (text a b : List ℕ) (s t : ℕ) → HopWrites text a s → HopWrites text b t
+        → (a ≡ b) × (s ≡ t) }
+{
+    answer_is_one();
 }
 
 /// What `show` writes for a text, and the status, are one.

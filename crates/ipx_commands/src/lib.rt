@@ -15,6 +15,6 @@ mod show_line;
 
 pub use check::do_check;
 pub use hop::do_hop;
-pub use laws::{check_is_one, reading_is_one, show_is_one};
+pub use laws::{check_is_one, hop_is_one, reading_is_one, show_is_one};
 pub use output::tell_no_memory;
 pub use show::do_show;

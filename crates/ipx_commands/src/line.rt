@@ -2,13 +2,13 @@
 
 ghost use Rattle.std.specs.Prelude.{◌≡◌, IfOk, string_bytes};
 ghost use Rattle.std.specs.List.{flat_map};
-ghost use Rattle.ipx_router.specs.Answer.{view};
+ghost use Rattle.ipx_router.specs.OutcomeView.{view};
 ghost use Rattle.ipx_router.specs.Packets.{sending_of, sendings};
-ghost use Rattle.ipx_commands.specs.Line.{control_fault_name, control_fault_text, fault_name, fault_text, lines_of, numbered, reason_text, sending_line, sending_text, spx_fault_name, spx_fault_text, status_of};
+ghost use Rattle.ipx_commands.specs.Line.{control_fault_name, control_fault_text, fault_name, fault_text, lines_of, no_route_name, numbered, reason_text, sending_line, sending_text, spx_fault_name, spx_fault_text, status_of};
 
 use ipx_control::ControlFault;
 use ipx_router::{Outcome, Reason, Reply};
-use ipx_wire::{IpxFault, SpxFault};
+use ipx_wire::{IpxFault, Network, SpxFault};
 use std::alloc::{AllocError, Global};
 
 /// A number in brackets, and what it stands for.
@@ -77,20 +77,29 @@ pub fn control_fault_to_text(alloc: Global, fault: ControlFault) -> Result<Strin
     numbered_text(alloc, fault.number(), &name)
 }
 
+fn no_route_to_name(alloc: Global, network: Network) -> Result<String, AllocError>
+    ensures { IfOk result (λ t. string_bytes t ≡ no_route_name network) }
+{
+    let digits = hex::encode(alloc, network.0.to_be_bytes())?;
+    format!(in alloc; "NoRoute {digits}")
+}
+
+/// Why a packet was dropped: the reason's number and name, or those of the fault that it holds.
 pub fn reason_to_text(alloc: Global, reason: Reason) -> Result<String, AllocError>
     ensures { IfOk result (λ t. string_bytes t ≡ reason_text reason) }
 {
+    let number = reason.number();
     match reason {
         Reason::Bad(fault) => fault_to_text(alloc, fault),
-        Reason::Propagated => String::from_str(alloc, "(19) Propagated"),
-        Reason::NotOurs => String::from_str(alloc, "(20) NotOurs"),
+        Reason::Propagated => numbered_text(alloc, number, "Propagated"),
+        Reason::NotOurs => numbered_text(alloc, number, "NotOurs"),
         Reason::NoRoute(network) => {
-            let digits = hex::encode(alloc, network.0.to_be_bytes())?;
-            format!(in alloc; "(21) NoRoute {digits}")
+            let name = no_route_to_name(alloc, network)?;
+            numbered_text(alloc, number, &name)
         }
-        Reason::HopLimit => String::from_str(alloc, "(22) HopLimit"),
+        Reason::HopLimit => numbered_text(alloc, number, "HopLimit"),
         Reason::BadControl(fault) => control_fault_to_text(alloc, fault),
-        Reason::TableFull => String::from_str(alloc, "(24) TableFull"),
+        Reason::TableFull => numbered_text(alloc, number, "TableFull"),
     }
 }
 

@@ -1,1 +1,1 @@
-pub mod ThreeWords
+pub mod AskedWords
