@@ -34,7 +34,7 @@ returns-in-Some-place-clause-heard g c =
 pub returns-in-Some-place-clause-full : goal.returns-in-Some-place-clause-full
 returns-in-Some-place-clause-full g c =
     let here = rw c.deref.ensures.value at c.in-Some-place.ensures in
-    rw (← c.self.view_is) ((λ e. cc), (λ f. absurd (hear_there g.met.K.Ord.total g.M.Metric.dead _ c.self.invariant.0.apart _ _ c.args.metric c.args.now _ here f.1)))
+    rw (← c.self.view_is) ((λ e. cc), (λ f. absurd (hear_there g.met.K.Ord.total g.M.Metric.dead _ c.self.invariant.0.apart _ _ c.args.metric c.args.now _ here f.unknown)))
 
 pub invariant_of-self-2 : goal.invariant_of-self-2
 invariant_of-self-2 g c =
