@@ -11,6 +11,8 @@ mod metrics;
 #[cfg(test)]
 mod offers;
 #[cfg(test)]
+mod order;
+#[cfg(test)]
 mod refused;
 #[cfg(test)]
 mod rip;
