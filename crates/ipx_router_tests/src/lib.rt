@@ -14,6 +14,7 @@ mod new_router;
 mod offers;
 #[cfg(test)]
 mod prefixes;
+mod order;
 #[cfg(test)]
 mod refused;
 #[cfg(test)]
