@@ -18,6 +18,3 @@ pub use reading::{decode_rip, decode_sap};
 pub use rip::{Rip, RipEntry};
 pub use sap::{Sap, ServiceEntry};
 pub use writing::{encode_rip_into, encode_sap_into};
-
-#[cfg(test)]
-mod tests;

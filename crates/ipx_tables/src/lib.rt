@@ -11,8 +11,6 @@ mod route;
 mod scan;
 mod service;
 mod source;
-#[cfg(test)]
-mod tests;
 
 pub use fault::TableFault;
 pub use laws::{

@@ -4,7 +4,9 @@ pub mod Carrying
 pub mod Distances
 pub mod Ended
 pub mod Found
+pub mod Gaps
 pub mod Keeping
+pub mod Laying
 pub mod Lesser
 pub mod MachineAllowed
 pub mod MachineFresh
@@ -12,7 +14,6 @@ pub mod MachineGrowth
 pub mod MachineSound
 pub mod Pigeons
 pub mod Reading
-pub mod Receiving
 pub mod Rounds
 pub mod Samples
 pub mod Stands

@@ -1,3 +1,4 @@
+pub mod Buffers
 pub mod Chosen
 pub mod Effects
 pub mod Fresh

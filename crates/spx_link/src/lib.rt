@@ -1,25 +1,22 @@
 //! One end of an SPX connection, as exact functions of its 16-bit numbers (Novell SPX).
 #![tactic(auto)]
 
-mod effects;
+mod buffers;
+pub mod effects;
 mod fault;
-mod forwards;
-mod laws;
+pub mod laws;
 mod limits;
 mod link;
 mod links;
-mod machine;
+pub mod machine;
 mod numbers;
 mod offer;
 mod outgoing;
-mod places;
 mod poll;
 mod queue;
 mod receive;
 mod received;
 mod state;
-#[cfg(test)]
-mod tests;
 mod unit;
 
 pub use effects::{

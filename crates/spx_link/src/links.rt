@@ -8,10 +8,13 @@ ghost use Rattle.spx_link.specs.Offer.{accepted_from, dialed};
 ghost use Rattle.spx_link.specs.Sound.{IsSound, ids_of};
 ghost use Rattle.spx_link.specs.declared.fault.LinksFault.TheVariants as LinksFaults;
 
+mod by_id;
+mod lookup;
+
 use crate::fault::LinksFault;
 use crate::limits::MOST_LINKS;
 use crate::link::Link;
-use crate::places::{is_live, least_above, least_accepted, link_in, next_free, remove_link};
+use crate::links::lookup::{is_live, least_above, least_accepted, link_in, next_free, remove_link};
 use ipx_wire::{Address, Socket, SpxHeader};
 use std::alloc::Global;
 use std::marker::Model;
@@ -45,7 +48,7 @@ impl Links {
     }
 
     /// A new link, which asks for a connection between a socket here and an address. The caller
-    /// owes 1 to 1,024 buffers.
+    /// owes 1 to 8,192 buffers.
     ///
     /// It is refused as `TooMany` where 16 links are held, else only for want of memory.
     pub fn dial(
@@ -65,13 +68,13 @@ impl Links {
             return Err(LinksFault::TooMany);
         }
         let id = next_free(&self.links, self.last);
-        let link = Link::dial(alloc, id, socket, to, buffers, now);
+        let link = Link::dial(alloc, id, socket, to, buffers, now)?;
         self.links.push(link)?;
         self.last = id;
         Ok(id)
     }
 
-    /// A new link, which a request to a socket here asked for. The caller owes 1 to 1,024 buffers.
+    /// A new link, which a request to a socket here asked for. The caller owes 1 to 8,192 buffers.
     ///
     /// It is refused as `dial` is.
     pub fn accept(
@@ -92,7 +95,7 @@ impl Links {
             return Err(LinksFault::TooMany);
         }
         let id = next_free(&self.links, self.last);
-        let link = Link::accept(alloc, id, socket, from, request, buffers, now);
+        let link = Link::accept(alloc, id, socket, from, request, buffers, now)?;
         self.links.push(link)?;
         self.last = id;
         Ok(id)

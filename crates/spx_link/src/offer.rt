@@ -81,7 +81,7 @@ impl Link {
     pub fn peek(&self) -> Option<&Unit>
         ensures { option_copied result ≡ spec.peek_link self.now }
     {
-        self.held.front()
+        self.buffers.first()
     }
 
     /// Takes that unit. It takes no memory.
@@ -89,7 +89,7 @@ impl Link {
         ensures gives { result ≡ (spec.take_link self.old).0 }
         ensures leaves { self.new ≡ (spec.take_link self.old).1 }
     {
-        let unit = self.held.pop_front()?;
+        let unit = self.buffers.take()?;
         if self.is_working() {
             self.owes_ack = true;
         }

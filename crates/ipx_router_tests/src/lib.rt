@@ -1,0 +1,22 @@
+//! Tests of RIP and SAP packets, of tables and of a router, with literal values. They call what
+//! those crates make public, and no crate stands on this one.
+#![tactic(auto)]
+
+#[cfg(test)]
+mod fixture;
+#[cfg(test)]
+mod full;
+#[cfg(test)]
+mod metrics;
+#[cfg(test)]
+mod offers;
+#[cfg(test)]
+mod refused;
+#[cfg(test)]
+mod rip;
+#[cfg(test)]
+mod routes;
+#[cfg(test)]
+mod sap;
+#[cfg(test)]
+mod services;

@@ -1,0 +1,188 @@
+//! One end of a connection, as the tests use it, and the packets that pass between two.
+
+ghost use Rattle.std.specs.Prelude.{◌<◌, ◌≤◌, All, IfOk, length};
+ghost use Rattle.spx_link.specs.Limits.{end_stream};
+
+use ipx_wire::{Address, Fragment, Network, Node, Socket, SpxHeader};
+use spx_link::{Links, LinksFault, Numbers, OfferFault, Received, Sent, State, Unit};
+use std::alloc::{AllocError, Global};
+use std::process::Abort;
+use std::test::Fail;
+
+/// A request for a connection: id 1, 8 buffers.
+pub const REQUEST: SpxHeader = SpxHeader {
+    system: true,
+    wants_ack: true,
+    last: false,
+    stream: 0,
+    from_id: 1,
+    to_id: 0xffff,
+    seq: 0,
+    ack: 0,
+    limit: 7,
+};
+
+/// A packet of the connection itself between ids 1 and 1.
+pub fn system(ack: u16, limit: u16) -> SpxHeader {
+    SpxHeader {
+        system: true,
+        wants_ack: false,
+        last: false,
+        stream: 0,
+        from_id: 1,
+        to_id: 1,
+        seq: 0,
+        ack,
+        limit,
+    }
+}
+
+/// The packet of a unit with which a message ends.
+pub fn unit(stream: u8, seq: u16) -> SpxHeader {
+    SpxHeader {
+        system: false,
+        wants_ack: true,
+        last: true,
+        stream,
+        from_id: 1,
+        to_id: 1,
+        seq,
+        ack: 0,
+        limit: 7,
+    }
+}
+
+pub const HERE: Socket = Socket(0x4001);
+
+pub fn there() -> Address {
+    Address {
+        network: Network(0x11),
+        node: Node([0, 0, 0x7f, 0, 0, 4]),
+        socket: Socket(0x4000),
+    }
+}
+
+/// One unit of stream 00 and one byte.
+pub fn one_unit(alloc: Global, byte: u8) -> Result<Vec<Unit>, AllocError>
+    ensures { IfOk result (λ v. All (λ u. u.stream < end_stream) v.items) }
+{
+    let mut body = Fragment::new();
+    body.push(byte);
+    let mut units = Vec::new(alloc);
+    units.push(Unit {
+        stream: 0,
+        last: true,
+        body,
+    })?;
+    Ok(units)
+}
+
+/// A unit, asked for again where memory is refused once.
+pub fn unit_again(alloc: Global) -> Result<Vec<Unit>, AllocError>
+    ensures { IfOk result (λ v. All (λ u. u.stream < end_stream) v.items) }
+{
+    match one_unit(alloc, 0) {
+        Ok(units) => Ok(units),
+        Err(_) => one_unit(alloc, 0),
+    }
+}
+
+/// A host with one link, of id 1.
+#[derive(Drop)]
+pub struct End {
+    links: Links,
+    alloc: Global,
+}
+
+impl End {
+    /// A link that asks for a connection.
+    pub fn dial(alloc: Global, buffers: u16) -> Result<End, LinksFault> {
+        let mut links = Links::new(alloc);
+        links.dial(alloc, HERE, there(), buffers, 0)?;
+        Ok(End { links, alloc })
+    }
+
+    /// A link that a request asked for.
+    pub fn accept(alloc: Global, request: &SpxHeader, buffers: u16) -> Result<End, LinksFault> {
+        let mut links = Links::new(alloc);
+        links.accept(alloc, HERE, there(), request, buffers, 0)?;
+        Ok(End { links, alloc })
+    }
+
+    /// What a poll sends.
+    pub fn poll(&mut self, now: u64) -> Option<(Sent, SpxHeader)> {
+        self.links.get(1)?;
+        let packet = self.links.poll(1, now)?;
+        Some((packet.what, packet.header))
+    }
+
+    /// What a poll is for.
+    pub fn sent(&mut self, now: u64) -> Option<Sent> {
+        Some(self.poll(now)?.0)
+    }
+
+    /// What it answers to a packet. A link that is gone is not live.
+    pub fn receive(
+        &mut self,
+        header: &SpxHeader,
+        body: &[u8],
+        now: u64,
+    ) -> Result<Received, OfferFault>
+        requires { length body.now ≤ 534 }
+    {
+        if self.links.get(1).is_none() {
+            return Err(OfferFault::NotLive);
+        }
+        Ok(self.links.receive(1, header, body, now))
+    }
+
+    /// Queues units. A link that is gone is not live.
+    pub fn offer(&mut self, units: Vec<Unit>) -> Result<(), OfferFault>
+        requires { All (λ u. u.stream < end_stream) units.items }
+    {
+        if self.links.get(1).is_none() {
+            return Err(OfferFault::NotLive);
+        }
+        self.links.offer(self.alloc, 1, units)
+    }
+
+    /// Queues the end. A link that is gone is not live.
+    pub fn end(&mut self) -> Result<(), OfferFault> {
+        if self.links.get(1).is_none() {
+            return Err(OfferFault::NotLive);
+        }
+        self.links.end(self.alloc, 1)
+    }
+
+    /// The stream of the unit that it hands out next.
+    pub fn peek(&self) -> Option<u8> {
+        let link = self.links.get(1)?;
+        let unit = link.peek()?;
+        Some(unit.stream)
+    }
+
+    /// The length of the unit that it hands out.
+    pub fn take(&mut self) -> Option<usize> {
+        self.links.get(1)?;
+        let unit = self.links.take(1)?;
+        Some(unit.body.len())
+    }
+
+    pub fn state(&self) -> Option<State> {
+        let link = self.links.get(1)?;
+        Some(link.state())
+    }
+
+    pub fn numbers(&self) -> Option<Numbers> {
+        let link = self.links.get(1)?;
+        Some(link.numbers())
+    }
+}
+
+/// An end that asked, with 8 buffers, and got a reply with an allocation.
+pub fn joined(rt: &impl Abort, alloc: Global, limit: u16) -> Result<End, Fail> {
+    let mut end = End::dial(alloc, 8)?;
+    assert_eq!(rt; end.sent(0), Some(Sent::Request));
+    assert_eq!(rt; end.receive(&system(0, limit), &[], 0)?, Received::Joined);
+    Ok(end)
+}

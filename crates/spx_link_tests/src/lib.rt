@@ -1,0 +1,18 @@
+//! Tests of SPX packets and of links, with literal values. They call what those crates make
+//! public, and no crate stands on this one.
+#![tactic(auto)]
+
+#[cfg(test)]
+mod by_id;
+#[cfg(test)]
+mod closing;
+#[cfg(test)]
+mod end;
+#[cfg(test)]
+mod messages;
+#[cfg(test)]
+mod refused;
+#[cfg(test)]
+mod rows;
+#[cfg(test)]
+mod spx;
