@@ -3,7 +3,7 @@
 
 ghost use Rattle.std.specs.Prelude.{ℕ, ◌<◌, ◌≤◌, List, All, Contains};
 ghost use Rattle.spx_link.specs.Limits.{most_room};
-ghost use Rattle.spx_link.specs.Machine.{Machine, Packet, Step, IsRun, start, IsChain, IsStep, IsWithin, AreSound, WasSent, Grows, new_end};
+ghost use Rattle.spx_link.specs.Machine.{AreSound, End, Grows, IsChain, IsRun, IsStep, IsWithin, Machine, Packet, Step, WasSent, got, new_end, start};
 ghost use Rattle.spx_link.specs.Machine.Act.{Gets};
 ghost use Rattle.spx_link.specs.Machine.Step.{One, Two};
 ghost use Rattle.spx_link.specs.Fresh.{IsFresh, Tells};
@@ -33,6 +33,8 @@ pub fn packets()
 pub fn soundness()
     ensures start { (a b : ℕ) → AreSound (new_end a) (new_end b) }
     ensures step { (s : Step) (m n : Machine) → IsStep s m n → AreSound m.one m.two → AreSound n.one n.two }
+    // An end may get any packet that says what was so, whether a bag holds it or not.
+    ensures gets { (c d : End) (p : Packet) → AreSound c d → WasSent d c p → AreSound (got p c) d }
 {}
 
 /// Numbers only grow, from any machine on.
