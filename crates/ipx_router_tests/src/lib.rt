@@ -13,8 +13,9 @@ mod new_router;
 #[cfg(test)]
 mod offers;
 #[cfg(test)]
-mod prefixes;
 mod order;
+#[cfg(test)]
+mod prefixes;
 #[cfg(test)]
 mod refused;
 #[cfg(test)]
