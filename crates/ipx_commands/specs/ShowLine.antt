@@ -59,8 +59,8 @@ spx_line h payload =
 -- 8 hex digits, and hops and ticks in decimal
 abbrev pub rip_entry_line : RipEntry → List ℕ
 rip_entry_line e =
-    codes "net " ++ (encode_lower (to_be_bytes w32 e.network.0) ++ (codes " hops " ++ (decimal e.hops
-    ++ (codes " ticks " ++ (decimal e.ticks ++ 10 ∷ [])))))
+    codes "net " ++ (encode_lower (to_be_bytes w32 e.network.0)
+    ++ (codes " hops " ++ (decimal e.hops ++ (codes " ticks " ++ (decimal e.ticks ++ 10 ∷ [])))))
 
 abbrev pub rip_lines : rip.RipView → List ℕ
 rip_lines (rip.Request entries) =
