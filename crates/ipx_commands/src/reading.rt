@@ -2,7 +2,7 @@
 
 ghost use Rattle.std.specs.Prelude.{◌≡◌, ◌⊎◌, IfOk, IfErr, Some, None};
 ghost use Rattle.ipx_wire.specs.Spx.{spx_fault};
-ghost use Rattle.ipx_commands.specs.Reading.{IsContent, IsReading, Spx, body_fault, content_view, protocol_at, reading_view};
+ghost use Rattle.ipx_commands.specs.Reading.{IsContents, IsReading, Spx, body_fault, contents_view, protocol_at, reading_view};
 
 use ipx_control::{ControlFault, Rip, Sap, decode_rip, decode_sap};
 use ipx_wire::{IpxFault, OutOfMemory, Packet, Socket, SpxFault, SpxHeader, decode, decode_spx};
@@ -28,7 +28,7 @@ pub enum Reading<'a> {
 
 /// What the body of a packet of type 5 holds.
 fn spx_contents(body: &[u8]) -> Result<Contents<'_>, SpxFault>
-    ensures found { IfOk result (λ c. IsContent Spx body.now (content_view c)) }
+    ensures found { IfOk result (λ c. IsContents Spx body.now (contents_view c)) }
     ensures fault { IfErr result (λ f. spx_fault body.now ≡ Some f) }
 {
     let (header, payload) = decode_spx(body)?;
@@ -42,8 +42,10 @@ fn contents_at<'a>(
     socket: Socket,
     body: &'a [u8],
 ) -> Result<Contents<'a>, ControlFault>
-    ensures found { IfOk result (λ c. IsContent (protocol_at socket.0) body.now (content_view c)) }
-    ensures fault { IfErr result (λ f. (f ≡ ControlFault.OutOfMemory) ⊎ (body_fault (protocol_at socket.0) body.now ≡ Some f)) }
+    ensures found { IfOk result (λ c.
+        IsContents (protocol_at socket.0) body.now (contents_view c)) }
+    ensures fault { IfErr result (λ f. (f ≡ ControlFault.OutOfMemory)
+        ⊎ (body_fault (protocol_at socket.0) body.now ≡ Some f)) }
 {
     if socket.0 == 0x453 {
         let rip = decode_rip(alloc, body)?;
@@ -56,7 +58,8 @@ fn contents_at<'a>(
     Ok(Contents::Plain)
 }
 
-/// What a datagram is. Packet type 5 is SPX, whatever the socket.
+/// Reads a datagram and what its body holds. Packet type 5 is SPX, whatever the socket; else the
+/// destination socket says what the body is. It wants memory for the entries of RIP and SAP alone.
 pub fn read_datagram(alloc: Global, bytes: &[u8]) -> Result<Reading<'_>, OutOfMemory>
     ensures { IfOk result (λ r. IsReading bytes.now (reading_view r)) }
 {

@@ -1,6 +1,7 @@
 //! Why bytes are no RIP and no SAP packet.
 
 ghost use Rattle.std.specs.Prelude.{◌≡◌};
+ghost use Rattle.ipx_control.specs.Fault.{control_fault_number};
 ghost use Rattle.ipx_control.specs.declared.fault.ControlFault.TheVariants.{OutOfMemory as out_of_memory};
 
 use ipx_wire::OutOfMemory;
@@ -10,20 +11,35 @@ use thiserror::Error;
 #[derive(Clone, Copy, Debug, PartialEq, Eq, Error)]
 pub enum ControlFault {
     /// Fewer than 2 bytes.
-    #[error("no operation")]
+    #[error("no operation, a RIP or SAP packet begins with 2 bytes of it")]
     NoOperation,
     /// An operation that the protocol does not have.
-    #[error("operation {0} is unknown")]
+    #[error("operation {0}, RIP has 1 and 2, SAP has 1 to 4")]
     UnknownOperation(u16),
     /// More entries than a packet may hold: 50 of RIP, 7 of SAP.
-    #[error("{0} entries are too many")]
+    #[error("{0} entries, RIP has at most 50, SAP at most 7")]
     TooManyEntries(usize),
     /// A SAP query of fewer than 4 bytes.
-    #[error("{0} bytes are no query")]
+    #[error("{0} bytes, a SAP query needs 4")]
     QueryShort(usize),
     /// Memory ran out.
     #[error("out of memory")]
     OutOfMemory,
+}
+
+impl ControlFault {
+    /// The fault's number, 8 to 12: what programs print and compare.
+    pub fn number(&self) -> u8
+        ensures { result ≡ control_fault_number self.now }
+    {
+        match self {
+            ControlFault::NoOperation => 8,
+            ControlFault::UnknownOperation(_) => 9,
+            ControlFault::TooManyEntries(_) => 10,
+            ControlFault::QueryShort(_) => 11,
+            ControlFault::OutOfMemory => 12,
+        }
+    }
 }
 
 impl From<OutOfMemory> for ControlFault {

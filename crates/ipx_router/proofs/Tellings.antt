@@ -12,10 +12,11 @@ use Rattle.ipx_router.specs.declared.port.Port.{Port}
 use Rattle.ipx_router.specs.declared.port.PortNow.{PortNow}
 use Rattle.ipx_router.specs.Knowledge.{Routes, Services}
 use Rattle.ipx_router.specs.Told.{AreToldRoutes, AreToldServices}
-use Rattle.ipx_router.specs.Packets.{AreRoutePackets, AreServicePackets, IsRipPacket, IsSapPacket, SendingView, rip_socket, sap_socket, sending_of, sendings}
+use Rattle.ipx_router.specs.Packets.{AreRoutePackets, AreServicePackets, IsRipPacket, IsSapPacket, SendingView, all_nodes, rip_socket, sap_socket, sending_of, sendings}
 use Rattle.ipx_router.specs.Adding.{AddsPackets}
 use Rattle.ipx_router.specs.Ports.{AreOnPorts, IsPortNumber}
-use Rattle.ipx_router.specs.Telling.{AreAsked, AreStarts, AreTellings, AreTold, all_asked, all_nodes}
+use Rattle.ipx_router.specs.Starting.{AreAsked, AreStarts, all_asked}
+use Rattle.ipx_router.specs.Telling.{AreTellings, AreTold}
 use Rattle.ipx_router.proofs.Cuts.{route_packets_port, service_packets_port, sendings_one}
 
 -- all leave by this port

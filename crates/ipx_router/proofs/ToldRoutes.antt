@@ -29,7 +29,7 @@ use Rattle.ipx_router.specs.Placing.{AddsHeard, AreToldPorts, HasNetwork, PutsEn
 abbrev pub no_item : Network × Source × RouteMetric
 no_item = (record { 0 = 0 }, record { port = 0; neighbour = record { 0 = [] } }, record { ticks = 0; hops = 0 })
 
-network_from : (a b : Network) → a.0 ≡ b.0 → a ≡ b
+pub network_from : (a b : Network) → a.0 ≡ b.0 → a ≡ b
 network_from a b e = ap (λ (n : ℕ). let x : Network = record { 0 = n } in x) e
 
 abbrev pub no_port : Port

@@ -1,4 +1,4 @@
--- Packets that are added to replies, one after another.
+-- Words of the private functions that add packets to replies, one after another.
 use Rattle.std.specs.Prelude.{◌≡◌, List, ◌++◌}
 use Rattle.ipx_router.specs.declared.outcome.Reply.{Reply}
 use Rattle.ipx_router.specs.Packets.{SendingView, sendings}

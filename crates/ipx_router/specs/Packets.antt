@@ -1,8 +1,8 @@
 -- The packets of a router's own, and how lists are cut into them.
-use Rattle.std.specs.Prelude.{◌≡◌, ◌<◌, ℕ, Bool, List, [], ◌∷◌, length, take, drop, map}
+use Rattle.std.specs.Prelude.{◌≡◌, ◌≢◌, ◌<◌, ℕ, Bool, List, [], ◌∷◌, All, length, take, drop, map}
 use Rattle.ipx_wire.specs.declared.address.Node.{Node}
 use Rattle.ipx_wire.specs.declared.packet.IpxHeader.{IpxHeader}
-use Rattle.ipx_wire.specs.Ipx.{IsIpx}
+use Rattle.ipx_wire.specs.Ipx.{IsBytes, IsIpx, PacketView}
 use Rattle.ipx_control.specs.declared.rip.RipEntry.{RipEntry}
 use Rattle.ipx_control.specs.declared.sap.ServiceEntry.{ServiceEntry}
 use Rattle.ipx_control.specs.Rip.{RipView, IsRip}
@@ -11,6 +11,8 @@ use Rattle.ipx_control.specs.Sap.{SapView, IsSap}
 use Rattle.ipx_control.specs.Sap as sap
 use Rattle.ipx_router.specs.declared.outcome.Reply.{Reply}
 use Rattle.ipx_router.specs.declared.packets.Recipient.{Recipient}
+use Rattle.ipx_router.specs.declared.port.Port.{Port}
+use Rattle.ipx_router.specs.declared.port.PortNow.{PortNow}
 
 -- a packet to be sent, without where its bytes lie in memory
 pub record SendingView : Type 0 where
@@ -31,6 +33,38 @@ rip_socket = 0x453
 abbrev pub sap_socket : ℕ
 sap_socket = 0x452
 
+-- the bytes are the packet and nothing behind it, each a number under 256
+pub record AreBytesOf (p : PacketView) (bytes : List ℕ) : Type 0 where
+  pub packet : IsIpx p bytes []
+  pub in_range : IsBytes bytes
+
+-- a packet that no end of SPX reads: its type is not 5
+pub record IsOwn (s : SendingView) : Type 0 where
+  pub packet : PacketView
+  pub is : IsIpx packet s.bytes []
+  pub no_spx : packet.header.kind ≢ 5
+
+abbrev pub AreOwn : List SendingView → Type 0
+AreOwn = All IsOwn
+
+-- whom a request or query is answered
+abbrev pub asker : PortNow → IpxHeader → Recipient
+asker at h =
+    record { number = at.number; port = at.port; node = h.from.node; socket = h.from.socket }
+
+-- node FFFFFFFFFFFF is all nodes of a network
+abbrev pub broadcast : Node
+broadcast = record { 0 = 255 ∷ 255 ∷ 255 ∷ 255 ∷ 255 ∷ 255 ∷ [] }
+
+-- all nodes of a port's network, at a socket
+abbrev pub all_nodes : ℕ → Port → ℕ → Recipient
+all_nodes number port socket = record {
+  number = number;
+  port = port;
+  node = broadcast;
+  socket = record { 0 = socket };
+}
+
 -- the header of a packet of the router's own, from its port to a node and socket of that port's network
 abbrev pub own_header : Recipient → ℕ → ℕ → IpxHeader
 own_header to kind socket = record {
@@ -46,7 +80,7 @@ pub record IsOwnPacket (to : Recipient) (kind socket : ℕ) (IsBody : List ℕ �
   pub next : s.next ≡ to.node
   pub body : List ℕ
   pub says : IsBody body
-  pub packet : IsIpx (record { header = own_header to kind socket; body = body }) s.bytes []
+  pub packet : AreBytesOf (record { header = own_header to kind socket; body = body }) s.bytes
 
 abbrev pub IsRipPacket : Recipient → RipView → SendingView → Type 0
 IsRipPacket to message = IsOwnPacket to 1 rip_socket (λ body. IsRip message body [])

@@ -13,6 +13,8 @@ mod metrics;
 #[cfg(test)]
 mod offers;
 #[cfg(test)]
+mod order;
+#[cfg(test)]
 mod refused;
 #[cfg(test)]
 mod rip;

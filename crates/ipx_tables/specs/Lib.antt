@@ -2,6 +2,7 @@ pub mod Order
 pub mod Route
 pub mod Service
 pub mod Content
+pub mod Room
 pub mod Best
 pub mod Calls
 pub mod Sorted

@@ -3,6 +3,7 @@
 ghost use Rattle.std.specs.Prelude.{◌≡◌, ℕ, ◌≤◌, ◌<◌, ◌+◌, ◌^◌, ◌↔◌, false, true, [], Some, None, Ok, Err, IsOk, IsSome, OnOk, OnErr, IfSome, IfNone, IfOk, IfErr, length, is_some, count_by, All, if◌then◌else◌};
 ghost use Rattle.std.specs.Ordering.{is_eq};
 ghost use Rattle.ipx_tables.specs.Content.{IsTable, content, heard_key, after_hear, keys_after_hear, after_age, is_young};
+ghost use Rattle.ipx_tables.specs.Room.{Grows, IsFull};
 ghost use Rattle.ipx_tables.specs.Best.{IsBest, NoneCounts};
 ghost use Rattle.ipx_tables.specs.Listing.{IsListing};
 
@@ -78,13 +79,9 @@ impl<K: Ord + Copy, M: Metric + Copy> Offers<K, M> {
 
         // When each refusal comes.
         ensures full { (result ≡ Err TableFault.Full)
-            ↔ ((M.dead metric ≡ false)
-            × (content K.cmp self.old.offers (key, source) ≡ None)
-            × (self.old.most ≤ length self.old.offers)) }
+            ↔ IsFull K.cmp M.dead self.old (key, source) metric }
         ensures out_of_memory { result ≡ Err TableFault.OutOfMemory
-            → (M.dead metric ≡ false)
-            × (content K.cmp self.old.offers (key, source) ≡ None)
-            × (length self.old.offers < self.old.most) }
+            → Grows K.cmp M.dead self.old (key, source) metric }
         ensures no_memory_if_dead { M.dead metric ≡ true → IsOk result }
         ensures no_memory_if_there { IsSome (content K.cmp self.old.offers (key, source)) → IsOk result }
 

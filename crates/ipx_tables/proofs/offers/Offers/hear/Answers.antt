@@ -72,7 +72,7 @@ returns-in-Ok-place-clause-valid g c =
 pub returns-in-Ok-place-clause-full : goal.returns-in-Ok-place-clause-full
 returns-in-Ok-place-clause-full g c =
     let here = at_same g.met.K.Ord.total _ _ _ c.in-Ok-place.ensures.found in
-    rw (← c.self.view_is) ((λ e. cc), (λ f. absurd (hear_there g.met.K.Ord.total g.M.Metric.dead _ c.self.invariant.0.apart _ _ c.args.metric c.args.now _ here f.1)))
+    rw (← c.self.view_is) ((λ e. cc), (λ f. absurd (hear_there g.met.K.Ord.total g.M.Metric.dead _ c.self.invariant.0.apart _ _ c.args.metric c.args.now _ here f.unknown)))
 
 pub returns-in-Ok-place-clause-many : goal.returns-in-Ok-place-clause-many
 returns-in-Ok-place-clause-many g c =
@@ -84,7 +84,7 @@ returns-in-Ok-place-clause-many g c =
 pub returns-in_err-add-in-Err-2-clause-out_of_memory : goal.returns-in_err-add-in-Err-2-clause-out_of_memory
 returns-in_err-add-in-Err-2-clause-out_of_memory g c =
     let gone = unsaid g.met.K.Ord.total _ _ _ c.in-Err-2.ensures.absent in
-    rw (← c.self.view_is) (λ e. (sym c.dead.ensures ∙ c.if-dead.false, gone, omega (arith, c.len.ensures.len, c.if-len-self.false)))
+    rw (← c.self.view_is) (λ e. record { alive = sym c.dead.ensures ∙ c.if-dead.false; unknown = gone; room = omega (arith, c.len.ensures.len, c.if-len-self.false) })
 
 pub returns-in_err-add-in-Err-2-clause-no_memory_if_there : goal.returns-in_err-add-in-Err-2-clause-no_memory_if_there
 returns-in_err-add-in-Err-2-clause-no_memory_if_there g c =
@@ -121,7 +121,7 @@ returns-in_ok-add-in-Err-2-clause-many g c =
 pub returns-in-Err-clause-full : goal.returns-in-Err-clause-full
 returns-in-Err-clause-full g c =
     let gone = unsaid g.met.K.Ord.total _ _ _ c.in-Err.ensures.absent in
-    rw (← c.self.view_is) ((λ e. (sym c.dead.ensures ∙ c.if-dead.false, gone, omega (arith, c.len.ensures.len, c.if-len-self.true))), (λ f. refl))
+    rw (← c.self.view_is) ((λ e. record { alive = sym c.dead.ensures ∙ c.if-dead.false; unknown = gone; full = omega (arith, c.len.ensures.len, c.if-len-self.true) }), (λ f. refl))
 
 pub returns-in-Err-clause-no_memory_if_there : goal.returns-in-Err-clause-no_memory_if_there
 returns-in-Err-clause-no_memory_if_there g c =
