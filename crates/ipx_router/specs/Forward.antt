@@ -2,6 +2,7 @@
 -- (Novell IPX Router Specification, forwarding).
 use Rattle.std.specs.Prelude.{◌≡◌, ℕ, ◌+◌, List, Option, Some, None, nat_le, ◌==◌, if◌then◌else◌, unwrap_or}
 use Rattle.ipx_wire.specs.declared.packet.IpxHeader.{IpxHeader}
+use Rattle.ipx_wire.specs.Assigned.{local_network}
 use Rattle.ipx_wire.specs.Ipx.{PacketView}
 use Rattle.ipx_router.specs.declared.port.Port.{Port}
 use Rattle.ipx_router.specs.declared.port.PortNow.{PortNow}
@@ -26,7 +27,7 @@ abbrev pub forward_header : Port → IpxHeader → IpxHeader
 forward_header arrived h = record h {
   hops = h.hops + 1;
   from = record h.from {
-    network = if h.from.network.0 == 0 then arrived.network else h.from.network;
+    network = if h.from.network.0 == local_network then arrived.network else h.from.network;
   };
 }
 

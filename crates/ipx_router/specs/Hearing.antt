@@ -4,6 +4,7 @@ use Rattle.std.specs.declared.cmp.Ordering.{Ordering}
 use Rattle.std.specs.List.{list_any}
 use Rattle.ipx_wire.specs.declared.address.Network.{Network}
 use Rattle.ipx_wire.specs.declared.packet.IpxHeader.{IpxHeader}
+use Rattle.ipx_wire.specs.Assigned.{all_networks, local_network}
 use Rattle.ipx_control.specs.declared.rip.RipEntry.{RipEntry}
 use Rattle.ipx_control.specs.declared.sap.ServiceEntry.{ServiceEntry}
 use Rattle.ipx_tables.specs.declared.route.RouteMetric.{RouteMetric}
@@ -25,7 +26,7 @@ source_of at h = record { port = at.number; neighbour = h.from.node }
 
 -- no route to the network at hand, to all networks, or to a port's own network is heard
 abbrev pub is_heard : List Port → RipEntry → Bool
-is_heard ports e = not ((e.network.0 == 0) || (e.network.0 == 4294967295)
+is_heard ports e = not ((e.network.0 == local_network) || (e.network.0 == all_networks)
     || list_any (λ p. p.network.0 == e.network.0) ports)
 
 abbrev pub route_metric : RipEntry → RouteMetric

@@ -4,6 +4,7 @@ use Rattle.std.specs.List.{list_any}
 use Rattle.std.specs.declared.cmp.Ordering.{Ordering}
 use Rattle.std.specs.Ordering.{ordering_then, nat_cmp, is_lt}
 use Rattle.std.specs.Cmp.Lexicographic.{slice_cmp}
+use Rattle.ipx_wire.specs.Assigned.{all_networks}
 use Rattle.ipx_control.specs.declared.rip.RipEntry.{RipEntry}
 use Rattle.ipx_control.specs.declared.sap.ServiceEntry.{ServiceEntry}
 use Rattle.ipx_tables.specs.Service.{address_cmp, service_key_cmp}
@@ -16,7 +17,7 @@ use Rattle.ipx_router.specs.Told.{AreToldRoutes, IsListOf, IsToldRoute, IsToldSe
 
 -- an entry for network FFFFFFFF asks for all
 abbrev pub asks_all : List RipEntry → Bool
-asks_all = list_any (λ e. e.network.0 == 4294967295)
+asks_all = list_any (λ e. e.network.0 == all_networks)
 
 -- what is told of the asked networks, in the order asked, without those of which nothing is told
 abbrev pub AreToldOf : (RipEntry → Type 0) → List RipEntry → List RipEntry → Type 0

@@ -1,12 +1,13 @@
 -- What a router tells its neighbours of itself, and when.
 use Rattle.std.specs.Prelude.{◌≡◌, ◌⊎◌, ℕ, ◌+◌, ◌-◌, Bool, true, false, List, [], ◌∷◌, ◌++◌, Option, Some, None, nat_le, MatchBool}
+use Rattle.ipx_wire.specs.Assigned.{rip_socket, sap_socket}
 use Rattle.ipx_control.specs.declared.rip.RipEntry.{RipEntry}
 use Rattle.ipx_control.specs.declared.sap.ServiceEntry.{ServiceEntry}
 use Rattle.ipx_router.specs.declared.port.Port.{Port}
 use Rattle.ipx_router.specs.declared.port.PortNow.{PortNow}
 use Rattle.ipx_router.specs.Knowledge.{Known, Routes, Services}
 use Rattle.ipx_router.specs.Told.{AreToldRoutes, AreToldServices, IsToldRoute, IsToldService}
-use Rattle.ipx_router.specs.Packets.{SendingView, AreRoutePackets, AreServicePackets, all_nodes, rip_socket, sap_socket}
+use Rattle.ipx_router.specs.Packets.{SendingView, AreRoutePackets, AreServicePackets, all_nodes}
 use Rattle.ipx_router.specs.Ports.{IsPort}
 
 -- the packets that tell what is known on one port: routes, and then services

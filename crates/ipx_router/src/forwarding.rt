@@ -15,7 +15,9 @@ use crate::port::{Port, PortNow};
 use crate::reason::Reason;
 use crate::route::{Route, route_to};
 use ipx_tables::RouteTable;
-use ipx_wire::{IpxHeader, Node, OutOfMemory, Packet, packet_part, set_hops, set_source_network};
+use ipx_wire::{
+    IpxHeader, Network, Node, OutOfMemory, Packet, packet_part, set_hops, set_source_network,
+};
 use std::alloc::Global;
 
 /// Changes the bytes of a packet with this header to those one hop on.
@@ -26,7 +28,7 @@ fn forward_in_place(bytes: &mut [u8], arrived: Port, header: IpxHeader)
         → IsIpx (record { header = forward_header arrived header; body = body }) bytes.new tail }
 {
     set_hops(bytes, header.hops + 1);
-    if header.from.network.0 == 0 {
+    if header.from.network == Network::LOCAL {
         set_source_network(bytes, arrived.network);
     }
 }

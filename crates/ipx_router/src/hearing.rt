@@ -15,7 +15,7 @@ use ipx_control::{RipEntry, ServiceEntry};
 use ipx_tables::{
     RouteMetric, RouteTable, ServiceKey, ServiceMetric, ServiceTable, Source, TableFault,
 };
-use ipx_wire::IpxHeader;
+use ipx_wire::{IpxHeader, Network};
 use std::alloc::Global;
 
 /// Whom a response is heard from: the node that sent it, on the port that it came in on.
@@ -32,7 +32,7 @@ fn is_route_heard(ports: &[Port], entry: &RipEntry) -> bool
     ensures { result ≡ is_heard ports.now entry.now }
 {
     let network = entry.network;
-    !(network.0 == 0 || network.0 == 0xffff_ffff || has_network(ports, network))
+    !(network == Network::LOCAL || network == Network::ALL || has_network(ports, network))
 }
 
 /// Hears the entries in order, and answers how many: none of the networks that a router does not

@@ -19,7 +19,7 @@ use std::alloc::Global;
 fn is_for_all(asked: &[RipEntry]) -> bool
     ensures { result ≡ asks_all asked.now }
 {
-    asked.iter().any(|entry| entry.network.0 == 0xffff_ffff)
+    asked.iter().any(|entry| entry.network == Network::ALL)
 }
 
 fn told_of(told: &[RipEntry], network: Network) -> Option<RipEntry>

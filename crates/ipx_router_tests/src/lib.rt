@@ -7,6 +7,8 @@ mod fixture;
 #[cfg(test)]
 mod full;
 #[cfg(test)]
+mod index;
+#[cfg(test)]
 mod metrics;
 #[cfg(test)]
 mod new_router;
