@@ -1,6 +1,6 @@
 -- When a router may want memory for the bytes that come in on a port, and what it holds then.
 -- The entry point is `WantsMemory`, at the end.
-use Rattle.std.specs.Prelude.{◌<◌, ◌⊎◌, ℕ, List, length}
+use Rattle.std.specs.Prelude.{◌≡◌, ◌<◌, ◌⊎◌, ℕ, Bool, true, List, length}
 use Rattle.ipx_wire.specs.declared.address.Network.{Network}
 use Rattle.ipx_wire.specs.declared.packet.IpxHeader.{IpxHeader}
 use Rattle.ipx_wire.specs.Ipx.{PacketView, IsIpx}
@@ -24,7 +24,9 @@ use Rattle.ipx_router.specs.RouterView.{RouterView}
 use Rattle.ipx_router.specs.Knowledge.{HoldsKnown, HoldsRoutes, HoldsServices, Known, Routes, Services, Tables, known_at, tables}
 use Rattle.ipx_router.specs.Ports.{IsPort}
 use Rattle.ipx_router.specs.Route.{IsRouteTo}
+use Rattle.ipx_router.specs.Told.{IsToldService}
 use Rattle.ipx_router.specs.Classify.{concern_of}
+use Rattle.ipx_router.specs.Replying.{is_asked}
 use Rattle.ipx_router.specs.Hearing.{AtEntry, GrowsByRoute, GrowsByService, HeardRoutes, HeardServices, source_of}
 
 -- the entries of a response could not be read, or one of them could not be heard: those before it were, and the others were not
@@ -47,9 +49,14 @@ RipMessageWantsMemory ports routes at h (rip.Request asked) new =
 RipMessageWantsMemory ports routes at h (rip.Response entries) new =
     HearingRoutesWantsMemory ports routes (source_of at h) at.now entries new
 
+-- some service is to be sent
+abbrev pub HasToReply : Services → PortNow → Bool → ℕ → Type 0
+HasToReply services at nearest kind =
+    (e : ServiceEntry) × IsToldService services at e × (is_asked nearest kind e ≡ true)
+
 abbrev pub SapMessageWantsMemory : Services → PortNow → IpxHeader → SapView → Table ServiceKey ServiceMetric → Type 0
 SapMessageWantsMemory services at h (sap.Query nearest kind) new =
-    HoldsServices new services
+    HasToReply services at nearest kind × HoldsServices new services
 SapMessageWantsMemory services at h (sap.Response nearest entries) new =
     HearingServicesWantsMemory services (source_of at h) at.now entries new
 

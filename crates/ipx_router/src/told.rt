@@ -120,7 +120,8 @@ pub fn told_routes(
     Ok(told)
 }
 
-fn told_service_of(item: &(ServiceKey, Source, ServiceMetric)) -> ServiceEntry
+/// A service as it is told.
+pub fn told_service_of(item: &(ServiceKey, Source, ServiceMetric)) -> ServiceEntry
     ensures { result ≡ told_service item.now }
 {
     let onward = item.2.one_more();
