@@ -41,6 +41,7 @@ fn outcome_of_hearing(heard: Result<u16, TableFault>) -> Result<Outcome, OutOfMe
 }
 
 /// What becomes of a packet for socket 0453.
+#[inline(never)] // so that it is out of the way of forwarding
 fn answer_rip(
     alloc: Global,
     ports: &[Port],
@@ -77,6 +78,7 @@ fn answer_rip(
 }
 
 /// What becomes of a packet for socket 0452.
+#[inline(never)] // so that it is out of the way of forwarding
 fn answer_sap(
     alloc: Global,
     services: &mut ServiceTable,
