@@ -162,7 +162,8 @@ pub fn add_service_packets(
     entries: &[ServiceEntry],
 ) -> Result<(), OutOfMemory>
     ensures { OnOk result
-        (AddsPackets (AreServicePackets to nearest entries.now) replies.old.items replies.new.items) }
+        (AddsPackets (AreServicePackets to nearest entries.now)
+        replies.old.items replies.new.items) }
 {
     let mut rest = entries;
     while !rest.is_empty() {
