@@ -1,4 +1,5 @@
--- What a packet is to a router, by its header: control for the router itself, or on its way to another network.
+-- What a packet is to a router, by its header: control for the router itself, or on its way to
+-- another network.
 use Rattle.std.specs.Prelude.{◌==◌, ◌||◌, ◌&&◌, Bool, not, nat_eq, if◌then◌else◌}
 use Rattle.std.specs.Cmp.Lexicographic.{pointwise}
 use Rattle.ipx_wire.specs.declared.address.Node.{Node}
@@ -13,7 +14,8 @@ use Rattle.ipx_router.specs.Packets.{broadcast}
 abbrev pub is_node : Node → Node → Bool
 is_node a b = pointwise nat_eq a.0 b.0
 
--- it is for the port at which it came in, or for all nodes there, and comes from another node of that network
+-- it is for the port at which it came in, or for all nodes there, and comes from another node of
+-- that network
 abbrev pub is_from_neighbour : Port → IpxHeader → Bool
 is_from_neighbour arrived h =
     (is_node h.to.node arrived.node || is_node h.to.node broadcast)
@@ -33,5 +35,6 @@ concern_on_network arrived h =
 abbrev pub concern_of : Port → IpxHeader → Concern
 concern_of arrived h =
     if h.kind == netbios_propagation_type then Dropped Propagated
-    else if (h.to.network.0 == local_network) || (h.to.network.0 == arrived.network.0) then concern_on_network arrived h
+    else if (h.to.network.0 == local_network) || (h.to.network.0 == arrived.network.0)
+    then concern_on_network arrived h
     else Forward

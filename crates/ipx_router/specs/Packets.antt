@@ -59,7 +59,8 @@ all_nodes number port socket = record {
   socket = record { 0 = socket };
 }
 
--- the header of a packet of the router's own, from its port to a node and socket of that port's network
+-- the header of a packet of the router's own, from its port to a node and socket of that port's
+-- network
 abbrev pub own_header : Recipient → ℕ → ℕ → IpxHeader
 own_header to kind socket = record {
   hops = 0;
@@ -69,7 +70,8 @@ own_header to kind socket = record {
 }
 
 -- a packet of the router's own with such a body, and nothing behind it
-pub record IsOwnPacket (to : Recipient) (kind socket : ℕ) (IsBody : List ℕ → Type 0) (s : SendingView) : Type 0 where
+pub record IsOwnPacket (to : Recipient) (kind socket : ℕ) (IsBody : List ℕ → Type 0)
+    (s : SendingView) : Type 0 where
   pub port : s.port ≡ to.number
   pub next : s.next ≡ to.node
   pub body : List ℕ
@@ -80,13 +82,16 @@ abbrev pub IsRipPacket : Recipient → RipView → SendingView → Type 0
 IsRipPacket to message = IsOwnPacket to rip_type rip_socket (λ body. IsRip message body [])
 
 abbrev pub IsSapPacket : Recipient → SapView → SendingView → Type 0
-IsSapPacket to message = IsOwnPacket to packet_exchange_type sap_socket (λ body. IsSap message body [])
+IsSapPacket to message =
+    IsOwnPacket to packet_exchange_type sap_socket (λ body. IsSap message body [])
 
 module _ {E : Type 0} (most : ℕ) (IsPacketOf : List E → SendingView → Type 0) where
-  -- the packets that a list is cut into: each holds as many entries as it may, and the last what is left
+  -- the packets that a list is cut into: each holds as many entries as it may, and the last what is
+  -- left
   abbrev pub AreCutOf : List E → List SendingView → Type 0
   AreCutOf entries [] = entries ≡ []
-  AreCutOf entries (s ∷ ss) = (0 < length entries) × IsPacketOf (take most entries) s × AreCutOf (drop most entries) ss
+  AreCutOf entries (s ∷ ss) =
+      (0 < length entries) × IsPacketOf (take most entries) s × AreCutOf (drop most entries) ss
 
 -- the packets of a list of routes, of 50 at most
 abbrev pub AreRoutePackets : Recipient → List RipEntry → List SendingView → Type 0

@@ -23,8 +23,8 @@ asks_all = list_any (λ e. e.network.0 == all_networks)
 abbrev pub AreToldOf : (RipEntry → Type 0) → List RipEntry → List RipEntry → Type 0
 AreToldOf IsTold [] entries = entries ≡ []
 AreToldOf IsTold (e ∷ asked) entries =
-    ((t : RipEntry) × (rest : List RipEntry) × (entries ≡ t ∷ rest) × IsTold t × (t.network ≡ e.network)
-    × AreToldOf IsTold asked rest)
+    ((t : RipEntry) × (rest : List RipEntry) × (entries ≡ t ∷ rest)
+    × IsTold t × (t.network ≡ e.network) × AreToldOf IsTold asked rest)
     ⊎ (((t : RipEntry) → IsTold t → t.network ≢ e.network) × AreToldOf IsTold asked entries)
 
 -- the told routes that a request asks for
@@ -34,7 +34,8 @@ AreRoutesAsked ports routes at asked entries = MatchBool (asks_all asked)
     (AreToldOf (IsToldRoute ports routes at) asked entries)
 
 -- the packets that answer a request
-pub record RepliesRoutes (ports : List Port) (routes : Routes) (at : PortNow) (to : Recipient) (asked : List RipEntry) (sent : List SendingView) : Type 0 where
+pub record RepliesRoutes (ports : List Port) (routes : Routes) (at : PortNow) (to : Recipient)
+    (asked : List RipEntry) (sent : List SendingView) : Type 0 where
   pub entries : List RipEntry
   pub are : AreRoutesAsked ports routes at asked entries
   pub packets : AreRoutePackets to entries sent
@@ -82,7 +83,8 @@ AreServicesAsked services at nearest kind entries = MatchBool nearest
     (λ e. IsToldService services at e × (is_of_kind kind e ≡ true)) entries)
 
 -- the packets that answer a query
-pub record RepliesServices (services : Services) (at : PortNow) (to : Recipient) (nearest : Bool) (kind : ℕ) (sent : List SendingView) : Type 0 where
+pub record RepliesServices (services : Services) (at : PortNow) (to : Recipient)
+    (nearest : Bool) (kind : ℕ) (sent : List SendingView) : Type 0 where
   pub entries : List ServiceEntry
   pub are : AreServicesAsked services at nearest kind entries
   pub packets : AreServicePackets to nearest entries sent

@@ -5,8 +5,7 @@ ghost use Rattle.ipx_router.specs.Classify.{concern_of, concern_on_network, is_f
 
 use crate::port::Port;
 use crate::reason::Reason;
-use ipx_wire::packet_type;
-use ipx_wire::{IpxHeader, Network, Node, Socket};
+use ipx_wire::{IpxHeader, Network, Node, Socket, packet_type};
 
 /// What a packet is to the router.
 pub enum Concern {

@@ -42,7 +42,8 @@ fn forwarded_copy(
 ) -> Result<Vec<u8>, OutOfMemory>
     requires reading { BeginsWith datagram.now (packet_view packet.now) }
     requires hops { packet.now.header.hops < 15 }
-    ensures { IfOk result (λ v. IsIpx (forward_packet arrived (packet_view packet.now)) v.items []) }
+    ensures { IfOk result (λ v.
+        IsIpx (forward_packet arrived (packet_view packet.now)) v.items []) }
 {
     let mut bytes = Vec::from_slice(alloc, packet_part(datagram, packet))?;
     forward_in_place(&mut bytes, arrived, packet.header);
@@ -107,7 +108,8 @@ pub fn forward(
         Forwards ports.now (routes_in routes.now) at (packet_view packet.entry) (view o)) }
     ensures refused { OnErr result
         (HasToForward ports.now (routes_in routes.now) at packet.entry.header) }
-    ensures one_hop_on { IfOk result (λ o. IsForwardOf at.port (packet_view packet.entry) (view o)) }
+    ensures one_hop_on { IfOk result (λ o.
+        IsForwardOf at.port (packet_view packet.entry) (view o)) }
     ensures there { IfOk result (λ o. IsOnPort (length ports.now) (view o)) }
 {
     let route = route_to(ports, routes, packet.header.to.network, at.now);

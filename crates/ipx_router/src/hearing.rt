@@ -53,7 +53,8 @@ pub fn hear_routes(
     ensures refused { IfErr result (λ f. (n : ℕ)
         × HeardRoutes ports.now source now entries.now (routes_in routes.old) n routes.new
         × (f ≡ TableFault.Full → AtEntry entries.now n (IsFullForRoute ports.now source routes.new))
-        × (f ≡ TableFault.OutOfMemory → AtEntry entries.now n (GrowsByRoute ports.now source routes.new))) }
+        × (f ≡ TableFault.OutOfMemory
+        → AtEntry entries.now n (GrowsByRoute ports.now source routes.new))) }
     ensures most { routes.new.most ≡ routes.old.most }
     ensures valid { IsTable network_cmp routes.new }
     ensures sources { (count : ℕ) → IsPortNumber count source.port
@@ -89,7 +90,8 @@ pub fn hear_services(
     ensures refused { IfErr result (λ f. (n : ℕ)
         × HeardServices source now entries.now (services_in services.old) n services.new
         × (f ≡ TableFault.Full → AtEntry entries.now n (IsFullForService source services.new))
-        × (f ≡ TableFault.OutOfMemory → AtEntry entries.now n (GrowsByService source services.new))) }
+        × (f ≡ TableFault.OutOfMemory
+        → AtEntry entries.now n (GrowsByService source services.new))) }
     ensures most { services.new.most ≡ services.old.most }
     ensures valid { IsTable service_key_cmp services.new }
     ensures sources { (count : ℕ) → IsPortNumber count source.port
