@@ -17,3 +17,4 @@ pub mod Reading
 pub mod Rounds
 pub mod Samples
 pub mod Stands
+pub mod Waiting

@@ -2,6 +2,7 @@
 #![tactic(auto)]
 
 mod buffers;
+mod due;
 pub mod effects;
 mod fault;
 pub mod laws;
