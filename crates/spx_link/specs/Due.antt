@@ -41,6 +41,11 @@ earliest (q ∷ qs) = Some (earlier q.at (earliest qs))
 abbrev pub again_at : ℕ → Option ℕ
 again_at at = if nat_lt (at + resend_after) (2 ^ 64) then Some (at + resend_after) else None
 
+-- the earlier of two, where there are
+abbrev pub sooner : Option ℕ → Option ℕ → Option ℕ
+sooner None b = b
+sooner (Some a) b = Some (earlier a b)
+
 -- something is sent at any moment
 abbrev pub owes_now : LinkView → Bool
 owes_now l = l.owes_reply || (l.owes_confirm || (may_send l || l.owes_ack))
@@ -72,3 +77,8 @@ due_at Lost l = None
 
 abbrev pub due_link : LinkView → Option ℕ
 due_link l = due_at l.state l
+
+-- of links, the one that is due first
+abbrev pub soonest : List LinkView → Option ℕ
+soonest [] = None
+soonest (l ∷ ls) = sooner (due_link l) (soonest ls)

@@ -6,7 +6,7 @@ ghost use Rattle.spx_link.specs.Due.{IsNextDue};
 
 use crate::limits::RESEND_AFTER;
 use crate::link::Link;
-use crate::queue::earliest;
+use crate::queue::{earlier, earliest};
 use crate::state::State;
 
 impl Link {
@@ -21,7 +21,7 @@ impl Link {
     }
 
     /// That moment, by the rules of `poll`.
-    fn due(&self) -> Option<u64>
+    pub(crate) fn due(&self) -> Option<u64>
         ensures { result ≡ spec.due_link self.now }
     {
         match self.state {
@@ -77,4 +77,25 @@ fn again_at(at: u64) -> Option<u64>
     ensures { result ≡ spec.again_at at }
 {
     at.checked_add(RESEND_AFTER)
+}
+
+/// When the first of some links is due.
+pub fn soonest(links: &[Link]) -> Option<u64>
+    ensures { result ≡ spec.soonest links.now }
+{
+    let mut soonest = None;
+    for link in links {
+        soonest = sooner(link.due(), soonest);
+    }
+    soonest
+}
+
+/// The earlier of two moments, where there are.
+fn sooner(due: Option<u64>, other: Option<u64>) -> Option<u64>
+    ensures { result ≡ spec.sooner due other }
+{
+    match due {
+        None => other,
+        Some(due) => Some(earlier(due, other)),
+    }
 }

@@ -44,7 +44,7 @@ pub fn earliest(queue: &VecDeque<Queued>, sent: usize) -> Option<u64>
 }
 
 /// The least of a moment and another.
-fn earlier(at: u64, least: Option<u64>) -> u64
+pub fn earlier(at: u64, least: Option<u64>) -> u64
     ensures { result ≡ D.earlier at least }
 {
     match least {
