@@ -2,6 +2,8 @@
 #![tactic(auto)]
 
 mod buffers;
+pub mod courses;
+mod due;
 pub mod effects;
 mod fault;
 pub mod laws;
@@ -19,6 +21,10 @@ mod received;
 mod state;
 mod unit;
 
+pub use courses::{
+    confirmed_links_are_whole, links_apart_send_nothing, open_links_queue_no_end,
+    opening_links_join_or_stay, taken_and_held_are_expected,
+};
 pub use effects::{
     accepted_owes_its_reply, lost_gives_nothing, new_links_are_empty, new_links_have_their_ends,
     opening_gives_requests, others_change_no_number, others_keep_units, poll_changes, poll_gives,
