@@ -58,6 +58,7 @@ gives_unit l units closed what u k number f is at =
       u = u;
       there = at;
       unit = read_back u (λ ends. (f.end k u at ends).2) (is_end u) refl;
+      whole = refl;
       reads = ne_eqb u.stream 255 (λ z. omega (arith, z, low));
       number = is;
     }

@@ -36,6 +36,7 @@ pub record GivesUnit (g : OutgoingView) (units : List Unit) (k : ℕ) : Type 0 w
   pub u : Unit
   pub there : slice_get units k ≡ Some u
   pub unit : unit_in g.header g.body ≡ u
+  pub whole : g.body ≡ u.body.items
   pub reads : is_system g.header ≡ false
   pub number : g.header.seq ≡ mark k
 
