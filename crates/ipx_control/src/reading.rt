@@ -39,7 +39,8 @@ fn rip_entries_in(alloc: Global, bytes: &[u8]) -> Result<Vec<RipEntry>, OutOfMem
     Ok(entries)
 }
 
-/// The RIP packet that bytes are. Bytes behind the last whole entry are ignored.
+/// The RIP packet that bytes are: the body of an IPX packet to socket 0453. Bytes behind the last
+/// whole entry are ignored. The error is the first fault that holds, or want of memory.
 pub fn decode_rip(alloc: Global, bytes: &[u8]) -> Result<Rip, ControlFault>
     // What is read is what the bytes are.
     ensures found { IfOk result (λ v. (tail : List ℕ) × IsRip (rip_view v) bytes.now tail) }
@@ -109,8 +110,9 @@ fn services_in(alloc: Global, bytes: &[u8]) -> Result<Vec<ServiceEntry>, OutOfMe
     Ok(services)
 }
 
-/// The SAP packet that bytes are. Bytes behind a query, or behind the last whole service of a
-/// response, are ignored.
+/// The SAP packet that bytes are: the body of an IPX packet to socket 0452. Bytes behind a query,
+/// or behind the last whole service of a response, are ignored. The error is the first fault that
+/// holds, or want of memory.
 pub fn decode_sap(alloc: Global, bytes: &[u8]) -> Result<Sap, ControlFault>
     // What is read is what the bytes are.
     ensures found { IfOk result (λ v. (tail : List ℕ) × IsSap (sap_view v) bytes.now tail) }

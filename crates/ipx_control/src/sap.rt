@@ -9,25 +9,29 @@ pub(crate) const SERVICE_SIZE: usize = 64;
 pub const SAP_MAX_SERVICES: usize = 7;
 
 /// A service of a SAP packet (Novell IPX Router Specification, SAP packet structure).
-///
-/// `kind` is the service type. All 48 bytes are the name; its text ends before the first zero
-/// byte. Hops of 16 or more say that the service is down.
 #[derive(Clone, Copy, Debug, PartialEq, Eq)]
 pub struct ServiceEntry {
+    /// Service type, as 4 for a file server.
     pub kind: u16,
+    /// The name: all 48 bytes of it in every comparison, though its text ends before the first zero
+    /// byte.
     pub name: [u8; 48],
+    /// Where the service is asked.
     pub at: Address,
+    /// How many routers lie on the way: 16 or more say that the service is down.
     pub hops: u16,
 }
 
-/// What a SAP packet says: operations 1 and 2 are the general query and response, 3 and 4 those
-/// for the nearest service. Service type FFFF asks for services of every type.
+/// What a SAP packet says. At most 7 services are read and written.
 #[derive(Debug, Drop)]
 pub enum Sap {
+    /// Operation 1 asks for services, operation 3 for the nearest: of a type, or of every type by
+    /// FFFF.
     Query {
         nearest: bool,
         kind: u16,
     },
+    /// Operation 2 tells services, operation 4 the nearest.
     Response {
         nearest: bool,
         services: Vec<ServiceEntry>,

@@ -44,8 +44,8 @@ fn put_rip(out: &mut [u8], operation: u16, entries: &[RipEntry])
     put_rip_entries(&mut out[2..], entries);
 }
 
-/// Writes a RIP packet of at most 50 entries to the front of the buffer, and answers how many
-/// bytes it takes: 2, and 8 for each entry.
+/// Writes a RIP packet to the front of the buffer, and answers how many bytes it takes: 2, and 8
+/// for each entry. The caller owes at most 50 entries, and room for the packet.
 pub fn encode_rip_into(rip: &Rip, out: &mut [u8]) -> usize
     requires limit { length (rip_entries (rip_view rip.now)) ≤ rip_max_entries }
     requires room { rip_size (rip_view rip.now) ≤ length out.old }
@@ -108,8 +108,9 @@ fn put_response(out: &mut [u8], nearest: bool, services: &[ServiceEntry])
     put_services(&mut out[2..], services);
 }
 
-/// Writes a SAP packet of at most 7 services to the front of the buffer, and answers how many
-/// bytes it takes: 4 for a query, 2 and 64 for each service for a response.
+/// Writes a SAP packet to the front of the buffer, and answers how many bytes it takes: 4 for a
+/// query, 2 and 64 for each service for a response. The caller owes at most 7 services, and room
+/// for the packet.
 pub fn encode_sap_into(sap: &Sap, out: &mut [u8]) -> usize
     requires limit { IsSapWithinLimit (sap_view sap.now) }
     requires room { sap_size (sap_view sap.now) ≤ length out.old }
