@@ -1,29 +1,15 @@
-//! RIP packets: which networks are asked for, and which are reached at what cost.
+//! RIP packets (Novell IPX Router Specification, RIP).
 
-use ipx_wire::Network;
+mod laws;
+mod packet;
+mod reading;
+mod writing;
 
-/// The bytes of an entry of a RIP packet.
-pub(crate) const RIP_ENTRY_SIZE: usize = 8;
-
-/// The most entries of a RIP packet.
-pub const RIP_MAX_ENTRIES: usize = 50;
-
-/// A network of a RIP packet (Novell IPX Router Specification, RIP packet structure).
-#[derive(Clone, Copy, Debug, PartialEq, Eq)]
-pub struct RipEntry {
-    /// The network: in a request FFFFFFFF asks for all.
-    pub network: Network,
-    /// How many routers lie on the way: 16 or more say that it is not reached.
-    pub hops: u16,
-    /// How long the way takes, in eighteenths of a second.
-    pub ticks: u16,
-}
-
-/// What a RIP packet says. At most 50 entries are read and written.
-#[derive(Debug, Drop)]
-pub enum Rip {
-    /// Operation 1: which networks are asked for.
-    Request(Vec<RipEntry>),
-    /// Operation 2: which networks are reached, and at what cost.
-    Response(Vec<RipEntry>),
-}
+pub use laws::{
+    bytes_are_one_rip, rip_before_any_tail, rip_fault_is_of_no_rip, rip_has_bytes,
+    rip_is_one_list_of_bytes,
+};
+pub(crate) use packet::RIP_ENTRY_SIZE;
+pub use packet::{RIP_MAX_ENTRIES, Rip, RipEntry};
+pub use reading::decode_rip;
+pub use writing::encode_rip_into;
