@@ -5,8 +5,8 @@ use Rattle.std.specs.List.{flat_map}
 use Rattle.byteorder.specs.Endian.{big_bytes}
 use Rattle.ipx_wire.specs.FieldLaws.{FieldLaws}
 use Rattle.ipx_wire.specs.Ipx.{IsBytes, address_bytes}
-use Rattle.ipx_control.specs.declared.rip.RipEntry.{RipEntry}
-use Rattle.ipx_control.specs.declared.sap.ServiceEntry.{ServiceEntry}
+use Rattle.ipx_control.specs.declared.rip.packet.RipEntry.{RipEntry}
+use Rattle.ipx_control.specs.declared.sap.packet.ServiceEntry.{ServiceEntry}
 use Rattle.ipx_control.specs.Rip.{RipView, rip_entries, rip_entry_bytes, rip_operation}
 use Rattle.ipx_control.specs.Sap.{HoldsBytes, SapView, Query, Response, query_operation, response_operation, sap_services, service_bytes}
 use Rattle.ipx_control.proofs.SapPackets.{sap_bytes}

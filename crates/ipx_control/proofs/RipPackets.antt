@@ -7,7 +7,7 @@ use Rattle.byteorder.specs.Endian.{big_bytes}
 use Rattle.byteorder.specs.Numbers.{big_number-reads_back}
 use Rattle.ipx_wire.specs.FieldLaws.{FieldLaws}
 use Rattle.ipx_wire.specs.Ipx.{IsBytes, IsWritten, number}
-use Rattle.ipx_control.specs.declared.rip.RipEntry.{RipEntry}
+use Rattle.ipx_control.specs.declared.rip.packet.RipEntry.{RipEntry}
 use Rattle.ipx_control.specs.Entries.{AreEntries}
 use Rattle.ipx_control.specs.Rip.{IsRip, IsRipEntry, IsRipEntryInRange, IsRipInRange, RipView, Request, Response, rip_entries, rip_entry_bytes, rip_fault, rip_operation}
 use Rattle.std.proofs.lemmas.Bool.{eqb-true, le-ltb, ltb-false}

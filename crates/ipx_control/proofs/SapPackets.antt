@@ -8,7 +8,7 @@ use Rattle.byteorder.specs.Numbers.{big_number-reads_back}
 use Rattle.ipx_wire.specs.declared.address.Address.{Address}
 use Rattle.ipx_wire.specs.FieldLaws.{FieldLaws}
 use Rattle.ipx_wire.specs.Ipx.{IsAddress, IsBytes, IsWritten, address_bytes, number}
-use Rattle.ipx_control.specs.declared.sap.ServiceEntry.{ServiceEntry}
+use Rattle.ipx_control.specs.declared.sap.packet.ServiceEntry.{ServiceEntry}
 use Rattle.ipx_control.specs.Entries.{AreEntries}
 use Rattle.ipx_control.specs.Sap.{IsSap, IsSapQuery, IsSapResponse, IsSapInRange, IsSapTail, AreServicesInRange, IsServiceEntry, IsServiceEntryInRange, SapView, Query, Response, query_operation, response_operation, sap_fault, service_bytes}
 use Rattle.std.proofs.lemmas.Bool.{eqb-true, le-ltb, ltb-false}

@@ -5,9 +5,9 @@ use Rattle.byteorder.specs.Endian.{big_bytes}
 use Rattle.ipx_wire.specs.Ipx.{number}
 use Rattle.ipx_control.specs.declared.fault.ControlFault.{ControlFault}
 use Rattle.ipx_control.specs.declared.fault.ControlFault.TheVariants.{NoOperation, UnknownOperation}
-use Rattle.ipx_control.specs.declared.rip.RipEntry.{RipEntry}
-use Rattle.ipx_control.specs.declared.rip.Rip.{Rip}
-use Rattle.ipx_control.specs.declared.rip.Rip.TheVariants as rips
+use Rattle.ipx_control.specs.declared.rip.packet.RipEntry.{RipEntry}
+use Rattle.ipx_control.specs.declared.rip.packet.Rip.{Rip}
+use Rattle.ipx_control.specs.declared.rip.packet.Rip.TheVariants as rips
 use Rattle.ipx_control.specs.Entries.{AreEntries, entries_fault}
 
 -- the bytes of an entry, and how many entries a packet may hold

@@ -5,9 +5,9 @@ use Rattle.byteorder.specs.Endian.{big_bytes}
 use Rattle.ipx_wire.specs.Ipx.{IsAddress, IsAddressInRange, IsBytes, address_bytes, number}
 use Rattle.ipx_control.specs.declared.fault.ControlFault.{ControlFault}
 use Rattle.ipx_control.specs.declared.fault.ControlFault.TheVariants.{NoOperation, UnknownOperation, QueryShort}
-use Rattle.ipx_control.specs.declared.sap.ServiceEntry.{ServiceEntry}
-use Rattle.ipx_control.specs.declared.sap.Sap.{Sap}
-use Rattle.ipx_control.specs.declared.sap.Sap.TheVariants as saps
+use Rattle.ipx_control.specs.declared.sap.packet.ServiceEntry.{ServiceEntry}
+use Rattle.ipx_control.specs.declared.sap.packet.Sap.{Sap}
+use Rattle.ipx_control.specs.declared.sap.packet.Sap.TheVariants as saps
 use Rattle.ipx_control.specs.Entries.{AreEntries, entries_fault}
 
 -- the bytes of a service, and how many services a response may hold

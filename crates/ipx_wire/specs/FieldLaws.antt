@@ -16,8 +16,8 @@ pub record NumberLaws : Type 0 where
   pub four_are_one_list : (xs ys : List ℕ) → IsBytes xs → IsBytes ys → 4 ≤ length xs
       → 4 ≤ length ys → number 4 0 xs ≡ number 4 0 ys → drop 4 xs ≡ drop 4 ys → xs ≡ ys
 
--- addresses: no bytes are two; each in range has its bytes, which are bytes; bytes behind one change
--- nothing; and lists of bytes that begin with one address and go on alike are one list
+-- addresses: no bytes are two; each in range has its bytes, which are bytes; bytes behind one
+-- change nothing; and lists of bytes that begin with one address and go on alike are one list
 pub record AddressLaws : Type 0 where
   pub is_one : (a b : Address) (bytes : List ℕ) → IsAddress a bytes → IsAddress b bytes → a ≡ b
   pub is_read : (a : Address) (rest : List ℕ) → IsAddressInRange a

@@ -1,7 +1,7 @@
 //! Addresses and packets as people write them, in hex: network:node:socket.
 
 use crate::address::{Address, Network, Node, Socket};
-use crate::packet::Packet;
+use crate::ipx::Packet;
 use std::fmt;
 
 impl fmt::Display for Network {
