@@ -1,6 +1,6 @@
 -- Bytes are read as one thing alone.
 use Rattle.std.proofs.Common.{◌≡◌, ℕ, List, Some, None, refl, sym, ap, ◌∙◌, subst}
-use Rattle.ipx_wire.specs.declared.spx.SpxHeader.{SpxHeader}
+use Rattle.ipx_wire.specs.declared.spx.packet.SpxHeader.{SpxHeader}
 use Rattle.ipx_wire.specs.Ipx.{PacketView, IsIpx, ipx_fault}
 use Rattle.ipx_wire.specs.Spx.{IsSpx, spx_fault}
 use Rattle.ipx_control.specs.Rip.{RipView, IsRip, rip_fault}

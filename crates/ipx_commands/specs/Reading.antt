@@ -1,9 +1,9 @@
 -- What is read out of a datagram: a packet with what its body holds, or the fault that refuses it.
 use Rattle.std.specs.Prelude.{◌≡◌, ℕ, List, Option, Some, None, ◌==◌, if◌then◌else◌}
 use Rattle.ipx_wire.specs.Assigned.{rip_socket, sap_socket, spx_type}
-use Rattle.ipx_wire.specs.declared.packet.IpxHeader.{IpxHeader}
-use Rattle.ipx_wire.specs.declared.fault.IpxFault.{IpxFault}
-use Rattle.ipx_wire.specs.declared.spx.SpxHeader.{SpxHeader}
+use Rattle.ipx_wire.specs.declared.ipx.packet.IpxHeader.{IpxHeader}
+use Rattle.ipx_wire.specs.declared.ipx.fault.IpxFault.{IpxFault}
+use Rattle.ipx_wire.specs.declared.spx.packet.SpxHeader.{SpxHeader}
 use Rattle.ipx_wire.specs.declared.spx.fault.SpxFault.{SpxFault}
 use Rattle.ipx_wire.specs.Ipx.{PacketView, IsIpx, ipx_fault, view}
 use Rattle.ipx_wire.specs.Spx.{IsSpx, spx_fault}

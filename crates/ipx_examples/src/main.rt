@@ -1,8 +1,10 @@
 //! Examples that run, one for each library: a packet written and read, a table of routes, a router
-//! that learns a route and forwards by it, and two links that pass a unit. Each prints its steps.
+//! that learns a route and forwards by it, two links that pass a unit, and a message that is cut and
+//! joined. Each prints its steps.
 #![tactic(auto)]
 
 mod linking;
+mod messages;
 mod offers;
 mod packets;
 mod routing;
@@ -12,5 +14,6 @@ fn main(rt: HostRuntime) -> anyhow::Result<()> {
     packets::write_and_read(&rt, alloc)?;
     offers::hear_and_age(&rt, alloc)?;
     routing::learn_and_forward(&rt, alloc)?;
-    linking::pass_a_unit(&rt, alloc)
+    linking::pass_a_unit(&rt, alloc)?;
+    messages::cut_and_join(&rt, alloc)
 }

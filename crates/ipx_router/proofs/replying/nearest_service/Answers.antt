@@ -1,7 +1,7 @@
 use Rattle.std.proofs.Common.{◌≡◌, ◌+◌, ◌∙◌, List, [], ◌∷◌, ◌++◌, Option, get_or, take, sym, subst}
 use Rattle.std.specs.Prelude.{Contains, MatchOption}
 use Rattle.std.proofs.lemmas.List.{take_more}
-use Rattle.ipx_control.specs.declared.sap.ServiceEntry.{ServiceEntry}
+use Rattle.ipx_control.specs.declared.sap.packet.ServiceEntry.{ServiceEntry}
 use Rattle.ipx_router.specs.Replying.{IsNearest, NoneIsNear}
 use Rattle.ipx_router.proofs.HearingLemmas.{no_service}
 use Rattle.ipx_router.proofs.Nearest.{nearest_more, nearest_skip}
