@@ -6,6 +6,7 @@ pub mod courses;
 mod due;
 pub mod effects;
 mod fault;
+mod host;
 pub mod laws;
 mod limits;
 mod link;
