@@ -34,11 +34,11 @@ pub use effects::{
     units_are_sent_as_they_are, units_queue_in_order,
 };
 pub use fault::{LinksFault, OfferFault};
-pub use laws::{acknowledgement, allocation, marks, sequence};
+pub use laws::{acknowledgement, allocation, marks, sequence, windows};
 pub use limits::{MOST_LINKS, MOST_UNITS};
 pub use link::Link;
 pub use links::Links;
-pub use machine::{allowances, chain, fresh_packets, growth, packets, within};
+pub use machine::{allowances, chain, fresh_packets, growth, packets, soundness, within};
 pub use numbers::Numbers;
 pub use outgoing::{Outgoing, Sent};
 pub use received::Received;
