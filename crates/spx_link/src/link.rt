@@ -1,6 +1,6 @@
 //! One end of a connection: what it holds, and what it shows.
 
-ghost use Rattle.std.specs.Prelude.{◌≡◌};
+ghost use Rattle.std.specs.Prelude.{◌≡◌, ◌+◌, ◌≤◌, length};
 ghost use Rattle.spx_link.specs.Limits.{most_units};
 ghost use Rattle.spx_link.specs.LinkView.{LinkView, numbers_of};
 
@@ -81,7 +81,8 @@ impl Link {
 
     /// Its numbers.
     pub fn numbers(&self) -> Numbers
-        ensures { result ≡ numbers_of self.now }
+        ensures value { result ≡ numbers_of self.now }
+        ensures within { length self.now.held + length self.now.ahead ≤ self.now.buffers }
     {
         Numbers {
             next: self.next,
