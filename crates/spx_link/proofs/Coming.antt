@@ -35,14 +35,14 @@ poll_state l now = by (poll_says l now).state
     by (inr lost) = inr lost.0
 
 not_open : (s : State) → s ≡ S.Lost → is_open s ≡ true → ⊥
-not_open s lost open = let e : is_open S.Lost ≡ true = ap is_open (sym lost) ∙ open in cc
+not_open s lost early = let e : is_open S.Lost ≡ true = ap is_open (sym lost) ∙ early in cc
 
 open_polled : (s t : State) → (t ≡ s) ⊎ (t ≡ S.Lost) → is_open t ≡ true → is_open s ≡ true
-open_polled s t (inl same) open = ap is_open (sym same) ∙ open
-open_polled s t (inr lost) open = absurd (not_open t lost open)
+open_polled s t (inl same) early = ap is_open (sym same) ∙ early
+open_polled s t (inr lost) early = absurd (not_open t lost early)
 
 pub no_end_polled : (l : LinkView) (now : ℕ) → HasNoEndWhileOpen l → HasNoEndWhileOpen (poll_link l now).1
-no_end_polled l now has open = (poll_says l now).endings.end_queued ∙ has (open_polled l.state (poll_link l now).1.state (poll_state l now) open)
+no_end_polled l now has early = (poll_says l now).endings.end_queued ∙ has (open_polled l.state (poll_link l now).1.state (poll_state l now) early)
 
 confirmed_polled : (s t : State) → (t ≡ s) ⊎ (t ≡ S.Lost) → t ≡ S.Confirmed → s ≡ S.Confirmed
 confirmed_polled s t (inl same) is = sym same ∙ is
@@ -88,28 +88,28 @@ taken_polled l now taken has =
 -- ---- packets
 
 open_before : (a : Received) (s : State) → (a ≡ R.Joined → s ≡ S.Opening) → is_open (state_after a s) ≡ true → is_open s ≡ true
-open_before R.Joined s joins open = ap is_open (joins refl)
-open_before R.Kept s joins open = open
-open_before R.Repeat s joins open = open
-open_before R.Ahead s joins open = open
-open_before R.OverAllocation s joins open = open
-open_before R.System s joins open = open
-open_before R.PeerEnded S.Opening joins open = absurd (cc)
-open_before R.PeerEnded S.Live joins open = absurd (cc)
-open_before R.PeerEnded S.Ending joins open = absurd (cc)
-open_before R.PeerEnded S.PeerEnded joins open = absurd (cc)
-open_before R.PeerEnded S.Confirmed joins open = absurd (cc)
-open_before R.PeerEnded S.Lost joins open = absurd (cc)
-open_before R.Confirmed s joins open = absurd (cc)
-open_before R.Stranger s joins open = open
+open_before R.Joined s joins early = ap is_open (joins refl)
+open_before R.Kept s joins early = early
+open_before R.Repeat s joins early = early
+open_before R.Ahead s joins early = early
+open_before R.OverAllocation s joins early = early
+open_before R.System s joins early = early
+open_before R.PeerEnded S.Opening joins early = absurd (cc)
+open_before R.PeerEnded S.Live joins early = absurd (cc)
+open_before R.PeerEnded S.Ending joins early = absurd (cc)
+open_before R.PeerEnded S.PeerEnded joins early = absurd (cc)
+open_before R.PeerEnded S.Confirmed joins early = absurd (cc)
+open_before R.PeerEnded S.Lost joins early = absurd (cc)
+open_before R.Confirmed s joins early = absurd (cc)
+open_before R.Stranger s joins early = early
 
 pub joins_from_opening : (l : LinkView) (h : SpxHeader) (body : List ℕ) → (receive_link l h body).0 ≡ R.Joined → l.state ≡ S.Opening
 joins_from_opening l h body e = ((receive_keeps l h body).joins e).before
 
 pub no_end_received : (l : LinkView) (h : SpxHeader) (body : List ℕ) → HasNoEndWhileOpen l → HasNoEndWhileOpen (receive_link l h body).1
-no_end_received l h body has open =
+no_end_received l h body has early =
     let course = (receive_says l h body).course in
-    course.end_queued ∙ has (open_before (receive_link l h body).0 l.state (joins_from_opening l h body) (ap is_open (sym course.state) ∙ open))
+    course.end_queued ∙ has (open_before (receive_link l h body).0 l.state (joins_from_opening l h body) (ap is_open (sym course.state) ∙ early))
 
 -- an answer to a packet, after which a link is confirmed, is the confirmation, or it was confirmed before
 confirmed_before : (a : Received) (s : State) → state_after a s ≡ S.Confirmed → (a ≡ R.Confirmed) ⊎ (s ≡ S.Confirmed)
@@ -195,7 +195,7 @@ pub no_take : (l : LinkView) → (take_link l).0 ≡ None → (take_link l).1 �
 no_take l = none_taken l l.held
 
 pub no_end_taken : (l : LinkView) → HasNoEndWhileOpen l → HasNoEndWhileOpen (take_link l).1
-no_end_taken l has open = (take_says l).endings.end_queued ∙ has (ap is_open (sym (take_says l).state) ∙ open)
+no_end_taken l has early = (take_says l).endings.end_queued ∙ has (ap is_open (sym (take_says l).state) ∙ early)
 
 pub whole_taken : (l : LinkView) → IsWholeOnceConfirmed l → IsWholeOnceConfirmed (take_link l).1
 whole_taken l has is =
@@ -264,7 +264,7 @@ joins_or_stays l m a (inr is) stranger = inr (stranger is)
 pub opening_joins_or_stays : (l : LinkView) (h : SpxHeader) (body : List ℕ) → l.state ≡ S.Opening → ((receive_link l h body).0 ≡ R.Joined) ⊎ ((receive_link l h body).1 ≡ l)
 opening_joins_or_stays l h body opening =
     let says = receive_says l h body in
-    joins_or_stays l (receive_link l h body).1 (receive_link l h body).0 (joined_or_stranger (receive_link l h body).0 l.state says.own (ap is_joined opening)) says.course.stranger
+    joins_or_stays l (receive_link l h body).1 (receive_link l h body).0 (joined_or_stranger (receive_link l h body).0 l.state (λ read other. (says.own read other).0) (ap is_joined opening)) says.course.stranger
 
 -- ---- Opening or Lost
 
@@ -304,7 +304,7 @@ one_of a (inr is) read = absurd (read is)
 
 pub apart_joins : (l : LinkView) (h : SpxHeader) (body : List ℕ) → is_apart l.state ≡ true → ((receive_link l h body).0 ≡ R.Stranger → ⊥) → (receive_link l h body).0 ≡ R.Joined
 apart_joins l h body e read =
-    one_of (receive_link l h body).0 (joined_or_stranger (receive_link l h body).0 l.state (receive_says l h body).own (not_joined l.state e)) read
+    one_of (receive_link l h body).0 (joined_or_stranger (receive_link l h body).0 l.state (λ some other. ((receive_says l h body).own some other).0) (not_joined l.state e)) read
 
 refuses_at : (s : State) → is_apart s ≡ true → refusal s ≡ None → ⊥
 refuses_at S.Opening e none = absurd (cc)

@@ -123,6 +123,7 @@ some_stands_at l ls t (Some a) (Some b) rest here later is = first_of_two (nat_l
   where
     least : min a b ≡ t
     least = cc
+
     first_of_two : (first : Bool) → nat_lt a b ≡ first → Stands (l ∷ ls) t
     first_of_two true e =
         let less : a < b = grind (arith, nat_tests) in
@@ -143,13 +144,13 @@ acts_from l t is = let P : Option ℕ → Type 0 = λ o. IsNextDue l o in (subst
 all_by : (s : LinksView) (o : Option ℕ) → IsApart (ids_of s.links) → soonest s.links ≡ o → IsNextDueOfAll s o
 all_by s None apart is =
     λ id now l at less.
-      let P : Option ℕ → Type 0 = λ o. Before now o in
-      found_before s id now l (subst P (sym is) less) at
+    let P : Option ℕ → Type 0 = λ o. Before now o in
+    found_before s id now l (subst P (sym is) less) at
 all_by s (Some t) apart is =
     let one = some_stands s.links t is in (
       λ id now l at less.
-        let P : Option ℕ → Type 0 = λ o. Before now o in
-        found_before s id now l (subst P (sym is) less) at,
+          let P : Option ℕ → Type 0 = λ o. Before now o in
+          found_before s id now l (subst P (sym is) less) at,
       (one.link.own, one.link, stands s.links one.place one.link apart one.within one.read, acts_from one.link t one.due),
     )
 

@@ -1,6 +1,6 @@
 //! The links of a host, by their ids.
 
-ghost use Rattle.std.specs.Prelude.{◌≡◌, ◌<◌, ◌↔◌, ℕ, Err, IfOk, IfSome, IsSome, IsTrue, MatchOption, None, OnErr, option_copied};
+ghost use Rattle.std.specs.Prelude.{◌≡◌, ◌≤◌, ◌<◌, ◌↔◌, ℕ, Err, IfOk, IfSome, IsSome, IsTrue, MatchOption, None, OnErr, option_copied};
 ghost use Rattle.std.specs.Bool.{OnFalse, OnTrue};
 ghost use Rattle.spx_link.specs.Due.{IsNextDueOfAll};
 ghost use Rattle.spx_link.specs.Limits.{most_links};
@@ -131,9 +131,11 @@ impl Links {
         least_accepted(&self.links, from, peer_id)
     }
 
-    /// The least live id above another.
+    /// The least live id above another. Live ids are from 0001 to FFFE, and at most 16.
     pub fn after(&self, id: u16) -> Option<u16>
-        ensures { MatchOption result ((q : ℕ) → ¬ IsAbove self.now id q) (IsLeast (IsAbove self.now id)) }
+        ensures next { MatchOption result ((q : ℕ) → ¬ IsAbove self.now id q) (IsLeast (IsAbove self.now id)) }
+        ensures ids { (q : ℕ) → IsLive self.now q → (0 < q) × (q < 65535) }
+        ensures few { count_of self.now ≤ most_links }
     {
         least_above(&self.links, id)
     }
