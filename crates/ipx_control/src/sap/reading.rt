@@ -86,6 +86,7 @@ pub fn decode_sap(alloc: Global, bytes: &[u8]) -> Result<Sap, ControlFault>
         return Err(ControlFault::TooManyEntries(count));
     }
     let services = services_in(alloc, &bytes[2..])?;
+    // A law for the proof of `only`: it does nothing.
     bytes_are_one_sap();
     Ok(Sap::Response {
         nearest: operation == 4,

@@ -69,6 +69,7 @@ pub fn encode_sap_into(sap: &Sap, out: &mut [u8]) -> usize
             return 4;
         }
         Sap::Response { nearest, services } => {
+            // Laws for the proof of `written`: they do nothing.
             field_laws();
             put_response(out, *nearest, services);
             return 2 + SERVICE_SIZE * services.len();
