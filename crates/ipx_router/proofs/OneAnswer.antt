@@ -1,6 +1,7 @@
 -- A router's answer is one.
-use Rattle.std.proofs.Common.{◌≡◌, ℕ, ◌-◌, ◌<◌, ◌⊎◌, inl, inr, Bool, true, false, List, [], ◌∷◌, length, Option, Some, None, refl, sym, ap, ◌∙◌, subst, arith}
-use Rattle.std.specs.Prelude.{MatchBool, MatchOption, slice_get, if◌then◌else◌, unwrap_or}
+use Rattle.ipx_wire.specs.Assigned.{rip_socket, sap_socket}
+use Rattle.std.proofs.Common.{◌≡◌, ℕ, ◌<◌, inl, inr, Bool, true, false, List, [], ◌∷◌, length, Option, Some, None, refl, sym, ap, ◌∙◌, subst}
+use Rattle.std.specs.Prelude.{MatchBool, MatchOption, if◌then◌else◌}
 use Rattle.std.specs.Cmp.{IsTotalOrder}
 use Rattle.std.specs.Cmp.Lexicographic.{slice_cmp}
 use Rattle.std.specs.Ordering.{nat_cmp}
@@ -10,7 +11,6 @@ use Rattle.std.proofs.lemmas.Option.{slice_get_within}
 use Rattle.ipx_wire.specs.declared.address.Network.{Network}
 use Rattle.ipx_wire.specs.declared.packet.IpxHeader.{IpxHeader}
 use Rattle.ipx_wire.specs.Ipx.{IsBytes, IsIpx, PacketView, ipx_fault}
-use Rattle.ipx_control.specs.declared.fault.ControlFault.{ControlFault}
 use Rattle.ipx_control.specs.declared.rip.RipEntry.{RipEntry}
 use Rattle.ipx_control.specs.declared.sap.ServiceEntry.{ServiceEntry}
 use Rattle.ipx_control.specs.Rip.{RipView, IsRip, rip_fault}
@@ -21,11 +21,11 @@ use Rattle.ipx_tables.specs.declared.route.RouteMetric.{RouteMetric}
 use Rattle.ipx_tables.specs.declared.service.ServiceKey.{ServiceKey}
 use Rattle.ipx_tables.specs.declared.service.ServiceMetric.{ServiceMetric}
 use Rattle.ipx_tables.specs.declared.source.Source.{Source}
-use Rattle.ipx_tables.specs.Best.{IsBest, NoneCounts}
-use Rattle.ipx_tables.specs.Content.{Content, IsTable, Table, after_hear}
+use Rattle.ipx_tables.specs.Best.{IsBest}
+use Rattle.ipx_tables.specs.Content.{IsTable, Table, after_hear}
 use Rattle.ipx_tables.specs.Order.{TellsApart, strict_from_cmp}
 use Rattle.ipx_tables.specs.Route.{network_cmp, route_before, route_dead}
-use Rattle.ipx_tables.specs.Service.{address_cmp, service_dead, service_key_cmp}
+use Rattle.ipx_tables.specs.Service.{service_dead, service_key_cmp}
 use Rattle.ipx_router.specs.declared.classify.Concern.{Concern}
 use Rattle.ipx_router.specs.declared.classify.Concern.TheVariants as concerns
 use Rattle.ipx_router.specs.declared.forwarding.Fate.{Fate}
@@ -38,14 +38,14 @@ use Rattle.ipx_router.specs.declared.route.Route.{Route}
 use Rattle.ipx_router.specs.RouterView.{RouterView}
 use Rattle.ipx_router.specs.OutcomeView.{OutcomeView, Forward, Replies, Heard, Dropped}
 use Rattle.ipx_router.specs.Knowledge.{AreTables, HoldsKnown, HoldsRoutes, HoldsServices, Known, Routes, Services, Tables, known_at, tables}
-use Rattle.ipx_router.specs.Packets.{AreRoutePackets, AreServicePackets, IsRipPacket, IsSapPacket, SendingView, rip_socket, sap_socket}
+use Rattle.ipx_router.specs.Packets.{AreRoutePackets, AreServicePackets, IsRipPacket, IsSapPacket, SendingView}
 use Rattle.ipx_router.specs.Classify.{concern_of}
 use Rattle.ipx_router.specs.Route.{IsHeardRoute, IsRouteOrNone, IsRouteTo, direct_route, over_neighbour, over_port}
 use Rattle.ipx_router.specs.Forward.{Forwards, IsFate, by_route, forward_header}
 use Rattle.ipx_router.specs.Told.{AreToldRoutes, IsToldRoute, IsToldService, key_of_service, route_key, told_route}
 use Rattle.ipx_router.specs.Replying.{AreNearest, AreRoutesAsked, AreServicesAsked, AreToldOf, IsNearest, RepliesRoutes, RepliesServices, asks_all, nearness}
-use Rattle.ipx_router.specs.Hearing.{AtEntry, HeardRoutes, HeardServices, IsFullForRoute, IsFullForService, after_route, after_service, is_heard, route_metric, service_metric, source_of}
-use Rattle.ipx_router.specs.Answer.{Answers, AnswersByConcern, AnswersBytes, AnswersPacket, AnswersRip, AnswersRipMessage, AnswersSap, AnswersSapMessage, HearsRoutes, HearsServices, Receives}
+use Rattle.ipx_router.specs.Hearing.{AtEntry, HeardRoutes, HeardServices, IsFullForRoute, IsFullForService, after_route, after_service, route_metric, service_metric, source_of}
+use Rattle.ipx_router.specs.Answer.{AnswersByConcern, AnswersBytes, AnswersPacket, AnswersRip, AnswersRipMessage, AnswersSap, AnswersSapMessage, HearsRoutes, HearsServices, Receives}
 use Rattle.ipx_router.proofs.Rising.{network_total}
 use Rattle.ipx_router.proofs.OneList.{list_is_one}
 use Rattle.ipx_router.proofs.OnePacket.{OneListOfBytes, bytes_one, cuts_one, own_packet_one}

@@ -138,7 +138,8 @@ fn answer_packet(
         (ConcernWantsMemory (known_in ports.now routes.old services.old) at
         (packet_view packet.entry) (routes.new, services.new)
         (concern_of at.port packet.entry.header)) }
-    ensures one_hop_on { IfOk result (λ o. IsForwardOf at.port (packet_view packet.entry) (view o)) }
+    ensures one_hop_on { IfOk result (λ o.
+        IsForwardOf at.port (packet_view packet.entry) (view o)) }
     ensures there { IfOk result (λ o. IsOnPort (length ports.now) (view o)) }
     ensures most { (routes.new.most ≡ routes.old.most) × (services.new.most ≡ services.old.most) }
     ensures sound { IsSound ports.now (routes.new, services.new) }

@@ -11,11 +11,11 @@ ghost use Rattle.ipx_router.specs.Packets.{sendings};
 ghost use Rattle.ipx_router.specs.Adding.{AddsPackets};
 
 use crate::outcome::Reply;
-use crate::packets::{RIP_SOCKET, SAP_SOCKET, add_route_packets, add_service_packets, everyone};
+use crate::packets::{add_route_packets, add_service_packets, everyone};
 use crate::port::{Port, PortNow};
 use crate::told::{routes_as_told, services_as_told};
 use ipx_tables::{RouteMetric, RouteTable, ServiceKey, ServiceMetric, ServiceTable, Source};
-use ipx_wire::{Network, OutOfMemory};
+use ipx_wire::{Network, OutOfMemory, Socket};
 use std::alloc::Global;
 
 /// How long routes and services are not told again, in milliseconds.
@@ -47,9 +47,9 @@ fn tell_on(
 {
     let known_routes = routes_as_told(alloc, ports, heard_routes, at)?;
     let known_services = services_as_told(alloc, heard_services, at)?;
-    let for_routes = everyone(at.number, at.port, RIP_SOCKET);
+    let for_routes = everyone(at.number, at.port, Socket::RIP);
     add_route_packets(alloc, told, for_routes, &known_routes)?;
-    let for_services = everyone(at.number, at.port, SAP_SOCKET);
+    let for_services = everyone(at.number, at.port, Socket::SAP);
     add_service_packets(alloc, told, for_services, false, &known_services)?;
     Ok(())
 }

@@ -94,7 +94,8 @@ fn add_heard(
     at: PortNow,
 ) -> Result<(), OutOfMemory>
     requires { IsRising network_cmp route_key told.old.items }
-    ensures { OnOk result (AddsHeard ports.now at heard.now (length heard.now) told.old.items told.new.items) }
+    ensures { OnOk result (AddsHeard ports.now at heard.now (length heard.now)
+        told.old.items told.new.items) }
 {
     for item in heard {
         if is_over_other_neighbour(ports, *item, at) {
@@ -137,7 +138,8 @@ pub fn told_routes(
     Ok(told)
 }
 
-fn told_service_of(item: &(ServiceKey, Source, ServiceMetric)) -> ServiceEntry
+/// A service as it is told.
+pub fn told_service_of(item: &(ServiceKey, Source, ServiceMetric)) -> ServiceEntry
     ensures { result ≡ told_service item.now }
 {
     let onward = item.2.one_more();
@@ -155,7 +157,8 @@ fn services_by_other_ports(
     heard: &[(ServiceKey, Source, ServiceMetric)],
     at: PortNow,
 ) -> Result<Vec<ServiceEntry>, OutOfMemory>
-    ensures { IfOk result (λ v. v.items ≡ map told_service (filter (λ item. not (item.1.port == at.number)) heard.now)) }
+    ensures { IfOk result (λ v. v.items
+        ≡ map told_service (filter (λ item. not (item.1.port == at.number)) heard.now)) }
 {
     let told = heard
         .iter()
