@@ -1,4 +1,5 @@
 -- Packets added one after another, and the ports that they leave by.
+use Rattle.ipx_wire.specs.Assigned.{packet_exchange_type, rip_socket, rip_type, sap_socket}
 use Rattle.std.proofs.Common.{◌≡◌, ℕ, Bool, true, false, ◌<◌, List, [], ◌∷◌, ◌++◌, length, take, drop, refl, sym, ap, ◌∙◌, subst, arith, inl, inr, min, append-nil}
 use Rattle.std.proofs.lemmas.Bool.{cases_lt}
 use Rattle.std.proofs.lemmas.List.{take_all, drop_all}
@@ -14,7 +15,7 @@ use Rattle.ipx_control.specs.Rip as rip
 use Rattle.ipx_control.specs.Sap.{SapView}
 use Rattle.ipx_control.specs.Sap as sap
 use Rattle.ipx_router.specs.declared.packets.Recipient.{Recipient}
-use Rattle.ipx_router.specs.Packets.{AreCutOf, AreRoutePackets, AreServicePackets, AreOwn, IsOwn, IsRipPacket, IsSapPacket, SendingView, own_header, rip_socket, sap_socket, sending_of, sendings}
+use Rattle.ipx_router.specs.Packets.{AreCutOf, AreRoutePackets, AreServicePackets, AreOwn, IsOwn, IsRipPacket, IsSapPacket, SendingView, own_header, sending_of, sendings}
 use Rattle.ipx_router.specs.Adding.{AddsPackets, IsLeftToAdd}
 
 pub sendings_push : (old : List Reply) (r : Reply) (later : List SendingView) → sendings (old ++ r ∷ []) ++ later ≡ sendings old ++ (sending_of r ∷ later)
@@ -71,12 +72,12 @@ module _ (to : Recipient) where
   pub rip_packet_own : (m : RipView) (s : SendingView) → IsRipPacket to m s → IsOwn s
   rip_packet_own m s p =
       let q : IsRipPacket to m s = p in
-      record { packet = record { header = own_header to 1 rip_socket; body = q.body }; is = q.packet.packet; no_spx = λ e. omega (arith, e) }
+      record { packet = record { header = own_header to rip_type rip_socket; body = q.body }; is = q.packet.packet; no_spx = λ e. omega (arith, e) }
 
   pub sap_packet_own : (m : SapView) (s : SendingView) → IsSapPacket to m s → IsOwn s
   sap_packet_own m s p =
       let q : IsSapPacket to m s = p in
-      record { packet = record { header = own_header to 4 sap_socket; body = q.body }; is = q.packet.packet; no_spx = λ e. omega (arith, e) }
+      record { packet = record { header = own_header to packet_exchange_type sap_socket; body = q.body }; is = q.packet.packet; no_spx = λ e. omega (arith, e) }
 
   pub route_packets_own : (entries : List RipEntry) (sent : List SendingView) → AreRoutePackets to entries sent → AreOwn sent
   route_packets_own entries sent cut =

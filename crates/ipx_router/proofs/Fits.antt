@@ -1,4 +1,5 @@
 -- What holds of the packets of every answer: they leave by ports that are there, and those of the router's own are no SPX.
+use Rattle.ipx_wire.specs.Assigned.{rip_socket, sap_socket}
 use Rattle.std.proofs.Common.{◌≡◌, ℕ, ◌+◌, Bool, true, false, List, [], ◌∷◌, Option, Some, None, Result, Ok, Err, sym, subst, arith}
 use Rattle.std.specs.Prelude.{IfOk, MatchBool, MatchOption}
 use Rattle.std.specs.List.{All}
@@ -31,7 +32,7 @@ use Rattle.ipx_router.specs.declared.reason.Reason.TheVariants.{Bad, BadControl}
 use Rattle.ipx_router.specs.RouterView.{RouterView}
 use Rattle.ipx_router.specs.Knowledge.{HoldsKnown, HoldsRoutes, HoldsServices, Known, Routes, Services, Tables}
 use Rattle.ipx_router.specs.Ports.{AreOnPorts, IsPortNumber}
-use Rattle.ipx_router.specs.Packets.{AreOwn, IsOwn, SendingView, all_nodes, asker, rip_socket, sap_socket}
+use Rattle.ipx_router.specs.Packets.{AreOwn, IsOwn, SendingView, all_nodes, asker}
 use Rattle.ipx_router.specs.OutcomeView.{OutcomeView, Forward, Replies, Heard, Dropped, IsOnPort, replies_of, view}
 use Rattle.ipx_router.specs.Classify.{concern_of}
 use Rattle.ipx_router.specs.Hearing.{source_of}

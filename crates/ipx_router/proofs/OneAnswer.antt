@@ -1,4 +1,5 @@
 -- A router's answer is one.
+use Rattle.ipx_wire.specs.Assigned.{rip_socket, sap_socket}
 use Rattle.std.proofs.Common.{◌≡◌, ℕ, ◌<◌, inl, inr, Bool, true, false, List, [], ◌∷◌, length, Option, Some, None, refl, sym, ap, ◌∙◌, subst}
 use Rattle.std.specs.Prelude.{MatchBool, MatchOption, if◌then◌else◌}
 use Rattle.std.specs.Cmp.{IsTotalOrder}
@@ -37,7 +38,7 @@ use Rattle.ipx_router.specs.declared.route.Route.{Route}
 use Rattle.ipx_router.specs.RouterView.{RouterView}
 use Rattle.ipx_router.specs.OutcomeView.{OutcomeView, Forward, Replies, Heard, Dropped}
 use Rattle.ipx_router.specs.Knowledge.{AreTables, HoldsKnown, HoldsRoutes, HoldsServices, Known, Routes, Services, Tables, known_at, tables}
-use Rattle.ipx_router.specs.Packets.{AreRoutePackets, AreServicePackets, IsRipPacket, IsSapPacket, SendingView, rip_socket, sap_socket}
+use Rattle.ipx_router.specs.Packets.{AreRoutePackets, AreServicePackets, IsRipPacket, IsSapPacket, SendingView}
 use Rattle.ipx_router.specs.Classify.{concern_of}
 use Rattle.ipx_router.specs.Route.{IsHeardRoute, IsRouteOrNone, IsRouteTo, direct_route, over_neighbour, over_port}
 use Rattle.ipx_router.specs.Forward.{Forwards, IsFate, by_route, forward_header}

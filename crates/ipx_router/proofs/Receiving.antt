@@ -162,7 +162,7 @@ module _ (ports : List Port) (routes : Routes) (at : PortNow) (d : PacketView) (
 module _ (services : Services) (at : PortNow) (d : PacketView) (f : ControlFault)
     (no_memory : (m : SapView) (tail : List ℕ) → IsSap m d.body tail → sap_services m ≡ [] → IsOk {T = Sap} (Err f)) (new : Table ServiceKey ServiceMetric) (same : HoldsServices new services) where
   sap_unread_by : (m : SapView) → (sap_services m ≡ [] → ⊥) → SapMessageWantsMemory services at d.header m new
-  sap_unread_by (sap.Query nearest kind) some = same
+  sap_unread_by (sap.Query nearest kind) some = absurd (some refl)
   sap_unread_by (sap.Response nearest entries) some = inl (some_entry entries some, same)
 
   pub sap_unread : (m : SapView) × (tail : List ℕ) × IsSap m d.body tail → SapWantsMemory services at d new

@@ -42,7 +42,7 @@ elsewhere (Some place) number e = (place, refl, eqb-false (place + 1) number (no
 pub not_itself : (a b : ℕ) → (a ≡ b → ⊥) → not (nat_eq a b) ≡ true
 not_itself a b ne = elim (eqb_tells a b) [ inl same ↦ absurd (ne same.1) | inr other ↦ not_from_false _ other.0 ]
 
-both : (a b : Bool) → (a && b) ≡ true → (a ≡ true) × (b ≡ true)
+pub both : (a b : Bool) → (a && b) ≡ true → (a ≡ true) × (b ≡ true)
 both true b e = (refl, e)
 both false b e = cc
 

@@ -1,4 +1,5 @@
--- What a router does with the bytes that come in on a port: what it answers, and what it holds then.
+-- What a router does with the bytes that come in on a port: what it answers, and what it holds
+-- then.
 -- The entry point is `Receives`, at the end.
 use Rattle.std.specs.Prelude.{◌≡◌, ℕ, List, length, MatchOption, count_by}
 use Rattle.ipx_wire.specs.declared.address.Network.{Network}
@@ -31,7 +32,8 @@ use Rattle.ipx_router.specs.Replying.{RepliesRoutes, RepliesServices}
 use Rattle.ipx_router.specs.Hearing.{AtEntry, HeardRoutes, HeardServices, IsFullForRoute, IsFullForService, is_heard, source_of}
 
 -- all entries of a response were heard, or those before the first that found the table full
-abbrev pub HearsRoutes : List Port → Routes → Source → ℕ → List RipEntry → OutcomeView → Table Network RouteMetric → Type 0
+abbrev pub HearsRoutes : List Port → Routes → Source → ℕ → List RipEntry → OutcomeView
+    → Table Network RouteMetric → Type 0
 HearsRoutes ports routes source now entries (Heard n) new = (n ≡ count_by (is_heard ports) entries)
     × HeardRoutes ports source now entries routes (length entries) new
 HearsRoutes ports routes source now entries (Dropped reason) new = (reason ≡ TableFull)
@@ -40,7 +42,8 @@ HearsRoutes ports routes source now entries (Dropped reason) new = (reason ≡ T
 HearsRoutes ports routes source now entries (Forward port next bytes) new = ⊥
 HearsRoutes ports routes source now entries (Replies sent) new = ⊥
 
-abbrev pub HearsServices : Services → Source → ℕ → List ServiceEntry → OutcomeView → Table ServiceKey ServiceMetric → Type 0
+abbrev pub HearsServices : Services → Source → ℕ → List ServiceEntry → OutcomeView
+    → Table ServiceKey ServiceMetric → Type 0
 HearsServices services source now entries (Heard n) new = (n ≡ length entries)
     × HeardServices source now entries services (length entries) new
 HearsServices services source now entries (Dropped reason) new = (reason ≡ TableFull)
@@ -49,14 +52,16 @@ HearsServices services source now entries (Dropped reason) new = (reason ≡ Tab
 HearsServices services source now entries (Forward port next bytes) new = ⊥
 HearsServices services source now entries (Replies sent) new = ⊥
 
-abbrev pub AnswersRipMessage : List Port → Routes → PortNow → IpxHeader → RipView → OutcomeView → Table Network RouteMetric → Type 0
+abbrev pub AnswersRipMessage : List Port → Routes → PortNow → IpxHeader → RipView
+    → OutcomeView → Table Network RouteMetric → Type 0
 AnswersRipMessage ports routes at h (rip.Request asked) a new =
     (sent : List SendingView) × (a ≡ Replies sent)
     × RepliesRoutes ports routes at (asker at h) asked sent × HoldsRoutes new routes
 AnswersRipMessage ports routes at h (rip.Response entries) a new =
     HearsRoutes ports routes (source_of at h) at.now entries a new
 
-abbrev pub AnswersSapMessage : Services → PortNow → IpxHeader → SapView → OutcomeView → Table ServiceKey ServiceMetric → Type 0
+abbrev pub AnswersSapMessage : Services → PortNow → IpxHeader → SapView → OutcomeView
+    → Table ServiceKey ServiceMetric → Type 0
 AnswersSapMessage services at h (sap.Query nearest kind) a new =
     (sent : List SendingView) × (a ≡ Replies sent)
     × RepliesServices services at (asker at h) nearest kind sent × HoldsServices new services
@@ -64,13 +69,15 @@ AnswersSapMessage services at h (sap.Response nearest entries) a new =
     HearsServices services (source_of at h) at.now entries a new
 
 -- a body that is no RIP packet is dropped
-abbrev pub AnswersRip : List Port → Routes → PortNow → PacketView → OutcomeView → Table Network RouteMetric → Type 0
+abbrev pub AnswersRip : List Port → Routes → PortNow → PacketView → OutcomeView
+    → Table Network RouteMetric → Type 0
 AnswersRip ports routes at d a new = MatchOption (rip_fault d.body)
     ((m : RipView) × (tail : List ℕ) × IsRip m d.body tail
     × AnswersRipMessage ports routes at d.header m a new)
     (λ f. (a ≡ Dropped (BadControl f)) × HoldsRoutes new routes)
 
-abbrev pub AnswersSap : Services → PortNow → PacketView → OutcomeView → Table ServiceKey ServiceMetric → Type 0
+abbrev pub AnswersSap : Services → PortNow → PacketView → OutcomeView
+    → Table ServiceKey ServiceMetric → Type 0
 AnswersSap services at d a new = MatchOption (sap_fault d.body)
     ((m : SapView) × (tail : List ℕ) × IsSap m d.body tail
     × AnswersSapMessage services at d.header m a new)
@@ -96,7 +103,8 @@ AnswersBytes k at bytes a new = MatchOption (ipx_fault bytes)
     (AnswersPacket k at bytes a new)
     (λ f. (a ≡ Dropped (Bad f)) × HoldsKnown k new)
 
--- what a router answers to bytes that come in on its port of a number at a moment, and the offers that it holds then
+-- what a router answers to bytes that come in on its port of a number at a moment, and the offers
+-- that it holds then
 abbrev pub Answers : RouterView → ℕ → List ℕ → ℕ → OutcomeView → RouterView → Type 0
 Answers old port bytes now a new = (arrived : Port) × IsPort old.ports port arrived
     × AnswersBytes (known_at old now) (record { number = port; port = arrived; now = now })
@@ -104,7 +112,8 @@ Answers old port bytes now a new = (arrived : Port) × IsPort old.ports port arr
 
 -- what a router does with bytes that come in: its answer, and the router that it is then.
 -- What the answer sends is packets, of numbers under 256.
-pub record Receives (old : RouterView) (port : ℕ) (bytes : List ℕ) (now : ℕ) (a : OutcomeView) (new : RouterView) : Type 0 where
+pub record Receives (old : RouterView) (port : ℕ) (bytes : List ℕ) (now : ℕ) (a : OutcomeView)
+    (new : RouterView) : Type 0 where
   pub answers : Answers old port bytes now a new
   pub rest : KeepsRest old new
   pub told : new.told ≡ old.told

@@ -2,6 +2,7 @@
 -- (Novell IPX Router Specification, forwarding).
 use Rattle.std.specs.Prelude.{◌≡◌, ℕ, ◌+◌, List, Option, Some, None, nat_le, ◌==◌, if◌then◌else◌, unwrap_or}
 use Rattle.ipx_wire.specs.declared.packet.IpxHeader.{IpxHeader}
+use Rattle.ipx_wire.specs.Assigned.{local_network}
 use Rattle.ipx_wire.specs.Ipx.{PacketView}
 use Rattle.ipx_router.specs.declared.port.Port.{Port}
 use Rattle.ipx_router.specs.declared.port.PortNow.{PortNow}
@@ -14,7 +15,8 @@ use Rattle.ipx_router.specs.Route.{IsRouteOrNone}
 use Rattle.ipx_router.specs.Packets.{AreBytesOf}
 use Rattle.ipx_router.specs.OutcomeView.{OutcomeView, Forward, Dropped}
 
--- a packet that fifteen routers carried goes no further; the next node is the neighbour, or on a port's own network the destination
+-- a packet that fifteen routers carried goes no further; the next node is the neighbour, or on a
+-- port's own network the destination
 abbrev pub by_route : IpxHeader → Option Route → Fate
 by_route h None = fates.Dropped (NoRoute h.to.network)
 by_route h (Some route) =
@@ -26,7 +28,7 @@ abbrev pub forward_header : Port → IpxHeader → IpxHeader
 forward_header arrived h = record h {
   hops = h.hops + 1;
   from = record h.from {
-    network = if h.from.network.0 == 0 then arrived.network else h.from.network;
+    network = if h.from.network.0 == local_network then arrived.network else h.from.network;
   };
 }
 

@@ -23,9 +23,11 @@ ForwardsPacket bytes (Dropped reason) = Unit {0}
 
 -- whatever packet the bytes are, what is forwarded is it one hop on
 abbrev pub ForwardsEachReading : Port → List ℕ → OutcomeView → Type 0
-ForwardsEachReading arrived bytes a = (d : PacketView) → BeginsWith bytes d → IsForwardOf arrived d a
+ForwardsEachReading arrived bytes a =
+    (d : PacketView) → BeginsWith bytes d → IsForwardOf arrived d a
 
--- what is forwarded of bytes that came in on the port of a number is the packet that they are, one hop on
+-- what is forwarded of bytes that came in on the port of a number is the packet that they are, one
+-- hop on
 abbrev pub ForwardsOneHopOn : RouterView → ℕ → List ℕ → OutcomeView → Type 0
 ForwardsOneHopOn r port bytes a = (arrived : Port) × IsPort r.ports port arrived
     × ForwardsPacket bytes a × ForwardsEachReading arrived bytes a

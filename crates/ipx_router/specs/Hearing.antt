@@ -4,6 +4,7 @@ use Rattle.std.specs.declared.cmp.Ordering.{Ordering}
 use Rattle.std.specs.List.{list_any}
 use Rattle.ipx_wire.specs.declared.address.Network.{Network}
 use Rattle.ipx_wire.specs.declared.packet.IpxHeader.{IpxHeader}
+use Rattle.ipx_wire.specs.Assigned.{all_networks, local_network}
 use Rattle.ipx_control.specs.declared.rip.RipEntry.{RipEntry}
 use Rattle.ipx_control.specs.declared.sap.ServiceEntry.{ServiceEntry}
 use Rattle.ipx_tables.specs.declared.route.RouteMetric.{RouteMetric}
@@ -25,7 +26,7 @@ source_of at h = record { port = at.number; neighbour = h.from.node }
 
 -- no route to the network at hand, to all networks, or to a port's own network is heard
 abbrev pub is_heard : List Port → RipEntry → Bool
-is_heard ports e = not ((e.network.0 == 0) || (e.network.0 == 4294967295)
+is_heard ports e = not ((e.network.0 == local_network) || (e.network.0 == all_networks)
     || list_any (λ p. p.network.0 == e.network.0) ports)
 
 abbrev pub route_metric : RipEntry → RouteMetric
@@ -48,22 +49,26 @@ module _ (ports : List Port) (source : Source) (now : ℕ) where
 module _ (source : Source) (now : ℕ) where
   abbrev pub after_service : Services → ServiceEntry → Services
   after_service services e =
-      after_hear service_key_cmp service_dead services (key_of_service e, source) (service_metric e) now
+      after_hear service_key_cmp service_dead services
+      (key_of_service e, source) (service_metric e) now
 
   abbrev pub after_services : Services → List ServiceEntry → Services
   after_services = fold after_service
 
 -- the first n entries were heard, each of them found room, and the others were not heard
-pub record HeardFirst {K M E : Type 0} (cmp : K → K → Ordering) (after : List E → Content K M) (entries : List E) (n : ℕ) (new : Table K M) : Type 0 where
+pub record HeardFirst {K M E : Type 0} (cmp : K → K → Ordering) (after : List E → Content K M)
+    (entries : List E) (n : ℕ) (new : Table K M) : Type 0 where
   pub within : n ≤ length entries
   pub room : (m : ℕ) → m ≤ n → Fits cmp new.most (after (take m entries))
   pub holds : (p : K × Source) → content cmp new.offers p ≡ after (take n entries) p
 
-abbrev pub HeardRoutes : List Port → Source → ℕ → List RipEntry → Routes → ℕ → Table Network RouteMetric → Type 0
+abbrev pub HeardRoutes : List Port → Source → ℕ → List RipEntry → Routes → ℕ
+    → Table Network RouteMetric → Type 0
 HeardRoutes ports source now entries routes =
     HeardFirst network_cmp (after_routes ports source now routes) entries
 
-abbrev pub HeardServices : Source → ℕ → List ServiceEntry → Services → ℕ → Table ServiceKey ServiceMetric → Type 0
+abbrev pub HeardServices : Source → ℕ → List ServiceEntry → Services → ℕ
+    → Table ServiceKey ServiceMetric → Type 0
 HeardServices source now entries services =
     HeardFirst service_key_cmp (after_services source now services) entries
 

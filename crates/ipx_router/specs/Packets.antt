@@ -3,6 +3,7 @@ use Rattle.std.specs.Prelude.{◌≡◌, ◌≢◌, ◌<◌, ℕ, Bool, List, []
 use Rattle.ipx_wire.specs.declared.address.Node.{Node}
 use Rattle.ipx_wire.specs.declared.packet.IpxHeader.{IpxHeader}
 use Rattle.ipx_wire.specs.Ipx.{IsBytes, IsIpx, PacketView}
+use Rattle.ipx_wire.specs.Assigned.{broadcast_node, packet_exchange_type, rip_socket, rip_type, sap_socket, spx_type}
 use Rattle.ipx_control.specs.declared.rip.RipEntry.{RipEntry}
 use Rattle.ipx_control.specs.declared.sap.ServiceEntry.{ServiceEntry}
 use Rattle.ipx_control.specs.Rip.{RipView, IsRip}
@@ -26,23 +27,16 @@ sending_of r = record { port = r.port; next = r.next; bytes = r.bytes.items }
 abbrev pub sendings : List Reply → List SendingView
 sendings = map sending_of
 
--- the sockets of RIP and SAP
-abbrev pub rip_socket : ℕ
-rip_socket = 0x453
-
-abbrev pub sap_socket : ℕ
-sap_socket = 0x452
-
 -- the bytes are the packet and nothing behind it, each a number under 256
 pub record AreBytesOf (p : PacketView) (bytes : List ℕ) : Type 0 where
   pub packet : IsIpx p bytes []
   pub in_range : IsBytes bytes
 
--- a packet that no end of SPX reads: its type is not 5
+-- a packet that no end of SPX reads
 pub record IsOwn (s : SendingView) : Type 0 where
   pub packet : PacketView
   pub is : IsIpx packet s.bytes []
-  pub no_spx : packet.header.kind ≢ 5
+  pub no_spx : packet.header.kind ≢ spx_type
 
 abbrev pub AreOwn : List SendingView → Type 0
 AreOwn = All IsOwn
@@ -54,7 +48,7 @@ asker at h =
 
 -- node FFFFFFFFFFFF is all nodes of a network
 abbrev pub broadcast : Node
-broadcast = record { 0 = 255 ∷ 255 ∷ 255 ∷ 255 ∷ 255 ∷ 255 ∷ [] }
+broadcast = record { 0 = broadcast_node }
 
 -- all nodes of a port's network, at a socket
 abbrev pub all_nodes : ℕ → Port → ℕ → Recipient
@@ -65,7 +59,8 @@ all_nodes number port socket = record {
   socket = record { 0 = socket };
 }
 
--- the header of a packet of the router's own, from its port to a node and socket of that port's network
+-- the header of a packet of the router's own, from its port to a node and socket of that port's
+-- network
 abbrev pub own_header : Recipient → ℕ → ℕ → IpxHeader
 own_header to kind socket = record {
   hops = 0;
@@ -75,7 +70,8 @@ own_header to kind socket = record {
 }
 
 -- a packet of the router's own with such a body, and nothing behind it
-pub record IsOwnPacket (to : Recipient) (kind socket : ℕ) (IsBody : List ℕ → Type 0) (s : SendingView) : Type 0 where
+pub record IsOwnPacket (to : Recipient) (kind socket : ℕ) (IsBody : List ℕ → Type 0)
+    (s : SendingView) : Type 0 where
   pub port : s.port ≡ to.number
   pub next : s.next ≡ to.node
   pub body : List ℕ
@@ -83,16 +79,19 @@ pub record IsOwnPacket (to : Recipient) (kind socket : ℕ) (IsBody : List ℕ �
   pub packet : AreBytesOf (record { header = own_header to kind socket; body = body }) s.bytes
 
 abbrev pub IsRipPacket : Recipient → RipView → SendingView → Type 0
-IsRipPacket to message = IsOwnPacket to 1 rip_socket (λ body. IsRip message body [])
+IsRipPacket to message = IsOwnPacket to rip_type rip_socket (λ body. IsRip message body [])
 
 abbrev pub IsSapPacket : Recipient → SapView → SendingView → Type 0
-IsSapPacket to message = IsOwnPacket to 4 sap_socket (λ body. IsSap message body [])
+IsSapPacket to message =
+    IsOwnPacket to packet_exchange_type sap_socket (λ body. IsSap message body [])
 
 module _ {E : Type 0} (most : ℕ) (IsPacketOf : List E → SendingView → Type 0) where
-  -- the packets that a list is cut into: each holds as many entries as it may, and the last what is left
+  -- the packets that a list is cut into: each holds as many entries as it may, and the last what is
+  -- left
   abbrev pub AreCutOf : List E → List SendingView → Type 0
   AreCutOf entries [] = entries ≡ []
-  AreCutOf entries (s ∷ ss) = (0 < length entries) × IsPacketOf (take most entries) s × AreCutOf (drop most entries) ss
+  AreCutOf entries (s ∷ ss) =
+      (0 < length entries) × IsPacketOf (take most entries) s × AreCutOf (drop most entries) ss
 
 -- the packets of a list of routes, of 50 at most
 abbrev pub AreRoutePackets : Recipient → List RipEntry → List SendingView → Type 0

@@ -4,6 +4,7 @@ use Rattle.std.specs.List.{list_any}
 use Rattle.std.specs.declared.cmp.Ordering.{Ordering}
 use Rattle.std.specs.Ordering.{ordering_then, nat_cmp, is_lt}
 use Rattle.std.specs.Cmp.Lexicographic.{slice_cmp}
+use Rattle.ipx_wire.specs.Assigned.{all_networks}
 use Rattle.ipx_control.specs.declared.rip.RipEntry.{RipEntry}
 use Rattle.ipx_control.specs.declared.sap.ServiceEntry.{ServiceEntry}
 use Rattle.ipx_tables.specs.Service.{address_cmp, service_key_cmp}
@@ -16,14 +17,14 @@ use Rattle.ipx_router.specs.Told.{AreToldRoutes, IsListOf, IsToldRoute, IsToldSe
 
 -- an entry for network FFFFFFFF asks for all
 abbrev pub asks_all : List RipEntry → Bool
-asks_all = list_any (λ e. e.network.0 == 4294967295)
+asks_all = list_any (λ e. e.network.0 == all_networks)
 
 -- what is told of the asked networks, in the order asked, without those of which nothing is told
 abbrev pub AreToldOf : (RipEntry → Type 0) → List RipEntry → List RipEntry → Type 0
 AreToldOf IsTold [] entries = entries ≡ []
 AreToldOf IsTold (e ∷ asked) entries =
-    ((t : RipEntry) × (rest : List RipEntry) × (entries ≡ t ∷ rest) × IsTold t × (t.network ≡ e.network)
-    × AreToldOf IsTold asked rest)
+    ((t : RipEntry) × (rest : List RipEntry) × (entries ≡ t ∷ rest)
+    × IsTold t × (t.network ≡ e.network) × AreToldOf IsTold asked rest)
     ⊎ (((t : RipEntry) → IsTold t → t.network ≢ e.network) × AreToldOf IsTold asked entries)
 
 -- the told routes that a request asks for
@@ -33,7 +34,8 @@ AreRoutesAsked ports routes at asked entries = MatchBool (asks_all asked)
     (AreToldOf (IsToldRoute ports routes at) asked entries)
 
 -- the packets that answer a request
-pub record RepliesRoutes (ports : List Port) (routes : Routes) (at : PortNow) (to : Recipient) (asked : List RipEntry) (sent : List SendingView) : Type 0 where
+pub record RepliesRoutes (ports : List Port) (routes : Routes) (at : PortNow) (to : Recipient)
+    (asked : List RipEntry) (sent : List SendingView) : Type 0 where
   pub entries : List RipEntry
   pub are : AreRoutesAsked ports routes at asked entries
   pub packets : AreRoutePackets to entries sent
@@ -81,7 +83,8 @@ AreServicesAsked services at nearest kind entries = MatchBool nearest
     (λ e. IsToldService services at e × (is_of_kind kind e ≡ true)) entries)
 
 -- the packets that answer a query
-pub record RepliesServices (services : Services) (at : PortNow) (to : Recipient) (nearest : Bool) (kind : ℕ) (sent : List SendingView) : Type 0 where
+pub record RepliesServices (services : Services) (at : PortNow) (to : Recipient)
+    (nearest : Bool) (kind : ℕ) (sent : List SendingView) : Type 0 where
   pub entries : List ServiceEntry
   pub are : AreServicesAsked services at nearest kind entries
   pub packets : AreServicePackets to nearest entries sent

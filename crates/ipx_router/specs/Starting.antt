@@ -1,14 +1,15 @@
 -- What a router asks its neighbours as it starts.
 use Rattle.std.specs.Prelude.{◌≡◌, ℕ, ◌+◌, false, List, [], ◌∷◌, ◌++◌}
+use Rattle.ipx_wire.specs.Assigned.{all_networks, rip_socket, sap_socket}
 use Rattle.ipx_control.specs.declared.rip.RipEntry.{RipEntry}
 use Rattle.ipx_control.specs.Rip as rip
 use Rattle.ipx_control.specs.Sap as sap
 use Rattle.ipx_router.specs.declared.port.Port.{Port}
-use Rattle.ipx_router.specs.Packets.{SendingView, IsRipPacket, IsSapPacket, all_nodes, rip_socket, sap_socket}
+use Rattle.ipx_router.specs.Packets.{SendingView, IsRipPacket, IsSapPacket, all_nodes}
 
 -- a request for all routes and a query for all services
 abbrev pub all_asked : RipEntry
-all_asked = record { network = record { 0 = 4294967295 }; hops = 65535; ticks = 65535 }
+all_asked = record { network = record { 0 = all_networks }; hops = 65535; ticks = 65535 }
 
 -- the packets by which a router asks on a port
 abbrev pub AreAsked : ℕ → Port → List SendingView → Type 0

@@ -1,16 +1,18 @@
 -- What a router tells its neighbours of itself, and when.
 use Rattle.std.specs.Prelude.{◌≡◌, ◌⊎◌, ℕ, ◌+◌, ◌-◌, Bool, true, false, List, [], ◌∷◌, ◌++◌, Option, Some, None, nat_le, MatchBool}
+use Rattle.ipx_wire.specs.Assigned.{rip_socket, sap_socket}
 use Rattle.ipx_control.specs.declared.rip.RipEntry.{RipEntry}
 use Rattle.ipx_control.specs.declared.sap.ServiceEntry.{ServiceEntry}
 use Rattle.ipx_router.specs.declared.port.Port.{Port}
 use Rattle.ipx_router.specs.declared.port.PortNow.{PortNow}
 use Rattle.ipx_router.specs.Knowledge.{Known, Routes, Services}
 use Rattle.ipx_router.specs.Told.{AreToldRoutes, AreToldServices, IsToldRoute, IsToldService}
-use Rattle.ipx_router.specs.Packets.{SendingView, AreRoutePackets, AreServicePackets, all_nodes, rip_socket, sap_socket}
+use Rattle.ipx_router.specs.Packets.{SendingView, AreRoutePackets, AreServicePackets, all_nodes}
 use Rattle.ipx_router.specs.Ports.{IsPort}
 
 -- the packets that tell what is known on one port: routes, and then services
-pub record AreTold (ports : List Port) (routes : Routes) (services : Services) (at : PortNow) (sent : List SendingView) : Type 0 where
+pub record AreTold (ports : List Port) (routes : Routes) (services : Services) (at : PortNow)
+    (sent : List SendingView) : Type 0 where
   pub told_routes : List RipEntry
   pub told_services : List ServiceEntry
   pub route_packets : List SendingView
@@ -18,13 +20,17 @@ pub record AreTold (ports : List Port) (routes : Routes) (services : Services) (
   pub are : sent ≡ route_packets ++ service_packets
   pub of_routes : AreToldRoutes ports routes at told_routes
   pub of_services : AreToldServices services at told_services
-  pub in_route_packets : AreRoutePackets (all_nodes at.number at.port rip_socket) told_routes route_packets
-  pub in_service_packets : AreServicePackets (all_nodes at.number at.port sap_socket) false told_services service_packets
+  pub in_route_packets :
+      AreRoutePackets (all_nodes at.number at.port rip_socket) told_routes route_packets
+  pub in_service_packets :
+      AreServicePackets (all_nodes at.number at.port sap_socket) false told_services service_packets
 
 -- the packets of each port, which are numbered from a first one on
-abbrev pub AreTellings : List Port → Routes → Services → ℕ → ℕ → List Port → List SendingView → Type 0
+abbrev pub AreTellings : List Port → Routes → Services → ℕ → ℕ → List Port → List SendingView
+    → Type 0
 AreTellings ports routes services now number [] sent = sent ≡ []
-AreTellings ports routes services now number (port ∷ later) sent = (first rest : List SendingView) × (sent ≡ first ++ rest)
+AreTellings ports routes services now number (port ∷ later) sent =
+    (first rest : List SendingView) × (sent ≡ first ++ rest)
     × AreTold ports routes services (record { number = number; port = port; now = now }) first
     × AreTellings ports routes services now (number + 1) later rest
 

@@ -41,6 +41,7 @@ fn outcome_of_hearing(heard: Result<u16, TableFault>) -> Result<Outcome, OutOfMe
 }
 
 /// What becomes of a packet for socket 0453.
+#[inline(never)] // so that it is out of the way of forwarding
 fn answer_rip(
     alloc: Global,
     ports: &[Port],
@@ -77,6 +78,7 @@ fn answer_rip(
 }
 
 /// What becomes of a packet for socket 0452.
+#[inline(never)] // so that it is out of the way of forwarding
 fn answer_sap(
     alloc: Global,
     services: &mut ServiceTable,
@@ -136,7 +138,8 @@ fn answer_packet(
         (ConcernWantsMemory (known_in ports.now routes.old services.old) at
         (packet_view packet.entry) (routes.new, services.new)
         (concern_of at.port packet.entry.header)) }
-    ensures one_hop_on { IfOk result (λ o. IsForwardOf at.port (packet_view packet.entry) (view o)) }
+    ensures one_hop_on { IfOk result (λ o.
+        IsForwardOf at.port (packet_view packet.entry) (view o)) }
     ensures there { IfOk result (λ o. IsOnPort (length ports.now) (view o)) }
     ensures most { (routes.new.most ≡ routes.old.most) × (services.new.most ≡ services.old.most) }
     ensures sound { IsSound ports.now (routes.new, services.new) }

@@ -3,10 +3,9 @@
 ghost use Rattle.std.specs.Prelude.{◌≡◌};
 ghost use Rattle.ipx_router.specs.Classify.{concern_of, concern_on_network, is_from_neighbour};
 
-use crate::packets::{BROADCAST, RIP_SOCKET, SAP_SOCKET};
 use crate::port::Port;
 use crate::reason::Reason;
-use ipx_wire::IpxHeader;
+use ipx_wire::{IpxHeader, Network, Node, Socket, packet_type};
 
 /// What a packet is to the router.
 pub enum Concern {
@@ -22,8 +21,8 @@ pub enum Concern {
 fn comes_from_neighbour(arrived: Port, header: IpxHeader) -> bool
     ensures { result ≡ is_from_neighbour arrived header }
 {
-    let for_us = header.to.node == arrived.node || header.to.node == BROADCAST;
-    let from_here = header.from.network.0 == 0 || header.from.network == arrived.network;
+    let for_us = header.to.node == arrived.node || header.to.node == Node::BROADCAST;
+    let from_here = header.from.network == Network::LOCAL || header.from.network == arrived.network;
     for_us && from_here && header.from.node != arrived.node
 }
 
@@ -33,10 +32,10 @@ fn on_network(arrived: Port, header: IpxHeader) -> Concern
     if !comes_from_neighbour(arrived, header) {
         return Concern::Dropped(Reason::NotOurs);
     }
-    if header.to.socket == RIP_SOCKET {
+    if header.to.socket == Socket::RIP {
         return Concern::Rip;
     }
-    if header.to.socket == SAP_SOCKET {
+    if header.to.socket == Socket::SAP {
         return Concern::Sap;
     }
     Concern::Dropped(Reason::NotOurs)
@@ -45,10 +44,10 @@ fn on_network(arrived: Port, header: IpxHeader) -> Concern
 pub fn concern_with(arrived: Port, header: IpxHeader) -> Concern
     ensures { result ≡ concern_of arrived header }
 {
-    if header.kind == 20 {
+    if header.kind == packet_type::NETBIOS_PROPAGATION {
         return Concern::Dropped(Reason::Propagated);
     }
-    if header.to.network.0 == 0 || header.to.network == arrived.network {
+    if header.to.network == Network::LOCAL || header.to.network == arrived.network {
         return on_network(arrived, header);
     }
     Concern::Forward

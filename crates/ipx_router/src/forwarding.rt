@@ -15,7 +15,9 @@ use crate::port::{Port, PortNow};
 use crate::reason::Reason;
 use crate::route::{Route, route_to};
 use ipx_tables::RouteTable;
-use ipx_wire::{IpxHeader, Node, OutOfMemory, Packet, packet_part, set_hops, set_source_network};
+use ipx_wire::{
+    IpxHeader, Network, Node, OutOfMemory, Packet, packet_part, set_hops, set_source_network,
+};
 use std::alloc::Global;
 
 /// Changes the bytes of a packet with this header to those one hop on.
@@ -26,7 +28,7 @@ fn forward_in_place(bytes: &mut [u8], arrived: Port, header: IpxHeader)
         → IsIpx (record { header = forward_header arrived header; body = body }) bytes.new tail }
 {
     set_hops(bytes, header.hops + 1);
-    if header.from.network.0 == 0 {
+    if header.from.network == Network::LOCAL {
         set_source_network(bytes, arrived.network);
     }
 }
@@ -40,7 +42,8 @@ fn forwarded_copy(
 ) -> Result<Vec<u8>, OutOfMemory>
     requires reading { BeginsWith datagram.now (packet_view packet.now) }
     requires hops { packet.now.header.hops < 15 }
-    ensures { IfOk result (λ v. IsIpx (forward_packet arrived (packet_view packet.now)) v.items []) }
+    ensures { IfOk result (λ v.
+        IsIpx (forward_packet arrived (packet_view packet.now)) v.items []) }
 {
     let mut bytes = Vec::from_slice(alloc, packet_part(datagram, packet))?;
     forward_in_place(&mut bytes, arrived, packet.header);
@@ -105,7 +108,8 @@ pub fn forward(
         Forwards ports.now (routes_in routes.now) at (packet_view packet.entry) (view o)) }
     ensures refused { OnErr result
         (HasToForward ports.now (routes_in routes.now) at packet.entry.header) }
-    ensures one_hop_on { IfOk result (λ o. IsForwardOf at.port (packet_view packet.entry) (view o)) }
+    ensures one_hop_on { IfOk result (λ o.
+        IsForwardOf at.port (packet_view packet.entry) (view o)) }
     ensures there { IfOk result (λ o. IsOnPort (length ports.now) (view o)) }
 {
     let route = route_to(ports, routes, packet.header.to.network, at.now);

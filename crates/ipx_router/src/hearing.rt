@@ -15,7 +15,7 @@ use ipx_control::{RipEntry, ServiceEntry};
 use ipx_tables::{
     RouteMetric, RouteTable, ServiceKey, ServiceMetric, ServiceTable, Source, TableFault,
 };
-use ipx_wire::IpxHeader;
+use ipx_wire::{IpxHeader, Network};
 use std::alloc::Global;
 
 /// Whom a response is heard from: the node that sent it, on the port that it came in on.
@@ -32,7 +32,7 @@ fn is_route_heard(ports: &[Port], entry: &RipEntry) -> bool
     ensures { result ≡ is_heard ports.now entry.now }
 {
     let network = entry.network;
-    !(network.0 == 0 || network.0 == 0xffff_ffff || has_network(ports, network))
+    !(network == Network::LOCAL || network == Network::ALL || has_network(ports, network))
 }
 
 /// Hears the entries in order, and answers how many: none of the networks that a router does not
@@ -53,7 +53,8 @@ pub fn hear_routes(
     ensures refused { IfErr result (λ f. (n : ℕ)
         × HeardRoutes ports.now source now entries.now (routes_in routes.old) n routes.new
         × (f ≡ TableFault.Full → AtEntry entries.now n (IsFullForRoute ports.now source routes.new))
-        × (f ≡ TableFault.OutOfMemory → AtEntry entries.now n (GrowsByRoute ports.now source routes.new))) }
+        × (f ≡ TableFault.OutOfMemory
+        → AtEntry entries.now n (GrowsByRoute ports.now source routes.new))) }
     ensures most { routes.new.most ≡ routes.old.most }
     ensures valid { IsTable network_cmp routes.new }
     ensures sources { (count : ℕ) → IsPortNumber count source.port
@@ -89,7 +90,8 @@ pub fn hear_services(
     ensures refused { IfErr result (λ f. (n : ℕ)
         × HeardServices source now entries.now (services_in services.old) n services.new
         × (f ≡ TableFault.Full → AtEntry entries.now n (IsFullForService source services.new))
-        × (f ≡ TableFault.OutOfMemory → AtEntry entries.now n (GrowsByService source services.new))) }
+        × (f ≡ TableFault.OutOfMemory
+        → AtEntry entries.now n (GrowsByService source services.new))) }
     ensures most { services.new.most ≡ services.old.most }
     ensures valid { IsTable service_key_cmp services.new }
     ensures sources { (count : ℕ) → IsPortNumber count source.port

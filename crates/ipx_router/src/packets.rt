@@ -10,14 +10,8 @@ ghost use Rattle.ipx_router.specs.Adding.{AddsPackets};
 use crate::outcome::Reply;
 use crate::port::{Port, PortNow};
 use ipx_control::{Rip, RipEntry, Sap, ServiceEntry, encode_rip_into, encode_sap_into};
-use ipx_wire::{Address, IpxHeader, Node, OutOfMemory, Packet, Socket, encode_into};
+use ipx_wire::{Address, IpxHeader, Node, OutOfMemory, Packet, Socket, encode_into, packet_type};
 use std::alloc::Global;
-
-pub const BROADCAST: Node = Node([0xff; 6]);
-
-pub const RIP_SOCKET: Socket = Socket(0x0453);
-
-pub const SAP_SOCKET: Socket = Socket(0x0452);
 
 /// How many entries a packet holds at most.
 const MOST_ROUTES_A_PACKET: usize = 50;
@@ -52,7 +46,7 @@ pub fn everyone(number: u8, port: Port, socket: Socket) -> Recipient
     Recipient {
         number,
         port,
-        node: BROADCAST,
+        node: Node::BROADCAST,
         socket,
     }
 }
@@ -109,7 +103,11 @@ pub fn rip_packet(alloc: Global, to: Recipient, message: &Rip) -> Result<Reply, 
 {
     let mut body = [0u8; 402];
     let count = encode_rip_into(message, &mut body);
-    let bytes = packet_bytes(alloc, header_to(to, 1, RIP_SOCKET), &body[..count])?;
+    let bytes = packet_bytes(
+        alloc,
+        header_to(to, packet_type::RIP, Socket::RIP),
+        &body[..count],
+    )?;
     Ok(Reply {
         port: to.number,
         next: to.node,
@@ -123,7 +121,11 @@ pub fn sap_packet(alloc: Global, to: Recipient, message: &Sap) -> Result<Reply, 
 {
     let mut body = [0u8; 450];
     let count = encode_sap_into(message, &mut body);
-    let bytes = packet_bytes(alloc, header_to(to, 4, SAP_SOCKET), &body[..count])?;
+    let bytes = packet_bytes(
+        alloc,
+        header_to(to, packet_type::PACKET_EXCHANGE, Socket::SAP),
+        &body[..count],
+    )?;
     Ok(Reply {
         port: to.number,
         next: to.node,
@@ -160,7 +162,8 @@ pub fn add_service_packets(
     entries: &[ServiceEntry],
 ) -> Result<(), OutOfMemory>
     ensures { OnOk result
-        (AddsPackets (AreServicePackets to nearest entries.now) replies.old.items replies.new.items) }
+        (AddsPackets (AreServicePackets to nearest entries.now)
+        replies.old.items replies.new.items) }
 {
     let mut rest = entries;
     while !rest.is_empty() {

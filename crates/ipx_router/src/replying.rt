@@ -1,25 +1,27 @@
 //! What a router answers to a request for routes, and to a query for services.
 
 ghost use Rattle.std.specs.Prelude.{◌≡◌, ◌<◌, Bool, Contains, IfNone, IfOk, IfSome, OnErr, filter, find, length, ◌==◌};
+ghost use Rattle.std.specs.Bool.{OnFalse, OnTrue};
 ghost use Rattle.std.specs.List.{filter_map};
 ghost use Rattle.ipx_router.specs.Knowledge.{routes_in, services_in};
 ghost use Rattle.ipx_router.specs.Packets.{sendings};
-ghost use Rattle.ipx_router.specs.Replying.{IsNearest, NoneIsNear, AreNearest, AreServicesAsked, RepliesRoutes, RepliesServices, asks_all, is_near, is_nearer, is_of_kind};
-ghost use Rattle.ipx_router.specs.Picking.{nearer, routes_asked};
+ghost use Rattle.ipx_router.specs.Replying.{IsNearest, NoneIsNear, AreNearest, AreServicesAsked, RepliesRoutes, RepliesServices, asks_all, is_asked, is_near, is_nearer, is_of_kind};
+ghost use Rattle.ipx_router.specs.Picking.{NoneIsAsked, is_item_asked, nearer, routes_asked};
+ghost use Rattle.ipx_router.specs.WantOfMemory.{HasToReply};
 
 use crate::outcome::Reply;
 use crate::packets::{Recipient, add_route_packets, add_service_packets};
 use crate::port::{Port, PortNow};
-use crate::told::{told_routes, told_services};
+use crate::told::{told_routes, told_service_of, told_services};
 use ipx_control::{RipEntry, ServiceEntry};
-use ipx_tables::{RouteTable, ServiceTable};
+use ipx_tables::{RouteTable, ServiceKey, ServiceMetric, ServiceTable, Source, one_best};
 use ipx_wire::{Network, OutOfMemory};
 use std::alloc::Global;
 
 fn is_for_all(asked: &[RipEntry]) -> bool
     ensures { result ≡ asks_all asked.now }
 {
-    asked.iter().any(|entry| entry.network.0 == 0xffff_ffff)
+    asked.iter().any(|entry| entry.network == Network::ALL)
 }
 
 fn told_of(told: &[RipEntry], network: Network) -> Option<RipEntry>
@@ -181,8 +183,44 @@ pub fn reply_routes(
     Ok(replies)
 }
 
-/// The packets that answer a query for services.
-pub fn reply_services(
+/// Whether a query asks for a service that is told.
+fn is_asked_for(nearest: bool, kind: u16, service: &ServiceEntry) -> bool
+    ensures { result ≡ is_asked nearest kind service.now }
+{
+    if nearest {
+        return is_near_of_kind(kind, service);
+    }
+    is_of_kind_asked(kind, service)
+}
+
+/// Whether the best offer of a service came by another port, and is asked for.
+fn is_best_asked(
+    item: (ServiceKey, Source, ServiceMetric),
+    at: PortNow,
+    nearest: bool,
+    kind: u16,
+) -> bool
+    ensures { result ≡ is_item_asked at nearest kind item }
+{
+    let service = told_service_of(&item);
+    item.1.port != at.number && is_asked_for(nearest, kind, &service)
+}
+
+/// Whether some service is to be sent. It takes no memory.
+fn has_to_reply(services: &ServiceTable, at: PortNow, nearest: bool, kind: u16) -> bool
+    ensures some { OnTrue result (HasToReply (services_in services.now) at nearest kind) }
+    ensures none { OnFalse result (NoneIsAsked (services_in services.now) at nearest kind) }
+{
+    one_best::<ServiceKey, ServiceMetric>();
+    for item in services.bests(at.now) {
+        if is_best_asked(item, at, nearest, kind) {
+            return true;
+        }
+    }
+    false
+}
+
+fn service_replies(
     alloc: Global,
     services: &ServiceTable,
     at: PortNow,
@@ -197,4 +235,27 @@ pub fn reply_services(
     let mut replies = Vec::new(alloc);
     add_service_packets(alloc, &mut replies, to, nearest, &entries)?;
     Ok(replies)
+}
+
+/// The packets that answer a query for services. Where memory is wanted and no service is to be
+/// sent, there are none.
+pub fn reply_services(
+    alloc: Global,
+    services: &ServiceTable,
+    at: PortNow,
+    to: Recipient,
+    nearest: bool,
+    kind: u16,
+) -> Result<Vec<Reply>, OutOfMemory>
+    ensures replies { IfOk result (λ v.
+        RepliesServices (services_in services.now) at to nearest kind (sendings v.items)) }
+    ensures refused { OnErr result (HasToReply (services_in services.now) at nearest kind) }
+{
+    if let Ok(replies) = service_replies(alloc, services, at, to, nearest, kind) {
+        return Ok(replies);
+    }
+    if has_to_reply(services, at, nearest, kind) {
+        return Err(OutOfMemory);
+    }
+    Ok(Vec::new(alloc))
 }

@@ -39,7 +39,12 @@ impl Model for Router {
 
     ghost Value = { RouterView };
 
-    ghost view = { λ r. record { ports = r.ports.items; routes = r.routes; services = r.services; told = r.told } };
+    ghost view = { λ r. record {
+      ports = r.ports.items;
+      routes = r.routes;
+      services = r.services;
+      told = r.told;
+    } };
 
     ghost invariant = { λ r. IsSound r.ports.items (r.routes, r.services) };
 }
@@ -137,7 +142,8 @@ impl Router {
         ask_all(alloc, &self.ports)
     }
 
-    /// The packets by which it tells its neighbours routes and services, if it is time: at first, and
+    /// The packets by which it tells its neighbours routes and services, if it is time: at first,
+    /// and
     /// then when 60,000 milliseconds have passed since the last time. It is called every so often;
     /// `now` is a moment in milliseconds.
     ///

@@ -7,10 +7,10 @@ ghost use Rattle.ipx_router.specs.Packets.{sendings};
 ghost use Rattle.ipx_router.specs.Adding.{AddsPackets};
 
 use crate::outcome::Reply;
-use crate::packets::{RIP_SOCKET, SAP_SOCKET, everyone, rip_packet, sap_packet};
+use crate::packets::{everyone, rip_packet, sap_packet};
 use crate::port::Port;
 use ipx_control::{Rip, RipEntry, Sap};
-use ipx_wire::{Network, OutOfMemory};
+use ipx_wire::{Network, OutOfMemory, Socket};
 use std::alloc::Global;
 
 /// Adds a request for all routes and a query for all services.
@@ -18,18 +18,18 @@ fn ask_on(alloc: Global, asked: &mut Vec<Reply>, number: u8, port: Port) -> Resu
     ensures { OnOk result (AddsPackets (AreAsked number port) asked.old.items asked.new.items) }
 {
     let all = RipEntry {
-        network: Network(0xffff_ffff),
+        network: Network::ALL,
         hops: 0xffff,
         ticks: 0xffff,
     };
     let networks = vec![in alloc; all]?;
     let routes = Rip::Request(networks);
-    let for_routes = rip_packet(alloc, everyone(number, port, RIP_SOCKET), &routes)?;
+    let for_routes = rip_packet(alloc, everyone(number, port, Socket::RIP), &routes)?;
     let services = Sap::Query {
         nearest: false,
         kind: 0xffff,
     };
-    let for_services = sap_packet(alloc, everyone(number, port, SAP_SOCKET), &services)?;
+    let for_services = sap_packet(alloc, everyone(number, port, Socket::SAP), &services)?;
     asked.push(for_routes)?;
     asked.push(for_services)?;
     Ok(())

@@ -1,18 +1,21 @@
 //! What a router tells its neighbours of itself.
 
 ghost use Rattle.std.specs.Prelude.{◌≡◌, ◌≤◌, true, length, OnErr, OnOk, IfOk};
+ghost use Rattle.ipx_tables.specs.Listing.{IsListing};
+ghost use Rattle.ipx_tables.specs.Route.{network_cmp, route_before};
+ghost use Rattle.ipx_tables.specs.Service.{service_before, service_key_cmp};
 ghost use Rattle.ipx_router.specs.Telling.{AreTellings, AreTold, HasToTell, Tells, is_due};
-ghost use Rattle.ipx_router.specs.Knowledge.{HoldsKnown, known_aged, known_in, routes_in, services_in};
+ghost use Rattle.ipx_router.specs.Knowledge.{HoldsKnown, Routes, Services, known_aged, known_in, routes_in, services_in};
 ghost use Rattle.ipx_router.specs.Ports.{AreOnPorts, IsSound};
 ghost use Rattle.ipx_router.specs.Packets.{sendings};
 ghost use Rattle.ipx_router.specs.Adding.{AddsPackets};
 
 use crate::outcome::Reply;
-use crate::packets::{RIP_SOCKET, SAP_SOCKET, add_route_packets, add_service_packets, everyone};
+use crate::packets::{add_route_packets, add_service_packets, everyone};
 use crate::port::{Port, PortNow};
-use crate::told::{told_routes, told_services};
-use ipx_tables::{RouteTable, ServiceTable};
-use ipx_wire::OutOfMemory;
+use crate::told::{routes_as_told, services_as_told};
+use ipx_tables::{RouteMetric, RouteTable, ServiceKey, ServiceMetric, ServiceTable, Source};
+use ipx_wire::{Network, OutOfMemory, Socket};
 use std::alloc::Global;
 
 /// How long routes and services are not told again, in milliseconds.
@@ -28,29 +31,30 @@ fn is_time(told: Option<u64>, now: u64) -> bool
     }
 }
 
-/// Adds the packets that tell routes and services on a port.
+/// Adds the packets that tell on a port the routes and services that were heard.
 fn tell_on(
     alloc: Global,
     told: &mut Vec<Reply>,
     ports: &[Port],
-    routes: &RouteTable,
-    services: &ServiceTable,
+    heard_routes: &[(Network, Source, RouteMetric)],
+    heard_services: &[(ServiceKey, Source, ServiceMetric)],
     at: PortNow,
 ) -> Result<(), OutOfMemory>
-    ensures { OnOk result (AddsPackets
-        (AreTold ports.now (routes_in routes.now) (services_in services.now) at)
-        told.old.items told.new.items) }
+    ensures { OnOk result ((routes : Routes) (services : Services)
+        → IsListing network_cmp route_before routes at.now heard_routes.now
+        → IsListing service_key_cmp service_before services at.now heard_services.now
+        → AddsPackets (AreTold ports.now routes services at) told.old.items told.new.items) }
 {
-    let known_routes = told_routes(alloc, ports, routes, at)?;
-    let known_services = told_services(alloc, services, at)?;
-    let for_routes = everyone(at.number, at.port, RIP_SOCKET);
+    let known_routes = routes_as_told(alloc, ports, heard_routes, at)?;
+    let known_services = services_as_told(alloc, heard_services, at)?;
+    let for_routes = everyone(at.number, at.port, Socket::RIP);
     add_route_packets(alloc, told, for_routes, &known_routes)?;
-    let for_services = everyone(at.number, at.port, SAP_SOCKET);
+    let for_services = everyone(at.number, at.port, Socket::SAP);
     add_service_packets(alloc, told, for_services, false, &known_services)?;
     Ok(())
 }
 
-/// The packets that tell routes and services on each port.
+/// The packets that tell routes and services on each port. Each table is listed once for all ports.
 fn tell_each(
     alloc: Global,
     ports: &[Port],
@@ -63,6 +67,12 @@ fn tell_each(
         (routes_in routes.now) (services_in services.now) now 1 ports.now (sendings v.items)) }
     ensures there { IfOk result (λ v. AreOnPorts (length ports.now) (sendings v.items)) }
 {
+    let Ok(heard_routes) = routes.list(alloc, now) else {
+        return Err(OutOfMemory);
+    };
+    let Ok(heard_services) = services.list(alloc, now) else {
+        return Err(OutOfMemory);
+    };
     let mut told = Vec::new(alloc);
     for (i, port) in ports.iter().enumerate() {
         let at = PortNow {
@@ -70,7 +80,7 @@ fn tell_each(
             port: *port,
             now,
         };
-        tell_on(alloc, &mut told, ports, routes, services, at)?;
+        tell_on(alloc, &mut told, ports, &heard_routes, &heard_services, at)?;
     }
     Ok(told)
 }

@@ -8,4 +8,6 @@ pub mod Calls
 pub mod Sorted
 pub mod Listing
 pub mod Scan
+pub mod Walk
+pub mod Marks
 pub mod Expiry

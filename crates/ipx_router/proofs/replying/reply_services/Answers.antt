@@ -1,13 +1,7 @@
-use Rattle.ipx_router.specs.Packets.{AreServicePackets}
-use Rattle.ipx_router.proofs.Cuts.{added_alone}
+use Rattle.ipx_router.specs.Knowledge.{services_in}
+use Rattle.ipx_router.proofs.NoReplies.{no_replies}
 use Rattle.ipx_router.proofs.replying.reply_services.Goals as goal
 
-pub returns : goal.returns
-returns c =
-    let entries = c.in_ok-entries.entries.items in
-    let packets = rw (c.deref.ensures.value, c.new-replies.ensures.items) at c.in_ok-add_service_packets.ensures in
-    record {
-      entries = entries;
-      are = c.in_ok-entries.ensures;
-      packets = added_alone (AreServicePackets c.args.to c.args.nearest entries) c.add_service_packets.new.replies.items packets;
-    }
+pub returns-clause-replies : goal.returns-clause-replies
+returns-clause-replies c =
+    rw c.new.ensures.items (no_replies (services_in c.args.services.now) c.args.at c.args.to c.args.nearest c.args.kind c.if-has_to_reply.ensures.none)

@@ -1,9 +1,10 @@
+use Rattle.ipx_wire.specs.Assigned.{rip_socket, sap_socket}
 use Rattle.std.proofs.Common.{List, ◌∷◌, [], subst, false}
 use Rattle.ipx_control.specs.declared.rip.RipEntry.{RipEntry}
 use Rattle.ipx_control.specs.Rip as rip
 use Rattle.ipx_control.specs.Sap as sap
 use Rattle.ipx_router.specs.declared.packets.Recipient.{Recipient}
-use Rattle.ipx_router.specs.Packets.{IsRipPacket, IsSapPacket, all_nodes, rip_socket, sap_socket, sending_of}
+use Rattle.ipx_router.specs.Packets.{IsRipPacket, IsSapPacket, all_nodes, sending_of}
 use Rattle.ipx_router.specs.Starting.{all_asked}
 use Rattle.ipx_router.proofs.Tellings.{asks_two}
 use Rattle.ipx_router.proofs.starting.ask_on.Goals as goal
