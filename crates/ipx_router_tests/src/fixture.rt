@@ -11,7 +11,7 @@ fn node(last: u8) -> Node {
     Node([0, 0, 0x7f, 0, 0, last])
 }
 
-fn port(network: u32, last: u8, cost: u16) -> Port
+pub fn port(network: u32, last: u8, cost: u16) -> Port
     ensures { result.network.0 ≡ network }
 {
     Port {

@@ -11,6 +11,8 @@ mod index;
 #[cfg(test)]
 mod metrics;
 #[cfg(test)]
+mod nothing;
+#[cfg(test)]
 mod offers;
 #[cfg(test)]
 mod order;
