@@ -15,6 +15,20 @@ pub const VARIETY: usize = 64;
 /// How many datagrams are refused in turn.
 const REFUSED: u32 = 1024;
 
+/// When records come in, in milliseconds: how long after the one before it, and how long after the
+/// beginning of the round before it a round begins.
+#[derive(Clone, Copy)]
+pub struct Pace {
+    pub apart: u64,
+    pub period: u64,
+}
+
+/// All at one moment.
+pub const AT_ONCE: Pace = Pace {
+    apart: 0,
+    period: 0,
+};
+
 /// Records of one size, one behind the other.
 pub struct Records {
     pub bytes: Vec<u8>,

@@ -1,6 +1,6 @@
 //! The proved router and links, by the functions that `crates/ipx_bench` exports.
 
-use crate::inputs::Records;
+use crate::inputs::{Pace, Records};
 
 unsafe extern "C" {
     fn ipx_bench_decode(datagrams: *const u8, count: usize, size: usize, rounds: u32) -> u64;
@@ -14,6 +14,7 @@ unsafe extern "C" {
         size: usize,
         rounds: u32,
         apart: u64,
+        period: u64,
     ) -> u64;
 
     fn ipx_bench_tell(heard: *const u8, count: usize, size: usize, rounds: u32) -> u64;
@@ -49,7 +50,7 @@ pub fn decode(datagrams: &[u8], size: usize, rounds: u32) -> u64 {
     unsafe { ipx_bench_decode(datagrams.as_ptr(), datagrams.len(), size, rounds) }
 }
 
-pub fn receive(heard: &Records, records: &Records, rounds: u32, apart: u64) -> u64 {
+pub fn receive(heard: &Records, records: &Records, rounds: u32, pace: Pace) -> u64 {
     // SAFETY: each pointer and the length behind it are one slice, which is only read.
     unsafe {
         ipx_bench_receive(
@@ -60,7 +61,8 @@ pub fn receive(heard: &Records, records: &Records, rounds: u32, apart: u64) -> u
             records.bytes.len(),
             records.size,
             rounds,
-            apart,
+            pace.apart,
+            pace.period,
         )
     }
 }

@@ -1,8 +1,8 @@
 //! What is measured: calls of both routers and of both pairs of links on the same inputs.
 
 use crate::inputs::{
-    FIRST_LEARNED, LEAD, PORT_NETWORKS, Records, asking, fifty_of, others, packets, refused,
-    routes, routes_and_services, routes_and_services_by_key,
+    AT_ONCE, FIRST_LEARNED, LEAD, PORT_NETWORKS, Pace, Records, asking, fifty_of, others, packets,
+    refused, routes, routes_and_services, routes_and_services_by_key,
 };
 use crate::plain::spx::MOST_DATA;
 use crate::scripts::{Met, Script, bytes, scripts};
@@ -53,19 +53,19 @@ fn decode_all(name: String, records: Records) -> Row {
 
 /// Records that a router which heard others is handed in each round, all at one moment.
 fn receive(name: String, heard: Records, records: Records) -> Row {
-    receive_apart(name, heard, records, 0)
+    receive_at(name, heard, records, AT_ONCE)
 }
 
-/// The same, with so many milliseconds from one round to the next.
-fn receive_apart(name: String, heard: Records, records: Records, apart: u64) -> Row {
+/// The same at a pace.
+fn receive_at(name: String, heard: Records, records: Records, pace: Pace) -> Row {
     let calls = records.count() as u32;
     let inputs = Rc::new((heard, records));
     let same = Rc::clone(&inputs);
     Row {
         name,
         calls,
-        ours: Box::new(move |rounds| ours::receive(&inputs.0, &inputs.1, rounds, apart)),
-        theirs: Box::new(move |rounds| theirs::receive(&same.0, &same.1, rounds, apart)),
+        ours: Box::new(move |rounds| ours::receive(&inputs.0, &inputs.1, rounds, pace)),
+        theirs: Box::new(move |rounds| theirs::receive(&same.0, &same.1, rounds, pace)),
     }
 }
 
@@ -85,31 +85,53 @@ fn forward_learned(size: usize, count: u32) -> Row {
     receive(name, heard, records)
 }
 
-/// Routes that are heard again, all at one moment and then each time a millisecond later.
+/// A round each minute, with all its packets at one moment.
+const EACH_MINUTE: Pace = Pace {
+    apart: 0,
+    period: 60_000,
+};
+
+/// A round each 61 seconds, in which a packet comes each tenth of a second.
+const ONE_BY_ONE: Pace = Pace {
+    apart: 100,
+    period: 61_000,
+};
+
+/// Routes that are heard again, all at one moment, and then each time a millisecond later.
 fn hear() -> [Row; 2] {
-    let row = |when: &str, apart| {
+    let row = |when: &str, period| {
         let name = format!("hear 50 routes of {KNOWN} known{when}");
-        receive_apart(name, routes(KNOWN, &[2]), fifty_of(KNOWN), apart)
+        let pace = Pace { apart: 0, period };
+        receive_at(name, routes(KNOWN, &[2]), fifty_of(KNOWN), pace)
     };
     [row("", 0), row(", later", 1)]
 }
 
-/// All routes and services, told to a router that knows them already after the first round: the
-/// services scattered or by key, and all at one moment or each time a minute later.
-fn hear_all() -> [Row; 4] {
-    let row = |how: &str, records, apart| {
-        let name = format!("hear {ROUTES} routes, {SERVICES} services{how}");
-        let mut row = receive_apart(name, Records::none(), records, apart);
+/// All routes and services, told to a router that heard them before: the services scattered or by
+/// key, and all at one moment, each minute, or packet by packet.
+fn hear_all() -> [Row; 6] {
+    let row = |how: &str, records: fn(u32, u32) -> Records, pace| {
+        let name = format!("hear {ROUTES} and {SERVICES}{how}");
+        let all = || records(ROUTES, SERVICES);
+        let mut row = receive_at(name, all(), all(), pace);
         row.calls = 1;
         row
     };
-    let scattered = || routes_and_services(ROUTES, SERVICES);
-    let by_key = || routes_and_services_by_key(ROUTES, SERVICES);
     [
-        row("", scattered(), 0),
-        row(", later", scattered(), 60_000),
-        row(" by key", by_key(), 0),
-        row(" by key, later", by_key(), 60_000),
+        row("", routes_and_services, AT_ONCE),
+        row(", each minute", routes_and_services, EACH_MINUTE),
+        row(", one by one", routes_and_services, ONE_BY_ONE),
+        row(" by key", routes_and_services_by_key, AT_ONCE),
+        row(
+            " by key, each minute",
+            routes_and_services_by_key,
+            EACH_MINUTE,
+        ),
+        row(
+            " by key, one by one",
+            routes_and_services_by_key,
+            ONE_BY_ONE,
+        ),
     ]
 }
 

@@ -1,6 +1,6 @@
 //! The plain router, in the loops that `crates/ipx_bench` has for the proved one.
 
-use crate::inputs::{LEAD, PORT_NETWORKS, Records};
+use crate::inputs::{LEAD, PORT_NETWORKS, Pace, Records};
 use crate::plain::control::ControlFault;
 use crate::plain::router::{Outcome, Port, Reason, Reply, Router};
 use crate::plain::wire::{Address, IpxFault, Network, Node, Packet, decode as decode_packet};
@@ -72,11 +72,13 @@ fn feed(router: &mut Router, record: &[u8], now: u64) -> Option<Outcome> {
     Some(router.receive(port, datagram, now))
 }
 
-fn fed_digests(router: &mut Router, records: &Records, now: u64) -> u64 {
+fn fed_digests(router: &mut Router, records: &Records, first: u64, apart: u64) -> u64 {
     let mut digest = 0;
+    let mut now = first;
     for record in records.bytes.chunks_exact(records.size) {
         let fed = feed(router, record, now).map_or(2, |outcome| outcome_digest(&outcome));
         digest = mixed(digest, fed);
+        now = now.saturating_add(apart);
     }
     digest
 }
@@ -97,14 +99,15 @@ pub fn decode(datagrams: &[u8], size: usize, rounds: u32) -> u64 {
 }
 
 #[inline(never)]
-pub fn receive(heard: &Records, records: &Records, rounds: u32, apart: u64) -> u64 {
+pub fn receive(heard: &Records, records: &Records, rounds: u32, pace: Pace) -> u64 {
     let mut router = router_of_three();
-    fed_digests(&mut router, heard, MOMENT);
+    fed_digests(&mut router, heard, MOMENT, 0);
     let mut digest = 0;
-    let mut now = MOMENT;
+    let mut first = MOMENT;
     for _ in 0..rounds {
-        digest = mixed(digest, fed_digests(&mut router, records, now));
-        now = now.saturating_add(apart);
+        let round = fed_digests(&mut router, records, first, pace.apart);
+        digest = mixed(digest, round);
+        first = first.saturating_add(pace.period);
     }
     digest
 }
@@ -112,7 +115,7 @@ pub fn receive(heard: &Records, records: &Records, rounds: u32, apart: u64) -> u
 #[inline(never)]
 pub fn tell(heard: &Records, rounds: u32) -> u64 {
     let mut router = router_of_three();
-    fed_digests(&mut router, heard, MOMENT);
+    fed_digests(&mut router, heard, MOMENT, 0);
     let mut digest = 0;
     for round in 0..rounds {
         let told = router.tell(u64::from(round) * 60_000);

@@ -18,21 +18,31 @@ fn fed_digest(alloc: Global, router: &mut Router, record: &[u8], now: u64) -> u6
     }
 }
 
-/// Hands each record to the router at one moment, and answers the digest of what became of them.
-pub fn fed_digests(alloc: Global, router: &mut Router, records: &[u8], size: usize, now: u64) -> u64
+/// Hands each record to the router, so many milliseconds after the one before it, and answers the
+/// digest of what became of them.
+pub fn fed_digests(
+    alloc: Global,
+    router: &mut Router,
+    records: &[u8],
+    size: usize,
+    first: u64,
+    apart: u64,
+) -> u64
     requires router { length router.old.ports ≡ 3 }
     requires size { 1 ≤ size }
     ensures { length router.new.ports ≡ 3 }
 {
     let mut digest = 0;
+    let mut now = first;
     for record in records.chunks_exact(size) {
         digest = mixed(digest, fed_digest(alloc, router, record, now));
+        now = now.saturating_add(apart);
     }
     digest
 }
 
-/// Hands each heard record to a new router, and then each timed one, again and again, each round so
-/// many milliseconds after the one before it.
+/// Hands each heard record to a new router, and then each timed one, again and again: a record comes
+/// `apart` milliseconds after the one before it, and a round begins `period` after the one before.
 ///
 /// Answers the digest of what became of the timed ones. Both kinds of records have one size each.
 #[unsafe(no_mangle)]
@@ -44,6 +54,7 @@ pub extern "C" fn ipx_bench_receive(
     size: usize,
     rounds: u32,
     apart: u64,
+    period: u64,
 ) -> u64 {
     if heard_size == 0 || size == 0 {
         return 0;
@@ -51,12 +62,13 @@ pub extern "C" fn ipx_bench_receive(
     let Ok(mut router) = router_of_three(alloc) else {
         return 0;
     };
-    let _ = fed_digests(alloc, &mut router, heard, heard_size, MOMENT);
+    let _ = fed_digests(alloc, &mut router, heard, heard_size, MOMENT, 0);
     let mut digest = 0;
-    let mut now = MOMENT;
+    let mut first = MOMENT;
     for _ in 0..rounds {
-        digest = mixed(digest, fed_digests(alloc, &mut router, records, size, now));
-        now = now.saturating_add(apart);
+        let round = fed_digests(alloc, &mut router, records, size, first, apart);
+        digest = mixed(digest, round);
+        first = first.saturating_add(period);
     }
     digest
 }

@@ -28,7 +28,7 @@ pub extern "C" fn ipx_bench_tell(alloc: Global, heard: &[u8], size: usize, round
     let Ok(mut router) = router_of_three(alloc) else {
         return 0;
     };
-    let _ = fed_digests(alloc, &mut router, heard, size, MOMENT);
+    let _ = fed_digests(alloc, &mut router, heard, size, MOMENT, 0);
     let mut digest = 0;
     for round in 0..rounds {
         let now = u64::from(round) * PERIOD;

@@ -15,7 +15,7 @@ use Rattle.ipx_router.specs.declared.port.Port.{Port}
 use Rattle.ipx_router.specs.declared.port.PortNow.{PortNow}
 use Rattle.ipx_router.specs.Knowledge.{Routes, Services}
 use Rattle.ipx_router.specs.Told.{AreToldRoutes, AreToldServices, IsListOf, IsToldRoute, IsToldService, key_of_service}
-use Rattle.ipx_router.specs.Replying.{AreNearest, AreRoutesAsked, AreServicesAsked, AreToldOf, asks_all, is_of_kind}
+use Rattle.ipx_router.specs.Replying.{AreRoutesAsked, AreServicesAsked, AreToldOf, asks_all, is_of_kind}
 use Rattle.ipx_router.specs.Picking.{routes_asked}
 use Rattle.ipx_router.proofs.Members.{filter_has, filter_only}
 use Rattle.ipx_router.proofs.ToldRoutes.{network_from}
@@ -80,28 +80,9 @@ list_of_passing cmp key_of F p xs are = record {
 }
 
 module _ (services : Services) (at : PortNow) (told : List ServiceEntry) (are : AreToldServices services at told) (kind : ℕ) where
-  nearest_by : (entries : List ServiceEntry) → AreNearest (Contains told) kind entries → AreNearest (IsToldService services at) kind entries
-  nearest_by [] none = λ x is. none x ((are.stands x).1 is)
-  nearest_by (e ∷ es) n = (
-    record {
-      told = (are.stands e).0 n.0.told;
-      near = n.0.near;
-      least = λ x is near. n.0.least x ((are.stands x).1 is) near;
-    },
-    n.1,
-  )
-
-  -- the nearest service
-  pub nearest_picked : (entries : List ServiceEntry) → AreNearest (Contains told) kind entries → AreServicesAsked services at true kind entries
-  nearest_picked entries n = nearest_by entries n
-
   -- the services of a kind
   pub services_picked : AreServicesAsked services at false kind (filter (is_of_kind kind) told)
   services_picked = list_of_passing service_key_cmp key_of_service (IsToldService services at) (is_of_kind kind) told are
-
-  pub nearest_ok : {V X : Type 0} (items : V → List ServiceEntry) (o : Result V X) → IfOk o (λ v. AreNearest (Contains told) kind (items v)) → IfOk o (λ v. AreServicesAsked services at true kind (items v))
-  nearest_ok items (Ok v) n = nearest_picked (items v) n
-  nearest_ok items (Err e) n = tt
 
   pub services_ok : {V X : Type 0} (items : V → List ServiceEntry) (o : Result V X) → IfOk o (λ v. items v ≡ filter (is_of_kind kind) told) → IfOk o (λ v. AreServicesAsked services at false kind (items v))
   services_ok items (Ok v) e = subst (AreServicesAsked services at false kind) (sym e) services_picked

@@ -5,6 +5,7 @@ ghost use Rattle.std.specs.Bool.{OnFalse, OnTrue};
 ghost use Rattle.std.specs.List.{filter_map};
 ghost use Rattle.ipx_router.specs.Knowledge.{routes_in, services_in};
 ghost use Rattle.ipx_router.specs.Packets.{sendings};
+ghost use Rattle.ipx_router.specs.Told.{IsToldService};
 ghost use Rattle.ipx_router.specs.Replying.{IsNearest, NoneIsNear, AreNearest, AreServicesAsked, RepliesRoutes, RepliesServices, asks_all, is_asked, is_near, is_nearer, is_of_kind};
 ghost use Rattle.ipx_router.specs.Picking.{NoneIsAsked, is_item_asked, nearer, routes_asked};
 ghost use Rattle.ipx_router.specs.WantOfMemory.{HasToReply};
@@ -98,15 +99,18 @@ fn nearer_of(held: Option<ServiceEntry>, service: ServiceEntry) -> ServiceEntry
     }
 }
 
-/// The nearest service of a kind.
-fn nearest_service(told: &[ServiceEntry], kind: u16) -> Option<ServiceEntry>
-    ensures found { IfSome result (IsNearest (Contains told.now) kind) }
-    ensures none { IfNone result (NoneIsNear (Contains told.now) kind) }
+/// The nearest told service of a kind: a walk over the best offers, which lists nothing.
+fn nearest_service(services: &ServiceTable, at: PortNow, kind: u16) -> Option<ServiceEntry>
+    ensures found { IfSome result
+        (IsNearest (IsToldService (services_in services.now) at) kind) }
+    ensures none { IfNone result
+        (NoneIsNear (IsToldService (services_in services.now) at) kind) }
 {
+    one_best::<ServiceKey, ServiceMetric>();
     let mut nearest: Option<ServiceEntry> = None;
-    for service in told {
-        if is_near_of_kind(kind, service) {
-            nearest = Some(nearer_of(nearest, *service));
+    for item in services.bests(at.now) {
+        if is_best_asked(item, at, true, kind) {
+            nearest = Some(nearer_of(nearest, told_service_of(&item)));
         }
     }
     nearest
@@ -115,12 +119,14 @@ fn nearest_service(told: &[ServiceEntry], kind: u16) -> Option<ServiceEntry>
 /// The nearest told service of a kind, alone, or nothing.
 fn nearest_alone(
     alloc: Global,
-    told: &[ServiceEntry],
+    services: &ServiceTable,
+    at: PortNow,
     kind: u16,
 ) -> Result<Vec<ServiceEntry>, OutOfMemory>
-    ensures { IfOk result (λ v. AreNearest (Contains told.now) kind v.items) }
+    ensures { IfOk result (λ v.
+        AreNearest (IsToldService (services_in services.now) at) kind v.items) }
 {
-    match nearest_service(told, kind) {
+    match nearest_service(services, at, kind) {
         None => Ok(Vec::new(alloc)),
         Some(service) => Ok(vec![in alloc; service]?),
     }
@@ -153,10 +159,10 @@ fn asked_services(
     ensures { IfOk result (λ v.
         AreServicesAsked (services_in services.now) at nearest kind v.items) }
 {
-    let told = told_services(alloc, services, at)?;
     if nearest {
-        return nearest_alone(alloc, &told, kind);
+        return nearest_alone(alloc, services, at, kind);
     }
+    let told = told_services(alloc, services, at)?;
     services_of_kind(alloc, &told, kind)
 }
 

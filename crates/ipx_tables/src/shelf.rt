@@ -10,6 +10,7 @@ use crate::marks::{put_mark, unmark};
 use crate::offer::Offer;
 use crate::source::Source;
 use std::alloc::{AllocError, Global};
+use std::cmp::Ordering;
 use std::collections::VecDeque;
 use std::marker::Model;
 
@@ -128,6 +129,16 @@ impl<K: Ord + Copy, M: Copy> Shelf<K, M> {
     }
 }
 
+/// How an offer stands to a key and a source: by key, and where that ties by source.
+fn pair_order<K: Ord + Copy, M: Copy>(offer: &Offer<K, M>, key: &K, source: Source) -> Ordering
+    ensures { result ≡ pair_cmp K.cmp (pair_of offer.now) (key.now, source) }
+{
+    match offer.key.cmp(key) {
+        Ordering::Equal => offer.source.cmp(&source),
+        unequal => unequal,
+    }
+}
+
 /// Where the offer of a key and a source is, or where it would go. One place is tried first.
 fn place_in<K: Ord + Copy, M: Copy>(
     offers: &[Offer<K, M>],
@@ -139,11 +150,8 @@ fn place_in<K: Ord + Copy, M: Copy>(
     ensures found { IfOk result (IsAtKey (pair_cmp K.cmp) pair_of offers.now (key, source)) }
     ensures absent { IfErr result (IsGapFor (pair_cmp K.cmp) pair_of offers.now (key, source)) }
 {
-    if first < offers.len() {
-        let offer = offers[first];
-        if offer.key.cmp(&key).then(offer.source.cmp(&source)).is_eq() {
-            return Ok(first);
-        }
+    if first < offers.len() && pair_order(&offers[first], &key, source).is_eq() {
+        return Ok(first);
     }
-    offers.binary_search_by(|offer| offer.key.cmp(&key).then(offer.source.cmp(&source)))
+    offers.binary_search_by(|offer| pair_order(offer, &key, source))
 }

@@ -1,7 +1,10 @@
-use Rattle.std.specs.Prelude.{Contains, MatchOption, take}
-use Rattle.ipx_router.specs.Replying.{IsNearest, NoneIsNear}
+use Rattle.std.proofs.Common.{◌≡◌, ◌++◌}
+use Rattle.ipx_router.proofs.NearestWalk.{IsNearestOf}
 use Rattle.ipx_router.proofs.replying.nearest_service.Given as goal
 
-abbrev pub invariant-loop-service : goal.invariant-loop-service
-invariant-loop-service l =
-    MatchOption l.nearest (NoneIsNear (Contains (take l.service-index l.told)) l.kind) (IsNearest (Contains (take l.service-index l.told)) l.kind)
+-- with what the walk has left they are all it had, and of them it is the nearest
+abbrev pub invariant-loop-item : goal.invariant-loop-item
+invariant-loop-item l = record {
+  all : l.yielded ++ l.item-iterator ≡ l.initial.item-iterator;
+  nearest : IsNearestOf l.at l.kind l.yielded l.nearest;
+}
