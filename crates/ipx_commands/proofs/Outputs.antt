@@ -1,5 +1,5 @@
 -- From one reading to one output and one status.
-use Rattle.std.proofs.Common.{◌≡◌, ℕ, Bool, true, false, List, [], ◌∷◌, ◌++◌, map, Option, Some, None, sym, ap, ◌∙◌, subst, refl}
+use Rattle.std.proofs.Common.{◌≡◌, ℕ, Bool, true, false, List, [], ◌∷◌, ◌++◌, map, Option, Some, None, sym, ap, ◌∙◌, refl}
 use Rattle.std.specs.Prelude.{MatchBool, MatchOption, nat_lt, length, codes, if◌then◌else◌, ◌==◌}
 use Rattle.std.specs.List.{AllZip, list_all, take_while}
 use Rattle.std.specs.Result.{result_ok}

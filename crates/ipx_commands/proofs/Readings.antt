@@ -1,9 +1,8 @@
 -- Bytes are read as one thing alone.
-use Rattle.std.proofs.Common.{◌≡◌, ℕ, List, Option, Some, None, refl, sym, ap, ◌∙◌, subst}
-use Rattle.ipx_wire.specs.declared.spx.SpxHeader.{SpxHeader}
+use Rattle.std.proofs.Common.{◌≡◌, ℕ, List, Some, None, refl, sym, ap, ◌∙◌, subst}
+use Rattle.ipx_wire.specs.declared.spx.packet.SpxHeader.{SpxHeader}
 use Rattle.ipx_wire.specs.Ipx.{PacketView, IsIpx, ipx_fault}
 use Rattle.ipx_wire.specs.Spx.{IsSpx, spx_fault}
-use Rattle.ipx_control.specs.declared.fault.ControlFault.{ControlFault}
 use Rattle.ipx_control.specs.Rip.{RipView, IsRip, rip_fault}
 use Rattle.ipx_control.specs.Sap.{SapView, IsSap, sap_fault}
 use Rattle.ipx_commands.specs.Reading.{ContentsView, OfSpx, OfRip, OfSap, ReadingView, NoPacket, NoSpx, NoControl, Holds, Protocol, Spx, Rip, Sap, Other, IsContents, IsReading, body_fault, protocol_of}

@@ -1,8 +1,9 @@
 -- What is read out of a datagram: a packet with what its body holds, or the fault that refuses it.
 use Rattle.std.specs.Prelude.{◌≡◌, ℕ, List, Option, Some, None, ◌==◌, if◌then◌else◌}
-use Rattle.ipx_wire.specs.declared.packet.IpxHeader.{IpxHeader}
-use Rattle.ipx_wire.specs.declared.fault.IpxFault.{IpxFault}
-use Rattle.ipx_wire.specs.declared.spx.SpxHeader.{SpxHeader}
+use Rattle.ipx_wire.specs.Assigned.{rip_socket, sap_socket, spx_type}
+use Rattle.ipx_wire.specs.declared.ipx.packet.IpxHeader.{IpxHeader}
+use Rattle.ipx_wire.specs.declared.ipx.fault.IpxFault.{IpxFault}
+use Rattle.ipx_wire.specs.declared.spx.packet.SpxHeader.{SpxHeader}
 use Rattle.ipx_wire.specs.declared.spx.fault.SpxFault.{SpxFault}
 use Rattle.ipx_wire.specs.Ipx.{PacketView, IsIpx, ipx_fault, view}
 use Rattle.ipx_wire.specs.Spx.{IsSpx, spx_fault}
@@ -21,16 +22,16 @@ pub data Protocol : Type 0 where
   Sap : Protocol
   Other : Protocol
 
--- destination socket 0453 is RIP and 0452 SAP
+-- by the destination socket
 abbrev pub protocol_at : ℕ → Protocol
 protocol_at socket =
-    if socket == 0x453 then Rip
-    else if socket == 0x452 then Sap
+    if socket == rip_socket then Rip
+    else if socket == sap_socket then Sap
     else Other
 
--- packet type 5 is SPX, whatever the socket
+-- SPX has a packet type of its own, whatever the socket
 abbrev pub protocol_of : IpxHeader → Protocol
-protocol_of h = if h.kind == 5 then Spx else protocol_at h.to.socket.0
+protocol_of h = if h.kind == spx_type then Spx else protocol_at h.to.socket.0
 
 -- what a body holds, without where it lies in memory
 pub data ContentsView : Type 0 where

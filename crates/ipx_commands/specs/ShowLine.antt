@@ -5,10 +5,10 @@ use Rattle.std.specs.Fmt.{decimal}
 use Rattle.std.specs.Int.{w16, w32, to_be_bytes}
 use Rattle.hex.specs.Hex.{encode_lower}
 use Rattle.ipx_wire.specs.declared.address.Address.{Address}
-use Rattle.ipx_wire.specs.declared.spx.SpxHeader.{SpxHeader}
+use Rattle.ipx_wire.specs.declared.spx.packet.SpxHeader.{SpxHeader}
 use Rattle.ipx_wire.specs.Ipx.{PacketView}
-use Rattle.ipx_control.specs.declared.rip.RipEntry.{RipEntry}
-use Rattle.ipx_control.specs.declared.sap.ServiceEntry.{ServiceEntry}
+use Rattle.ipx_control.specs.declared.rip.packet.RipEntry.{RipEntry}
+use Rattle.ipx_control.specs.declared.sap.packet.ServiceEntry.{ServiceEntry}
 use Rattle.ipx_control.specs.Rip as rip
 use Rattle.ipx_control.specs.Sap as sap
 use Rattle.ipx_commands.specs.Line.{control_fault_text, fault_text, spx_fault_text}
@@ -59,8 +59,8 @@ spx_line h payload =
 -- 8 hex digits, and hops and ticks in decimal
 abbrev pub rip_entry_line : RipEntry → List ℕ
 rip_entry_line e =
-    codes "net " ++ (encode_lower (to_be_bytes w32 e.network.0) ++ (codes " hops " ++ (decimal e.hops
-    ++ (codes " ticks " ++ (decimal e.ticks ++ 10 ∷ [])))))
+    codes "net " ++ (encode_lower (to_be_bytes w32 e.network.0)
+    ++ (codes " hops " ++ (decimal e.hops ++ (codes " ticks " ++ (decimal e.ticks ++ 10 ∷ [])))))
 
 abbrev pub rip_lines : rip.RipView → List ℕ
 rip_lines (rip.Request entries) =

@@ -1,4 +1,4 @@
--- Words of private functions: what `check` has found so far, against the verdicts of the lines so far.
+-- Words of private functions: what `check` has found so far, and the verdicts of the lines so far.
 use Rattle.std.specs.Prelude.{◌≡◌, List, length, count_by, string_bytes}
 use Rattle.ipx_commands.specs.declared.check.Tally as code
 use Rattle.ipx_commands.specs.Check.{VerdictView, failed_lines, is_failed, is_vector}

@@ -115,7 +115,8 @@ fn note(alloc: Global, tally: &mut Tally, verdict: Verdict) -> Result<(), AllocE
 fn lines_at_bad_line(alloc: Global, tally: &Tally) -> Result<(String, u8), OutOfMemory>
     requires { tally.now.lines ≤ 1000001 }
     ensures { IfOk result (λ r. (vs : List VerdictView) → IsTally vs tally.now
-        → (string_bytes r.0 ≡ failed_lines vs ++ last_line false vs) × (r.1 ≡ check_status false vs)) }
+        → (string_bytes r.0 ≡ failed_lines vs ++ last_line false vs)
+        × (r.1 ≡ check_status false vs)) }
 {
     let text = tally.text.as_str();
     let place = tally.lines + 1;
@@ -125,7 +126,8 @@ fn lines_at_bad_line(alloc: Global, tally: &Tally) -> Result<(String, u8), OutOf
 /// The lines and the status where all lines were read.
 fn lines_at_end(alloc: Global, tally: &Tally) -> Result<(String, u8), OutOfMemory>
     ensures { IfOk result (λ r. (vs : List VerdictView) → IsTally vs tally.now
-        → (string_bytes r.0 ≡ failed_lines vs ++ last_line true vs) × (r.1 ≡ check_status true vs)) }
+        → (string_bytes r.0 ≡ failed_lines vs ++ last_line true vs)
+        × (r.1 ≡ check_status true vs)) }
 {
     let text = tally.text.as_str();
     let vectors = tally.vectors;
@@ -166,8 +168,8 @@ fn lines_for_input(alloc: Global, input: &[u8]) -> Result<(String, u8), OutOfMem
     check_lines(alloc, input)
 }
 
-/// The command `check`: reads lines of vectors, at most 1,000,000 bytes, and writes which of them have
-/// another outcome than they want, and how many vectors there were and how many failed.
+/// The command `check`: reads lines of vectors, at most 1,000,000 bytes, and writes which of them
+/// have another outcome than they want, and how many vectors there were and how many failed.
 ///
 /// `Ok` is the status that goes with the lines that were written: 0 where all vectors passed, 1
 /// where one failed, 2 for a line of no known form and for an input that is too long. `Err` is the

@@ -90,11 +90,11 @@ fn line_for_text(alloc: Global, text: &[u8]) -> Result<(String, u8), OutOfMemory
     }
 }
 
-/// The command `hop`: reads one packet in hex, at most 4,096 bytes of text with at most one line end, and writes what
-/// becomes of it on port 1 of a router with two ports.
+/// The command `hop`: reads one packet in hex, at most 4,096 bytes of text with at most one line
+/// end, and writes what becomes of it on port 1 of a router with two ports.
 ///
-/// `Ok` is the status that goes with the lines that were written: 0 for a packet that goes on, is
-/// answered or is heard, 1 for one that is dropped, 2 for text that is no packet in hex. `Err` is the
+/// `Ok` is the status that goes with the lines that were written: 0 for a packet that is forwarded,
+/// answered or heard, 1 for one that is dropped, 2 for text that is no packet in hex. `Err` is the
 /// status 1 of a read or write fault, after which nothing more is written, or of want of memory,
 /// which writes `fault (14) OutOfMemory`.
 pub fn do_hop<R: Read, W: Write>(alloc: Global, reader: &mut R, writer: &mut W) -> Result<u8, u8>

@@ -5,7 +5,9 @@ ghost use Rattle.ipx_wire.specs.Spx.{spx_fault};
 ghost use Rattle.ipx_commands.specs.Reading.{IsContents, IsReading, Spx, body_fault, contents_view, protocol_at, reading_view};
 
 use ipx_control::{ControlFault, Rip, Sap, decode_rip, decode_sap};
-use ipx_wire::{IpxFault, OutOfMemory, Packet, Socket, SpxFault, SpxHeader, decode, decode_spx};
+use ipx_wire::{
+    IpxFault, OutOfMemory, Packet, Socket, SpxFault, SpxHeader, decode, decode_spx, packet_type,
+};
 use std::alloc::Global;
 
 /// What a body holds. The payload of an SPX packet is lent.
@@ -47,11 +49,11 @@ fn contents_at<'a>(
     ensures fault { IfErr result (λ f. (f ≡ ControlFault.OutOfMemory)
         ⊎ (body_fault (protocol_at socket.0) body.now ≡ Some f)) }
 {
-    if socket.0 == 0x453 {
+    if socket.0 == Socket::RIP.0 {
         let rip = decode_rip(alloc, body)?;
         return Ok(Contents::OfRip(rip));
     }
-    if socket.0 == 0x452 {
+    if socket.0 == Socket::SAP.0 {
         let sap = decode_sap(alloc, body)?;
         return Ok(Contents::OfSap(sap));
     }
@@ -67,7 +69,7 @@ pub fn read_datagram(alloc: Global, bytes: &[u8]) -> Result<Reading<'_>, OutOfMe
         Ok(packet) => packet,
         Err(fault) => return Ok(Reading::NoPacket(fault)),
     };
-    if packet.header.kind == 5 {
+    if packet.header.kind == packet_type::SPX {
         match spx_contents(packet.body) {
             Ok(contents) => return Ok(Reading::Holds(packet, contents)),
             Err(fault) => return Ok(Reading::NoSpx(fault)),

@@ -31,8 +31,8 @@ fn lines_for_text(alloc: Global, text: &str) -> Result<(String, u8), OutOfMemory
     }
 }
 
-/// The command `show`: writes the fields of the packet that a text in hex stands for, and of the SPX,
-/// RIP or SAP packet in its body, or the fault that refuses them.
+/// The command `show`: writes the fields of the packet that a text in hex stands for, and of the
+/// SPX, RIP or SAP packet in its body, or the fault that refuses them.
 ///
 /// `Ok` is the status that goes with the lines that were written: 0 for a packet, 1 for one that is
 /// refused, 2 for text that is no hex. `Err` is the status 1 of a write fault, after which nothing

@@ -5,8 +5,8 @@ ghost use Rattle.std.specs.Prelude.{◌≡◌, ◌≤◌, ◌<◌, ◌^◌, leng
 use std::io;
 use std::io::{Read, Write};
 
-/// A reader of a text, or a writer, that moves one byte a call, and fails for good once `left` calls
-/// are over. Each second call before that is interrupted.
+/// A reader of a text, or a writer, that moves one byte a call, and fails for good once `left`
+/// calls are over. Each second call before that is interrupted.
 #[derive(Drop)]
 pub struct Failing<'a> {
     text: &'a [u8],

@@ -2,7 +2,7 @@
 use Rattle.std.proofs.Common.{◌≡◌, ℕ, Bool, true, false, cond, not, List, [], ◌∷◌, ◌++◌, Option, Some, None, map, refl, sym, ap, ◌∙◌, subst}
 use Rattle.std.specs.Prelude.{Contains, IfNone, IfSome, MatchOption, ◌==◌, ◌&&◌}
 use Rattle.std.specs.List.{filter}
-use Rattle.ipx_control.specs.declared.sap.ServiceEntry.{ServiceEntry}
+use Rattle.ipx_control.specs.declared.sap.packet.ServiceEntry.{ServiceEntry}
 use Rattle.ipx_tables.specs.declared.service.ServiceKey.{ServiceKey}
 use Rattle.ipx_tables.specs.declared.service.ServiceMetric.{ServiceMetric}
 use Rattle.ipx_tables.specs.declared.source.Source.{Source}

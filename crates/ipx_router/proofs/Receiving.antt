@@ -8,10 +8,10 @@ use Rattle.ipx_wire.specs.declared.memory.OutOfMemory.{OutOfMemory}
 use Rattle.ipx_wire.specs.Ipx.{PacketView, number}
 use Rattle.ipx_control.specs.declared.fault.ControlFault.{ControlFault}
 use Rattle.ipx_control.specs.declared.fault.ControlFault.TheVariants.{NoOperation, UnknownOperation, TooManyEntries, QueryShort, OutOfMemory as out_of_memory_fault}
-use Rattle.ipx_control.specs.declared.rip.RipEntry.{RipEntry}
-use Rattle.ipx_control.specs.declared.rip.Rip.{Rip}
-use Rattle.ipx_control.specs.declared.sap.ServiceEntry.{ServiceEntry}
-use Rattle.ipx_control.specs.declared.sap.Sap.{Sap}
+use Rattle.ipx_control.specs.declared.rip.packet.RipEntry.{RipEntry}
+use Rattle.ipx_control.specs.declared.rip.packet.Rip.{Rip}
+use Rattle.ipx_control.specs.declared.sap.packet.ServiceEntry.{ServiceEntry}
+use Rattle.ipx_control.specs.declared.sap.packet.Sap.{Sap}
 use Rattle.ipx_control.specs.Rip.{RipView, IsRip, rip_entries, rip_fault}
 use Rattle.ipx_control.specs.Rip as rip
 use Rattle.ipx_control.specs.Sap.{SapView, IsSap, sap_fault, sap_services}

@@ -3,8 +3,8 @@ use Rattle.ipx_wire.specs.Assigned.{rip_socket, sap_socket}
 use Rattle.std.proofs.Common.{◌≡◌, ℕ, ◌+◌, ◌<◌, ◌≤◌, false, List, [], ◌∷◌, ◌++◌, length, drop, refl, sym, ap, ◌∙◌, subst, arith, append_assoc}
 use Rattle.std.specs.List.{All}
 use Rattle.std.proofs.lemmas.List.Elements.{All-append, All-cons, All-nil, All-weaker}
-use Rattle.ipx_control.specs.declared.rip.RipEntry.{RipEntry}
-use Rattle.ipx_control.specs.declared.sap.ServiceEntry.{ServiceEntry}
+use Rattle.ipx_control.specs.declared.rip.packet.RipEntry.{RipEntry}
+use Rattle.ipx_control.specs.declared.sap.packet.ServiceEntry.{ServiceEntry}
 use Rattle.ipx_control.specs.Rip as rip
 use Rattle.ipx_control.specs.Sap as sap
 use Rattle.ipx_router.specs.declared.outcome.Reply.{Reply}

@@ -3,10 +3,10 @@
 -- The entry point is `Receives`, at the end.
 use Rattle.std.specs.Prelude.{◌≡◌, ℕ, List, length, MatchOption, count_by}
 use Rattle.ipx_wire.specs.declared.address.Network.{Network}
-use Rattle.ipx_wire.specs.declared.packet.IpxHeader.{IpxHeader}
+use Rattle.ipx_wire.specs.declared.ipx.packet.IpxHeader.{IpxHeader}
 use Rattle.ipx_wire.specs.Ipx.{PacketView, IsIpx, ipx_fault}
-use Rattle.ipx_control.specs.declared.rip.RipEntry.{RipEntry}
-use Rattle.ipx_control.specs.declared.sap.ServiceEntry.{ServiceEntry}
+use Rattle.ipx_control.specs.declared.rip.packet.RipEntry.{RipEntry}
+use Rattle.ipx_control.specs.declared.sap.packet.ServiceEntry.{ServiceEntry}
 use Rattle.ipx_control.specs.Rip.{RipView, IsRip, rip_fault}
 use Rattle.ipx_control.specs.Rip as rip
 use Rattle.ipx_control.specs.Sap.{SapView, IsSap, sap_fault}

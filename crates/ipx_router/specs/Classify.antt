@@ -3,7 +3,7 @@
 use Rattle.std.specs.Prelude.{◌==◌, ◌||◌, ◌&&◌, Bool, not, nat_eq, if◌then◌else◌}
 use Rattle.std.specs.Cmp.Lexicographic.{pointwise}
 use Rattle.ipx_wire.specs.declared.address.Node.{Node}
-use Rattle.ipx_wire.specs.declared.packet.IpxHeader.{IpxHeader}
+use Rattle.ipx_wire.specs.declared.ipx.packet.IpxHeader.{IpxHeader}
 use Rattle.ipx_wire.specs.Assigned.{local_network, netbios_propagation_type, rip_socket, sap_socket}
 use Rattle.ipx_router.specs.declared.port.Port.{Port}
 use Rattle.ipx_router.specs.declared.classify.Concern.{Concern}

@@ -1,7 +1,7 @@
 -- What becomes of a packet for another network: by its route it is forwarded or dropped
 -- (Novell IPX Router Specification, forwarding).
 use Rattle.std.specs.Prelude.{◌≡◌, ℕ, ◌+◌, List, Option, Some, None, nat_le, ◌==◌, if◌then◌else◌, unwrap_or}
-use Rattle.ipx_wire.specs.declared.packet.IpxHeader.{IpxHeader}
+use Rattle.ipx_wire.specs.declared.ipx.packet.IpxHeader.{IpxHeader}
 use Rattle.ipx_wire.specs.Assigned.{local_network}
 use Rattle.ipx_wire.specs.Ipx.{PacketView}
 use Rattle.ipx_router.specs.declared.port.Port.{Port}

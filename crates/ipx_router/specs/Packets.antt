@@ -1,11 +1,11 @@
 -- The packets of a router's own, and how lists are cut into them.
 use Rattle.std.specs.Prelude.{◌≡◌, ◌≢◌, ◌<◌, ℕ, Bool, List, [], ◌∷◌, All, length, take, drop, map}
 use Rattle.ipx_wire.specs.declared.address.Node.{Node}
-use Rattle.ipx_wire.specs.declared.packet.IpxHeader.{IpxHeader}
+use Rattle.ipx_wire.specs.declared.ipx.packet.IpxHeader.{IpxHeader}
 use Rattle.ipx_wire.specs.Ipx.{IsBytes, IsIpx, PacketView}
 use Rattle.ipx_wire.specs.Assigned.{broadcast_node, packet_exchange_type, rip_socket, rip_type, sap_socket, spx_type}
-use Rattle.ipx_control.specs.declared.rip.RipEntry.{RipEntry}
-use Rattle.ipx_control.specs.declared.sap.ServiceEntry.{ServiceEntry}
+use Rattle.ipx_control.specs.declared.rip.packet.RipEntry.{RipEntry}
+use Rattle.ipx_control.specs.declared.sap.packet.ServiceEntry.{ServiceEntry}
 use Rattle.ipx_control.specs.Rip.{RipView, IsRip}
 use Rattle.ipx_control.specs.Rip as rip
 use Rattle.ipx_control.specs.Sap.{SapView, IsSap}

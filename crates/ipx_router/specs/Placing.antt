@@ -1,7 +1,7 @@
 -- Words of the private functions that make the list of told routes.
 use Rattle.std.specs.Prelude.{◌≡◌, ◌<◌, ◌⊎◌, ℕ, ◌+◌, ◌==◌, ◌&&◌, Bool, true, false, not, List, slice_index_or, Option, Some, None, is_none, Contains}
 use Rattle.ipx_wire.specs.declared.address.Network.{Network}
-use Rattle.ipx_control.specs.declared.rip.RipEntry.{RipEntry}
+use Rattle.ipx_control.specs.declared.rip.packet.RipEntry.{RipEntry}
 use Rattle.ipx_tables.specs.declared.route.RouteMetric.{RouteMetric}
 use Rattle.ipx_tables.specs.declared.source.Source.{Source}
 use Rattle.ipx_tables.specs.Route.{network_cmp}

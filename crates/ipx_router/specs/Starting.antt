@@ -1,7 +1,7 @@
 -- What a router asks its neighbours as it starts.
 use Rattle.std.specs.Prelude.{◌≡◌, ℕ, ◌+◌, false, List, [], ◌∷◌, ◌++◌}
 use Rattle.ipx_wire.specs.Assigned.{all_networks, rip_socket, sap_socket}
-use Rattle.ipx_control.specs.declared.rip.RipEntry.{RipEntry}
+use Rattle.ipx_control.specs.declared.rip.packet.RipEntry.{RipEntry}
 use Rattle.ipx_control.specs.Rip as rip
 use Rattle.ipx_control.specs.Sap as sap
 use Rattle.ipx_router.specs.declared.port.Port.{Port}

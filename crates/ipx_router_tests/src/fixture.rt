@@ -11,6 +11,7 @@ fn node(last: u8) -> Node {
     Node([0, 0, 0x7f, 0, 0, last])
 }
 
+/// A port with a node 00007f0000xx.
 pub fn port(network: u32, last: u8, cost: u16) -> Port
     ensures { result.network.0 ≡ network }
 {

@@ -11,11 +11,15 @@ mod index;
 #[cfg(test)]
 mod metrics;
 #[cfg(test)]
+mod new_router;
+#[cfg(test)]
 mod nothing;
 #[cfg(test)]
 mod offers;
 #[cfg(test)]
 mod order;
+#[cfg(test)]
+mod prefixes;
 #[cfg(test)]
 mod refused;
 #[cfg(test)]

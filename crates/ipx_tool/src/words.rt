@@ -38,7 +38,8 @@ fn plain_task(command: &str) -> Option<Task<'_>>
 }
 
 fn show_task<'a>(command: &str, packet: &'a str) -> Option<Task<'a>>
-    ensures { IfSome result (λ t. (name : List ℕ) → AsksFor (name ∷ command.now ∷ packet.now ∷ []) t) }
+    ensures { IfSome result (λ t.
+        (name : List ℕ) → AsksFor (name ∷ command.now ∷ packet.now ∷ []) t) }
 {
     if command != "show" || packet.as_bytes().starts_with(b"-") {
         return None;
@@ -46,8 +47,8 @@ fn show_task<'a>(command: &str, packet: &'a str) -> Option<Task<'a>>
     Some(Task::Show(packet))
 }
 
-/// Why words ask for no command: a mistake in them, or a call for help or the version, with the text
-/// for the person who wrote them.
+/// Why words ask for no command: a mistake in them, or a call for help or the version, with the
+/// text for the person who wrote them.
 pub fn fault_of(alloc: Global, words: &[String]) -> Error {
     match usage_of(alloc, words) {
         Ok(error) | Err(error) => error,

@@ -33,26 +33,26 @@ pub record PollSays (l : LinkView) (r : Option OutgoingView × LinkView) : Type 
 -- ---- without a unit
 
 none_says : (l : LinkView) → PollSays l (None, l)
-none_says l = record { gives = tt; units = record { queued = refl; held = refl }; endings = record { end_queued = refl; peer_ended = refl }; state = inl refl }
+none_says l = record { gives = tt; units = record { queued = refl; held = refl; ahead = refl }; endings = record { end_queued = refl; peer_ended = refl }; state = inl refl }
 
 lost_says : (l : LinkView) → PollSays l (None, P.lost l)
 lost_says l =
-    record { gives = tt; units = record { queued = refl; held = refl }; endings = record { end_queued = refl; peer_ended = refl }; state = inr (refl, refl) }
+    record { gives = tt; units = record { queued = refl; held = refl; ahead = refl }; endings = record { end_queued = refl; peer_ended = refl }; state = inr (refl, refl) }
 
 request_says : (l : LinkView) (now : ℕ) → l.state ≡ States.Opening → PollSays l (P.requests l now)
 request_says l now opening = record {
   gives = record { from = refl; read = refl; allows = refl; kind = (record { to = refl; unit = refl; number = refl; body = refl }, opening) };
-  units = record { queued = refl; held = refl };
+  units = record { queued = refl; held = refl; ahead = refl };
   endings = record { end_queued = refl; peer_ended = refl };
   state = inl refl;
 }
 
 -- a packet without a unit to the peer, after which the link is m
-other_says : (l m : LinkView) (o : OutgoingView) → IsGiven l o → m.queue ≡ l.queue → m.held ≡ l.held → m.end_queued ≡ l.end_queued → m.peer_ended ≡ l.peer_ended → m.state ≡ l.state → PollSays l (Some o, m)
-other_says l m o given queue held queued ended state =
+other_says : (l m : LinkView) (o : OutgoingView) → IsGiven l o → m.queue ≡ l.queue → m.held ≡ l.held → m.ahead ≡ l.ahead → m.end_queued ≡ l.end_queued → m.peer_ended ≡ l.peer_ended → m.state ≡ l.state → PollSays l (Some o, m)
+other_says l m o given queue held ahead queued ended state =
     record {
       gives = given;
-      units = record { queued = ap (map unit_of) queue; held = held };
+      units = record { queued = ap (map unit_of) queue; held = held; ahead = ahead };
       endings = record { end_queued = queued; peer_ended = ended };
       state = inl state;
     }
@@ -85,10 +85,11 @@ sends_says l now (Some q) at may =
           carries = carries l q.unit l.next;
           number = refl;
           room = grind (arith, nat_tests);
+          window = grind (arith, nat_tests);
           working = (and_parts (is_working l.state) (P.is_waiting l && (nat_lt 0 l.room && nat_lt l.out most_units)) may).0;
         };
       };
-      units = record { queued = stamped l l.out q (record { unit = q.unit; at = now; count = 1 }) at refl; held = refl };
+      units = record { queued = stamped l l.out q (record { unit = q.unit; at = now; count = 1 }) at refl; held = refl; ahead = refl };
       endings = record { end_queued = refl; peer_ended = refl };
       state = inl refl;
     }
@@ -110,7 +111,7 @@ again_says l now place q at out working =
           working = working;
         };
       };
-      units = record { queued = stamped l place q (record { unit = q.unit; at = now; count = q.count + 1 }) at refl; held = refl };
+      units = record { queued = stamped l place q (record { unit = q.unit; at = now; count = q.count + 1 }) at refl; held = refl; ahead = refl };
       endings = record { end_queued = refl; peer_ended = refl };
       state = inl refl;
     }
@@ -134,14 +135,14 @@ probe_says l now =
     (λ _. by_test (PollSays l) (nat_le most_sends l.probes) (None, P.lost l) (P.probes_once l now)
     (λ _. lost_says l)
     (λ _. other_says l (record l { probes = l.probes + 1; spoke = now }) (P.plain l Sents.Probe true 0 l.peer)
-    (record { from = refl; read = refl; allows = refl; kind = record { to = refl; unit = refl; number = refl; body = refl } }) refl refl refl refl refl))
+    (record { from = refl; read = refl; allows = refl; kind = record { to = refl; unit = refl; number = refl; body = refl } }) refl refl refl refl refl refl))
     (λ _. none_says l)
 
 ack_says : (l : LinkView) (now : ℕ) → PollSays l (P.poll_ack l now)
 ack_says l now =
     by_test (PollSays l) l.owes_ack (P.acknowledges l now) (P.poll_probe l now)
     (λ _. other_says l (record l { owes_ack = false; spoke = now }) (P.plain l Sents.Ack false 0 l.peer)
-    (record { from = refl; read = refl; allows = refl; kind = record { to = refl; unit = refl; number = refl; body = refl } }) refl refl refl refl refl)
+    (record { from = refl; read = refl; allows = refl; kind = record { to = refl; unit = refl; number = refl; body = refl } }) refl refl refl refl refl refl)
     (λ _. probe_says l now)
 
 late_at_says : (l : LinkView) (now place : ℕ) (q : Option Queued) → slice_get l.queue place ≡ q → P.late l now ≡ Some place → is_working l.state ≡ true → PollSays l (P.sends_again_or_lost l now place q)
@@ -168,10 +169,10 @@ reply_says : (l : LinkView) (now : ℕ) → PollSays l (P.poll_reply l now)
 reply_says l now =
     by_test (PollSays l) l.owes_reply (P.replies l now) (P.poll_confirm l now)
     (λ _. other_says l (record l { owes_reply = false; owes_ack = false; spoke = now }) (P.plain l Sents.Reply false 0 l.peer)
-    (record { from = refl; read = refl; allows = refl; kind = record { to = refl; unit = refl; number = refl; body = refl } }) refl refl refl refl refl)
+    (record { from = refl; read = refl; allows = refl; kind = record { to = refl; unit = refl; number = refl; body = refl } }) refl refl refl refl refl refl)
     (λ _. by_test (PollSays l) l.owes_confirm (P.confirms l now) (P.poll_unit l now)
     (λ _. other_says l (record l { owes_confirm = false; owes_ack = false; spoke = now }) (P.plain l Sents.Confirm false confirm_stream l.peer)
-    (record { from = refl; read = refl; allows = refl; kind = record { to = refl; unit = refl; number = refl; body = refl } }) refl refl refl refl refl)
+    (record { from = refl; read = refl; allows = refl; kind = record { to = refl; unit = refl; number = refl; body = refl } }) refl refl refl refl refl refl)
     (λ _. unit_says l now))
 
 requests_say : (l : LinkView) (now : ℕ) → l.state ≡ States.Opening → PollSays l (P.poll_request l now)

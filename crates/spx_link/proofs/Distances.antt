@@ -113,3 +113,26 @@ sequence_window bound free read n sent before r f a b c d =
     window_between free read n (distance (mark n) (mark read))
     (λ le. sequence_current read n le b)
     (λ lt. omega (arith, sequence_stale bound read n sent before lt a c d))
+
+-- ---- at the bound of 8,192
+
+pub behind_base : (base out sent ack before : ℕ) → base + out ≡ sent → ack < base → before ≤ ack + 8192 → sent < before + 32768 → 24577 ≤ distance (mark ack) (distance (mark sent) out)
+behind_base base out sent ack before e a b c =
+    let from : distance (mark sent) out ≡ mark base = distance_base base out sent e (omega arith) in
+    let far : distance (mark ack) (mark base) + (base - ack) ≡ 65536 = distance_behind ack base (base - ack) (omega arith) (omega arith) (omega arith) in
+    rw from (omega arith)
+
+parts_between : (sent allows beyond : ℕ) → allows ≤ sent + 8192 → (sent ≤ allows → sent + beyond ≡ allows) → (allows < sent → 32769 ≤ beyond) → (allows < sent → 32769 ≤ beyond) × (sent ≤ allows → beyond ≤ 8192) × ((beyond ≤ 16383) ↔ (sent ≤ allows))
+parts_between sent allows beyond a current stale = (stale, λ le. omega (arith, current le), (λ b. grind arith, λ le. omega (arith, current le)))
+
+pub allocation_parts : (sent allows before : ℕ) → allows ≤ sent + 8192 → before ≤ allows → sent < before + 32768 → let beyond : ℕ = distance (mark (allows + 65535) + 1) (mark sent) in (allows < sent → 32769 ≤ beyond) × (sent ≤ allows → beyond ≤ 8192) × ((beyond ≤ 16383) ↔ (sent ≤ allows))
+allocation_parts sent allows before a b c =
+    parts_between sent allows (distance (mark (allows + 65535) + 1) (mark sent)) a
+    (λ le. allocation_current sent allows le (omega arith))
+    (λ lt. allocation_stale sent allows before b lt c)
+
+pub behind_read : (read n sent before : ℕ) → n < read → read ≤ sent → before ≤ n + 8192 → sent < before + 32768 → 24577 ≤ distance (mark n) (mark read)
+behind_read read n sent before a b c d = omega (arith, sequence_stale 8192 read n sent before a b c d)
+
+pub free_at_bound : (free read n sent before : ℕ) → free ≤ 8192 → read ≤ sent → n < read + 65536 → before ≤ n + 8192 → sent < before + 32768 → (distance (mark n) (mark read) < free) ↔ ((read ≤ n) × (n < read + free))
+free_at_bound free read n sent before f a b c d = sequence_window 8192 free read n sent before (omega arith) f a b c d

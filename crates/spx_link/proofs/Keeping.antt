@@ -1,7 +1,7 @@
 -- Each rule of a link keeps its ends, and changes its numbers as the kind of its answer says.
 use Rattle.std.proofs.Common.{◌≡◌, ℕ, List, [], ◌∷◌, Bool, true, false, refl, ap, sym, subst, suc, if◌then◌else◌, ◌==◌, ◌&&◌, ◌||◌, nat_le, nat_lt, Option, None, Some, slice_get, length, length-append, arith}
 use Rattle.std.proofs.lemmas.Bool.Decides.{nat_tests}
-use Rattle.ipx_wire.specs.declared.spx.SpxHeader.{SpxHeader}
+use Rattle.ipx_wire.specs.declared.spx.packet.SpxHeader.{SpxHeader}
 use Rattle.spx_link.specs.declared.unit.Unit as units
 use Rattle.spx_link.specs.declared.queue.Queued.{Queued}
 use Rattle.spx_link.specs.declared.numbers.Numbers.{Numbers}
@@ -16,6 +16,7 @@ use Rattle.spx_link.specs.Poll.{OutgoingView, poll_link, poll_at}
 use Rattle.spx_link.specs.Receive as R
 use Rattle.spx_link.specs.Receive.{receive_link, receive_at}
 use Rattle.spx_link.specs.Offer.{take_link, take_held}
+use Rattle.spx_link.specs.Turns.{kept_with, newly_held}
 use Rattle.spx_link.specs.Effects.{numbers_after_poll, numbers_after_received, numbers_after_take, SameEnds, SamePeer, Joins, IfRequest}
 
 -- what holds of both sides holds of the choice
@@ -116,26 +117,19 @@ lost_alone l now lost =
 
 -- ---- receive
 
-pub record ReadKeeps (l : LinkView) (h : SpxHeader) (r : Received × LinkView) : Type 0 where
-  pub numbers : numbers_of r.1 ≡ numbers_after_received r.0 h (numbers_of l)
+pub record ReadKeeps (l : LinkView) (h : SpxHeader) (body : List ℕ) (r : Received × LinkView) : Type 0 where
+  pub numbers : numbers_of r.1 ≡ numbers_after_received r.0 (length (newly_held l h body)) h (numbers_of l)
   pub same : SamePeer l r.1
   pub not_joined : r.0 ≡ Joined → ⊥
 
-stranger_keeps : (l : LinkView) (h : SpxHeader) → ReadKeeps l h (Stranger, l)
-stranger_keeps l h = record { numbers = refl; same = record { ends = record { own = refl; local = refl; remote = refl; accepted = refl }; peer = refl }; not_joined = λ e. cc }
+stranger_keeps : (l : LinkView) (h : SpxHeader) (body : List ℕ) → ReadKeeps l h body (Stranger, l)
+stranger_keeps l h body = record { numbers = refl; same = record { ends = record { own = refl; local = refl; remote = refl; accepted = refl }; peer = refl }; not_joined = λ e. cc }
 
 -- what the rules for a system packet and for a unit do after the numbers were read
-system_keeps : (l : LinkView) (h : SpxHeader) → ReadKeeps l h (R.read_system (R.read_numbers l h) h)
-system_keeps l h =
+system_keeps : (l : LinkView) (h : SpxHeader) (body : List ℕ) → ReadKeeps l h body (R.read_system (R.read_numbers l h) h)
+system_keeps l h body =
     let m : LinkView = R.read_numbers l h in
-    either (ReadKeeps l h) (R.may_confirm m h) (Confirmed, record (R.with_ack_owed m h.wants_ack) { state = States.Confirmed }) (System, R.with_ack_owed m h.wants_ack)
-    (record { numbers = refl; same = record { ends = record { own = refl; local = refl; remote = refl; accepted = refl }; peer = refl }; not_joined = λ e. cc })
-    (record { numbers = refl; same = record { ends = record { own = refl; local = refl; remote = refl; accepted = refl }; peer = refl }; not_joined = λ e. cc })
-
-out_of_turn_keeps : (l : LinkView) (h : SpxHeader) → ReadKeeps l h (R.out_of_turn (R.read_numbers l h) h)
-out_of_turn_keeps l h =
-    let m : LinkView = R.read_numbers l h in
-    either (ReadKeeps l h) (nat_lt (R.beyond_expected m h) (free m)) (Ahead, record m { owes_ack = true }) (OverAllocation, record m { owes_ack = true })
+    either (ReadKeeps l h body) (R.may_confirm m h) (Confirmed, record (R.with_ack_owed m h.wants_ack) { state = States.Confirmed }) (System, R.with_ack_owed m h.wants_ack)
     (record { numbers = refl; same = record { ends = record { own = refl; local = refl; remote = refl; accepted = refl }; peer = refl }; not_joined = λ e. cc })
     (record { numbers = refl; same = record { ends = record { own = refl; local = refl; remote = refl; accepted = refl }; peer = refl }; not_joined = λ e. cc })
 
@@ -143,64 +137,79 @@ out_of_turn_keeps l h =
 abbrev with_held : Numbers → ℕ → Numbers
 with_held n held = record n { held = held }
 
-keep_keeps : (l : LinkView) (h : SpxHeader) (body : List ℕ) → ReadKeeps l h (R.keep (R.read_numbers l h) h body)
+settle_keeps : (l : LinkView) (h : SpxHeader) (body : List ℕ) → ReadKeeps l h body (R.settle (R.read_numbers l h) (kept_with l h body))
+settle_keeps l h body =
+    let m : LinkView = R.read_numbers l h in
+    let us : List units.Unit = newly_held l h body in
+    either (ReadKeeps l h body) (R.any_end us) (PeerEnded, R.keep_end m us) (Kept, R.keep_units m us (kept_with l h body))
+    (record { numbers = ap (with_held (numbers_of (R.keep_end m us))) (length-append l.held us); same = record { ends = record { own = refl; local = refl; remote = refl; accepted = refl }; peer = refl }; not_joined = λ e. cc })
+    (record { numbers = ap (with_held (numbers_of (R.keep_units m us (kept_with l h body)))) (length-append l.held us); same = record { ends = record { own = refl; local = refl; remote = refl; accepted = refl }; peer = refl }; not_joined = λ e. cc })
+
+keep_keeps : (l : LinkView) (h : SpxHeader) (body : List ℕ) → ReadKeeps l h body (R.keep (R.read_numbers l h) h body)
 keep_keeps l h body =
     let m : LinkView = R.read_numbers l h in
-    either (ReadKeeps l h) (h.stream == end_stream) (PeerEnded, R.keep_end m h) (Kept, R.keep_unit m h body)
-    (record { numbers = ap (with_held (numbers_of (R.keep_end m h))) (length-append l.held (record { stream = h.stream; last = h.last; body = record { items = [] } } ∷ [])); same = record { ends = record { own = refl; local = refl; remote = refl; accepted = refl }; peer = refl }; not_joined = λ e. cc })
-    (record { numbers = ap (with_held (numbers_of (R.keep_unit m h body))) (length-append l.held (record { stream = h.stream; last = h.last; body = record { items = body } } ∷ [])); same = record { ends = record { own = refl; local = refl; remote = refl; accepted = refl }; peer = refl }; not_joined = λ e. cc })
+    either (ReadKeeps l h body) (R.is_taken (R.beyond_expected m h) m.ahead) (Repeat, record m { owes_ack = true }) (R.settle m (kept_with l h body))
+    (record { numbers = refl; same = record { ends = record { own = refl; local = refl; remote = refl; accepted = refl }; peer = refl }; not_joined = λ e. cc })
+    (settle_keeps l h body)
 
-repeated_keeps : (l : LinkView) (h : SpxHeader) → ReadKeeps l h (Repeat, R.repeated (R.read_numbers l h) h)
-repeated_keeps l h =
+in_turn_keeps : (l : LinkView) (h : SpxHeader) (body : List ℕ) → ReadKeeps l h body (R.in_turn (R.read_numbers l h) h body)
+in_turn_keeps l h body =
     let m : LinkView = R.read_numbers l h in
-    let Q : LinkView → Type 0 = λ n. ReadKeeps l h (Repeat, n) in
+    either (ReadKeeps l h body) (nat_lt (R.beyond_expected m h) (free m)) (R.keep m h body) (OverAllocation, record m { owes_ack = true })
+    (keep_keeps l h body)
+    (record { numbers = refl; same = record { ends = record { own = refl; local = refl; remote = refl; accepted = refl }; peer = refl }; not_joined = λ e. cc })
+
+repeated_keeps : (l : LinkView) (h : SpxHeader) (body : List ℕ) → ReadKeeps l h body (Repeat, R.repeated (R.read_numbers l h) h)
+repeated_keeps l h body =
+    let m : LinkView = R.read_numbers l h in
+    let Q : LinkView → Type 0 = λ n. ReadKeeps l h body (Repeat, n) in
     either Q ((h.stream == end_stream) && m.peer_ended) (record m { owes_confirm = true }) (record m { owes_ack = true })
     (record { numbers = refl; same = record { ends = record { own = refl; local = refl; remote = refl; accepted = refl }; peer = refl }; not_joined = λ e. cc })
     (record { numbers = refl; same = record { ends = record { own = refl; local = refl; remote = refl; accepted = refl }; peer = refl }; not_joined = λ e. cc })
 
-unit_keeps : (l : LinkView) (h : SpxHeader) (body : List ℕ) → ReadKeeps l h (R.read_unit (R.read_numbers l h) h body)
+unit_keeps : (l : LinkView) (h : SpxHeader) (body : List ℕ) → ReadKeeps l h body (R.read_unit (R.read_numbers l h) h body)
 unit_keeps l h body =
     let m : LinkView = R.read_numbers l h in
-    either (ReadKeeps l h) (nat_le 32768 (R.beyond_expected m h)) (Repeat, R.repeated m h) (R.not_behind m h body)
-    (repeated_keeps l h)
-    (either (ReadKeeps l h) m.peer_ended (Ahead, m) (R.in_turn m h body)
+    either (ReadKeeps l h body) (nat_le 32768 (R.beyond_expected m h)) (Repeat, R.repeated m h) (R.not_behind m h body)
+    (repeated_keeps l h body)
+    (either (ReadKeeps l h body) m.peer_ended (Ahead, m) (R.in_turn m h body)
     (record { numbers = refl; same = record { ends = record { own = refl; local = refl; remote = refl; accepted = refl }; peer = refl }; not_joined = λ e. cc })
-    (either (ReadKeeps l h) (R.is_next m h) (R.keep m h body) (R.out_of_turn m h) (keep_keeps l h body) (out_of_turn_keeps l h)))
+    (in_turn_keeps l h body))
 
-joined_keeps : (l : LinkView) (h : SpxHeader) (body : List ℕ) → ReadKeeps l h (R.receive_joined l h body)
+joined_keeps : (l : LinkView) (h : SpxHeader) (body : List ℕ) → ReadKeeps l h body (R.receive_joined l h body)
 joined_keeps l h body =
-    either (ReadKeeps l h) (R.is_own l h) (R.read_packet l h body) (Stranger, l)
-    (either (ReadKeeps l h) (R.is_system h) (R.read_system (R.read_numbers l h) h) (R.read_unit (R.read_numbers l h) h body) (system_keeps l h) (unit_keeps l h body))
-    (stranger_keeps l h)
+    either (ReadKeeps l h body) (R.is_own l h) (R.read_packet l h body) (Stranger, l)
+    (either (ReadKeeps l h body) (R.is_system h) (R.read_system (R.read_numbers l h) h) (R.read_unit (R.read_numbers l h) h body) (system_keeps l h body) (unit_keeps l h body))
+    (stranger_keeps l h body)
 
 -- what any packet does
-pub record ReceiveKeeps (l : LinkView) (h : SpxHeader) (r : Received × LinkView) : Type 0 where
-  pub numbers : numbers_of r.1 ≡ numbers_after_received r.0 h (numbers_of l)
+pub record ReceiveKeeps (l : LinkView) (h : SpxHeader) (body : List ℕ) (r : Received × LinkView) : Type 0 where
+  pub numbers : numbers_of r.1 ≡ numbers_after_received r.0 (length (newly_held l h body)) h (numbers_of l)
   pub ends : SameEnds l r.1
   pub peer : (r.0 ≡ Joined → ⊥) → r.1.peer ≡ l.peer
   pub joins : r.0 ≡ Joined → Joins l r.1 h
 
-of_read : (l : LinkView) (h : SpxHeader) (r : Received × LinkView) → ReadKeeps l h r → ReceiveKeeps l h r
-of_read l h r k = record { numbers = k.numbers; ends = k.same.ends; peer = λ _. k.same.peer; joins = λ e. absurd (k.not_joined e) }
+of_read : (l : LinkView) (h : SpxHeader) (body : List ℕ) (r : Received × LinkView) → ReadKeeps l h body r → ReceiveKeeps l h body r
+of_read l h body r k = record { numbers = k.numbers; ends = k.same.ends; peer = λ _. k.same.peer; joins = λ e. absurd (k.not_joined e) }
 
 joins_so : (l : LinkView) (h : SpxHeader) → l.state ≡ States.Opening → R.is_reply l h ≡ true → Joins l (R.read_numbers (R.joined l h) h) h
 joins_so l h opening reply = record { before = opening; after = refl; to = grind (arith, nat_tests); peer = refl; above = grind (arith, nat_tests); below = grind (arith, nat_tests); unit = grind (arith, nat_tests) }
 
-reply_receive_keeps : (l : LinkView) (h : SpxHeader) → l.state ≡ States.Opening → ReceiveKeeps l h (R.receive_reply l h)
-reply_receive_keeps l h opening =
-    either_by (ReceiveKeeps l h) (R.is_reply l h) (Joined, R.read_numbers (R.joined l h) h) (Stranger, l)
+reply_receive_keeps : (l : LinkView) (h : SpxHeader) (body : List ℕ) → l.state ≡ States.Opening → ReceiveKeeps l h body (R.receive_reply l h)
+reply_receive_keeps l h body opening =
+    either_by (ReceiveKeeps l h body) (R.is_reply l h) (Joined, R.read_numbers (R.joined l h) h) (Stranger, l)
     (λ reply. record { numbers = refl; ends = record { own = refl; local = refl; remote = refl; accepted = refl }; peer = λ n. absurd (n refl); joins = λ _. joins_so l h opening reply })
-    (of_read l h (Stranger, l) (stranger_keeps l h))
+    (of_read l h body (Stranger, l) (stranger_keeps l h body))
 
-receive_at_keeps : (s : State) (l : LinkView) (h : SpxHeader) (body : List ℕ) → l.state ≡ s → ReceiveKeeps l h (receive_at s l h body)
-receive_at_keeps States.Opening l h body e = reply_receive_keeps l h e
-receive_at_keeps States.Live l h body e = of_read l h (R.receive_joined l h body) (joined_keeps l h body)
-receive_at_keeps States.Ending l h body e = of_read l h (R.receive_joined l h body) (joined_keeps l h body)
-receive_at_keeps States.PeerEnded l h body e = of_read l h (R.receive_joined l h body) (joined_keeps l h body)
-receive_at_keeps States.Confirmed l h body e = of_read l h (R.receive_joined l h body) (joined_keeps l h body)
-receive_at_keeps States.Lost l h body e = of_read l h (Stranger, l) (stranger_keeps l h)
+receive_at_keeps : (s : State) (l : LinkView) (h : SpxHeader) (body : List ℕ) → l.state ≡ s → ReceiveKeeps l h body (receive_at s l h body)
+receive_at_keeps States.Opening l h body e = reply_receive_keeps l h body e
+receive_at_keeps States.Live l h body e = of_read l h body (R.receive_joined l h body) (joined_keeps l h body)
+receive_at_keeps States.Ending l h body e = of_read l h body (R.receive_joined l h body) (joined_keeps l h body)
+receive_at_keeps States.PeerEnded l h body e = of_read l h body (R.receive_joined l h body) (joined_keeps l h body)
+receive_at_keeps States.Confirmed l h body e = of_read l h body (R.receive_joined l h body) (joined_keeps l h body)
+receive_at_keeps States.Lost l h body e = of_read l h body (Stranger, l) (stranger_keeps l h body)
 
-pub receive_keeps : (l : LinkView) (h : SpxHeader) (body : List ℕ) → ReceiveKeeps l h (receive_link l h body)
+pub receive_keeps : (l : LinkView) (h : SpxHeader) (body : List ℕ) → ReceiveKeeps l h body (receive_link l h body)
 receive_keeps l h body = receive_at_keeps l.state l h body refl
 
 -- ---- take

@@ -1,10 +1,13 @@
 pub mod Apart
 pub mod Calls
 pub mod Carrying
+pub mod Coming
 pub mod Distances
 pub mod Ended
 pub mod Found
+pub mod Gaps
 pub mod Keeping
+pub mod Laying
 pub mod Lesser
 pub mod MachineAllowed
 pub mod MachineFresh
@@ -12,7 +15,8 @@ pub mod MachineGrowth
 pub mod MachineSound
 pub mod Pigeons
 pub mod Reading
-pub mod Receiving
 pub mod Rounds
 pub mod Samples
+pub mod Sooner
 pub mod Stands
+pub mod Waiting

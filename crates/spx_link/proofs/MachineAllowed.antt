@@ -1,10 +1,10 @@
 -- What an end may send was allowed by a packet that it got.
-use Rattle.std.proofs.Common.{ℕ, ◌+◌, ◌<◌, ◌≡◌, ◌⊎◌, inl, inr, ◌==◌, ◌&&◌, nat_lt, max, List, [], ◌∷◌, ◌++◌, Option, Some, None, arith, refl, ap, sym, subst}
+use Rattle.std.proofs.Common.{ℕ, ◌+◌, ◌<◌, ◌≡◌, ◌⊎◌, inl, inr, ◌-◌, max, List, [], ◌∷◌, ◌++◌, Option, Some, None, arith, refl, ap, sym, subst}
 use Rattle.std.specs.Prelude.{Contains}
 use Rattle.std.proofs.lemmas.Bool.{cases_lt, cond_both}
 use Rattle.std.proofs.lemmas.List.Elements.{Contains-append_right}
 use Rattle.spx_link.proofs.MachineGrowth.{run_grows}
-use Rattle.spx_link.specs.Machine.{Packet, End, Machine, Act, Step, Moves, IsStep, IsRun, Grows, mailed, sent_next, learned, read_unit, got, start}
+use Rattle.spx_link.specs.Machine.{Packet, End, Machine, Act, Step, Moves, IsStep, IsRun, Grows, mailed, sent_next, learned, put_mark, is_wanted, risen, read_unit, got, start}
 use Rattle.spx_link.specs.Machine.Act.{Sends, SendsAgain, SendsNoUnit, Gets, Takes, Gains}
 use Rattle.spx_link.specs.Machine.Step.{One, Two}
 
@@ -31,7 +31,7 @@ first_allowed side act steps d last n grown h =
 read_unit-limit : (position : Option ℕ) (c : End) → (read_unit position c).limit ≡ c.limit
 read_unit-limit None c = refl
 read_unit-limit (Some n) c =
-    cond_both ((n == c.read) && nat_lt c.read (c.taken + c.buffers)) (record c { read = c.read + 1 }) c (λ x. x.limit ≡ c.limit) (λ yes. refl) (λ no. refl)
+    cond_both (is_wanted c n) (risen (put_mark (n - c.read) c.kept) c) c (λ x. x.limit ≡ c.limit) (λ yes. refl) (λ no. refl)
 
 got_allowed : (p : Packet) (c d : End) (n : ℕ) → Contains d.bag p → n < (got p c).limit → (n < c.limit) ⊎ AllowedBy (Gets p) d n
 got_allowed p c d n there h =

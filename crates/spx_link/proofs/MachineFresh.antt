@@ -3,35 +3,38 @@ use Rattle.std.proofs.Common.{ℕ, ◌+◌, ◌<◌, ◌≤◌, ◌↔◌, List,
 use Rattle.std.specs.Prelude.{Contains}
 use Rattle.std.proofs.lemmas.List.Elements.{All-contains}
 use Rattle.spx_link.specs.Marks.{mark, distance}
-use Rattle.spx_link.specs.Machine.{Packet, End, Machine, Step, IsRun, WasSent, start}
+use Rattle.spx_link.specs.Machine.{Packet, End, Machine, Step, IsRun, WasSent, AreSound, start}
 use Rattle.spx_link.specs.Fresh.{IsFresh, Tells}
-use Rattle.spx_link.proofs.Distances.{acknowledgement_read, allocation_read, sequence_next, sequence_window}
-use Rattle.spx_link.proofs.MachineSound.{Sound, swapped, reached}
+use Rattle.spx_link.proofs.Distances.{acknowledgement_read, allocation_read, sequence_current, sequence_next, sequence_window}
+use Rattle.spx_link.proofs.MachineSound.{swapped, reached}
 use Rattle.spx_link.proofs.MachineGrowth.{run_grows}
 
 -- a distance under `free` at a position that the buffers are for
 not_behind : (read n free beyond : ℕ) → n < read + free → (beyond < free) ↔ ((read ≤ n) × (n < read + free)) → (beyond < free) ↔ (read ≤ n)
 not_behind read n free beyond h both = (λ lt. (both.0 lt).0, λ le. both.1 (le, h))
 
-pub tells : (c d : End) (p : Packet) → c.buffers ≤ 16383 → d.buffers ≤ 16383 → Sound c d → WasSent d c p → IsFresh c d p → Tells c p
+pub tells : (c d : End) (p : Packet) → c.buffers ≤ 16383 → d.buffers ≤ 16383 → AreSound c d → WasSent d c p → IsFresh c d p → Tells c p
 tells c d p small peer_small s was fresh = record {
   acknowledgement = λ out e.
       acknowledgement_read 16383 c.base out c.sent p.read p.receiver_sent (omega arith) e
-      (omega (arith, s.there.sent, s.there.room)) (omega (arith, was.read, s.there.read))
+      (omega (arith, s.there.sent, s.within.limit)) (omega (arith, was.read, s.there.read))
       (omega (arith, was.allows_sent, was.spread)) fresh.receiver;
   allocation = λ room e.
       allocation_read 16383 c.sent room c.limit p.allows p.receiver_sent (omega arith) e
       (omega (arith, was.spread, was.read, s.there.read)) was.allows_sent fresh.receiver;
   next = λ n e.
       sequence_next 16383 c.read n d.sent p.sender_sent (omega arith) s.back.read
-      (omega (arith, was.position n e, was.sender_sent, s.back.sent, s.back.limit, s.there.taken))
+      (omega (arith, was.position n e, was.sender_sent, s.back.sent, s.back.limit, s.within.taken))
       (omega (arith, was.outstanding n e)) fresh.sender;
+  place = λ n e le.
+      sequence_current c.read n le
+      (omega (arith, was.position n e, was.sender_sent, s.back.sent, s.back.limit, s.within.taken));
   window = λ n free e f.
       not_behind c.read n free (distance (mark n) (mark c.read))
       (omega (arith, was.position n e, was.sender_sent, s.back.sent, s.back.limit))
       (sequence_window 16383 free c.read n d.sent p.sender_sent (omega arith)
-      (omega (arith, s.there.taken)) s.back.read
-      (omega (arith, was.position n e, was.sender_sent, s.back.sent, s.back.limit, s.there.taken))
+      (omega (arith, s.within.taken)) s.back.read
+      (omega (arith, was.position n e, was.sender_sent, s.back.sent, s.back.limit, s.within.taken))
       (omega (arith, was.outstanding n e)) fresh.sender);
 }
 

@@ -1,9 +1,9 @@
 -- The numbers of an end only grow.
-use Rattle.std.proofs.Common.{ℕ, ◌+◌, ◌≤◌, ◌≡◌, ◌==◌, ◌&&◌, nat_lt, List, [], ◌∷◌, ◌++◌, Option, Some, None, arith, refl, sym, ap, ◌∙◌, subst, append_assoc}
+use Rattle.std.proofs.Common.{ℕ, ◌+◌, ◌≤◌, ◌≡◌, ◌-◌, Bool, List, [], ◌∷◌, ◌++◌, Option, Some, None, arith, refl, sym, ap, ◌∙◌, subst, append_assoc}
 use Rattle.std.proofs.lemmas.Bool.{cond_both}
 use Rattle.std.proofs.lemmas.List.{append-nil}
 use Rattle.spx_link.specs.declared.unit.Unit.{Unit}
-use Rattle.spx_link.specs.Machine.{Packet, End, Machine, Act, Step, Moves, IsStep, IsRun, Grows, mailed, sent_next, learned, read_unit, got}
+use Rattle.spx_link.specs.Machine.{Packet, End, Machine, Act, Step, Moves, IsStep, IsRun, Grows, packet_now, mailed, one_more_sent, sent_next, learned, put_mark, is_wanted, risen, read_unit, got}
 use Rattle.spx_link.specs.Machine.Act.{Sends, SendsAgain, SendsNoUnit, Gets, Takes, Gains}
 use Rattle.spx_link.specs.Machine.Step.{One, Two}
 
@@ -43,7 +43,7 @@ grows_on c d e x y =
 
 mailed_grows : (position : Option ℕ) (c d : End) → Grows c (mailed position c d)
 mailed_grows position c d =
-    let p : Packet = record { position = position; read = c.read; allows = c.taken + c.buffers; sender_sent = c.sent; receiver_sent = d.sent } in
+    let p : Packet = packet_now position c d in
     record {
       base = omega arith;
       sent = omega arith;
@@ -55,22 +55,24 @@ mailed_grows position c d =
       bag = (p ∷ [], refl);
     }
 
-one_more_grows : (c : End) → Grows c (record c { sent = c.sent + 1 })
-one_more_grows c = numbers_grow c (record c { sent = c.sent + 1 }) (omega arith) (omega arith) (omega arith) (omega arith) (omega arith) refl refl refl
+one_more_grows : (c : End) → Grows c (one_more_sent c)
+one_more_grows c = numbers_grow c (one_more_sent c) (omega arith) (omega arith) (omega arith) (omega arith) (omega arith) refl refl refl
 
 sent_next_grows : (c d : End) → Grows c (sent_next c d)
-sent_next_grows c d = grows_on c (record c { sent = c.sent + 1 }) (sent_next c d) (one_more_grows c) (mailed_grows (Some c.sent) (record c { sent = c.sent + 1 }) d)
+sent_next_grows c d =
+    grows_on c (one_more_sent c) (sent_next c d) (one_more_grows c) (mailed_grows (Some c.sent) (one_more_sent c) d)
 
 learned_grows : (p : Packet) (c : End) → Grows c (learned p c)
 learned_grows p c = numbers_grow c (learned p c) (omega arith) (omega arith) (omega arith) (omega arith) (omega arith) refl refl refl
 
-read_grows : (c : End) → Grows c (record c { read = c.read + 1 })
-read_grows c = numbers_grow c (record c { read = c.read + 1 }) (omega arith) (omega arith) (omega arith) (omega arith) (omega arith) refl refl refl
+risen_grows : (kept : List Bool) (c : End) → Grows c (risen kept c)
+risen_grows kept c = numbers_grow c (risen kept c) (omega arith) (omega arith) (omega arith) (omega arith) (omega arith) refl refl refl
 
 read_unit_grows : (position : Option ℕ) (c : End) → Grows c (read_unit position c)
 read_unit_grows None c = unchanged c
 read_unit_grows (Some n) c =
-    cond_both ((n == c.read) && nat_lt c.read (c.taken + c.buffers)) (record c { read = c.read + 1 }) c (Grows c) (λ yes. read_grows c) (λ no. unchanged c)
+    let kept : List Bool = put_mark (n - c.read) c.kept in
+    cond_both (is_wanted c n) (risen kept c) c (Grows c) (λ yes. risen_grows kept c) (λ no. unchanged c)
 
 got_grows : (p : Packet) (c : End) → Grows c (got p c)
 got_grows p c = grows_on c (learned p c) (got p c) (learned_grows p c) (read_unit_grows p.position (learned p c))

@@ -1,9 +1,9 @@
 -- Which packets' units are kept, and what each rule of receive does to the units and to how far a connection has come.
-use Rattle.std.proofs.Common.{◌≡◌, ℕ, ◌<◌, ◌↔◌, Bool, true, false, refl, ap, sym, ◌∙◌, if◌then◌else◌, ◌==◌, ◌&&◌, not, nat_le, nat_lt, List, [], ◌∷◌, ◌++◌, map, drop, length, Option, eqb-true, arith}
+use Rattle.std.proofs.Common.{◌≡◌, ℕ, ◌<◌, ◌↔◌, Bool, true, false, refl, ap, sym, ◌∙◌, ◌==◌, ◌&&◌, not, nat_le, nat_lt, List, [], ◌∷◌, ◌++◌, map, drop, length, Option, eqb-true, arith}
 use Rattle.std.proofs.lemmas.Bool.{and_parts}
 use Rattle.std.proofs.lemmas.Bool.Decides.{nat_tests}
 use Rattle.std.proofs.lemmas.List.{drop-map, map-append}
-use Rattle.ipx_wire.specs.declared.spx.SpxHeader.{SpxHeader}
+use Rattle.ipx_wire.specs.declared.spx.packet.SpxHeader.{SpxHeader}
 use Rattle.spx_link.specs.declared.queue.Queued.{Queued}
 use Rattle.spx_link.specs.declared.unit.Unit as units
 use Rattle.spx_link.specs.declared.received.Received.{Received}
@@ -15,9 +15,9 @@ use Rattle.spx_link.specs.LinkView.{LinkView, free, is_confirmed}
 use Rattle.spx_link.specs.Marks.{acknowledged, distance}
 use Rattle.spx_link.specs.Offer.{queued, first_of, take_link, take_held}
 use Rattle.spx_link.specs.Receive as R
-use Rattle.spx_link.specs.Receive.{is_kept, is_own, is_system, is_next, receive_link, receive_at}
-use Rattle.spx_link.specs.Turns.{is_joined, IsInTurn, state_after, ended_after, IsDone}
-use Rattle.spx_link.specs.Units.{unit_of, queued_units, unit_in, SameEndings}
+use Rattle.spx_link.specs.Receive.{is_kept, is_own, is_system, receive_link, receive_at}
+use Rattle.spx_link.specs.Turns.{is_joined, IsInTurn, state_after, ended_after, IsDone, kept_with, newly_held}
+use Rattle.spx_link.specs.Units.{unit_of, queued_units, SameEndings}
 use Rattle.spx_link.proofs.Carrying.{by_test}
 
 -- ---- the unit that is in turn
@@ -25,8 +25,12 @@ use Rattle.spx_link.proofs.Carrying.{by_test}
 abbrev turn : Bool → Bool → Bool → Bool → Bool
 turn own system ended next = own && (not system && (not ended && next))
 
+-- there is a buffer for it, and it was not kept before
+abbrev wanted : LinkView → SpxHeader → Bool
+wanted l h = not (nat_le 32768 (distance h.seq l.expected)) && (nat_lt (distance h.seq l.expected) (free l) && not (R.is_taken (distance h.seq l.expected) l.ahead))
+
 abbrev in_turn : LinkView → SpxHeader → Bool
-in_turn l h = turn (is_own l h) (is_system h) l.peer_ended (is_next l h)
+in_turn l h = turn (is_own l h) (is_system h) l.peer_ended (wanted l h)
 
 of_another : (own system ended next : Bool) → own ≡ false → false ≡ turn own system ended next
 of_another true system ended next e = cc
@@ -57,9 +61,26 @@ of_all true true ended next a b c d = cc
 of_all true false true next a b c d = cc
 of_all true false false false a b c d = cc
 
--- a unit that is behind is not the next one
-behind_not_next : (beyond free : ℕ) → nat_le 32768 beyond ≡ true → ((beyond == 0) && nat_lt 0 free) ≡ false
-behind_not_next beyond free far = grind (arith, nat_tests)
+not_behind : (behind room taken : Bool) → behind ≡ true → (not behind && (room && not taken)) ≡ false
+not_behind true room taken e = refl
+not_behind false room taken e = cc
+
+not_over : (behind room taken : Bool) → room ≡ false → (not behind && (room && not taken)) ≡ false
+not_over true room taken e = refl
+not_over false true taken e = cc
+not_over false false taken e = refl
+
+not_again : (behind room taken : Bool) → taken ≡ true → (not behind && (room && not taken)) ≡ false
+not_again true room taken e = refl
+not_again false false taken e = refl
+not_again false true true e = refl
+not_again false true false e = cc
+
+so_wanted : (behind room taken : Bool) → behind ≡ false → room ≡ true → taken ≡ false → (not behind && (room && not taken)) ≡ true
+so_wanted false true false a b c = refl
+so_wanted true room taken a b c = cc
+so_wanted false false taken a b c = cc
+so_wanted false true true a b c = cc
 
 -- ---- what a rule says
 
@@ -72,11 +93,32 @@ pub record Course (l : LinkView) (h : SpxHeader) (r : Received × LinkView) : Ty
   pub stranger : r.0 ≡ Stranger → r.1 ≡ l
   pub done : r.0 ≡ Confirmed → IsDone l r.1
 
+both_tests : (b : Bool) → b ≡ true → b ≡ false → ⊥
+both_tests true e f = cc
+both_tests false e f = cc
+
 -- the unit
 pub record Keeps (l : LinkView) (h : SpxHeader) (body : List ℕ) (r : Received × LinkView) : Type 0 where
   pub turns : is_kept r.0 ≡ in_turn l h
-  pub kept : is_kept r.0 ≡ true → r.1.held ≡ l.held ++ unit_in h body ∷ []
-  pub other : is_kept r.0 ≡ false → r.1.held ≡ l.held
+  pub held : is_kept r.0 ≡ true → r.1.held ≡ l.held ++ newly_held l h body
+  pub ahead : r.0 ≡ Kept → r.1.ahead ≡ drop (length (newly_held l h body)) (kept_with l h body)
+  pub none_ahead : r.0 ≡ PeerEnded → r.1.ahead ≡ []
+  pub same : is_kept r.0 ≡ false → (r.1.held ≡ l.held) × (r.1.ahead ≡ l.ahead)
+  pub ends : r.0 ≡ PeerEnded → R.any_end (newly_held l h body) ≡ true
+  pub goes_on : r.0 ≡ Kept → R.any_end (newly_held l h body) ≡ false
+
+-- an answer that keeps none
+unkept : (l m : LinkView) (h : SpxHeader) (body : List ℕ) (a : Received) → is_kept a ≡ in_turn l h → is_kept a ≡ false → m.held ≡ l.held → m.ahead ≡ l.ahead → Keeps l h body (a, m)
+unkept l m h body a turns not_kept held ahead =
+    record {
+      turns = turns;
+      held = λ e. absurd (both_tests (is_kept a) e not_kept);
+      ahead = λ e. absurd (both_tests (is_kept a) (ap is_kept e) not_kept);
+      none_ahead = λ e. absurd (both_tests (is_kept a) (ap is_kept e) not_kept);
+      same = λ _. (held, ahead);
+      ends = λ e. absurd (both_tests (is_kept a) (ap is_kept e) not_kept);
+      goes_on = λ e. absurd (both_tests (is_kept a) (ap is_kept e) not_kept);
+    }
 
 pub record ReadSays (l : LinkView) (h : SpxHeader) (body : List ℕ) (r : Received × LinkView) : Type 0 where
   pub course : Course l h r
@@ -85,7 +127,7 @@ pub record ReadSays (l : LinkView) (h : SpxHeader) (body : List ℕ) (r : Receiv
 stranger_says : (l : LinkView) (h : SpxHeader) (body : List ℕ) → false ≡ in_turn l h → ReadSays l h body (Stranger, l)
 stranger_says l h body other = record {
   course = record { state = refl; end_queued = refl; peer_ended = refl; queue = λ no. absurd (no refl); stranger = λ _. refl; done = λ e. cc };
-  unit = record { turns = other; kept = λ e. cc; other = λ _. refl };
+  unit = unkept l l h body Stranger other refl refl refl;
 }
 
 empty_of : {A : Type 0} (xs : List A) → (length xs == 0) ≡ true → xs ≡ []
@@ -109,7 +151,7 @@ confirmed_says l h body system may =
         stranger = λ e. cc;
         done = λ _. record { end_queued = (and_parts l.end_queued others more).0; queue = empty_of m.queue (and_parts (length m.queue == 0) (not (is_confirmed l.state)) rest).0 };
       };
-      unit = record { turns = of_system (is_own l h) (is_system h) l.peer_ended (is_next l h) system; kept = λ e. cc; other = λ _. refl };
+      unit = unkept l (record (R.with_ack_owed (R.read_numbers l h) h.wants_ack) { state = States.Confirmed }) h body Confirmed (of_system (is_own l h) (is_system h) l.peer_ended (wanted l h) system) refl refl refl;
     }
 
 system_says : (l : LinkView) (h : SpxHeader) (body : List ℕ) → is_system h ≡ true → ReadSays l h body (R.read_system (R.read_numbers l h) h)
@@ -119,7 +161,7 @@ system_says l h body system =
     (λ may. confirmed_says l h body system may)
     (λ _. record {
       course = record { state = refl; end_queued = refl; peer_ended = refl; queue = λ _. refl; stranger = λ e. cc; done = λ e. cc };
-      unit = record { turns = of_system (is_own l h) (is_system h) l.peer_ended (is_next l h) system; kept = λ e. cc; other = λ _. refl };
+      unit = unkept l (R.with_ack_owed m h.wants_ack) h body System (of_system (is_own l h) (is_system h) l.peer_ended (wanted l h) system) refl refl refl;
     })
 
 repeated_says : (l : LinkView) (h : SpxHeader) (body : List ℕ) → false ≡ in_turn l h → ReadSays l h body (Repeat, R.repeated (R.read_numbers l h) h)
@@ -128,64 +170,57 @@ repeated_says l h body other =
     by_test (λ (n : LinkView). ReadSays l h body (Repeat, n)) ((h.stream == end_stream) && m.peer_ended) (record m { owes_confirm = true }) (record m { owes_ack = true })
     (λ _. record {
       course = record { state = refl; end_queued = refl; peer_ended = refl; queue = λ _. refl; stranger = λ e. cc; done = λ e. cc };
-      unit = record { turns = other; kept = λ e. cc; other = λ _. refl };
+      unit = unkept l (record m { owes_confirm = true }) h body Repeat other refl refl refl;
     })
     (λ _. record {
       course = record { state = refl; end_queued = refl; peer_ended = refl; queue = λ _. refl; stranger = λ e. cc; done = λ e. cc };
-      unit = record { turns = other; kept = λ e. cc; other = λ _. refl };
+      unit = unkept l (record m { owes_ack = true }) h body Repeat other refl refl refl;
     })
 
-out_of_turn_says : (l : LinkView) (h : SpxHeader) (body : List ℕ) → false ≡ in_turn l h → ReadSays l h body (R.out_of_turn (R.read_numbers l h) h)
-out_of_turn_says l h body other =
+-- a unit that is kept: those that stand in order are held
+settle_says : (l : LinkView) (h : SpxHeader) (body : List ℕ) → true ≡ in_turn l h → ReadSays l h body (R.settle (R.read_numbers l h) (kept_with l h body))
+settle_says l h body next =
     let m : LinkView = R.read_numbers l h in
-    by_test (ReadSays l h body) (nat_lt (R.beyond_expected m h) (free m)) (Ahead, record m { owes_ack = true }) (OverAllocation, record m { owes_ack = true })
-    (λ _. record {
-      course = record { state = refl; end_queued = refl; peer_ended = refl; queue = λ _. refl; stranger = λ e. cc; done = λ e. cc };
-      unit = record { turns = other; kept = λ e. cc; other = λ _. refl };
-    })
-    (λ _. record {
-      course = record { state = refl; end_queued = refl; peer_ended = refl; queue = λ _. refl; stranger = λ e. cc; done = λ e. cc };
-      unit = record { turns = other; kept = λ e. cc; other = λ _. refl };
-    })
-
--- the unit that a packet carries, by whether it is an end
-abbrev the_unit : SpxHeader → List ℕ → Bool → units.Unit
-the_unit h body ends = record { stream = h.stream; last = h.last; body = record { items = if ends then [] else body } }
-
-end_in : (h : SpxHeader) (body : List ℕ) (ends : Bool) → ends ≡ true → record { stream = h.stream; last = h.last; body = record { items = [] } } ≡ the_unit h body ends
-end_in h body true e = refl
-end_in h body false e = cc
-
-other_in : (h : SpxHeader) (body : List ℕ) (ends : Bool) → ends ≡ false → record { stream = h.stream; last = h.last; body = record { items = body } } ≡ the_unit h body ends
-other_in h body true e = cc
-other_in h body false e = refl
-
-keep_says : (l : LinkView) (h : SpxHeader) (body : List ℕ) → true ≡ in_turn l h → ReadSays l h body (R.keep (R.read_numbers l h) h body)
-keep_says l h body next =
-    let m : LinkView = R.read_numbers l h in
-    by_test (ReadSays l h body) (h.stream == end_stream) (PeerEnded, R.keep_end m h) (Kept, R.keep_unit m h body)
+    let us : List units.Unit = newly_held l h body in
+    by_test (ReadSays l h body) (R.any_end us) (PeerEnded, R.keep_end m us) (Kept, R.keep_units m us (kept_with l h body))
     (λ ends. record {
       course = record { state = refl; end_queued = refl; peer_ended = refl; queue = λ _. refl; stranger = λ e. cc; done = λ e. cc };
-      unit = record { turns = next; kept = λ _. ap (λ (u : units.Unit). l.held ++ u ∷ []) (end_in h body (h.stream == end_stream) ends); other = λ e. cc };
+      unit = record { turns = next; held = λ _. refl; ahead = λ e. cc; none_ahead = λ _. refl; same = λ e. cc; ends = λ _. ends; goes_on = λ e. cc };
     })
-    (λ unit. record {
+    (λ goes. record {
       course = record { state = refl; end_queued = refl; peer_ended = refl; queue = λ _. refl; stranger = λ e. cc; done = λ e. cc };
-      unit = record { turns = next; kept = λ _. ap (λ (u : units.Unit). l.held ++ u ∷ []) (other_in h body (h.stream == end_stream) unit); other = λ e. cc };
+      unit = record { turns = next; held = λ _. refl; ahead = λ _. refl; none_ahead = λ e. cc; same = λ e. cc; ends = λ e. cc; goes_on = λ _. goes };
+    })
+
+in_turn_says : (l : LinkView) (h : SpxHeader) (body : List ℕ) → is_own l h ≡ true → is_system h ≡ false → l.peer_ended ≡ false → nat_le 32768 (distance h.seq l.expected) ≡ false → ReadSays l h body (R.in_turn (R.read_numbers l h) h body)
+in_turn_says l h body own unit more near =
+    let m : LinkView = R.read_numbers l h in
+    let behind : Bool = nat_le 32768 (distance h.seq l.expected) in
+    let room : Bool = nat_lt (distance h.seq l.expected) (free l) in
+    let taken : Bool = R.is_taken (distance h.seq l.expected) l.ahead in
+    by_test (ReadSays l h body) room (R.keep m h body) (OverAllocation, record m { owes_ack = true })
+    (λ fits. by_test (ReadSays l h body) taken (Repeat, record m { owes_ack = true }) (R.settle m (kept_with l h body))
+    (λ again. record {
+      course = record { state = refl; end_queued = refl; peer_ended = refl; queue = λ _. refl; stranger = λ e. cc; done = λ e. cc };
+      unit = unkept l (record m { owes_ack = true }) h body Repeat (of_other_place (is_own l h) (is_system h) l.peer_ended (wanted l h) (not_again behind room taken again)) refl refl refl;
+    })
+    (λ new. settle_says l h body (of_all (is_own l h) (is_system h) l.peer_ended (wanted l h) own unit more (so_wanted behind room taken near fits new))))
+    (λ over. record {
+      course = record { state = refl; end_queued = refl; peer_ended = refl; queue = λ _. refl; stranger = λ e. cc; done = λ e. cc };
+      unit = unkept l (record m { owes_ack = true }) h body OverAllocation (of_other_place (is_own l h) (is_system h) l.peer_ended (wanted l h) (not_over behind room taken over)) refl refl refl;
     })
 
 unit_says : (l : LinkView) (h : SpxHeader) (body : List ℕ) → is_own l h ≡ true → is_system h ≡ false → ReadSays l h body (R.read_unit (R.read_numbers l h) h body)
 unit_says l h body own unit =
     let m : LinkView = R.read_numbers l h in
     by_test (ReadSays l h body) (nat_le 32768 (R.beyond_expected m h)) (Repeat, R.repeated m h) (R.not_behind m h body)
-    (λ far. repeated_says l h body (of_other_place (is_own l h) (is_system h) l.peer_ended (is_next l h) (behind_not_next (R.beyond_expected l h) (free l) far)))
-    (λ _. by_test (ReadSays l h body) m.peer_ended (Ahead, m) (R.in_turn m h body)
+    (λ far. repeated_says l h body (of_other_place (is_own l h) (is_system h) l.peer_ended (wanted l h) (not_behind (nat_le 32768 (distance h.seq l.expected)) (nat_lt (distance h.seq l.expected) (free l)) (R.is_taken (distance h.seq l.expected) l.ahead) far)))
+    (λ near. by_test (ReadSays l h body) m.peer_ended (Ahead, m) (R.in_turn m h body)
     (λ ended. record {
       course = record { state = refl; end_queued = refl; peer_ended = refl; queue = λ _. refl; stranger = λ e. cc; done = λ e. cc };
-      unit = record { turns = of_ended (is_own l h) (is_system h) l.peer_ended (is_next l h) ended; kept = λ e. cc; other = λ _. refl };
+      unit = unkept l m h body Ahead (of_ended (is_own l h) (is_system h) l.peer_ended (wanted l h) ended) refl refl refl;
     })
-    (λ more. by_test (ReadSays l h body) (is_next m h) (R.keep m h body) (R.out_of_turn m h)
-    (λ next. keep_says l h body (of_all (is_own l h) (is_system h) l.peer_ended (is_next l h) own unit more next))
-    (λ place. out_of_turn_says l h body (of_other_place (is_own l h) (is_system h) l.peer_ended (is_next l h) place))))
+    (λ more. in_turn_says l h body own unit more near))
 
 joined_says : (l : LinkView) (h : SpxHeader) (body : List ℕ) → ReadSays l h body (R.receive_joined l h body)
 joined_says l h body =
@@ -193,26 +228,41 @@ joined_says l h body =
     (λ own. by_test (ReadSays l h body) (is_system h) (R.read_system (R.read_numbers l h) h) (R.read_unit (R.read_numbers l h) h body)
     (λ system. system_says l h body system)
     (λ unit. unit_says l h body own unit))
-    (λ other. stranger_says l h body (of_another (is_own l h) (is_system h) l.peer_ended (is_next l h) other))
+    (λ other. stranger_says l h body (of_another (is_own l h) (is_system h) l.peer_ended (wanted l h) other))
 
 -- ---- any packet
 
 pub record ReceiveSays (l : LinkView) (h : SpxHeader) (body : List ℕ) (r : Received × LinkView) : Type 0 where
   pub course : Course l h r
   pub turns : is_kept r.0 ≡ true ↔ IsInTurn l h
-  pub kept : is_kept r.0 ≡ true → r.1.held ≡ l.held ++ unit_in h body ∷ []
-  pub other : is_kept r.0 ≡ false → r.1.held ≡ l.held
+  pub held : is_kept r.0 ≡ true → r.1.held ≡ l.held ++ newly_held l h body
+  pub ahead : r.0 ≡ Kept → r.1.ahead ≡ drop (length (newly_held l h body)) (kept_with l h body)
+  pub none_ahead : r.0 ≡ PeerEnded → r.1.ahead ≡ []
+  pub same : is_kept r.0 ≡ false → (r.1.held ≡ l.held) × (r.1.ahead ≡ l.ahead)
+  pub ends : r.0 ≡ PeerEnded → R.any_end (newly_held l h body) ≡ true
+  pub goes_on : r.0 ≡ Kept → R.any_end (newly_held l h body) ≡ false
   pub own : (r.0 ≡ Stranger → ⊥) → (r.0 ≡ Joined → ⊥) → (is_joined l.state ≡ true) × (is_own l h ≡ true)
-
-next_alone : (l : LinkView) (h : SpxHeader) → is_next l h ≡ true → (distance h.seq l.expected ≡ 0) × (0 < free l)
-next_alone l h e = (grind (arith, nat_tests), grind (arith, nat_tests))
-
-next_of : (l : LinkView) (h : SpxHeader) → distance h.seq l.expected ≡ 0 → 0 < free l → is_next l h ≡ true
-next_of l h a b = grind (arith, nat_tests)
 
 not_true : (b : Bool) → not b ≡ true → b ≡ false
 not_true true e = cc
 not_true false e = refl
+
+wanted_alone : (l : LinkView) (h : SpxHeader) → wanted l h ≡ true → (distance h.seq l.expected < 32768) × (distance h.seq l.expected < free l) × (R.is_taken (distance h.seq l.expected) l.ahead ≡ false)
+wanted_alone l h e =
+    let behind : Bool = nat_le 32768 (distance h.seq l.expected) in
+    let room : Bool = nat_lt (distance h.seq l.expected) (free l) in
+    let taken : Bool = R.is_taken (distance h.seq l.expected) l.ahead in
+    let a = and_parts (not behind) (room && not taken) e in
+    let b = and_parts room (not taken) a.1 in
+    let near : nat_le 32768 (distance h.seq l.expected) ≡ false = not_true behind a.0 in
+    let fits : nat_lt (distance h.seq l.expected) (free l) ≡ true = b.0 in
+    (grind (arith, nat_tests), grind (arith, nat_tests), not_true taken b.1)
+
+wanted_of : (l : LinkView) (h : SpxHeader) → distance h.seq l.expected < 32768 → distance h.seq l.expected < free l → R.is_taken (distance h.seq l.expected) l.ahead ≡ false → wanted l h ≡ true
+wanted_of l h near room new =
+    let a : nat_le 32768 (distance h.seq l.expected) ≡ false = grind (arith, nat_tests) in
+    let b : nat_lt (distance h.seq l.expected) (free l) ≡ true = grind (arith, nat_tests) in
+    so_wanted (nat_le 32768 (distance h.seq l.expected)) (nat_lt (distance h.seq l.expected) (free l)) (R.is_taken (distance h.seq l.expected) l.ahead) a b new
 
 is_in_turn : (l : LinkView) (h : SpxHeader) → is_joined l.state ≡ true → in_turn l h ≡ true → IsInTurn l h
 is_in_turn l h joined e =
@@ -224,8 +274,9 @@ is_in_turn l h joined e =
       own = a.0;
       unit = not_true (is_system h) b.0;
       more = not_true l.peer_ended c.0;
-      next = (next_alone l h c.1).0;
-      room = (next_alone l h c.1).1;
+      near = (wanted_alone l h c.1).0;
+      room = (wanted_alone l h c.1).1;
+      new = (wanted_alone l h c.1).2;
     }
 
 -- what is read is the link's own
@@ -242,10 +293,14 @@ of_joined l h body joined =
       course = says.course;
       turns = (
         λ kept. is_in_turn l h joined (sym says.unit.turns ∙ kept),
-        λ t. says.unit.turns ∙ sym (of_all (is_own l h) (is_system h) l.peer_ended (is_next l h) t.own t.unit t.more (next_of l h t.next t.room)),
+        λ t. says.unit.turns ∙ sym (of_all (is_own l h) (is_system h) l.peer_ended (wanted l h) t.own t.unit t.more (wanted_of l h t.near t.room t.new)),
       );
-      kept = says.unit.kept;
-      other = says.unit.other;
+      held = says.unit.held;
+      ahead = says.unit.ahead;
+      none_ahead = says.unit.none_ahead;
+      same = says.unit.same;
+      ends = says.unit.ends;
+      goes_on = says.unit.goes_on;
       own = λ read _. (joined, own_alone l h body read);
     }
 
@@ -257,8 +312,12 @@ stranger_receives l h body e =
     record {
       course = record { state = refl; end_queued = refl; peer_ended = refl; queue = λ no. absurd (no refl); stranger = λ _. refl; done = λ x. cc };
       turns = not_joined l h e;
-      kept = λ x. cc;
-      other = λ _. refl;
+      held = λ x. cc;
+      ahead = λ x. cc;
+      none_ahead = λ x. cc;
+      same = λ _. (refl, refl);
+      ends = λ x. cc;
+      goes_on = λ x. cc;
       own = λ read _. absurd (read refl);
     }
 
@@ -268,8 +327,12 @@ reply_receives l h body e =
     (λ _. record {
       course = record { state = refl; end_queued = refl; peer_ended = refl; queue = λ _. refl; stranger = λ x. cc; done = λ x. cc };
       turns = not_joined l h e;
-      kept = λ x. cc;
-      other = λ _. refl;
+      held = λ x. cc;
+      ahead = λ x. cc;
+      none_ahead = λ x. cc;
+      same = λ _. (refl, refl);
+      ends = λ x. cc;
+      goes_on = λ x. cc;
       own = λ _ other. absurd (other refl);
     })
     (λ _. stranger_receives l h body e)
@@ -303,6 +366,7 @@ units_joined qs us = map-append unit_of qs (map queued us) ∙ ap (λ (more : Li
 pub record TakeSays (l : LinkView) (r : Option units.Unit × LinkView) : Type 0 where
   pub gives : r.0 ≡ first_of l.held
   pub held : r.1.held ≡ drop 1 l.held
+  pub ahead : r.1.ahead ≡ l.ahead
   pub queued : queued_units r.1 ≡ queued_units l
   pub endings : SameEndings l r.1
   pub state : r.1.state ≡ l.state
@@ -312,6 +376,7 @@ take_held_says l [] e =
     record {
       gives = ap first_of (sym e);
       held = e ∙ ap (drop 1) (sym e);
+      ahead = refl;
       queued = refl;
       endings = record { end_queued = refl; peer_ended = refl };
       state = refl;
@@ -320,6 +385,7 @@ take_held_says l (u ∷ us) e =
     record {
       gives = ap first_of (sym e);
       held = ap (drop 1) (sym e);
+      ahead = refl;
       queued = refl;
       endings = record { end_queued = refl; peer_ended = refl };
       state = refl;

@@ -1,5 +1,5 @@
 -- Values of the definitions, worked by hand, and a run with a unit that is sent, read, acknowledged and taken.
-use Rattle.std.proofs.Common.{◌+◌, ◌≡◌, [], ◌∷◌, List, Some, None, arith, refl}
+use Rattle.std.proofs.Common.{ℕ, ◌+◌, ◌≡◌, [], ◌∷◌, true, false, List, Some, None, arith, refl}
 use Rattle.spx_link.specs.declared.unit.Unit.{Unit}
 use Rattle.spx_link.specs.Marks.{mark, distance, outstanding_after, room_after}
 use Rattle.spx_link.specs.Machine.{Packet, End, Machine, Step, IsRun, start, new_end, mailed, sent_next, got}
@@ -34,10 +34,7 @@ acknowledge_wrapped = refl
 first_again : distance (mark 0) (mark 65536) ≡ 0
 first_again = refl
 
--- the farthest back that a fresh packet's unit can lie, for 1,024 and for 8,192 buffers
-stale_1024 : distance (mark 0) (mark (1024 + 32767)) ≡ 31745
-stale_1024 = refl
-
+-- the farthest back that a fresh packet's unit can lie, for 8,192 buffers
 stale_8192 : distance (mark 0) (mark (8192 + 32767)) ≡ 24577
 stale_8192 = refl
 
@@ -63,8 +60,8 @@ steps u =
 after : Unit → Machine
 after u =
     record {
-      one = record { base = 1; sent = 1; limit = 1; read = 0; taken = 0; buffers = 1; units = u ∷ []; bag = first_unit ∷ [] };
-      two = record { base = 0; sent = 0; limit = 1; read = 1; taken = 1; buffers = 1; units = []; bag = acknowledgement ∷ reply ∷ [] };
+      one = record { base = 1; sent = 1; limit = 1; read = 0; taken = 0; buffers = 1; kept = []; units = u ∷ []; bag = first_unit ∷ [] };
+      two = record { base = 0; sent = 0; limit = 1; read = 1; taken = 1; buffers = 1; kept = []; units = []; bag = acknowledgement ∷ reply ∷ [] };
     }
 
 sample_run : (u : Unit) → IsRun (steps u) (start 1 1) (after u)
@@ -107,3 +104,34 @@ sample_run u =
         ),
       ),
     )
+
+-- ---- positions kept ahead: with 4 buffers 2 and 1 wait for 0, which is then the third that is read; each counts once
+
+unit_at : ℕ → Packet
+unit_at n = record { position = Some n; read = 0; allows = 0; sender_sent = 4; receiver_sent = 0 }
+
+-- got in this order
+got_all : List ℕ → End → End
+got_all [] c = c
+got_all (n ∷ ns) c = got_all ns (got (unit_at n) c)
+
+ahead_waits : (got_all (2 ∷ 1 ∷ []) (new_end 4)).kept ≡ false ∷ true ∷ true ∷ []
+unfolding unit_at got_all
+ahead_waits = refl
+
+ahead_is_not_read : (got_all (2 ∷ 1 ∷ 2 ∷ []) (new_end 4)).read ≡ 0
+unfolding unit_at got_all
+ahead_is_not_read = refl
+
+gap_closes : (got_all (2 ∷ 1 ∷ 2 ∷ 0 ∷ 0 ∷ []) (new_end 4)).read ≡ 3
+unfolding unit_at got_all
+gap_closes = refl
+
+nothing_waits : (got_all (2 ∷ 1 ∷ 2 ∷ 0 ∷ 0 ∷ []) (new_end 4)).kept ≡ []
+unfolding unit_at got_all
+nothing_waits = refl
+
+-- position 4 has no buffer until one is taken
+no_buffer : (got_all (4 ∷ 0 ∷ 1 ∷ 2 ∷ 3 ∷ []) (new_end 4)).read ≡ 4
+unfolding unit_at got_all
+no_buffer = refl

@@ -1,6 +1,6 @@
 -- What the calls of a link do to its numbers and to the ends of its connection, apart from moments and marks.
 use Rattle.std.specs.Prelude.{◌≡◌, ⊤, ℕ, Bool, true, ◌+◌, ◌-◌, ◌<◌, [], Option, Some, None}
-use Rattle.ipx_wire.specs.declared.spx.SpxHeader.{SpxHeader}
+use Rattle.ipx_wire.specs.declared.spx.packet.SpxHeader.{SpxHeader}
 use Rattle.ipx_wire.specs.declared.address.Socket.{Socket}
 use Rattle.ipx_wire.specs.declared.address.Address.{Address}
 use Rattle.spx_link.specs.declared.numbers.Numbers.{Numbers}
@@ -37,19 +37,21 @@ abbrev pub numbers_read : SpxHeader → Numbers → Numbers
 numbers_read h n =
     record n { out = outstanding_after n.next n.out h.ack; room = room_after n.next n.room h.limit }
 
-abbrev pub one_more_held : Numbers → Numbers
-one_more_held n = record n { expected = mark (n.expected + 1); held = n.held + 1 }
+-- so many more units are held
+abbrev pub more_held : ℕ → Numbers → Numbers
+more_held count n = record n { expected = mark (n.expected + count); held = n.held + count }
 
-abbrev pub numbers_after_received : Received → SpxHeader → Numbers → Numbers
-numbers_after_received Joined h n = numbers_read h n
-numbers_after_received Kept h n = one_more_held (numbers_read h n)
-numbers_after_received Repeat h n = numbers_read h n
-numbers_after_received Ahead h n = numbers_read h n
-numbers_after_received OverAllocation h n = numbers_read h n
-numbers_after_received System h n = numbers_read h n
-numbers_after_received PeerEnded h n = one_more_held (numbers_read h n)
-numbers_after_received Confirmed h n = numbers_read h n
-numbers_after_received Stranger h n = n
+-- after an answer to a packet, where with a unit that is kept so many units become held
+abbrev pub numbers_after_received : Received → ℕ → SpxHeader → Numbers → Numbers
+numbers_after_received Joined count h n = numbers_read h n
+numbers_after_received Kept count h n = more_held count (numbers_read h n)
+numbers_after_received Repeat count h n = numbers_read h n
+numbers_after_received Ahead count h n = numbers_read h n
+numbers_after_received OverAllocation count h n = numbers_read h n
+numbers_after_received System count h n = numbers_read h n
+numbers_after_received PeerEnded count h n = more_held count (numbers_read h n)
+numbers_after_received Confirmed count h n = numbers_read h n
+numbers_after_received Stranger count h n = n
 
 -- ---- a take
 

@@ -5,7 +5,7 @@ use Rattle.spx_link.specs.declared.outgoing.Sent.{Sent}
 use Rattle.spx_link.specs.declared.outgoing.Sent.TheVariants as Sents
 use Rattle.spx_link.specs.declared.state.State.{State}
 use Rattle.spx_link.specs.declared.state.State.TheVariants.{Lost, Opening}
-use Rattle.spx_link.specs.Limits.{confirm_stream, no_id}
+use Rattle.spx_link.specs.Limits.{confirm_stream, most_units, no_id}
 use Rattle.spx_link.specs.LinkView.{LinkView, is_working}
 use Rattle.spx_link.specs.Marks.{mark}
 use Rattle.spx_link.specs.Poll.{OutgoingView, allocation, base}
@@ -26,13 +26,14 @@ pub record Carries (l : LinkView) (u : Unit) (o : OutgoingView) : Type 0 where
   pub body : o.body ≡ u.body.items
   pub system : is_system o.header ≡ (u.stream == confirm_stream)
 
--- the next unit of the queue, under the next number, where the peer allows one more
+-- the next unit of the queue, under the next number, where the peer allows one more and fewer than may be are outstanding
 pub record IsNextUnit (l : LinkView) (o : OutgoingView) : Type 0 where
   pub unit : Unit
   pub queued : slice_get (queued_units l) l.out ≡ Some unit
   pub carries : Carries l unit o
   pub number : o.header.seq ≡ l.next
   pub room : 0 < l.room
+  pub window : l.out < most_units
   pub working : is_working l.state ≡ true
 
 -- a unit that is outstanding, under its own number

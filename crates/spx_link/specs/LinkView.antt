@@ -1,5 +1,5 @@
 -- What a link holds, as its contracts see it (one end of a connection of Novell SPX).
-use Rattle.std.specs.Prelude.{ℕ, ◌+◌, ◌-◌, ◌==◌, Bool, true, false, List, [], length, nat_le}
+use Rattle.std.specs.Prelude.{ℕ, ◌+◌, ◌-◌, ◌==◌, Bool, true, false, List, [], length, nat_le, Option}
 use Rattle.ipx_wire.specs.declared.address.Socket.{Socket}
 use Rattle.ipx_wire.specs.declared.address.Address.{Address}
 use Rattle.spx_link.specs.declared.unit.Unit.{Unit}
@@ -9,7 +9,8 @@ use Rattle.spx_link.specs.declared.state.State.TheVariants.{Opening, Live, Endin
 use Rattle.spx_link.specs.declared.numbers.Numbers.{Numbers}
 use Rattle.spx_link.specs.Limits.{resend_after, end_stream}
 
--- the first `out` units of the queue are sent and not acknowledged; held units are received and not taken
+-- the first `out` units of the queue are sent and not acknowledged. Held units are received in order and not taken.
+-- Those ahead came before one that is missing: they stand from `expected` on, None at a gap
 pub record LinkView : Type 0 where
   pub state : State
   pub own : ℕ
@@ -22,6 +23,7 @@ pub record LinkView : Type 0 where
   pub room : ℕ
   pub expected : ℕ
   pub held : List Unit
+  pub ahead : List (Option Unit)
   pub buffers : ℕ
   pub asked_at : ℕ
   pub asked_count : ℕ
@@ -89,6 +91,7 @@ made_link state own peer local remote buffers now accepted =
       room = 0;
       expected = 0;
       held = [];
+      ahead = [];
       buffers = buffers;
       asked_at = 0;
       asked_count = 0;

@@ -1,6 +1,6 @@
 -- A connection whose numbers never wrap: its two ends, and every packet that either ever sent.
 -- Where the 16 bits of Novell SPX stand for one position only, they stand for those of this machine.
-use Rattle.std.specs.Prelude.{ℕ, ◌+◌, ◌<◌, ◌≤◌, ◌≡◌, ◌==◌, ◌&&◌, nat_lt, max, List, [], ◌∷◌, ◌++◌, length, Option, None, Some, Contains, if◌then◌else◌}
+use Rattle.std.specs.Prelude.{ℕ, zero, suc, ◌+◌, ◌-◌, ◌<◌, ◌≤◌, ◌≡◌, ◌&&◌, not, Bool, true, false, drop, nat_lt, nat_le, max, List, [], ◌∷◌, ◌++◌, length, Option, None, Some, Contains, All, if◌then◌else◌}
 use Rattle.spx_link.specs.declared.unit.Unit.{Unit}
 
 -- a packet that was sent: the position of its unit or none, and what its sender had read and allowed as it was sent.
@@ -13,8 +13,9 @@ pub record Packet : Type 0 where
   pub receiver_sent : ℕ
 
 -- an end: the positions below `base` are acknowledged, those below `sent` sent, those below `limit` may be sent;
--- of its peer's, those below `read` are read and those below `taken` taken. Its units, from position 0 on, and
--- its bag: every packet that it ever sent
+-- of its peer's, those below `read` are read and those below `taken` taken, and `kept` says of the positions from `read`
+-- on which are kept ahead of those that are missing. Its units, from position 0 on, and its bag: every packet that it
+-- ever sent
 pub record End : Type 0 where
   pub base : ℕ
   pub sent : ℕ
@@ -22,6 +23,7 @@ pub record End : Type 0 where
   pub read : ℕ
   pub taken : ℕ
   pub buffers : ℕ
+  pub kept : List Bool
   pub units : List Unit
   pub bag : List Packet
 
@@ -30,32 +32,81 @@ pub record Machine : Type 0 where
   pub two : End
 
 abbrev pub new_end : ℕ → End
-new_end buffers = record { base = 0; sent = 0; limit = 0; read = 0; taken = 0; buffers = buffers; units = []; bag = [] }
+new_end buffers =
+    record {
+      base = 0;
+      sent = 0;
+      limit = 0;
+      read = 0;
+      taken = 0;
+      buffers = buffers;
+      kept = [];
+      units = [];
+      bag = [];
+    }
 
 abbrev pub start : ℕ → ℕ → Machine
 start a b = record { one = new_end a; two = new_end b }
 
 -- ---- what an end c becomes, whose peer is d
 
+-- the packet of this position, or of none, that it sends now
+abbrev pub packet_now : Option ℕ → End → End → Packet
+packet_now position c d =
+    record {
+      position = position;
+      read = c.read;
+      allows = c.taken + c.buffers;
+      sender_sent = c.sent;
+      receiver_sent = d.sent;
+    }
+
 -- it sent a packet of this position, or of none
 abbrev pub mailed : Option ℕ → End → End → End
-mailed position c d =
-    record c {
-      bag = record { position = position; read = c.read; allows = c.taken + c.buffers; sender_sent = c.sent; receiver_sent = d.sent } ∷ c.bag;
-    }
+mailed position c d = record c { bag = packet_now position c d ∷ c.bag }
+
+-- it counts one unit more as sent
+abbrev pub one_more_sent : End → End
+one_more_sent c = record c { sent = c.sent + 1 }
 
 -- it sent its next unit
 abbrev pub sent_next : End → End → End
-sent_next c d = mailed (Some c.sent) (record c { sent = c.sent + 1 }) d
+sent_next c d = mailed (Some c.sent) (one_more_sent c) d
 
 -- it learned a packet's two numbers
 abbrev pub learned : Packet → End → End
 learned p c = record c { base = max c.base p.read; limit = max c.limit p.allows }
 
--- it read the unit of this position, where that is the next one and there is a buffer
+-- a mark at a place, before which the list grows where it is too short
+abbrev pub put_mark : ℕ → List Bool → List Bool
+put_mark zero [] = true ∷ []
+put_mark zero (x ∷ xs) = true ∷ xs
+put_mark (suc k) [] = false ∷ put_mark k []
+put_mark (suc k) (x ∷ xs) = x ∷ put_mark k xs
+
+abbrev pub is_marked : ℕ → List Bool → Bool
+is_marked k [] = false
+is_marked zero (x ∷ xs) = x
+is_marked (suc k) (x ∷ xs) = is_marked k xs
+
+-- how many positions stand before the first gap
+abbrev pub lead : List Bool → ℕ
+lead [] = 0
+lead (false ∷ xs) = 0
+lead (true ∷ xs) = suc (lead xs)
+
+-- a position from `read` to `taken + buffers - 1` that is not kept yet
+abbrev pub is_wanted : End → ℕ → Bool
+is_wanted c n = nat_le c.read n && (nat_lt n (c.taken + c.buffers) && not (is_marked (n - c.read) c.kept))
+
+-- with these positions kept from `read` on, `read` becomes the least position that is not kept
+abbrev pub risen : List Bool → End → End
+risen kept c = record c { read = c.read + lead kept; kept = drop (lead kept) kept }
+
+-- it kept the unit of this position, once, where there is a buffer for it
 abbrev pub read_unit : Option ℕ → End → End
 read_unit None c = c
-read_unit (Some n) c = if (n == c.read) && nat_lt c.read (c.taken + c.buffers) then record c { read = c.read + 1 } else c
+read_unit (Some n) c = if is_wanted c n then risen (put_mark (n - c.read) c.kept) c else c
 
 -- it got a packet
 abbrev pub got : Packet → End → End
@@ -106,13 +157,14 @@ pub record IsChain (c d : End) : Type 0 where
   pub limit : c.limit ≤ d.taken + d.buffers
 
 -- what c has outstanding and may still send fits the buffers of its peer d, and what it holds fits its own; it sent
--- no more units than it has, and read no more than its peer has
+-- no more units than it has, read no more than its peer has, and kept no position that its peer did not send
 pub record IsWithin (c d : End) : Type 0 where
   pub limit : c.limit ≤ c.base + d.buffers
   pub taken : c.taken ≤ c.read
   pub held : c.read ≤ c.taken + c.buffers
   pub sent : c.sent ≤ length c.units
   pub read : c.read ≤ length d.units
+  pub kept : c.read + length c.kept ≤ d.sent
 
 -- what a packet of the end c, sent to d, says
 pub record WasSent (c d : End) (p : Packet) : Type 0 where
@@ -128,6 +180,15 @@ pub record WasSent (c d : End) (p : Packet) : Type 0 where
   -- its unit was sent by then, and was outstanding
   pub position : (n : ℕ) → p.position ≡ Some n → n < p.sender_sent
   pub outstanding : (n : ℕ) → p.position ≡ Some n → p.sender_sent ≤ n + d.buffers
+
+-- both ends together, which each step keeps
+pub record AreSound (c d : End) : Type 0 where
+  pub there : IsChain c d
+  pub back : IsChain d c
+  pub within : IsWithin c d
+  pub peer_within : IsWithin d c
+  pub bag : All (WasSent c d) c.bag
+  pub peer_bag : All (WasSent d c) d.bag
 
 -- an end after more steps: its numbers only grow, its units only gain, and its bag keeps every packet
 pub record Grows (old new : End) : Type 0 where

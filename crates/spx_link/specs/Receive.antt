@@ -1,16 +1,18 @@
 -- What a link answers to a packet and what it becomes (Novell SPX, and this project's profile): one function
 -- for each rule.
-use Rattle.std.specs.Prelude.{ℕ, ◌+◌, ◌==◌, nat_lt, nat_le, Bool, true, false, ◌&&◌, ◌||◌, not, List, [], ◌∷◌, ◌++◌, length, drop, if◌then◌else◌}
-use Rattle.ipx_wire.specs.declared.spx.SpxHeader.{SpxHeader}
+use Rattle.std.specs.Prelude.{ℕ, ◌+◌, ◌==◌, nat_lt, nat_le, Bool, true, false, ◌&&◌, ◌||◌, not, List, [], ◌∷◌, ◌++◌, length, drop, zero, suc, Option, Some, None, is_some, if◌then◌else◌}
+use Rattle.ipx_wire.specs.declared.spx.packet.SpxHeader.{SpxHeader}
 use Rattle.spx_link.specs.declared.state.State.{State}
 use Rattle.spx_link.specs.declared.state.State.TheVariants as States
 use Rattle.spx_link.specs.declared.received.Received.{Received}
 use Rattle.spx_link.specs.declared.received.Received.TheVariants.{Joined, Kept, Repeat, Ahead, OverAllocation, System, PeerEnded, Confirmed, Stranger}
+use Rattle.spx_link.specs.declared.unit.Unit.{Unit}
 use Rattle.spx_link.specs.Limits.{end_stream, confirm_stream, no_id}
-use Rattle.spx_link.specs.LinkView.{LinkView, free, is_confirmed}
+use Rattle.spx_link.specs.LinkView.{LinkView, free, is_confirmed, is_end}
+use Rattle.spx_link.specs.Units.{unit_in}
 use Rattle.spx_link.specs.Marks.{mark, distance, acknowledged, outstanding_after, room_after}
 
--- the answers to a unit that is held from then on
+-- the answers to a unit that is kept
 abbrev pub is_kept : Received → Bool
 is_kept Joined = false
 is_kept Kept = true
@@ -62,7 +64,7 @@ read_system l h =
 abbrev pub beyond_expected : LinkView → SpxHeader → ℕ
 beyond_expected l h = distance h.seq l.expected
 
--- it stands behind: an acknowledgement is owed, for an end that was kept a confirmation in its place
+-- it stands behind: an acknowledgement is owed, or for the end of a peer that has ended a confirmation in its place
 abbrev pub repeated : LinkView → SpxHeader → LinkView
 repeated l h =
     if (h.stream == end_stream) && l.peer_ended
@@ -77,40 +79,67 @@ after_end States.PeerEnded = States.PeerEnded
 after_end States.Confirmed = States.Confirmed
 after_end States.Lost = States.Lost
 
--- the end of the peer's units, kept without a body
-abbrev pub keep_end : LinkView → SpxHeader → LinkView
-keep_end l h =
+-- a unit at a place of those ahead; where these are too few, gaps lead up to it
+abbrev pub put : ℕ → Unit → List (Option Unit) → List (Option Unit)
+put zero u [] = Some u ∷ []
+put zero u (x ∷ xs) = Some u ∷ xs
+put (suc k) u [] = None ∷ put k u []
+put (suc k) u (x ∷ xs) = x ∷ put k u xs
+
+-- a unit was kept at the place before
+abbrev pub is_taken : ℕ → List (Option Unit) → Bool
+is_taken k [] = false
+is_taken zero (x ∷ xs) = is_some x
+is_taken (suc k) (x ∷ xs) = is_taken k xs
+
+-- the units before the first gap, up to an end
+abbrev pub leading : List (Option Unit) → List Unit
+leading [] = []
+leading (None ∷ xs) = []
+leading (Some u ∷ xs) = u ∷ (if is_end u then [] else leading xs)
+
+abbrev pub any_end : List Unit → Bool
+any_end [] = false
+any_end (u ∷ us) = is_end u || any_end us
+
+-- these units stand in order now, and the last of them is the peer's end: what is kept behind it is dropped
+abbrev pub keep_end : LinkView → List Unit → LinkView
+keep_end l us =
     record l {
-      held = l.held ++ record { stream = h.stream; last = h.last; body = record { items = [] } } ∷ [];
-      expected = mark (l.expected + 1);
+      held = l.held ++ us;
+      ahead = [];
+      expected = mark (l.expected + length us);
       peer_ended = true;
       owes_confirm = true;
       state = after_end l.state;
     }
 
-abbrev pub keep_unit : LinkView → SpxHeader → List ℕ → LinkView
-keep_unit l h body =
+-- these units stand in order now, and the peer goes on
+abbrev pub keep_units : LinkView → List Unit → List (Option Unit) → LinkView
+keep_units l us ahead =
     record l {
-      held = l.held ++ record { stream = h.stream; last = h.last; body = record { items = body } } ∷ [];
-      expected = mark (l.expected + 1);
+      held = l.held ++ us;
+      ahead = drop (length us) ahead;
+      expected = mark (l.expected + length us);
       owes_ack = true;
     }
 
+-- of what is kept from `expected` on, the units that stand in order are held
+abbrev pub settle : LinkView → List (Option Unit) → Received × LinkView
+settle l ahead =
+    if any_end (leading ahead) then (PeerEnded, keep_end l (leading ahead)) else (Kept, keep_units l (leading ahead) ahead)
+
+-- there is a buffer for the unit: it is kept at its place, once
 abbrev pub keep : LinkView → SpxHeader → List ℕ → Received × LinkView
-keep l h body = if h.stream == end_stream then (PeerEnded, keep_end l h) else (Kept, keep_unit l h body)
+keep l h body =
+    if is_taken (beyond_expected l h) l.ahead
+    then (Repeat, record l { owes_ack = true })
+    else settle l (put (beyond_expected l h) (unit_in h body) l.ahead)
 
--- it stands ahead of the next one: it is not kept
-abbrev pub out_of_turn : LinkView → SpxHeader → Received × LinkView
-out_of_turn l h =
-    if nat_lt (beyond_expected l h) (free l)
-    then (Ahead, record l { owes_ack = true })
-    else (OverAllocation, record l { owes_ack = true })
-
-abbrev pub is_next : LinkView → SpxHeader → Bool
-is_next l h = (beyond_expected l h == 0) && nat_lt 0 (free l)
-
+-- a unit past the free buffers is not kept
 abbrev pub in_turn : LinkView → SpxHeader → List ℕ → Received × LinkView
-in_turn l h body = if is_next l h then keep l h body else out_of_turn l h
+in_turn l h body =
+    if nat_lt (beyond_expected l h) (free l) then keep l h body else (OverAllocation, record l { owes_ack = true })
 
 abbrev pub not_behind : LinkView → SpxHeader → List ℕ → Received × LinkView
 not_behind l h body = if l.peer_ended then (Ahead, l) else in_turn l h body

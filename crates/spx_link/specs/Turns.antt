@@ -1,13 +1,15 @@
 -- Which unit a link keeps, and what a packet does to its units and to how far its connection has come.
-use Rattle.std.specs.Prelude.{◌≡◌, ◌<◌, Bool, true, false, []}
-use Rattle.ipx_wire.specs.declared.spx.SpxHeader.{SpxHeader}
+use Rattle.std.specs.Prelude.{◌≡◌, ℕ, ◌<◌, Bool, true, false, List, [], ◌++◌, map, Option, Some}
+use Rattle.ipx_wire.specs.declared.spx.packet.SpxHeader.{SpxHeader}
 use Rattle.spx_link.specs.declared.received.Received.{Received}
 use Rattle.spx_link.specs.declared.received.Received.TheVariants.{Joined, Kept, Repeat, Ahead, OverAllocation, System, PeerEnded, Confirmed, Stranger}
 use Rattle.spx_link.specs.declared.state.State.{State}
 use Rattle.spx_link.specs.declared.state.State.TheVariants as States
+use Rattle.spx_link.specs.declared.unit.Unit.{Unit}
 use Rattle.spx_link.specs.LinkView.{LinkView, free}
 use Rattle.spx_link.specs.Marks.{distance}
-use Rattle.spx_link.specs.Receive.{is_own, is_system, after_end}
+use Rattle.spx_link.specs.Receive.{is_own, is_system, after_end, put, is_taken, leading}
+use Rattle.spx_link.specs.Units.{unit_in}
 
 -- the states in which packets of the peer are read
 abbrev pub is_joined : State → Bool
@@ -18,14 +20,27 @@ is_joined States.PeerEnded = true
 is_joined States.Confirmed = true
 is_joined States.Lost = false
 
--- the packet has the unit that comes next, and there is a buffer for it
+-- the packet has a unit that was not kept before, and there is a buffer for it
 pub record IsInTurn (l : LinkView) (h : SpxHeader) : Type 0 where
   pub joined : is_joined l.state ≡ true
   pub own : is_own l h ≡ true
   pub unit : is_system h ≡ false
   pub more : l.peer_ended ≡ false
-  pub next : distance h.seq l.expected ≡ 0
-  pub room : 0 < free l
+  pub near : distance h.seq l.expected < 32768
+  pub room : distance h.seq l.expected < free l
+  pub new : is_taken (distance h.seq l.expected) l.ahead ≡ false
+
+-- what is kept from `expected` on, once the packet's unit is at its place
+abbrev pub kept_with : LinkView → SpxHeader → List ℕ → List (Option Unit)
+kept_with l h body = put (distance h.seq l.expected) (unit_in h body) l.ahead
+
+-- the units that are held from then on: those that stand in order
+abbrev pub newly_held : LinkView → SpxHeader → List ℕ → List Unit
+newly_held l h body = leading (kept_with l h body)
+
+-- what is kept, from the first unit held on
+abbrev pub kept : LinkView → List (Option Unit)
+kept l = map Some l.held ++ l.ahead
 
 -- the state after an answer
 abbrev pub state_after : Received → State → State

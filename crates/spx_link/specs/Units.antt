@@ -1,6 +1,6 @@
 -- The units of a link: those queued, and the one that a packet carries.
 use Rattle.std.specs.Prelude.{◌≡◌, ℕ, ◌==◌, ◌&&◌, not, false, List, [], map, if◌then◌else◌}
-use Rattle.ipx_wire.specs.declared.spx.SpxHeader.{SpxHeader}
+use Rattle.ipx_wire.specs.declared.spx.packet.SpxHeader.{SpxHeader}
 use Rattle.spx_link.specs.declared.unit.Unit.{Unit}
 use Rattle.spx_link.specs.declared.queue.Queued.{Queued}
 use Rattle.spx_link.specs.Limits.{end_stream}
@@ -31,10 +31,11 @@ unit_in h body =
       body = record { items = if h.stream == end_stream then [] else body };
     }
 
--- the units queued and the units held stay the same
+-- the units queued, those held and those ahead stay the same
 pub record SameUnits (old new : LinkView) : Type 0 where
   pub queued : queued_units new ≡ queued_units old
   pub held : new.held ≡ old.held
+  pub ahead : new.ahead ≡ old.ahead
 
 -- whether the end was queued, and whether the peer's came, stays the same
 pub record SameEndings (old new : LinkView) : Type 0 where
@@ -45,6 +46,7 @@ pub record SameEndings (old new : LinkView) : Type 0 where
 pub record IsEmpty (l : LinkView) (buffers room : ℕ) : Type 0 where
   pub queued : queued_units l ≡ []
   pub held : l.held ≡ []
+  pub ahead : l.ahead ≡ []
   pub end_queued : l.end_queued ≡ false
   pub peer_ended : l.peer_ended ≡ false
   pub numbers : numbers_of l ≡ record { next = 0; out = 0; room = room; expected = 0; held = 0; buffers = buffers }

@@ -1,22 +1,23 @@
 //! What the calls of a link do to its numbers, its units, its state and the ends of its connection:
 //! laws of their functions.
 
-ghost use Rattle.std.specs.Prelude.{◌≡◌, ◌≢◌, ◌↔◌, ◌<◌, ◌++◌, ℕ, [], ◌∷◌, true, false, drop, IfSome, List, None};
-ghost use Rattle.ipx_wire.specs.declared.spx.SpxHeader.{SpxHeader};
+ghost use Rattle.std.specs.Prelude.{◌≡◌, ◌≢◌, ◌↔◌, ◌<◌, ◌+◌, ◌++◌, ℕ, [], ◌∷◌, true, false, drop, length, slice_get, IfSome, List, None, Some};
+ghost use Rattle.ipx_wire.specs.declared.spx.packet.SpxHeader.{SpxHeader};
 ghost use Rattle.ipx_wire.specs.declared.address.Socket.{Socket};
 ghost use Rattle.ipx_wire.specs.declared.address.Address.{Address};
 ghost use Rattle.spx_link.specs.declared.unit.Unit as units;
-ghost use Rattle.spx_link.specs.declared.received.Received.TheVariants.{Confirmed, Joined, PeerEnded, Stranger};
+ghost use Rattle.spx_link.specs.declared.received.Received.TheVariants.{Confirmed, Joined, Kept, PeerEnded, Stranger};
 ghost use Rattle.spx_link.specs.declared.state.State.TheVariants.{Ending, Live, Lost, Opening};
 ghost use Rattle.spx_link.specs.Effects.{HasEnds, IfRequest, Joins, SameEnds, SamePeer, numbers_after_poll, numbers_after_received, numbers_after_take};
 ghost use Rattle.spx_link.specs.Given.{IsGiven, StaysOrIsLost};
 ghost use Rattle.spx_link.specs.Limits.{end_stream, no_id};
 ghost use Rattle.spx_link.specs.LinkView.{LinkView, numbers_of};
-ghost use Rattle.spx_link.specs.Marks.{acknowledged, room_after};
+ghost use Rattle.spx_link.specs.Links.{LinksView, link_at};
+ghost use Rattle.spx_link.specs.Marks.{acknowledged, distance, room_after};
 ghost use Rattle.spx_link.specs.Offer.{accepted_from, dialed, end_link, first_of, lose_link, offer_link, owe_reply_link, take_link, the_end};
 ghost use Rattle.spx_link.specs.Poll.{poll_link};
-ghost use Rattle.spx_link.specs.Receive.{is_kept, is_own, receive_link};
-ghost use Rattle.spx_link.specs.Turns.{IsDone, IsInTurn, ended_after, is_joined, state_after};
+ghost use Rattle.spx_link.specs.Receive.{any_end, is_kept, is_own, receive_link};
+ghost use Rattle.spx_link.specs.Turns.{IsDone, IsInTurn, ended_after, is_joined, kept, kept_with, newly_held, state_after};
 ghost use Rattle.spx_link.specs.Units.{IsEmpty, SameEndings, SameUnits, as_sent, queued_units, unit_in};
 
 /// A poll changes the numbers just where it sends a unit for the first time, and no end.
@@ -58,19 +59,23 @@ pub fn lost_gives_nothing()
 /// the unit that is kept. The peer's id changes where a link joins alone, and it joins from Opening
 /// alone.
 pub fn receive_changes()
-    ensures numbers { (l : LinkView) (h : SpxHeader) (body : List ℕ) → numbers_of (receive_link l h body).1 ≡ numbers_after_received (receive_link l h body).0 h (numbers_of l) }
+    ensures numbers { (l : LinkView) (h : SpxHeader) (body : List ℕ) → numbers_of (receive_link l h body).1 ≡ numbers_after_received (receive_link l h body).0 (length (newly_held l h body)) h (numbers_of l) }
     ensures ends { (l : LinkView) (h : SpxHeader) (body : List ℕ) → SameEnds l (receive_link l h body).1 }
     ensures peer { (l : LinkView) (h : SpxHeader) (body : List ℕ) → (receive_link l h body).0 ≢ Joined → (receive_link l h body).1.peer ≡ l.peer }
     ensures joins { (l : LinkView) (h : SpxHeader) (body : List ℕ) → (receive_link l h body).0 ≡ Joined → Joins l (receive_link l h body).1 h }
 {}
 
-/// The unit of a packet is kept just where it is in turn, and is then held behind the others. The
-/// answer tells whether it was the peer's end.
+/// The unit of a packet is kept just where it is in turn. Kept, it stands at its place, and the
+/// units that stand in order then are held behind the others. The answer tells whether the peer's
+/// end is among them, and behind that end nothing is kept.
 pub fn receive_keeps_units()
     ensures kept { (l : LinkView) (h : SpxHeader) (body : List ℕ) → (is_kept (receive_link l h body).0 ≡ true) ↔ IsInTurn l h }
-    ensures end { (l : LinkView) (h : SpxHeader) (body : List ℕ) → ((receive_link l h body).0 ≡ PeerEnded) ↔ (IsInTurn l h × (h.stream ≡ end_stream)) }
-    ensures held { (l : LinkView) (h : SpxHeader) (body : List ℕ) → is_kept (receive_link l h body).0 ≡ true → (receive_link l h body).1.held ≡ l.held ++ unit_in h body ∷ [] }
-    ensures same { (l : LinkView) (h : SpxHeader) (body : List ℕ) → is_kept (receive_link l h body).0 ≡ false → (receive_link l h body).1.held ≡ l.held }
+    ensures end { (l : LinkView) (h : SpxHeader) (body : List ℕ) → ((receive_link l h body).0 ≡ PeerEnded) ↔ (IsInTurn l h × (any_end (newly_held l h body) ≡ true)) }
+    ensures held { (l : LinkView) (h : SpxHeader) (body : List ℕ) → is_kept (receive_link l h body).0 ≡ true → (receive_link l h body).1.held ≡ l.held ++ newly_held l h body }
+    ensures ahead { (l : LinkView) (h : SpxHeader) (body : List ℕ) → (receive_link l h body).0 ≡ Kept → (receive_link l h body).1.ahead ≡ drop (length (newly_held l h body)) (kept_with l h body) }
+    ensures place { (l : LinkView) (h : SpxHeader) (body : List ℕ) → (receive_link l h body).0 ≡ Kept → slice_get (kept (receive_link l h body).1) (length l.held + distance h.seq l.expected) ≡ Some (Some (unit_in h body)) }
+    ensures none_ahead { (l : LinkView) (h : SpxHeader) (body : List ℕ) → (receive_link l h body).0 ≡ PeerEnded → (receive_link l h body).1.ahead ≡ [] }
+    ensures same { (l : LinkView) (h : SpxHeader) (body : List ℕ) → is_kept (receive_link l h body).0 ≡ false → ((receive_link l h body).1.held ≡ l.held) × ((receive_link l h body).1.ahead ≡ l.ahead) }
 {}
 
 /// The units that a packet acknowledges leave the queue.
@@ -103,6 +108,7 @@ pub fn take_changes()
 pub fn take_gives_the_first()
     ensures gives { (l : LinkView) → (take_link l).0 ≡ first_of l.held }
     ensures held { (l : LinkView) → (take_link l).1.held ≡ drop 1 l.held }
+    ensures ahead { (l : LinkView) → (take_link l).1.ahead ≡ l.ahead }
     ensures queued { (l : LinkView) → queued_units (take_link l).1 ≡ queued_units l }
     ensures endings { (l : LinkView) → SameEndings l (take_link l).1 }
     ensures state { (l : LinkView) → (take_link l).1.state ≡ l.state }
@@ -111,10 +117,10 @@ pub fn take_gives_the_first()
 /// Units, and the end, are queued behind the others. With the end the state is Ending.
 pub fn units_queue_in_order()
     ensures offered { (l : LinkView) (us : List units.Unit) → queued_units (offer_link l us) ≡ queued_units l ++ us }
-    ensures offers_alone { (l : LinkView) (us : List units.Unit) → ((offer_link l us).held ≡ l.held) × ((offer_link l us).state ≡ l.state) × SameEndings l (offer_link l us) }
+    ensures offers_alone { (l : LinkView) (us : List units.Unit) → ((offer_link l us).held ≡ l.held) × ((offer_link l us).ahead ≡ l.ahead) × ((offer_link l us).state ≡ l.state) × SameEndings l (offer_link l us) }
     ensures end { (l : LinkView) → queued_units (end_link l) ≡ queued_units l ++ the_end ∷ [] }
     ensures ends { (l : LinkView) → ((end_link l).state ≡ Ending) × ((end_link l).end_queued ≡ true) }
-    ensures ends_alone { (l : LinkView) → ((end_link l).held ≡ l.held) × ((end_link l).peer_ended ≡ l.peer_ended) }
+    ensures ends_alone { (l : LinkView) → ((end_link l).held ≡ l.held) × ((end_link l).ahead ≡ l.ahead) × ((end_link l).peer_ended ≡ l.peer_ended) }
 {}
 
 /// A reply that is owed again leaves the units and the state, and so does what gives a link up, but
@@ -152,4 +158,9 @@ pub fn others_change_no_number()
 pub fn accepted_owes_its_reply()
     ensures state { (own : ℕ) (s : Socket) (a : Address) (h : SpxHeader) (buffers now : ℕ) → (accepted_from own s a h buffers now).state ≡ Live }
     ensures reply { (own : ℕ) (s : Socket) (a : Address) (h : SpxHeader) (buffers now : ℕ) → (accepted_from own s a h buffers now).owes_reply ≡ true }
+{}
+
+/// A link stands under its own id.
+pub fn links_stand_under_their_ids()
+    ensures { (s : LinksView) (id : ℕ) (l : LinkView) → link_at s id ≡ Some l → l.own ≡ id }
 {}

@@ -5,9 +5,10 @@
 //! is how many units an end had sent when the packet was sent, `sent` how many it has sent now, and
 //! a packet is fresh where fewer than 32,768 lie between. `bound` is the most units that an end has
 //! outstanding and the most buffers that it has, and each law gives the range in which it holds.
+//! `windows` has them at this project's bound, 8,192.
 
 ghost use Rattle.std.specs.Prelude.{ℕ, ◌≡◌, ◌≢◌, ◌↔◌, ◌+◌, ◌<◌, ◌≤◌, max};
-ghost use Rattle.spx_link.specs.Limits.{most_room};
+ghost use Rattle.spx_link.specs.Limits.{most_room, most_units};
 ghost use Rattle.spx_link.specs.Marks.{acknowledged, mark, distance, outstanding_after, room_after};
 
 /// What marks say of positions.
@@ -79,5 +80,28 @@ pub fn sequence()
     // It is under `free` at the positions that the free buffers are for, and at no others.
     ensures window { (bound free read n sent before : ℕ) → bound ≤ 16384 → free ≤ bound → read ≤ sent → n < read + 65536
         → before ≤ n + bound → sent < before + 32768
+        → (distance (mark n) (mark read) < free) ↔ ((read ≤ n) × (n < read + free)) }
+{}
+
+/// The same at this project's bound: at most 8,192 units outstanding, and as many buffers. What is
+/// behind lies far outside of the units and positions that count, in each of the three numbers.
+pub fn windows()
+    // An acknowledge number behind the base lies 24,577 or more ahead of it, and at most 8,192 count.
+    ensures acknowledgement { (base out sent ack before : ℕ) → base + out ≡ sent → ack < base
+        → before ≤ ack + most_units → sent < before + 32768
+        → 24577 ≤ distance (mark ack) (distance (mark sent) out) }
+    // An allocation behind what was sent lies 32,769 or more ahead of it, any other at most 8,192,
+    // and 16,383 parts the two.
+    ensures allocation { (sent allows before : ℕ) → allows ≤ sent + most_units
+        → before ≤ allows → sent < before + 32768
+        → let beyond : ℕ = distance (mark (allows + 65535) + 1) (mark sent) in
+        (allows < sent → 32769 ≤ beyond) × (sent ≤ allows → beyond ≤ most_units) × ((beyond ≤ most_room) ↔ (sent ≤ allows)) }
+    // A unit behind the next one is a repeat (32,768 or more), or lies 24,577 or more ahead of it.
+    ensures sequence { (read n sent before : ℕ) → n < read → read ≤ sent
+        → before ≤ n + most_units → sent < before + 32768
+        → 24577 ≤ distance (mark n) (mark read) }
+    // So a distance under the number of free buffers is that of a position that they are for.
+    ensures free { (free read n sent before : ℕ) → free ≤ most_units → read ≤ sent → n < read + 65536
+        → before ≤ n + most_units → sent < before + 32768
         → (distance (mark n) (mark read) < free) ↔ ((read ≤ n) × (n < read + free)) }
 {}

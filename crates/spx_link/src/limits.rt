@@ -1,7 +1,7 @@
 //! The numbers of a link: those of Novell SPX, and the limits of this project.
 
 /// How many units may be outstanding, and how many buffers an end may have.
-pub const MOST_UNITS: u16 = 1024;
+pub const MOST_UNITS: u16 = 8192;
 
 /// How many links a host may hold.
 pub const MOST_LINKS: usize = 16;

@@ -1,17 +1,14 @@
 //! One end of a connection: what it holds, and what it shows.
 
-ghost use Rattle.std.specs.Prelude.{◌≡◌, ◌≤◌, ◌<◌, length};
+ghost use Rattle.std.specs.Prelude.{◌≡◌, ◌+◌, ◌≤◌, length};
 ghost use Rattle.spx_link.specs.Limits.{most_units};
 ghost use Rattle.spx_link.specs.LinkView.{LinkView, numbers_of};
-ghost use Rattle.spx_link.specs.Offer as spec;
 
-use crate::limits::NO_ID;
+use crate::buffers::Buffers;
 use crate::numbers::Numbers;
 use crate::queue::Queued;
 use crate::state::State;
-use crate::unit::Unit;
-use ipx_wire::{Address, Socket, SpxHeader};
-use std::alloc::Global;
+use ipx_wire::{Address, Socket};
 use std::collections::VecDeque;
 use std::marker::Model;
 
@@ -31,8 +28,7 @@ pub struct Link {
     pub(crate) next: u16,
     pub(crate) room: u16,
     pub(crate) expected: u16,
-    pub(crate) held: VecDeque<Unit>,
-    pub(crate) buffers: u16,
+    pub(crate) buffers: Buffers,
     pub(crate) asked_at: u64,
     pub(crate) asked_count: u8,
     pub(crate) spoke: u64,
@@ -59,8 +55,9 @@ impl Model for Link {
       next = l.next;
       room = l.room;
       expected = l.expected;
-      held = l.held.items;
-      buffers = l.buffers;
+      held = l.buffers.held;
+      ahead = l.buffers.ahead;
+      buffers = l.buffers.size;
       asked_at = l.asked_at;
       asked_count = l.asked_count;
       spoke = l.spoke;
@@ -72,69 +69,9 @@ impl Model for Link {
       end_queued = l.end_queued;
       peer_ended = l.peer_ended;
     } };
-
-    ghost invariant = { λ l. length l.held.items ≤ l.buffers };
 }
 
 impl Link {
-    /// A link that asks for a connection.
-    pub(crate) fn dial(
-        alloc: Global,
-        own: u16,
-        local: Socket,
-        remote: Address,
-        buffers: u16,
-        now: u64,
-    ) -> Link
-        ensures { result ≡ spec.dialed own local remote buffers now }
-    {
-        Link {
-            state: State::Opening,
-            own,
-            peer: NO_ID,
-            local,
-            remote,
-            queue: VecDeque::new(alloc),
-            out: 0,
-            next: 0,
-            room: 0,
-            expected: 0,
-            held: VecDeque::new(alloc),
-            buffers,
-            asked_at: 0,
-            asked_count: 0,
-            spoke: now,
-            probes: 0,
-            owes_reply: false,
-            owes_confirm: false,
-            owes_ack: false,
-            accepted: false,
-            end_queued: false,
-            peer_ended: false,
-        }
-    }
-
-    /// A link that a request asked for.
-    pub(crate) fn accept(
-        alloc: Global,
-        own: u16,
-        local: Socket,
-        remote: Address,
-        request: &SpxHeader,
-        buffers: u16,
-        now: u64,
-    ) -> Link
-        ensures { result ≡ spec.accepted_from own local remote request.now buffers now }
-    {
-        let mut link = Link::dial(alloc, own, local, remote, buffers, now);
-        link.state = State::Live;
-        link.peer = request.from_id;
-        link.owes_reply = true;
-        link.accepted = true;
-        link.read_limit(request.limit);
-        link
-    }
-
     /// Its state.
     pub fn state(&self) -> State
         ensures { result ≡ self.now.state }
@@ -144,15 +81,16 @@ impl Link {
 
     /// Its numbers.
     pub fn numbers(&self) -> Numbers
-        ensures { result ≡ numbers_of self.now }
+        ensures value { result ≡ numbers_of self.now }
+        ensures within { length self.now.held + length self.now.ahead ≤ self.now.buffers }
     {
         Numbers {
             next: self.next,
             out: self.out,
             room: self.room,
             expected: self.expected,
-            held: self.buffers - self.free(),
-            buffers: self.buffers,
+            held: self.buffers.held(),
+            buffers: self.buffers.size(),
         }
     }
 
@@ -174,7 +112,7 @@ impl Link {
     pub(crate) fn free(&self) -> u16
         ensures { result ≡ Rattle.spx_link.specs.LinkView.free self.now }
     {
-        self.buffers - self.held.len() as u16
+        self.buffers.left()
     }
 
     /// Whether units are sent in its state.

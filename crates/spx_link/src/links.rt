@@ -1,17 +1,22 @@
 //! The links of a host, by their ids.
 
-ghost use Rattle.std.specs.Prelude.{◌≡◌, ◌<◌, ◌↔◌, ℕ, Err, IfOk, IfSome, IsSome, IsTrue, MatchOption, None, OnErr, option_copied};
+ghost use Rattle.std.specs.Prelude.{◌≡◌, ◌≤◌, ◌<◌, ◌↔◌, ℕ, Err, IfOk, IfSome, IsSome, IsTrue, MatchOption, None, OnErr, option_copied};
 ghost use Rattle.std.specs.Bool.{OnFalse, OnTrue};
+ghost use Rattle.spx_link.specs.Due.{IsNextDueOfAll};
 ghost use Rattle.spx_link.specs.Limits.{most_links};
 ghost use Rattle.spx_link.specs.Links.{Adds, IsAbove, IsAcceptedFrom, IsBetween, IsLeast, IsLive, IsNextFree, LinksView, Releases, count_of, link_at};
 ghost use Rattle.spx_link.specs.Offer.{accepted_from, dialed};
 ghost use Rattle.spx_link.specs.Sound.{IsSound, ids_of};
 ghost use Rattle.spx_link.specs.declared.fault.LinksFault.TheVariants as LinksFaults;
 
+mod by_id;
+mod lookup;
+
+use crate::due::soonest;
 use crate::fault::LinksFault;
 use crate::limits::MOST_LINKS;
 use crate::link::Link;
-use crate::places::{is_live, least_above, least_accepted, link_in, next_free, remove_link};
+use crate::links::lookup::{is_live, least_above, least_accepted, link_in, next_free, remove_link};
 use ipx_wire::{Address, Socket, SpxHeader};
 use std::alloc::Global;
 use std::marker::Model;
@@ -45,7 +50,7 @@ impl Links {
     }
 
     /// A new link, which asks for a connection between a socket here and an address. The caller
-    /// owes 1 to 1,024 buffers.
+    /// owes 1 to 8,192 buffers.
     ///
     /// It is refused as `TooMany` where 16 links are held, else only for want of memory.
     pub fn dial(
@@ -65,13 +70,13 @@ impl Links {
             return Err(LinksFault::TooMany);
         }
         let id = next_free(&self.links, self.last);
-        let link = Link::dial(alloc, id, socket, to, buffers, now);
+        let link = Link::dial(alloc, id, socket, to, buffers, now)?;
         self.links.push(link)?;
         self.last = id;
         Ok(id)
     }
 
-    /// A new link, which a request to a socket here asked for. The caller owes 1 to 1,024 buffers.
+    /// A new link, which a request to a socket here asked for. The caller owes 1 to 8,192 buffers.
     ///
     /// It is refused as `dial` is.
     pub fn accept(
@@ -92,7 +97,7 @@ impl Links {
             return Err(LinksFault::TooMany);
         }
         let id = next_free(&self.links, self.last);
-        let link = Link::accept(alloc, id, socket, from, request, buffers, now);
+        let link = Link::accept(alloc, id, socket, from, request, buffers, now)?;
         self.links.push(link)?;
         self.last = id;
         Ok(id)
@@ -126,11 +131,22 @@ impl Links {
         least_accepted(&self.links, from, peer_id)
     }
 
-    /// The least live id above another.
+    /// The least live id above another. Live ids are from 0001 to FFFE, and at most 16.
     pub fn after(&self, id: u16) -> Option<u16>
-        ensures { MatchOption result ((q : ℕ) → ¬ IsAbove self.now id q) (IsLeast (IsAbove self.now id)) }
+        ensures next { MatchOption result ((q : ℕ) → ¬ IsAbove self.now id q) (IsLeast (IsAbove self.now id)) }
+        ensures ids { (q : ℕ) → IsLive self.now q → (0 < q) × (q < 65535) }
+        ensures few { count_of self.now ≤ most_links }
     {
         least_above(&self.links, id)
+    }
+
+    /// The moment, in milliseconds, before which a poll of any link gives nothing. From it on a poll
+    /// of some link sends something or gives that link up. None where that takes a packet or a call
+    /// first.
+    pub fn next_due_of_all(&self) -> Option<u64>
+        ensures { IsNextDueOfAll self.now result }
+    {
+        soonest(&self.links)
     }
 
     /// The link of an id goes. The answer is false where the id is not live.

@@ -3,7 +3,7 @@
 
 ghost use Rattle.std.specs.Prelude.{ℕ, ◌<◌, ◌≤◌, List, All, Contains};
 ghost use Rattle.spx_link.specs.Limits.{most_room};
-ghost use Rattle.spx_link.specs.Machine.{Machine, Packet, Step, IsRun, start, IsChain, IsWithin, WasSent, Grows};
+ghost use Rattle.spx_link.specs.Machine.{AreSound, End, Grows, IsChain, IsRun, IsStep, IsWithin, Machine, Packet, Step, WasSent, got, new_end, start};
 ghost use Rattle.spx_link.specs.Machine.Act.{Gets};
 ghost use Rattle.spx_link.specs.Machine.Step.{One, Two};
 ghost use Rattle.spx_link.specs.Fresh.{IsFresh, Tells};
@@ -26,6 +26,15 @@ pub fn within()
 pub fn packets()
     ensures one { (steps : List Step) (a b : ℕ) (m : Machine) → IsRun steps (start a b) m → All (WasSent m.one m.two) m.one.bag }
     ensures two { (steps : List Step) (a b : ℕ) (m : Machine) → IsRun steps (start a b) m → All (WasSent m.two m.one) m.two.bag }
+{}
+
+/// All of this at once is so of two new ends, and each step keeps it: for those who go a step at a
+/// time, or whose machine has other entries between its steps.
+pub fn soundness()
+    ensures start { (a b : ℕ) → AreSound (new_end a) (new_end b) }
+    ensures step { (s : Step) (m n : Machine) → IsStep s m n → AreSound m.one m.two → AreSound n.one n.two }
+    // An end may get any packet that says what was so, whether a bag holds it or not.
+    ensures gets { (c d : End) (p : Packet) → AreSound c d → WasSent d c p → AreSound (got p c) d }
 {}
 
 /// Numbers only grow, from any machine on.

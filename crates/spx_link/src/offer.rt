@@ -1,4 +1,4 @@
-//! What a link is given to send, what is taken from it, and its other calls.
+//! What an application gives a link to send, and takes from it.
 
 ghost use Rattle.std.specs.Prelude.{◌≡◌, ◌<◌, [], All, Err, IsOk, IsOkUnless, None, OnErr, OnOk, Some, option_copied};
 ghost use Rattle.spx_link.specs.Limits.{end_stream};
@@ -81,7 +81,7 @@ impl Link {
     pub fn peek(&self) -> Option<&Unit>
         ensures { option_copied result ≡ spec.peek_link self.now }
     {
-        self.held.front()
+        self.buffers.first()
     }
 
     /// Takes that unit. It takes no memory.
@@ -89,24 +89,10 @@ impl Link {
         ensures gives { result ≡ (spec.take_link self.old).0 }
         ensures leaves { self.new ≡ (spec.take_link self.old).1 }
     {
-        let unit = self.held.pop_front()?;
+        let unit = self.buffers.take()?;
         if self.is_working() {
             self.owes_ack = true;
         }
         Some(unit)
-    }
-
-    /// It owes its reply again.
-    pub fn owe_reply(&mut self)
-        ensures { self.new ≡ spec.owe_reply_link self.old }
-    {
-        self.owes_reply = true;
-    }
-
-    /// It is given up.
-    pub fn lose(&mut self)
-        ensures { self.new ≡ spec.lose_link self.old }
-    {
-        self.state = State::Lost;
     }
 }

@@ -132,21 +132,22 @@ impl Link {
     }
 
     #[tactic(auto, using(crate::proofs::Stands::slice_get_after_set))]
-    fn send_again(&mut self, place: usize, now: u64) -> Option<Chosen>
+    fn send_again(&mut self, place: u16, now: u64) -> Option<Chosen>
         requires sent { place < self.old.out }
         requires queued { place < length self.old.queue }
         ensures gives { option_map (carried self.new) result ≡ (spec.poll_late self.old now (Some place)).0 }
         ensures leaves { self.new ≡ (spec.poll_late self.old now (Some place)).1 }
     {
-        let queued = self.queued_at(place);
+        let at = usize::from(place);
+        let queued = self.queued_at(at);
         let count = queued.count;
         if count >= MOST_SENDS {
             self.state = State::Lost;
             return None;
         }
-        let seq = self.base().wrapping_add(place as u16);
-        let unit = self.with_unit(Sent::Again, queued, place, seq);
-        stamp(&mut self.queue, place, now, count + 1);
+        let seq = self.base().wrapping_add(place);
+        let unit = self.with_unit(Sent::Again, queued, at, seq);
+        stamp(&mut self.queue, at, now, count + 1);
         self.owes_ack = false;
         self.spoke = now;
         Some(unit)
@@ -182,13 +183,13 @@ impl Link {
         Some(probe)
     }
 
-    fn is_waiting(&self) -> bool
+    pub(crate) fn is_waiting(&self) -> bool
         ensures { result ≡ spec.is_waiting self.now }
     {
         usize::from(self.out) < self.queue.len()
     }
 
-    fn may_send(&self) -> bool
+    pub(crate) fn may_send(&self) -> bool
         ensures { result ≡ spec.may_send self.now }
     {
         self.is_working() && self.is_waiting() && 0 < self.room && self.out < MOST_UNITS
@@ -204,16 +205,16 @@ impl Link {
             && due(self.spoke, now)
     }
 
-    fn late(&self, now: u64) -> Option<usize>
+    fn late(&self, now: u64) -> Option<u16>
         ensures value { result ≡ spec.late_if_working self.now now }
         ensures sent { IfSome result (λ place. place < self.now.out) }
         ensures queued { IfSome result (λ place. place < length self.now.queue) }
     {
-        if self.is_working() {
-            first_due(&self.queue, usize::from(self.out), now)
-        } else {
-            None
+        if !self.is_working() {
+            return None;
         }
+        let place = first_due(&self.queue, usize::from(self.out), now)?;
+        Some(place as u16)
     }
 
     fn allocation(&self) -> u16

@@ -1,20 +1,16 @@
 //! What a link makes of a packet.
 
-ghost use Rattle.std.specs.Prelude.{◌≡◌, ◌+◌, ◌≤◌, ◌<◌, ◌++◌, [], ◌∷◌, IfOk, IfErr, OnOk, OnErr, IsTrue, drop, length};
+ghost use Rattle.std.specs.Prelude.{◌≡◌, ◌≤◌, ◌<◌, length};
 ghost use Rattle.spx_link.specs.LinkView as view;
-ghost use Rattle.spx_link.specs.Marks.{acknowledged, mark};
+ghost use Rattle.spx_link.specs.Marks.{acknowledged};
 ghost use Rattle.spx_link.specs.Receive as spec;
-ghost use Rattle.spx_link.specs.declared.fault.OfferFault.TheVariants as OfferFaults;
 
-use crate::fault::OfferFault;
 use crate::limits::{CONFIRM_STREAM, END_STREAM, MOST_ROOM, NO_ID};
 use crate::link::Link;
 use crate::queue::drop_front;
 use crate::received::Received;
 use crate::state::State;
-use crate::unit::Unit;
-use ipx_wire::{Fragment, SpxHeader};
-use std::alloc::Global;
+use ipx_wire::SpxHeader;
 
 /// Whether a packet carries no unit: its system bit says so, but an end is a unit, and its
 /// confirmation is none.
@@ -34,36 +30,18 @@ fn after_end(state: State) -> State
     }
 }
 
-fn fragment_of(body: &[u8]) -> Fragment
-    requires { length body.now ≤ 534 }
-    ensures { result.items ≡ body.now }
-{
-    let mut fragment = Fragment::new();
-    fragment.try_extend_from_slice(body).unwrap();
-    fragment
-}
-
 impl Link {
     /// Reads a packet from the peer. The caller owes a body of at most 534 bytes.
     ///
-    /// Memory is wanted where a unit is kept. Where it is refused, the link is as it was.
-    pub fn receive(
-        &mut self,
-        _alloc: Global,
-        header: &SpxHeader,
-        body: &[u8],
-        _now: u64,
-    ) -> Result<Received, OfferFault>
+    /// It takes no memory. The body of a unit that is kept is copied once, to where it stays.
+    pub fn receive(&mut self, header: &SpxHeader, body: &[u8], _now: u64) -> Received
         requires { length body.now ≤ 534 }
-        ensures gives { IfOk result (λ r. r ≡ (spec.receive_link self.old header.now body.now).0) }
-        ensures leaves { OnOk result (self.new ≡ (spec.receive_link self.old header.now body.now).1) }
-        ensures memory { IfErr result (λ f. f ≡ OfferFaults.OutOfMemory) }
-        ensures wanted { OnErr result (IsTrue (spec.is_kept (spec.receive_link self.old header.now body.now).0)) }
-        ensures unchanged { OnErr result (self.new ≡ self.old) }
+        ensures gives { result ≡ (spec.receive_link self.old header.now body.now).0 }
+        ensures leaves { self.new ≡ (spec.receive_link self.old header.now body.now).1 }
     {
         match self.state {
-            State::Lost => Ok(Received::Stranger),
-            State::Opening => Ok(self.receive_reply(header)),
+            State::Lost => Received::Stranger,
+            State::Opening => self.receive_reply(header),
             _ => self.receive_joined(header, body),
         }
     }
@@ -92,26 +70,20 @@ impl Link {
             && header.from_id < NO_ID
     }
 
-    fn receive_joined(&mut self, header: &SpxHeader, body: &[u8]) -> Result<Received, OfferFault>
+    fn receive_joined(&mut self, header: &SpxHeader, body: &[u8]) -> Received
         requires { length body.now ≤ 534 }
-        ensures gives { IfOk result (λ r. r ≡ (spec.receive_joined self.old header.now body.now).0) }
-        ensures leaves { OnOk result (self.new ≡ (spec.receive_joined self.old header.now body.now).1) }
-        ensures memory { IfErr result (λ f. f ≡ OfferFaults.OutOfMemory) }
-        ensures wanted { OnErr result (IsTrue (spec.is_kept (spec.receive_joined self.old header.now body.now).0)) }
-        ensures unchanged { OnErr result (self.new ≡ self.old) }
+        ensures gives { result ≡ (spec.receive_joined self.old header.now body.now).0 }
+        ensures leaves { self.new ≡ (spec.receive_joined self.old header.now body.now).1 }
     {
         if header.to_id != self.own || header.from_id != self.peer {
-            return Ok(Received::Stranger);
+            return Received::Stranger;
         }
-        if is_system(header) {
-            self.read_numbers(header);
-            return Ok(self.read_system(header));
-        }
-        // The unit first, since room for it may be refused. It neither reads nor
-        // changes what the numbers change, so the order cannot be seen.
-        let received = self.read_unit(header, body)?;
         self.read_numbers(header);
-        Ok(received)
+        if is_system(header) {
+            self.read_system(header)
+        } else {
+            self.read_unit(header, body)
+        }
     }
 
     /// Reads the numbers that every packet carries.
@@ -170,20 +142,17 @@ impl Link {
             && !matches!(self.state, State::Confirmed)
     }
 
-    fn read_unit(&mut self, header: &SpxHeader, body: &[u8]) -> Result<Received, OfferFault>
+    fn read_unit(&mut self, header: &SpxHeader, body: &[u8]) -> Received
         requires { length body.now ≤ 534 }
-        ensures gives { IfOk result (λ r. r ≡ (spec.read_unit self.old header.now body.now).0) }
-        ensures leaves { OnOk result (self.new ≡ (spec.read_unit self.old header.now body.now).1) }
-        ensures memory { IfErr result (λ f. f ≡ OfferFaults.OutOfMemory) }
-        ensures wanted { OnErr result (IsTrue (spec.is_kept (spec.read_unit self.old header.now body.now).0)) }
-        ensures unchanged { OnErr result (self.new ≡ self.old) }
+        ensures gives { result ≡ (spec.read_unit self.old header.now body.now).0 }
+        ensures leaves { self.new ≡ (spec.read_unit self.old header.now body.now).1 }
     {
         if self.beyond_expected(header) >= 32768 {
             self.repeat(header);
-            return Ok(Received::Repeat);
+            return Received::Repeat;
         }
         if self.peer_ended {
-            return Ok(Received::Ahead);
+            return Received::Ahead;
         }
         self.in_turn(header, body)
     }
@@ -199,62 +168,49 @@ impl Link {
         }
     }
 
-    fn in_turn(&mut self, header: &SpxHeader, body: &[u8]) -> Result<Received, OfferFault>
+    fn in_turn(&mut self, header: &SpxHeader, body: &[u8]) -> Received
         requires { length body.now ≤ 534 }
-        ensures gives { IfOk result (λ r. r ≡ (spec.in_turn self.old header.now body.now).0) }
-        ensures leaves { OnOk result (self.new ≡ (spec.in_turn self.old header.now body.now).1) }
-        ensures memory { IfErr result (λ f. f ≡ OfferFaults.OutOfMemory) }
-        ensures wanted { OnErr result (IsTrue (spec.is_kept (spec.in_turn self.old header.now body.now).0)) }
-        ensures unchanged { OnErr result (self.new ≡ self.old) }
+        ensures gives { result ≡ (spec.in_turn self.old header.now body.now).0 }
+        ensures leaves { self.new ≡ (spec.in_turn self.old header.now body.now).1 }
     {
-        let beyond = self.beyond_expected(header);
-        if beyond == 0 && 0 < self.free() {
+        if self.beyond_expected(header) < self.free() {
             return self.keep(header, body);
         }
         self.owes_ack = true;
-        if beyond < self.free() {
-            Ok(Received::Ahead)
-        } else {
-            Ok(Received::OverAllocation)
-        }
+        Received::OverAllocation
     }
 
-    fn keep(&mut self, header: &SpxHeader, body: &[u8]) -> Result<Received, OfferFault>
-        requires free { 0 < view.free self.old }
+    /// Keeps a unit at its place, unless it was kept before.
+    fn keep(&mut self, header: &SpxHeader, body: &[u8]) -> Received
+        requires free { spec.beyond_expected self.old header.now < view.free self.old }
         requires fits { length body.now ≤ 534 }
-        ensures gives { IfOk result (λ r. r ≡ (spec.keep self.old header.now body.now).0) }
-        ensures leaves { OnOk result (self.new ≡ (spec.keep self.old header.now body.now).1) }
-        ensures memory { IfErr result (λ f. f ≡ OfferFaults.OutOfMemory) }
-        ensures unchanged { OnErr result (self.new ≡ self.old) }
+        ensures gives { result ≡ (spec.keep self.old header.now body.now).0 }
+        ensures leaves { self.new ≡ (spec.keep self.old header.now body.now).1 }
     {
-        if header.stream != END_STREAM {
-            self.hold(header, body)?;
+        let place = self.beyond_expected(header);
+        if self.buffers.is_taken(place) {
             self.owes_ack = true;
-            return Ok(Received::Kept);
+            return Received::Repeat;
         }
-        self.hold(header, &[])?;
+        self.buffers.put(place, header, body);
+        self.settle()
+    }
+
+    /// Holds the units that stand in order now.
+    fn settle(&mut self) -> Received
+        ensures gives { result ≡ (spec.settle self.old self.old.ahead).0 }
+        ensures leaves { self.new ≡ (spec.settle self.old self.old.ahead).1 }
+    {
+        let risen = self.buffers.settle();
+        self.expected = self.expected.wrapping_add(risen.count);
+        if !risen.ended {
+            self.owes_ack = true;
+            return Received::Kept;
+        }
         self.peer_ended = true;
         self.owes_confirm = true;
         self.state = after_end(self.state);
-        Ok(Received::PeerEnded)
-    }
-
-    /// Holds the unit that was expected.
-    fn hold(&mut self, header: &SpxHeader, body: &[u8]) -> Result<(), OfferFault>
-        requires free { 0 < view.free self.old }
-        requires fits { length body.now ≤ 534 }
-        ensures ok { OnOk result (self.new ≡ record self.old { held = self.old.held ++ record { stream = header.now.stream; last = header.now.last; body = record { items = body.now } } ∷ []; expected = mark (self.old.expected + 1) }) }
-        ensures memory { IfErr result (λ f. f ≡ OfferFaults.OutOfMemory) }
-        ensures unchanged { OnErr result (self.new ≡ self.old) }
-    {
-        let unit = Unit {
-            stream: header.stream,
-            last: header.last,
-            body: fragment_of(body),
-        };
-        self.held.push_back(unit)?;
-        self.expected = self.expected.wrapping_add(1);
-        Ok(())
+        Received::PeerEnded
     }
 
     /// How far a unit stands above the one that is expected.

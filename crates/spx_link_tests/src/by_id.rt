@@ -66,10 +66,6 @@ fn state(links: &Links, id: u16) -> Option<State> {
     Some(links.get(id)?.state())
 }
 
-fn held(links: &Links, id: u16) -> Option<u16> {
-    Some(links.get(id)?.numbers().held)
-}
-
 /// The stream of the unit that a link hands out.
 fn taken(links: &mut Links, id: u16) -> Option<u8> {
     links.get(id)?;
@@ -82,16 +78,16 @@ fn units_by_id(rt: HostRuntime) -> Result<(), Fail> {
     let mut links = Links::new(alloc);
     dial(alloc, &mut links)?;
     assert_eq!(rt; sent(&mut links, 1), Some(Sent::Request));
-    joins(&rt, alloc, &mut links)?;
+    joins(&rt, &mut links);
     queues_an_end(&rt, alloc, &mut links)?;
-    keeps_a_unit(&rt, alloc, &mut links)
+    keeps_a_unit(&rt, &mut links);
+    Ok(())
 }
 
-fn joins(rt: &impl Abort, alloc: Global, links: &mut Links) -> Result<(), Fail> {
+fn joins(rt: &impl Abort, links: &mut Links) {
     assert!(rt; links.get(1).is_some());
-    let joined = links.receive(alloc, 1, &system(0, 7), &[], 0)?;
+    let joined = links.receive(1, &system(0, 7), &[], 0);
     assert_eq!(rt; joined, Received::Joined);
-    Ok(())
 }
 
 fn queues_an_end(rt: &impl Abort, alloc: Global, links: &mut Links) -> Result<(), Fail> {
@@ -102,12 +98,11 @@ fn queues_an_end(rt: &impl Abort, alloc: Global, links: &mut Links) -> Result<()
     Ok(())
 }
 
-fn keeps_a_unit(rt: &impl Abort, alloc: Global, links: &mut Links) -> Result<(), Fail> {
+fn keeps_a_unit(rt: &impl Abort, links: &mut Links) {
     assert!(rt; links.get(1).is_some());
-    let kept = links.receive(alloc, 1, &unit(0, 0), b"a", 0)?;
+    let kept = links.receive(1, &unit(0, 0), b"a", 0);
     assert_eq!(rt; kept, Received::Kept);
     assert_eq!(rt; taken(links, 1), Some(0));
-    Ok(())
 }
 
 /// One link owes its reply again, and another is given up.
@@ -172,27 +167,13 @@ fn refused_memory_by_id(rt: HostRuntime) -> Result<(), Fail> {
     let mut links = Links::new(alloc);
     dial_at_last(&rt, alloc, &mut links, 0)?;
     dial_at_last(&rt, alloc, &mut links, 1)?;
-    joins(&rt, alloc, &mut links)?;
-    for seq in 0..5u16 {
-        keeps_at_last(&rt, alloc, &mut links, seq)?;
-    }
+    joins(&rt, &mut links);
     for _ in 0..5 {
         offers_at_last(&rt, alloc, &mut links)?;
     }
     ends_at_last(&rt, alloc, &mut links)?;
     assert_eq!(rt; state(&links, 1), Some(State::Ending));
     assert_eq!(rt; state(&links, 2), Some(State::Opening));
-    Ok(())
-}
-
-fn keeps_at_last(rt: &impl Abort, alloc: Global, links: &mut Links, seq: u16) -> Result<(), Fail> {
-    assert!(rt; links.get(1).is_some());
-    if links.receive(alloc, 1, &unit(0, seq), b"a", 0) == Err(OfferFault::OutOfMemory) {
-        assert_eq!(rt; held(links, 1), Some(seq));
-        assert!(rt; links.get(1).is_some());
-        links.receive(alloc, 1, &unit(0, seq), b"a", 0)?;
-    }
-    assert_eq!(rt; held(links, 1), Some(seq.wrapping_add(1)));
     Ok(())
 }
 

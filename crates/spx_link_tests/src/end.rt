@@ -95,10 +95,12 @@ pub struct End {
 }
 
 impl End {
-    /// A link that asks for a connection.
+    /// A link that asks for a connection, made once more where memory was refused.
     pub fn dial(alloc: Global, buffers: u16) -> Result<End, LinksFault> {
         let mut links = Links::new(alloc);
-        links.dial(alloc, HERE, there(), buffers, 0)?;
+        if links.dial(alloc, HERE, there(), buffers, 0).is_err() {
+            links.dial(alloc, HERE, there(), buffers, 0)?;
+        }
         Ok(End { links, alloc })
     }
 
@@ -133,7 +135,7 @@ impl End {
         if self.links.get(1).is_none() {
             return Err(OfferFault::NotLive);
         }
-        self.links.receive(self.alloc, 1, header, body, now)
+        Ok(self.links.receive(1, header, body, now))
     }
 
     /// Queues units. A link that is gone is not live.
@@ -152,6 +154,12 @@ impl End {
             return Err(OfferFault::NotLive);
         }
         self.links.end(self.alloc, 1)
+    }
+
+    /// When it is due.
+    pub fn next_due(&self) -> Option<u64> {
+        let link = self.links.get(1)?;
+        link.next_due()
     }
 
     /// The stream of the unit that it hands out next.

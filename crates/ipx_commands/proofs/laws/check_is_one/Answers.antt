@@ -1,4 +1,4 @@
-use Rattle.ipx_commands.proofs.Outputs.{OneReading, check_writes_one}
+use Rattle.ipx_commands.proofs.Outputs.{check_writes_one}
 use Rattle.ipx_commands.proofs.laws.check_is_one.Goals as goal
 
 pub returns : goal.returns

@@ -1,4 +1,4 @@
-use Rattle.ipx_commands.proofs.Outputs.{OneReading, show_writes_one}
+use Rattle.ipx_commands.proofs.Outputs.{show_writes_one}
 use Rattle.ipx_commands.proofs.laws.show_is_one.Goals as goal
 
 pub returns : goal.returns

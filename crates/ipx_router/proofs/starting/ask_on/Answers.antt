@@ -1,6 +1,6 @@
 use Rattle.ipx_wire.specs.Assigned.{rip_socket, sap_socket}
 use Rattle.std.proofs.Common.{List, ◌∷◌, [], subst, false}
-use Rattle.ipx_control.specs.declared.rip.RipEntry.{RipEntry}
+use Rattle.ipx_control.specs.declared.rip.packet.RipEntry.{RipEntry}
 use Rattle.ipx_control.specs.Rip as rip
 use Rattle.ipx_control.specs.Sap as sap
 use Rattle.ipx_router.specs.declared.packets.Recipient.{Recipient}

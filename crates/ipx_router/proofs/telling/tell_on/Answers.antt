@@ -1,6 +1,6 @@
 use Rattle.std.proofs.Common.{List, subst, false}
-use Rattle.ipx_control.specs.declared.rip.RipEntry.{RipEntry}
-use Rattle.ipx_control.specs.declared.sap.ServiceEntry.{ServiceEntry}
+use Rattle.ipx_control.specs.declared.rip.packet.RipEntry.{RipEntry}
+use Rattle.ipx_control.specs.declared.sap.packet.ServiceEntry.{ServiceEntry}
 use Rattle.ipx_router.specs.Packets.{AreRoutePackets, AreServicePackets}
 use Rattle.ipx_router.specs.Adding.{AddsPackets}
 use Rattle.ipx_router.proofs.Tellings.{tells_both}

@@ -1,5 +1,5 @@
 use Rattle.std.proofs.Common.{List, sym, subst}
-use Rattle.ipx_control.specs.declared.sap.ServiceEntry.{ServiceEntry}
+use Rattle.ipx_control.specs.declared.sap.packet.ServiceEntry.{ServiceEntry}
 use Rattle.ipx_router.specs.Told.{AreToldServices}
 use Rattle.ipx_router.proofs.ToldServices.{told_services_all}
 use Rattle.ipx_router.proofs.told.services_as_told.Goals as goal

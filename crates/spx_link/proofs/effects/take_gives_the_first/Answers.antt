@@ -6,6 +6,7 @@ returns c =
     record {
       gives = λ l. (take_says l).gives;
       held = λ l. (take_says l).held;
+      ahead = λ l. (take_says l).ahead;
       queued = λ l. (take_says l).queued;
       endings = λ l. (take_says l).endings;
       state = λ l. (take_says l).state;

@@ -1,8 +1,8 @@
-use Rattle.spx_link.proofs.MachineSound.{swapped, reached, chain_of}
+use Rattle.spx_link.proofs.MachineSound.{reached}
 use Rattle.spx_link.proofs.machine.chain.Goals as goal
 
 pub returns-clause-one : goal.returns-clause-one
-returns-clause-one c = λ steps a b m run. chain_of m.one m.two (reached steps a b m run)
+returns-clause-one c = λ steps a b m run. (reached steps a b m run).there
 
 pub returns-clause-two : goal.returns-clause-two
-returns-clause-two c = λ steps a b m run. chain_of m.two m.one (swapped m.one m.two (reached steps a b m run))
+returns-clause-two c = λ steps a b m run. (reached steps a b m run).back

@@ -1,0 +1,37 @@
+-- What is proved below of bytes, of the machine and of one link, as the proofs here are given it: each field is a clause of
+-- a public function of `ipx_wire`, `spx_link` or `ipx_pairs`.
+use Rattle.std.specs.Prelude.{ℕ, ◌≡◌, List}
+use Rattle.ipx_wire.specs.Connection.{IsConnectionPacket, sequence_in}
+use Rattle.ipx_wire.specs.Ipx.{PacketView, IsIpx}
+use Rattle.ipx_wire.specs.Spx.{IsSpx}
+use Rattle.ipx_wire.specs.declared.spx.packet.SpxHeader.{SpxHeader}
+use Rattle.spx_link.specs.Machine.{End, Machine, Packet, Step, IsStep, WasSent, AreSound, new_end, got}
+use Rattle.ipx_pairs.specs.Allowances.{AllowanceLaws}
+use Rattle.ipx_pairs.specs.Confirmed.{CloseLaws}
+use Rattle.ipx_pairs.specs.Lasting.{LastingLaws}
+use Rattle.ipx_pairs.specs.Names.{NameLaws}
+use Rattle.ipx_pairs.specs.Queues.{QueueLaws}
+use Rattle.ipx_pairs.specs.States.{StateLaws}
+use Rattle.ipx_pairs.specs.Steps.{StepLaws}
+
+pub record LawsBelow : Type 0 where
+  -- bytes are one packet at most
+  pub one_packet : (p q : PacketView) (bytes s t : List ℕ)
+      → IsIpx p bytes s → IsIpx q bytes t → (p ≡ q) × (s ≡ t)
+  pub one_spx : (h k : SpxHeader) (body other bytes : List ℕ)
+      → IsSpx h body bytes → IsSpx k other bytes → (h ≡ k) × (body ≡ other)
+  pub sequence : (p : PacketView) (h : SpxHeader) (body bytes : List ℕ)
+      → IsConnectionPacket p h body bytes → sequence_in bytes ≡ h.seq
+  -- the machine, a step at a time
+  pub start : (a b : ℕ) → AreSound (new_end a) (new_end b)
+  pub step : (s : Step) (m n : Machine)
+      → IsStep s m n → AreSound m.one m.two → AreSound n.one n.two
+  pub gets : (c d : End) (p : Packet) → AreSound c d → WasSent d c p → AreSound (got p c) d
+  -- a link
+  pub steps : StepLaws
+  pub states : StateLaws
+  pub queues : QueueLaws
+  pub names : NameLaws
+  pub lasting : LastingLaws
+  pub close : CloseLaws
+  pub allowances : AllowanceLaws

@@ -1,0 +1,41 @@
+//! Laws of the ends of a network and of the numbers in its log, for what is told of them.
+
+ghost use Rattle.std.specs.Prelude.{ℕ};
+ghost use Rattle.ipx_log.specs.Deeds.{Reached};
+ghost use Rattle.ipx_log.specs.EndsTold.{EndsAreTold, EndsStay, GoneSendsNothing, PeerIsFound};
+ghost use Rattle.ipx_log.specs.Numbered.{NumbersAreInOrder};
+ghost use Rattle.ipx_log.specs.Scan.{Scan};
+ghost use Rattle.ipx_log.specs.Scene.{Scene};
+
+use crate::below::laws_below;
+
+/// Ends are numbered as their roles in the log are; the next number of a link is that of the unit
+/// after those that its end sent, and it has the buffers that its end was made with.
+pub fn ends_are_told()
+    ensures { (s : Scene) → Reached s → EndsAreTold s }
+{
+    laws_below();
+}
+
+/// An end that has no link after a deed sent no unit by it.
+pub fn gone_sends_nothing()
+    ensures { GoneSendsNothing }
+{}
+
+/// An end stays at its host, and one that is released stays as it is.
+pub fn ends_stay()
+    ensures { EndsStay }
+{}
+
+/// An end's peer is the one that is found from the roles of the two, and it has no other.
+pub fn peer_is_found()
+    ensures { (s : Scan) (c d : ℕ) → PeerIsFound s c d }
+{}
+
+/// Ends and parcels are numbered in the order of the entries that make them, and each entry names
+/// ends and parcels that are there.
+pub fn numbers_are_in_order()
+    ensures { (s : Scene) → Reached s → NumbersAreInOrder s }
+{
+    laws_below();
+}

@@ -1,0 +1,20 @@
+//! What is so of every network of ends and routers, whatever is delivered to it and in whatever
+//! order: theory over its log, without code.
+//!
+//! `specs/` has the definitions: the entries of a log (`Note`), what is read off it (`Scan`), peers and
+//! the premises (`Peers`), what ends hand in, take and hand out (`Handed`), the machine of two peers
+//! (`PairLog`), the ends with what lies between them (`Scene`, `Packets`), everything that can happen to
+//! them (`Deeds`), and a file for each theorem. Each function here is a law over every scene that some
+//! list of deeds reaches.
+#![tactic(auto)]
+
+mod below;
+mod ends;
+mod laws;
+
+pub use ends::{ends_are_told, ends_stay, gone_sends_nothing, numbers_are_in_order, peer_is_found};
+pub use laws::{
+    addresses_tell_peers, alone_reads_nothing, confirmed_is_read, end_taken_is_whole,
+    hands_out_what_it_took, links_send_in_order, peers_are_in_step, positions_are_greatest,
+    routers_alter_hops_alone, units_are_sent_in_order, within_allocation,
+};

@@ -1,0 +1,12 @@
+pub mod Allowances
+pub mod Calling
+pub mod Confirming
+pub mod Lasting
+pub mod Lists
+pub mod Naming
+pub mod Polling
+pub mod Queueing
+pub mod ReadingStates
+pub mod Receiving
+pub mod Slots
+pub mod States

@@ -1,0 +1,9 @@
+pub mod Tracks
+pub mod Spelling
+pub mod Steps
+pub mod States
+pub mod Queues
+pub mod Names
+pub mod Lasting
+pub mod Confirmed
+pub mod Allowances

@@ -1,0 +1,13 @@
+//! A link and its end of the machine whose numbers never wrap: theory, without code.
+//!
+//! `spx_link` has the functions of a link, in 16-bit numbers, and the machine. Each law here says what
+//! one call of a link does beside the machine, whatever packet it reads. Each stands in `specs/`, in
+//! the file that its function names.
+#![tactic(auto)]
+
+mod laws;
+
+pub use laws::{
+    calls_are_steps, calls_keep_names, calls_keep_what_lasts, confirmed_links_are_done,
+    links_send_their_queue, packets_allow_what_was_taken, states_go_on,
+};

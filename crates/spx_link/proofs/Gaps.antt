@@ -1,0 +1,30 @@
+-- Gaps in front of a place of a ring.
+use Rattle.std.proofs.Common.{◌≡◌, ℕ, ◌+◌, ◌-◌, ◌<◌, ◌≤◌, List, ◌++◌, length, replicate, ap, ◌∙◌, Option, None, Some, slice_get, slice_set, get_or, ◌⊎◌, inl, inr, arith}
+use Rattle.std.proofs.lemmas.List.{length-append, length-replicate}
+use Rattle.std.proofs.lemmas.Option.{slice_get_cases}
+use Rattle.circular_buffer.specs.Buffer.{buffer}
+use Rattle.spx_link.specs.Receive.{put}
+use Rattle.spx_link.specs.declared.unit.Unit.{Unit}
+use Rattle.spx_link.proofs.Laying.{put_written}
+
+pub put_there : (old now : List (Option Unit)) (capacity capacity_ place count k : ℕ) (u : Unit) → now ≡ old ++ replicate k None → count - length old ≤ place + 1 - length old → place + 1 ≤ count → k ≡ count - length old → capacity ≡ capacity_ → buffer (slice_set now place (Some u)) capacity ≡ buffer (put place u old) capacity_
+put_there old now capacity capacity_ place count k u is most least at same =
+    let exact : k ≡ place + 1 - length old = omega arith in
+    ap (λ c. buffer (slice_set now place (Some u)) c) same ∙ ap (λ xs. buffer (slice_set xs place (Some u)) capacity_) (is ∙ ap (λ n. old ++ replicate n None) exact) ∙ ap (λ xs. buffer xs capacity_) (put_written place u old)
+
+-- the place is there
+length_now : (old now : List (Option Unit)) (count : ℕ) → now ≡ old ++ replicate (count - length old) None → length old ≤ count → length now ≡ count
+length_now old now count is long =
+    let one : length now ≡ length old + length (replicate {A = Option Unit} (count - length old) None) = ap length is ∙ length-append old (replicate (count - length old) None) in
+    let two : length (replicate {A = Option Unit} (count - length old) None) ≡ count - length old = length-replicate (count - length old) None in
+    omega arith
+
+pub place_is : {A : Type 0} (old now : List (Option Unit)) (place count : ℕ) → now ≡ old ++ replicate (count - length old) None → place + 1 ≤ count → length old ≤ count → slice_get now place ≡ None → A
+place_is {A} old now place count is least long none = by (slice_get_cases now place).1
+  where
+    by : ((x : Option Unit) × (place < length now) × (slice_get now place ≡ Some x) × (get_or now place x ≡ x)) ⊎ ((length now ≤ place) × (slice_get now place ≡ None)) → A
+    by (inl (x, lt, some, read)) = absurd (cc some)
+    by (inr (past, nothing)) =
+        let exact = length_now old now count is long in
+        let never : ⊥ = omega arith in
+        absurd never

@@ -1,0 +1,45 @@
+-- The units that an end received and did not hand on, in one ring of its buffers.
+use Rattle.std.specs.Prelude.{◌≡◌, ℕ, ◌-◌, ◌≤◌, List, [], ◌∷◌, ◌++◌, map, length, take, drop, Option, None, Some, if◌then◌else◌}
+use Rattle.spx_link.specs.declared.unit.Unit.{Unit}
+use Rattle.spx_link.specs.Receive.{leading, any_end}
+
+-- the units in order, those ahead of them with None at a gap, and how many of both there may be
+pub record BuffersView : Type 0 where
+  pub held : List Unit
+  pub ahead : List (Option Unit)
+  pub size : ℕ
+
+-- the units at the places that have one
+abbrev pub there : List (Option Unit) → List Unit
+there [] = []
+there (None ∷ xs) = there xs
+there (Some u ∷ xs) = u ∷ there xs
+
+-- the first places of a ring are the units in order: none of them is a gap
+pub record IsLaid (items : List (Option Unit)) (capacity count size : ℕ) : Type 0 where
+  pub sized : capacity ≡ size
+  pub fits : length items ≤ size
+  pub within : count ≤ length items
+  pub first : take count items ≡ map Some (there (take count items))
+
+-- the unit at a place, where the place is there and has one
+abbrev pub unit_there : Option (Option Unit) → Option Unit
+unit_there None = None
+unit_there (Some x) = x
+
+-- how many more units may be held
+abbrev pub left : BuffersView → ℕ
+left b = b.size - length b.held
+
+-- once these units are held, which stood first of those ahead. Behind an end nothing is kept
+abbrev pub held_with : BuffersView → List Unit → BuffersView
+held_with b us =
+    record {
+      held = b.held ++ us;
+      ahead = if any_end us then [] else drop (length us) b.ahead;
+      size = b.size;
+    }
+
+-- once the units that stand in order are held
+abbrev pub settled : BuffersView → BuffersView
+settled b = held_with b (leading b.ahead)

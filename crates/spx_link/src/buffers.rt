@@ -1,0 +1,209 @@
+//! The buffers of a link: the units that came and were not taken.
+
+ghost use Rattle.std.specs.Prelude.{◌≡◌, ◌+◌, ◌≤◌, ◌<◌, [], drop, length, option_copied, slice_get, take, IfOk, Some};
+ghost use Rattle.circular_buffer.specs.Buffer.{buffer};
+ghost use Rattle.spx_link.specs.Buffers as spec;
+ghost use Rattle.spx_link.specs.Buffers.{BuffersView, IsLaid, there};
+ghost use Rattle.spx_link.specs.Offer.{first_of};
+ghost use Rattle.spx_link.specs.Receive as R;
+ghost use Rattle.spx_link.specs.Units.{unit_in};
+
+use crate::limits::END_STREAM;
+use crate::unit::Unit;
+use circular_buffer::HeapCircularBuffer;
+use ipx_wire::{Fragment, SpxHeader};
+use std::alloc::{AllocError, Global};
+use std::marker::Model;
+
+/// The units that came and were not taken, in one ring that is made with its link.
+///
+/// The first `count` places are the units in order. Behind them stand those that came before one
+/// that is missing, with None at a gap.
+#[derive(Drop)]
+pub struct Buffers {
+    ring: HeapCircularBuffer<Option<Unit>>,
+    count: u16,
+    size: u16,
+}
+
+impl Model for Buffers {
+    ghost Value = { BuffersView };
+
+    ghost view = { λ b. record { held = there (take b.count b.ring.items); ahead = drop b.count b.ring.items; size = b.size } };
+
+    ghost invariant = { λ b. IsLaid b.ring.items b.ring.capacity b.count b.size };
+}
+
+/// How many units became held, and whether the last of them is the peer's end.
+#[derive(Clone, Copy)]
+pub struct Risen {
+    pub count: u16,
+    pub ended: bool,
+}
+
+impl Buffers {
+    /// So many buffers, none of them taken.
+    pub fn new(alloc: Global, size: u16) -> Result<Buffers, AllocError>
+        ensures { IfOk result (λ b. b ≡ record { held = []; ahead = []; size = size }) }
+    {
+        let ring = HeapCircularBuffer::with_capacity(alloc, usize::from(size))?;
+        Ok(Buffers {
+            ring,
+            count: 0,
+            size,
+        })
+    }
+
+    /// How many there are.
+    pub fn size(&self) -> u16
+        ensures { result ≡ self.now.size }
+    {
+        self.size
+    }
+
+    /// How many units are held.
+    pub fn held(&self) -> u16
+        ensures value { result ≡ length self.now.held }
+        ensures within { length self.now.held + length self.now.ahead ≤ self.now.size }
+    {
+        self.count
+    }
+
+    /// How many more units may be held.
+    pub fn left(&self) -> u16
+        ensures { result ≡ spec.left self.now }
+    {
+        self.size - self.count
+    }
+
+    /// Whether a unit was kept at a place of those ahead.
+    pub fn is_taken(&self, place: u16) -> bool
+        ensures { result ≡ R.is_taken place self.now.ahead }
+    {
+        let place = usize::from(self.count) + usize::from(place);
+        unit_at(&self.ring, place).is_some()
+    }
+
+    /// Keeps the unit of a packet at a place of those ahead.
+    pub fn put(&mut self, place: u16, header: &SpxHeader, body: &[u8])
+        requires room { place < spec.left self.old }
+        requires fits { length body.now ≤ 534 }
+        ensures { self.new ≡ record self.old { ahead = R.put place (unit_in header.now body.now) self.old.ahead } }
+    {
+        let place = usize::from(self.count) + usize::from(place);
+        put_packet(&mut self.ring, place, header, body);
+    }
+
+    /// Holds the units ahead that stand in order now.
+    pub fn settle(&mut self) -> Risen
+        ensures count { result.count ≡ length (R.leading self.old.ahead) }
+        ensures ended { result.ended ≡ R.any_end (R.leading self.old.ahead) }
+        ensures leaves { self.new ≡ spec.settled self.old }
+    {
+        let risen = leading(&self.ring, usize::from(self.count));
+        self.count += risen.count;
+        if risen.ended {
+            self.ring.truncate_back(usize::from(self.count));
+        }
+        risen
+    }
+
+    /// The first unit held.
+    pub fn first(&self) -> Option<&Unit>
+        ensures { option_copied result ≡ first_of self.now.held }
+    {
+        match self.ring.front() {
+            Some(Some(unit)) if self.count > 0 => Some(unit),
+            _ => None,
+        }
+    }
+
+    /// Takes it.
+    pub fn take(&mut self) -> Option<Unit>
+        ensures gives { result ≡ first_of self.old.held }
+        ensures leaves { self.new ≡ record self.old { held = drop 1 self.old.held } }
+    {
+        if self.count == 0 {
+            return None;
+        }
+        self.count -= 1;
+        match self.ring.pop_front() {
+            Some(unit) => unit,
+            None => None,
+        }
+    }
+}
+
+/// The unit at a place.
+fn unit_at(ring: &HeapCircularBuffer<Option<Unit>>, place: usize) -> Option<&Unit>
+    ensures { option_copied result ≡ spec.unit_there (slice_get ring.now.items place) }
+{
+    match ring.get(place) {
+        Some(Some(unit)) => Some(unit),
+        _ => None,
+    }
+}
+
+/// The units from a place on, up to the first gap or an end.
+fn leading(ring: &HeapCircularBuffer<Option<Unit>>, from: usize) -> Risen
+    requires { length ring.now.items < from + 65536 }
+    ensures count { result.count ≡ length (R.leading (drop from ring.now.items)) }
+    ensures ended { result.ended ≡ R.any_end (R.leading (drop from ring.now.items)) }
+{
+    let mut count = 0;
+    for place in from..ring.len() {
+        let Some(unit) = unit_at(ring, place) else {
+            return Risen {
+                count,
+                ended: false,
+            };
+        };
+        count += 1;
+        if unit.stream == END_STREAM {
+            return Risen { count, ended: true };
+        }
+    }
+    Risen {
+        count,
+        ended: false,
+    }
+}
+
+/// The unit of a packet, built where it stands: its body is copied once, and that of an end not at
+/// all.
+fn fill(slot: &mut Option<Unit>, header: &SpxHeader, body: &[u8])
+    requires { length body.now ≤ 534 }
+    ensures { slot.new ≡ Some (unit_in header.now body.now) }
+{
+    *slot = Some(Unit {
+        stream: header.stream,
+        last: header.last,
+        body: Fragment::new(),
+    });
+    if header.stream == END_STREAM {
+        return;
+    }
+    if let Some(unit) = slot {
+        unit.body.try_extend_from_slice(body).unwrap();
+    }
+}
+
+/// Puts the unit of a packet at a place, with gaps before it where the ring is too short.
+fn put_packet(
+    ring: &mut HeapCircularBuffer<Option<Unit>>,
+    place: usize,
+    header: &SpxHeader,
+    body: &[u8],
+)
+    requires place { place < ring.old.capacity }
+    requires fits { length body.now ≤ 534 }
+    ensures { ring.new ≡ buffer (R.put place (unit_in header.now body.now) ring.old.items) ring.old.capacity }
+{
+    for count in ring.len()..place + 1 {
+        let _now = count;
+        let _full = ring.try_push_back(None);
+    }
+    if let Some(slot) = ring.get_mut(place) {
+        fill(slot, header, body);
+    }
+}

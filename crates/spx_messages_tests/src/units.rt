@@ -1,0 +1,129 @@
+//! Messages cut into units, and units joined to messages.
+
+use spx_units::{Inbox, Message, MessageFault, cut};
+use std::alloc::Global;
+use std::process::Abort;
+use std::test::Fail;
+
+/// A message of so many bytes, with a byte 07 at the end.
+pub fn message(alloc: Global, stream: u8, length: usize) -> Result<Message, Fail> {
+    let mut body = vec![in alloc; 1u8; length]?;
+    if let Some(last) = body.last_mut() {
+        *last = 7;
+    }
+    Ok(Message { stream, body })
+}
+
+/// How many units a message is cut into, and how many bytes the last has.
+fn counts(alloc: Global, length: usize) -> Result<(usize, usize), Fail> {
+    let units = cut(alloc, &message(alloc, 0, length)?)?;
+    let last = units.last().map_or(0, |unit| unit.body.len());
+    Ok((units.len(), last))
+}
+
+/// Messages of 0, 534, 535 and 65,535 bytes.
+#[test]
+fn cut_rows(rt: HostRuntime) -> Result<(), Fail> {
+    assert_eq!(rt; counts(rt.alloc(), 0)?, (1, 0));
+    assert_eq!(rt; counts(rt.alloc(), 534)?, (1, 534));
+    assert_eq!(rt; counts(rt.alloc(), 535)?, (2, 1));
+    assert_eq!(rt; counts(rt.alloc(), 65_535)?, (123, 387));
+    Ok(())
+}
+
+/// Why a message is not cut.
+fn refusal(alloc: Global, stream: u8, length: usize) -> Result<Option<MessageFault>, Fail> {
+    Ok(cut(alloc, &message(alloc, stream, length)?).err())
+}
+
+#[test]
+fn refusal_rows(rt: HostRuntime) -> Result<(), Fail> {
+    let alloc = rt.alloc();
+    assert_eq!(rt;
+        refusal(alloc, 0, 65_536)?,
+        Some(MessageFault::TooLong(65_536))
+    );
+    assert_eq!(rt;
+        refusal(alloc, 0xff, 65_536)?,
+        Some(MessageFault::TooLong(65_536))
+    );
+    assert_eq!(rt;
+        refusal(alloc, 0xfe, 1)?,
+        Some(MessageFault::BadStream(0xfe))
+    );
+    assert_eq!(rt;
+        refusal(alloc, 0xff, 1)?,
+        Some(MessageFault::BadStream(0xff))
+    );
+    Ok(())
+}
+
+/// The numbers of the faults.
+#[test]
+fn fault_numbers(rt: HostRuntime) {
+    assert_eq!(rt; MessageFault::OutOfMemory.number(), 27);
+    assert_eq!(rt; MessageFault::TooLong(65_536).number(), 29);
+    assert_eq!(rt; MessageFault::BadStream(0xfe).number(), 30);
+    assert_eq!(rt; MessageFault::Overlong.number(), 31);
+}
+
+/// A message that is cut and joined again.
+fn passed(alloc: Global, sent: &Message) -> Result<Option<Message>, Fail> {
+    let units = cut(alloc, sent)?;
+    let mut inbox = Inbox::new(alloc);
+    let mut got = None;
+    for unit in units.iter() {
+        got = inbox.push(alloc, unit)?;
+    }
+    Ok(got)
+}
+
+/// Whether a message comes out of the units of one of so many bytes, and is that message.
+fn comes_out(alloc: Global, stream: u8, length: usize) -> Result<bool, Fail> {
+    let sent = message(alloc, stream, length)?;
+    let got = passed(alloc, &sent)?;
+    Ok(got.is_some_and(|m| m.stream == stream && m.body == sent.body))
+}
+
+#[test]
+fn join_rows(rt: HostRuntime) -> Result<(), Fail> {
+    assert!(rt; comes_out(rt.alloc(), 0, 0)?);
+    assert!(rt; comes_out(rt.alloc(), 0xfd, 534)?);
+    assert!(rt; comes_out(rt.alloc(), 1, 535)?);
+    assert!(rt; comes_out(rt.alloc(), 1, 65_535)?);
+    Ok(())
+}
+
+/// 65,536 bytes without an end of message are refused, and the inbox is empty then.
+#[test]
+fn overlong_row(rt: HostRuntime) -> Result<(), Fail> {
+    let alloc = rt.alloc();
+    let mut inbox = Inbox::new(alloc);
+    fill(alloc, &mut inbox)?;
+    let two = cut(alloc, &message(alloc, 0, 535)?)?;
+    assert_eq!(rt;
+        two.first().and_then(|unit| inbox.push(alloc, unit).err()),
+        Some(MessageFault::Overlong)
+    );
+    assert!(rt; joins_alone(alloc, &mut inbox)?);
+    Ok(())
+}
+
+/// 122 units of 534 bytes: 65,148 bytes of a message that has not ended.
+fn fill(alloc: Global, inbox: &mut Inbox) -> Result<(), Fail> {
+    let units = cut(alloc, &message(alloc, 0, 65_535)?)?;
+    for unit in units.iter().take(122) {
+        let _part = inbox.push(alloc, unit)?;
+    }
+    Ok(())
+}
+
+/// A message of one unit comes out as it is.
+fn joins_alone(alloc: Global, inbox: &mut Inbox) -> Result<bool, Fail> {
+    let units = cut(alloc, &message(alloc, 3, 1)?)?;
+    let mut got = None;
+    for unit in units.iter() {
+        got = inbox.push(alloc, unit)?;
+    }
+    Ok(got.is_some_and(|m| m.stream == 3 && m.body.len() == 1))
+}

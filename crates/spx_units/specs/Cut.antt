@@ -1,0 +1,40 @@
+-- How a message is cut into units.
+use Rattle.std.specs.Prelude.{ℕ, zero, suc, ◌≡◌, ◌<◌, ◌≤◌, nat_le, Bool, true, false, All, List, [], ◌∷◌, ◌++◌, length, take, drop, if◌then◌else◌}
+use Rattle.std.specs.List.{flat_map}
+use Rattle.spx_link.specs.declared.unit.Unit.{Unit}
+use Rattle.spx_units.specs.Message.{MessageView, most_unit}
+
+abbrev pub bytes_of : Unit → List ℕ
+bytes_of u = u.body.items
+
+-- a unit of 534 bytes that ends no message
+pub record IsFull (u : Unit) : Type 0 where
+  pub bytes : length (bytes_of u) ≡ most_unit
+  pub last : u.last ≡ false
+
+-- the units of a message: together they are its body, and each has its stream; the last one alone ends it, and is
+-- empty only where the body is; all others have 534 bytes
+pub record IsCut (m : MessageView) (units : List Unit) : Type 0 where
+  pub before : List Unit
+  pub final : Unit
+  pub are : units ≡ before ++ final ∷ []
+  pub streams : All (λ u. u.stream ≡ m.stream) units
+  pub whole : flat_map bytes_of units ≡ m.body
+  pub full : All IsFull before
+  pub ends : final.last ≡ true
+  pub short : length (bytes_of final) ≤ most_unit
+  pub rest : 0 < length before → 0 < length (bytes_of final)
+
+abbrev pub unit_with : ℕ → Bool → List ℕ → Unit
+unit_with stream last bytes = record { stream = stream; last = last; body = record { items = bytes } }
+
+-- the same units, one after another: at most so many full ones, and the last
+abbrev pub pieces : ℕ → ℕ → List ℕ → List Unit
+pieces zero stream bytes = unit_with stream true bytes ∷ []
+pieces (suc more) stream bytes =
+    if nat_le (length bytes) most_unit
+    then unit_with stream true bytes ∷ []
+    else unit_with stream false (take most_unit bytes) ∷ pieces more stream (drop most_unit bytes)
+
+abbrev pub cut_of : MessageView → List Unit
+cut_of m = pieces (length m.body) m.stream m.body

@@ -1,0 +1,67 @@
+//! A message, cut into units.
+
+ghost use Rattle.std.specs.Prelude.{◌≡◌, ◌≤◌, All, Err, IfOk, IsOkUnless, None, Some, length};
+ghost use Rattle.spx_units.specs.Cut.{IsCut, cut_of, unit_with};
+ghost use Rattle.spx_units.specs.Message.{cut_fault, message_view};
+ghost use Rattle.spx_units.specs.declared.fault.MessageFault.{MessageFault};
+ghost use Rattle.spx_units.specs.declared.fault.MessageFault.TheVariants as MessageFaults;
+
+use crate::fault::MessageFault;
+use crate::message::{MOST_BYTES, Message};
+use ipx_wire::Fragment;
+use spx_link::Unit;
+use std::alloc::Global;
+
+/// How many bytes a unit has at most.
+const MOST_UNIT: usize = 534;
+
+/// The least datastream type that no message has: that of the end of a connection.
+const END_STREAM: u8 = 0xfe;
+
+/// A unit with these bytes.
+fn unit_of(stream: u8, last: bool, bytes: &[u8]) -> Unit
+    requires { length bytes.now ≤ 534 }
+    ensures { result ≡ unit_with stream last bytes.now }
+{
+    let mut body = Fragment::new();
+    body.try_extend_from_slice(bytes).unwrap();
+    Unit { stream, last, body }
+}
+
+/// Cuts a message into the units that carry it, in order.
+///
+/// All units but the last have 534 bytes, the last has 0 to 534 and the end of the message. It is
+/// refused as `TooLong` over 65,535 bytes, else as `BadStream` for the types FE and FF, else where
+/// memory is.
+pub fn cut(alloc: Global, message: &Message) -> Result<Vec<Unit>, MessageFault>
+    ensures ok { IfOk result (λ v. v.items ≡ cut_of (message_view message.now)) }
+    ensures units { IfOk result (λ v. IsCut (message_view message.now) v.items) }
+    ensures streams { IfOk result (λ v. All (λ u. u.stream ≡ message.now.stream) v.items) }
+    ensures fault { (f : MessageFault) → cut_fault (message_view message.now) ≡ Some f → result ≡ Err f }
+    ensures memory { cut_fault (message_view message.now) ≡ None
+        → IsOkUnless result MessageFaults.OutOfMemory }
+{
+    if message.body.len() > MOST_BYTES {
+        return Err(MessageFault::TooLong(message.body.len()));
+    }
+    if message.stream >= END_STREAM {
+        return Err(MessageFault::BadStream(message.stream));
+    }
+    cut_bytes(alloc, message.stream, &message.body)
+}
+
+/// The units of these bytes.
+fn cut_bytes(alloc: Global, stream: u8, bytes: &[u8]) -> Result<Vec<Unit>, MessageFault>
+    ensures ok { IfOk result (λ v. v.items ≡ cut_of (record { stream = stream; body = bytes.now })) }
+    ensures memory { IsOkUnless result MessageFaults.OutOfMemory }
+{
+    let mut units = Vec::with_capacity(alloc, bytes.len() / MOST_UNIT + 1)?;
+    let mut rest = bytes;
+    while rest.len() > MOST_UNIT {
+        let (piece, later) = rest.split_at(MOST_UNIT);
+        units.push(unit_of(stream, false, piece))?;
+        rest = later;
+    }
+    units.push(unit_of(stream, true, rest))?;
+    Ok(units)
+}

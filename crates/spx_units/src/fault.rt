@@ -1,0 +1,54 @@
+//! Why a message was not cut, or not joined.
+
+ghost use Rattle.std.specs.Prelude.{◌≡◌};
+ghost use Rattle.spx_units.specs.Message.{message_fault_number};
+ghost use Rattle.spx_units.specs.declared.fault.MessageFault.TheVariants as MessageFaults;
+
+use std::alloc::{AllocError, AllocFailed};
+use thiserror::Error;
+
+/// Why a message was not cut into units, or units were not joined to one.
+#[derive(Clone, Copy, Debug, PartialEq, Eq, Error)]
+pub enum MessageFault {
+    #[error("out of memory")]
+    OutOfMemory,
+    /// How many bytes the message has.
+    #[error("{0} bytes, a message has at most 65535")]
+    TooLong(usize),
+    /// The datastream type is FE or FF, which stand for the end of a connection.
+    #[error("datastream type {0:02x}, a message has at most fd")]
+    BadStream(u8),
+    /// More bytes came without an end of message than a message may have.
+    #[error("a message of over 65535 bytes came")]
+    Overlong,
+}
+
+impl MessageFault {
+    /// The fault's number, 27 or 29 to 31: what programs print and compare.
+    pub fn number(&self) -> u8
+        ensures { result ≡ message_fault_number self.now }
+    {
+        match self {
+            MessageFault::OutOfMemory => 27,
+            MessageFault::TooLong(_) => 29,
+            MessageFault::BadStream(_) => 30,
+            MessageFault::Overlong => 31,
+        }
+    }
+}
+
+impl From<AllocError> for MessageFault {
+    ghost from_gives = { λ _ e. e ≡ MessageFaults.OutOfMemory };
+
+    fn from(_error: AllocError) -> MessageFault {
+        MessageFault::OutOfMemory
+    }
+}
+
+impl<T: Drop> From<AllocFailed<T>> for MessageFault {
+    ghost from_gives = { λ _ e. e ≡ MessageFaults.OutOfMemory };
+
+    fn from(_error: AllocFailed<T>) -> MessageFault {
+        MessageFault::OutOfMemory
+    }
+}

@@ -1,0 +1,14 @@
+//! Messages, how they are cut into units of a connection, and how units are joined to messages again
+//! (Novell SPX: the end of message bit).
+#![tactic(auto)]
+
+mod cutting;
+mod fault;
+mod inbox;
+pub mod laws;
+mod message;
+
+pub use cutting::cut;
+pub use fault::MessageFault;
+pub use inbox::Inbox;
+pub use message::{MOST_BYTES, Message};
