@@ -15,7 +15,7 @@ use Rattle.ipx_router.specs.Route.{IsRouteOrNone}
 use Rattle.ipx_router.specs.Packets.{AreBytesOf}
 use Rattle.ipx_router.specs.OutcomeView.{OutcomeView, Forward, Dropped}
 
--- a packet that fifteen routers carried goes no further; the next node is the neighbour, or on a
+-- a packet that fifteen routers forwarded is dropped; the next node is the neighbour, or on a
 -- port's own network the destination
 abbrev pub by_route : IpxHeader → Option Route → Fate
 by_route h None = fates.Dropped (NoRoute h.to.network)

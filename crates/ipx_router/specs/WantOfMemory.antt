@@ -77,7 +77,7 @@ SapWantsMemory services at d new = (m : SapView) × (tail : List ℕ) × IsSap m
     × SapMessageWantsMemory services at d.header m new
 
 -- a packet for another network is to be forwarded: there is a route, and fewer than fifteen routers
--- carried it
+-- forwarded it
 pub record HasToForward (ports : List Port) (routes : Routes) (at : PortNow)
     (h : IpxHeader) : Type 0 where
   pub route : Route

@@ -1,4 +1,4 @@
-//! Forwarding: a packet for another network goes one hop on.
+//! Forwarding: what becomes of a packet for another network.
 
 ghost use Rattle.std.specs.Prelude.{◌≡◌, ◌≤◌, ◌<◌, ℕ, List, [], length, IfOk, IfSome, OnErr};
 ghost use Rattle.ipx_wire.specs.Ipx.{BeginsWith, IsIpx, view as packet_view};

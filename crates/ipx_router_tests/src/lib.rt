@@ -13,6 +13,8 @@ mod metrics;
 #[cfg(test)]
 mod new_router;
 #[cfg(test)]
+mod nothing;
+#[cfg(test)]
 mod offers;
 #[cfg(test)]
 mod order;

@@ -132,7 +132,10 @@ fn new_service_first(rt: HostRuntime) -> Result<(), Fail> {
     let mut router = full_of_services(alloc)?;
     let full = answer(alloc, &mut router, 2, NEW_SERVICE_FIRST, 0)?;
     assert!(rt; matches!(full, Outcome::Dropped(Reason::TableFull)));
-    assert_eq!(rt; lengths(alloc, &mut router, 1, ASKS_TYPE_5)?.as_slice(), [96].as_slice());
+    assert_eq!(rt;
+        lengths(alloc, &mut router, 1, ASKS_TYPE_5)?.as_slice(),
+        [96].as_slice()
+    );
     assert!(rt; lengths(alloc, &mut router, 1, ASKS_TYPE_6)?.is_empty());
     Ok(())
 }
@@ -143,6 +146,9 @@ fn dead_service_first(rt: HostRuntime) -> Result<(), Fail> {
     let mut router = full_of_services(alloc)?;
     assert!(rt; hears(alloc, &mut router, DEAD_SERVICE_FIRST, 2)?);
     assert!(rt; lengths(alloc, &mut router, 1, ASKS_TYPE_5)?.is_empty());
-    assert_eq!(rt; lengths(alloc, &mut router, 1, ASKS_TYPE_6)?.as_slice(), [96].as_slice());
+    assert_eq!(rt;
+        lengths(alloc, &mut router, 1, ASKS_TYPE_6)?.as_slice(),
+        [96].as_slice()
+    );
     Ok(())
 }

@@ -9,7 +9,7 @@ use std::process::Abort;
 use std::test::Fail;
 
 /// The router of `three_ports`, made once more where memory was refused.
-fn ports_at_last(alloc: Global) -> Result<Router, NewFault> {
+pub fn ports_at_last(alloc: Global) -> Result<Router, NewFault> {
     match three_ports(alloc) {
         Ok(router) => Ok(router),
         Err(_) => three_ports(alloc),
@@ -17,7 +17,7 @@ fn ports_at_last(alloc: Global) -> Result<Router, NewFault> {
 }
 
 /// What the router answers, asked once more where memory was refused.
-fn answer_at_last(
+pub fn answer_at_last(
     alloc: Global,
     router: &mut Router,
     number: u8,
@@ -94,7 +94,7 @@ fn refused_memory_of_routes(
 }
 
 /// Services in hex, made once more where memory was refused.
-fn services_at_last(alloc: Global, first: u8, count: u8) -> Result<String, AllocError> {
+pub fn services_at_last(alloc: Global, first: u8, count: u8) -> Result<String, AllocError> {
     match services(alloc, first, count, 2) {
         Ok(text) => Ok(text),
         Err(_) => services(alloc, first, count, 2),

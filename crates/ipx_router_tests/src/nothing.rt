@@ -1,0 +1,72 @@
+//! A router where memory is refused and nothing is to be sent: it wants none. Run it with each
+//! request refused.
+
+use crate::fixture::port;
+use crate::refused::{answer_at_last, ports_at_last, services_at_last};
+use ipx_router::{NewFault, Outcome, Router};
+use std::alloc::Global;
+use std::test::Fail;
+
+/// A request for routes without entries, on port 1.
+const NO_NETWORKS: &str = "ffff0020000100000011ffffffffffff04530000001100007f00000304530001";
+
+/// Queries on port 1 for all services of type 9, and for the nearest.
+const ALL_OF_TYPE_9: &str = "ffff0022000400000011ffffffffffff04520000001100007f000003400100010009";
+
+const NEAREST_OF_TYPE_9: &str =
+    "ffff0022000400000011ffffffffffff04520000001100007f000003400100030009";
+
+/// A packet in hex as bytes, made once more where memory was refused.
+fn bytes_at_last(alloc: Global, text: &str) -> Result<Vec<u8>, Fail> {
+    match hex::decode(alloc, text.as_bytes()) {
+        Ok(bytes) => Ok(bytes),
+        Err(_) => Ok(hex::decode(alloc, text.as_bytes())?),
+    }
+}
+
+/// Whether no packet answers what comes in on port 1, asked once alone.
+fn is_answered_by_none(alloc: Global, router: &mut Router, text: &str) -> Result<bool, Fail> {
+    let bytes = bytes_at_last(alloc, text)?;
+    if router.ports().is_empty() {
+        return Ok(false);
+    }
+    let outcome = router.receive(alloc, 1, &bytes, 0)?;
+    Ok(matches!(&outcome, Outcome::Replies(replies) if replies.is_empty()))
+}
+
+#[test]
+fn refused_memory_where_nothing_is_asked(rt: HostRuntime) -> Result<(), Fail> {
+    let alloc = rt.alloc();
+    let mut router = ports_at_last(alloc)?;
+    let six = services_at_last(alloc, b'A', 6)?;
+    let heard = answer_at_last(alloc, &mut router, 2, &six)?;
+    assert!(rt; matches!(heard, Outcome::Heard(6)));
+    for text in [NO_NETWORKS, ALL_OF_TYPE_9, NEAREST_OF_TYPE_9] {
+        assert!(rt; is_answered_by_none(alloc, &mut router, text)?);
+    }
+    Ok(())
+}
+
+fn one_port(alloc: Global) -> Result<Router, NewFault> {
+    let Ok(ports) = vec![in alloc; port(0x11, 1, 1)] else {
+        return Err(NewFault::OutOfMemory);
+    };
+    Router::new(alloc, ports)
+}
+
+/// The router of one port, made once more where memory was refused.
+fn one_port_at_last(alloc: Global) -> Result<Router, NewFault> {
+    match one_port(alloc) {
+        Ok(router) => Ok(router),
+        Err(_) => one_port(alloc),
+    }
+}
+
+#[test]
+fn refused_memory_on_a_lone_port(rt: HostRuntime) -> Result<(), Fail> {
+    let alloc = rt.alloc();
+    let mut router = one_port_at_last(alloc)?;
+    assert!(rt; router.tell(alloc, 0)?.is_empty());
+    assert!(rt; router.tell(alloc, 60_000)?.is_empty());
+    Ok(())
+}
