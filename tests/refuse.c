@@ -1,5 +1,9 @@
 /* Preloaded into a program, refuses its request for memory of the number REFUSE_AT, counted from 1.
-   Where that request comes, the file REFUSE_TOLD is made. */
+   Where that request comes, the file REFUSE_TOLD is made.
+
+   With REFUSE_FROM in its place: each request between one of that many bytes and one of one byte
+   more. The file REFUSE_TOLD is made where the first of the two comes, and the file REFUSE_ASKED
+   where a request between them was refused. */
 #define _GNU_SOURCE
 #include <dlfcn.h>
 #include <errno.h>
@@ -9,11 +13,32 @@
 
 static long asked;
 
-static int is_refused(void) {
+static int refusing;
+
+static void make(const char *name) {
+    const char *path = getenv(name);
+    if (path != NULL) close(open(path, O_CREAT | O_WRONLY, 0600));
+}
+
+static int is_between(size_t size, size_t from) {
+    if (size == from) {
+        make("REFUSE_TOLD");
+        refusing = 1;
+        return 0;
+    }
+    if (size == from + 1) refusing = 0;
+    if (!refusing) return 0;
+    make("REFUSE_ASKED");
+    errno = ENOMEM;
+    return 1;
+}
+
+static int is_refused(size_t size) {
+    const char *from = getenv("REFUSE_FROM");
+    if (from != NULL) return is_between(size, (size_t)atol(from));
     const char *at = getenv("REFUSE_AT");
     if (at == NULL || ++asked != atol(at)) return 0;
-    const char *told = getenv("REFUSE_TOLD");
-    if (told != NULL) close(open(told, O_CREAT | O_WRONLY, 0600));
+    make("REFUSE_TOLD");
     errno = ENOMEM;
     return 1;
 }
@@ -21,11 +46,11 @@ static int is_refused(void) {
 void *malloc(size_t size) {
     static void *(*real)(size_t);
     if (real == NULL) real = dlsym(RTLD_NEXT, "malloc");
-    return is_refused() ? NULL : real(size);
+    return is_refused(size) ? NULL : real(size);
 }
 
 void *realloc(void *block, size_t size) {
     static void *(*real)(void *, size_t);
     if (real == NULL) real = dlsym(RTLD_NEXT, "realloc");
-    return is_refused() ? NULL : real(block, size);
+    return is_refused(size) ? NULL : real(block, size);
 }

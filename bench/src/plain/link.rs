@@ -7,7 +7,7 @@ use super::spx::{Fragment, SpxHeader};
 use super::wire::{Address, Socket};
 use std::collections::VecDeque;
 
-const MOST_UNITS: u16 = 1024;
+const MOST_UNITS: u16 = 8192;
 const MOST_SENDS: u8 = 10;
 const RESEND_AFTER: u64 = 500;
 const MOST_ROOM: u16 = 16383;
@@ -102,7 +102,8 @@ fn due(at: u64, now: u64) -> bool {
     now.checked_sub(at).is_some_and(|age| age >= RESEND_AFTER)
 }
 
-/// One end of a connection. The first `out` units of the queue are sent and not acknowledged.
+/// One end of a connection. The first `out` units of the queue are sent and not acknowledged. The
+/// first `held` places of the ring are the units in order, behind them stand those ahead.
 #[derive(Debug)]
 pub struct Link {
     state: State,
@@ -115,7 +116,8 @@ pub struct Link {
     next: u16,
     room: u16,
     expected: u16,
-    held: VecDeque<Unit>,
+    ring: VecDeque<Option<Unit>>,
+    held: u16,
     buffers: u16,
     asked_at: u64,
     asked_count: u8,
@@ -141,7 +143,8 @@ impl Link {
             next: 0,
             room: 0,
             expected: 0,
-            held: VecDeque::new(),
+            ring: VecDeque::with_capacity(buffers.into()),
+            held: 0,
             buffers,
             asked_at: 0,
             asked_count: 0,
@@ -195,13 +198,13 @@ impl Link {
             out: self.out,
             room: self.room,
             expected: self.expected,
-            held: self.held.len() as u16,
+            held: self.held,
             buffers: self.buffers,
         }
     }
 
     fn free(&self) -> u16 {
-        self.buffers - self.held.len() as u16
+        self.buffers - self.held
     }
 
     fn is_working(&self) -> bool {
@@ -245,13 +248,16 @@ impl Link {
     }
 
     pub fn peek(&self) -> Option<&Unit> {
-        self.held.front()
+        match self.ring.front() {
+            Some(Some(unit)) if self.held > 0 => Some(unit),
+            _ => None,
+        }
     }
 
     pub fn take(&mut self) -> Option<Unit> {
-        let unit = self.held.pop_front()?;
+        self.held = self.held.checked_sub(1)?;
         self.owes_ack |= self.is_working();
-        Some(unit)
+        self.ring.pop_front()?
     }
 
     pub fn owe_reply(&mut self) {

@@ -49,7 +49,7 @@ fn wrapping() -> Script {
 
 /// Calls by chance, with a seed for each script.
 fn disturbed(seed: u64) -> Script {
-    let buffers = [1, 2, 8, 1024][seed as usize % 4];
+    let buffers = [1, 2, 8, 8192][seed as usize % 4];
     let mut script = Script::new(ROOM + 4, buffers);
     script.disturb(1500, &mut Chance(seed * 0x9e37_79b9));
     script
@@ -129,9 +129,9 @@ fn crowded() -> Script {
     let mut reply = script.wires[FAR][0].clone();
     reply[10] = 0x20;
     script.hand_over(NEAR, &reply);
-    script.offer_each(&bytes(1200), 400, Cut::units(1));
+    script.offer_each(&bytes(8400), 2800, Cut::units(1));
     script.poll_all(NEAR);
     let out = script.pair.near.link().map(|link| link.numbers().out);
-    assert_eq!(out, Some(1024), "fewer units are outstanding than may be");
+    assert_eq!(out, Some(8192), "fewer units are outstanding than may be");
     script
 }

@@ -12,9 +12,6 @@ use std::alloc::Global;
 /// The most bytes that a packet of a connection takes: a header of 12, and 534 of data.
 pub const ROOM: usize = 546;
 
-/// What stands for want of memory among the numbers of what came of a packet.
-const NO_MEMORY: u8 = 27;
-
 const SOCKET: Socket = Socket(0x4000);
 
 const ADDRESS: Address = Address {
@@ -51,15 +48,12 @@ impl End {
     }
 
     /// Reads a packet, and answers the number of what came of it.
-    pub fn receive(&mut self, alloc: Global, header: &SpxHeader, body: &[u8], now: u64) -> u8
+    pub fn receive(&mut self, header: &SpxHeader, body: &[u8], now: u64) -> u8
         requires live { IsLive self.old.links self.old.id }
         requires fits { length body.now ≤ 534 }
         ensures { IsLive self.new.links self.new.id }
     {
-        match self.links.receive(alloc, self.id, header, body, now) {
-            Ok(received) => received as u8,
-            Err(_) => NO_MEMORY,
-        }
+        self.links.receive(self.id, header, body, now) as u8
     }
 }
 

@@ -42,13 +42,7 @@ pub fn cut(
 }
 
 /// Carries one packet from an end to another, and answers its digest and that of what came of it.
-fn carry(
-    alloc: Global,
-    from: &mut End,
-    to: &mut End,
-    packet: &mut [u8; ROOM],
-    now: u64,
-) -> Option<u64>
+fn carry(from: &mut End, to: &mut End, packet: &mut [u8; ROOM], now: u64) -> Option<u64>
     requires from { IsLive from.old.links from.old.id }
     requires to { IsLive to.old.links to.old.id }
     ensures from { IsLive from.new.links from.new.id }
@@ -59,12 +53,12 @@ fn carry(
         return None;
     };
     let digest = mixed(what as u64, spx_digest(&header, body));
-    let received = to.receive(alloc, &header, body, now);
+    let received = to.receive(&header, body, now);
     Some(mixed(digest, u64::from(received)))
 }
 
 /// Carries packets from an end to another, until there is none to send.
-fn carry_all(alloc: Global, from: &mut End, to: &mut End, packet: &mut [u8; ROOM], now: u64) -> u64
+fn carry_all(from: &mut End, to: &mut End, packet: &mut [u8; ROOM], now: u64) -> u64
     requires from { IsLive from.old.links from.old.id }
     requires to { IsLive to.old.links to.old.id }
     ensures from { IsLive from.new.links from.new.id }
@@ -72,7 +66,7 @@ fn carry_all(alloc: Global, from: &mut End, to: &mut End, packet: &mut [u8; ROOM
 {
     let mut digest = 0;
     for _ in 0..u16::MAX {
-        match carry(alloc, from, to, packet, now) {
+        match carry(from, to, packet, now) {
             Some(carried) => digest = mixed(digest, carried),
             None => break,
         }
@@ -96,7 +90,7 @@ fn take_all(end: &mut End) -> (u16, u64)
 }
 
 /// Carries packets to and fro, and takes what came, until nothing comes.
-fn pump(alloc: Global, pair: &mut Pair, turns: usize, now: u64) -> u64
+fn pump(pair: &mut Pair, turns: usize, now: u64) -> u64
     requires near { IsLive pair.old.near.links pair.old.near.id }
     requires far { IsLive pair.old.far.links pair.old.far.id }
     ensures near { IsLive pair.new.near.links pair.new.near.id }
@@ -105,9 +99,9 @@ fn pump(alloc: Global, pair: &mut Pair, turns: usize, now: u64) -> u64
     let mut packet = [0; ROOM];
     let mut digest = 0;
     for _ in 0..turns {
-        let sent = carry_all(alloc, &mut pair.near, &mut pair.far, &mut packet, now);
+        let sent = carry_all(&mut pair.near, &mut pair.far, &mut packet, now);
         let (count, taken) = take_all(&mut pair.far);
-        let answered = carry_all(alloc, &mut pair.far, &mut pair.near, &mut packet, now);
+        let answered = carry_all(&mut pair.far, &mut pair.near, &mut packet, now);
         digest = mixed(mixed(mixed(digest, sent), taken), answered);
         if count == 0 {
             break;
@@ -125,7 +119,7 @@ fn pass(alloc: Global, pair: &mut Pair, bytes: &[u8], now: u64) -> Result<u64, O
 {
     let units = cut(alloc, bytes, MOST_DATA, 0, false)?;
     match pair.near.links.offer(alloc, pair.near.id, units) {
-        Ok(()) => Ok(pump(alloc, pair, bytes.len(), now)),
+        Ok(()) => Ok(pump(pair, bytes.len(), now)),
         Err(_) => Err(OutOfMemory),
     }
 }
@@ -163,7 +157,7 @@ pub extern "C" fn ipx_bench_pass(
     let Ok(mut pair) = Pair::new(alloc, buffers) else {
         return 0;
     };
-    let mut digest = pump(alloc, &mut pair, 1, 0);
+    let mut digest = pump(&mut pair, 1, 0);
     for round in 0..rounds {
         let passed = pass_all(alloc, &mut pair, bytes, offered, u64::from(round));
         digest = mixed(digest, passed);

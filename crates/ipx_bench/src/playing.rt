@@ -92,18 +92,12 @@ fn play_poll(end: &mut End, now: u64, out: &mut Vec<u8>) -> Result<(), OutOfMemo
     }
 }
 
-fn play_packet(
-    alloc: Global,
-    end: &mut End,
-    now: u64,
-    bytes: &[u8],
-    out: &mut Vec<u8>,
-) -> Result<(), OutOfMemory>
+fn play_packet(end: &mut End, now: u64, bytes: &[u8], out: &mut Vec<u8>) -> Result<(), OutOfMemory>
     requires { IsLive end.old.links end.old.id }
     ensures { IsLive end.new.links end.new.id }
 {
     let number = match decode_spx(bytes) {
-        Ok((header, body)) => end.receive(alloc, &header, body, now),
+        Ok((header, body)) => end.receive(&header, body, now),
         Err(fault) => spx_number(fault),
     };
     out.push(number)?;
@@ -161,7 +155,7 @@ fn play(alloc: Global, end: &mut End, event: &[u8], out: &mut Vec<u8>) -> Result
     let bytes = bytes_of(event);
     match event[0] {
         b'P' => play_poll(end, now, out)?,
-        b'D' => play_packet(alloc, end, now, bytes, out)?,
+        b'D' => play_packet(end, now, bytes, out)?,
         b'O' => play_offer(alloc, end, event, out)?,
         b'T' => play_take(end, out)?,
         b'E' => write_offered(out, end.links.end(alloc, end.id))?,

@@ -1,6 +1,7 @@
 pub mod Apart
 pub mod Calls
 pub mod Carrying
+pub mod Coming
 pub mod Distances
 pub mod Ended
 pub mod Found
@@ -16,4 +17,6 @@ pub mod Pigeons
 pub mod Reading
 pub mod Rounds
 pub mod Samples
+pub mod Sooner
 pub mod Stands
+pub mod Waiting

@@ -1,5 +1,7 @@
 pub mod Buffers
 pub mod Chosen
+pub mod Courses
+pub mod Due
 pub mod Effects
 pub mod Fresh
 pub mod Given

@@ -12,6 +12,7 @@ ghost use Rattle.spx_link.specs.Effects.{HasEnds, IfRequest, Joins, SameEnds, Sa
 ghost use Rattle.spx_link.specs.Given.{IsGiven, StaysOrIsLost};
 ghost use Rattle.spx_link.specs.Limits.{end_stream, no_id};
 ghost use Rattle.spx_link.specs.LinkView.{LinkView, numbers_of};
+ghost use Rattle.spx_link.specs.Links.{LinksView, link_at};
 ghost use Rattle.spx_link.specs.Marks.{acknowledged, distance, room_after};
 ghost use Rattle.spx_link.specs.Offer.{accepted_from, dialed, end_link, first_of, lose_link, offer_link, owe_reply_link, take_link, the_end};
 ghost use Rattle.spx_link.specs.Poll.{poll_link};
@@ -157,4 +158,9 @@ pub fn others_change_no_number()
 pub fn accepted_owes_its_reply()
     ensures state { (own : ℕ) (s : Socket) (a : Address) (h : SpxHeader) (buffers now : ℕ) → (accepted_from own s a h buffers now).state ≡ Live }
     ensures reply { (own : ℕ) (s : Socket) (a : Address) (h : SpxHeader) (buffers now : ℕ) → (accepted_from own s a h buffers now).owes_reply ≡ true }
+{}
+
+/// A link stands under its own id.
+pub fn links_stand_under_their_ids()
+    ensures { (s : LinksView) (id : ℕ) (l : LinkView) → link_at s id ≡ Some l → l.own ≡ id }
 {}

@@ -2,8 +2,11 @@
 #![tactic(auto)]
 
 mod buffers;
+pub mod courses;
+mod due;
 pub mod effects;
 mod fault;
+mod host;
 pub mod laws;
 mod limits;
 mod link;
@@ -19,12 +22,16 @@ mod received;
 mod state;
 mod unit;
 
+pub use courses::{
+    confirmed_links_are_whole, links_apart_send_nothing, open_links_queue_no_end,
+    opening_links_join_or_stay, taken_and_held_are_expected,
+};
 pub use effects::{
-    accepted_owes_its_reply, lost_gives_nothing, new_links_are_empty, new_links_have_their_ends,
-    opening_gives_requests, others_change_no_number, others_keep_units, poll_changes, poll_gives,
-    poll_keeps_units, receive_changes, receive_changes_states, receive_drops_units,
-    receive_keeps_units, receive_reads_its_own, take_changes, take_gives_the_first,
-    units_are_sent_as_they_are, units_queue_in_order,
+    accepted_owes_its_reply, links_stand_under_their_ids, lost_gives_nothing, new_links_are_empty,
+    new_links_have_their_ends, opening_gives_requests, others_change_no_number, others_keep_units,
+    poll_changes, poll_gives, poll_keeps_units, receive_changes, receive_changes_states,
+    receive_drops_units, receive_keeps_units, receive_reads_its_own, take_changes,
+    take_gives_the_first, units_are_sent_as_they_are, units_queue_in_order,
 };
 pub use fault::{LinksFault, OfferFault};
 pub use laws::{acknowledgement, allocation, marks, sequence, windows};

@@ -1,17 +1,14 @@
 //! One end of a connection: what it holds, and what it shows.
 
-ghost use Rattle.std.specs.Prelude.{◌≡◌, IfOk};
+ghost use Rattle.std.specs.Prelude.{◌≡◌, ◌+◌, ◌≤◌, length};
 ghost use Rattle.spx_link.specs.Limits.{most_units};
 ghost use Rattle.spx_link.specs.LinkView.{LinkView, numbers_of};
-ghost use Rattle.spx_link.specs.Offer as spec;
 
 use crate::buffers::Buffers;
-use crate::limits::NO_ID;
 use crate::numbers::Numbers;
 use crate::queue::Queued;
 use crate::state::State;
-use ipx_wire::{Address, Socket, SpxHeader};
-use std::alloc::{AllocError, Global};
+use ipx_wire::{Address, Socket};
 use std::collections::VecDeque;
 use std::marker::Model;
 
@@ -75,64 +72,6 @@ impl Model for Link {
 }
 
 impl Link {
-    /// A link that asks for a connection.
-    pub(crate) fn dial(
-        alloc: Global,
-        own: u16,
-        local: Socket,
-        remote: Address,
-        buffers: u16,
-        now: u64,
-    ) -> Result<Link, AllocError>
-        ensures { IfOk result (λ l. l ≡ spec.dialed own local remote buffers now) }
-    {
-        let buffers = Buffers::new(alloc, buffers)?;
-        Ok(Link {
-            state: State::Opening,
-            own,
-            peer: NO_ID,
-            local,
-            remote,
-            queue: VecDeque::new(alloc),
-            out: 0,
-            next: 0,
-            room: 0,
-            expected: 0,
-            buffers,
-            asked_at: 0,
-            asked_count: 0,
-            spoke: now,
-            probes: 0,
-            owes_reply: false,
-            owes_confirm: false,
-            owes_ack: false,
-            accepted: false,
-            end_queued: false,
-            peer_ended: false,
-        })
-    }
-
-    /// A link that a request asked for.
-    pub(crate) fn accept(
-        alloc: Global,
-        own: u16,
-        local: Socket,
-        remote: Address,
-        request: &SpxHeader,
-        buffers: u16,
-        now: u64,
-    ) -> Result<Link, AllocError>
-        ensures { IfOk result (λ l. l ≡ spec.accepted_from own local remote request.now buffers now) }
-    {
-        let mut link = Link::dial(alloc, own, local, remote, buffers, now)?;
-        link.state = State::Live;
-        link.peer = request.from_id;
-        link.owes_reply = true;
-        link.accepted = true;
-        link.read_limit(request.limit);
-        Ok(link)
-    }
-
     /// Its state.
     pub fn state(&self) -> State
         ensures { result ≡ self.now.state }
@@ -142,7 +81,8 @@ impl Link {
 
     /// Its numbers.
     pub fn numbers(&self) -> Numbers
-        ensures { result ≡ numbers_of self.now }
+        ensures value { result ≡ numbers_of self.now }
+        ensures within { length self.now.held + length self.now.ahead ≤ self.now.buffers }
     {
         Numbers {
             next: self.next,

@@ -1,7 +1,8 @@
 //! The links of a host, by their ids.
 
-ghost use Rattle.std.specs.Prelude.{◌≡◌, ◌<◌, ◌↔◌, ℕ, Err, IfOk, IfSome, IsSome, IsTrue, MatchOption, None, OnErr, option_copied};
+ghost use Rattle.std.specs.Prelude.{◌≡◌, ◌≤◌, ◌<◌, ◌↔◌, ℕ, Err, IfOk, IfSome, IsSome, IsTrue, MatchOption, None, OnErr, option_copied};
 ghost use Rattle.std.specs.Bool.{OnFalse, OnTrue};
+ghost use Rattle.spx_link.specs.Due.{IsNextDueOfAll};
 ghost use Rattle.spx_link.specs.Limits.{most_links};
 ghost use Rattle.spx_link.specs.Links.{Adds, IsAbove, IsAcceptedFrom, IsBetween, IsLeast, IsLive, IsNextFree, LinksView, Releases, count_of, link_at};
 ghost use Rattle.spx_link.specs.Offer.{accepted_from, dialed};
@@ -11,6 +12,7 @@ ghost use Rattle.spx_link.specs.declared.fault.LinksFault.TheVariants as LinksFa
 mod by_id;
 mod lookup;
 
+use crate::due::soonest;
 use crate::fault::LinksFault;
 use crate::limits::MOST_LINKS;
 use crate::link::Link;
@@ -129,11 +131,22 @@ impl Links {
         least_accepted(&self.links, from, peer_id)
     }
 
-    /// The least live id above another.
+    /// The least live id above another. Live ids are from 0001 to FFFE, and at most 16.
     pub fn after(&self, id: u16) -> Option<u16>
-        ensures { MatchOption result ((q : ℕ) → ¬ IsAbove self.now id q) (IsLeast (IsAbove self.now id)) }
+        ensures next { MatchOption result ((q : ℕ) → ¬ IsAbove self.now id q) (IsLeast (IsAbove self.now id)) }
+        ensures ids { (q : ℕ) → IsLive self.now q → (0 < q) × (q < 65535) }
+        ensures few { count_of self.now ≤ most_links }
     {
         least_above(&self.links, id)
+    }
+
+    /// The moment, in milliseconds, before which a poll of any link gives nothing. From it on a poll
+    /// of some link sends something or gives that link up. None where that takes a packet or a call
+    /// first.
+    pub fn next_due_of_all(&self) -> Option<u64>
+        ensures { IsNextDueOfAll self.now result }
+    {
+        soonest(&self.links)
     }
 
     /// The link of an id goes. The answer is false where the id is not live.

@@ -1,4 +1,4 @@
-//! What a link is given to send, what is taken from it, and its other calls.
+//! What an application gives a link to send, and takes from it.
 
 ghost use Rattle.std.specs.Prelude.{◌≡◌, ◌<◌, [], All, Err, IsOk, IsOkUnless, None, OnErr, OnOk, Some, option_copied};
 ghost use Rattle.spx_link.specs.Limits.{end_stream};
@@ -94,19 +94,5 @@ impl Link {
             self.owes_ack = true;
         }
         Some(unit)
-    }
-
-    /// It owes its reply again.
-    pub fn owe_reply(&mut self)
-        ensures { self.new ≡ spec.owe_reply_link self.old }
-    {
-        self.owes_reply = true;
-    }
-
-    /// It is given up.
-    pub fn lose(&mut self)
-        ensures { self.new ≡ spec.lose_link self.old }
-    {
-        self.state = State::Lost;
     }
 }

@@ -183,13 +183,13 @@ impl Link {
         Some(probe)
     }
 
-    fn is_waiting(&self) -> bool
+    pub(crate) fn is_waiting(&self) -> bool
         ensures { result ≡ spec.is_waiting self.now }
     {
         usize::from(self.out) < self.queue.len()
     }
 
-    fn may_send(&self) -> bool
+    pub(crate) fn may_send(&self) -> bool
         ensures { result ≡ spec.may_send self.now }
     {
         self.is_working() && self.is_waiting() && 0 < self.room && self.out < MOST_UNITS

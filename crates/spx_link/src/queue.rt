@@ -1,6 +1,7 @@
 //! The units that a link has to send.
 
 ghost use Rattle.std.specs.Prelude.{◌≡◌, ◌++◌, ◌≤◌, ◌<◌, drop, take, map, set, position, slice_get, length, OnOk, OnErr, IsOk, IfSome, []};
+ghost use Rattle.spx_link.specs.Due as D;
 ghost use Rattle.spx_link.specs.LinkView as view;
 ghost use Rattle.spx_link.specs.Offer as spec;
 
@@ -29,6 +30,27 @@ pub fn first_due(queue: &VecDeque<Queued>, sent: usize, now: u64) -> Option<usiz
     ensures { result ≡ position (λ q. view.due q.at now) (take sent queue.now.items) }
 {
     queue.iter().take(sent).position(|q| due(q.at, now))
+}
+
+/// The least moment at which one of the sent units was last sent.
+pub fn earliest(queue: &VecDeque<Queued>, sent: usize) -> Option<u64>
+    ensures { result ≡ D.earliest (take sent queue.now.items) }
+{
+    let mut least = None;
+    for place in 0..sent.min(queue.len()) {
+        least = Some(earlier(queue[place].at, least));
+    }
+    least
+}
+
+/// The least of a moment and another.
+pub fn earlier(at: u64, least: Option<u64>) -> u64
+    ensures { result ≡ D.earlier at least }
+{
+    match least {
+        Some(least) => at.min(least),
+        None => at,
+    }
 }
 
 /// The first `count` units leave the queue.

@@ -154,6 +154,12 @@ impl End {
         self.links.end(self.alloc, 1)
     }
 
+    /// When it is due.
+    pub fn next_due(&self) -> Option<u64> {
+        let link = self.links.get(1)?;
+        link.next_due()
+    }
+
     /// The stream of the unit that it hands out next.
     pub fn peek(&self) -> Option<u8> {
         let link = self.links.get(1)?;

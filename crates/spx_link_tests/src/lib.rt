@@ -3,16 +3,24 @@
 #![tactic(auto)]
 
 #[cfg(test)]
+mod ahead;
+#[cfg(test)]
 mod by_id;
 #[cfg(test)]
 mod closing;
 #[cfg(test)]
+mod due;
+#[cfg(test)]
 mod end;
 #[cfg(test)]
 mod messages;
+#[cfg(test)]
+mod no_memory;
 #[cfg(test)]
 mod refused;
 #[cfg(test)]
 mod rows;
 #[cfg(test)]
 mod spx;
+#[cfg(test)]
+mod windows;

@@ -31,15 +31,11 @@ impl Link {
         if self.peer_ended {
             return Received::Ahead;
         }
-        if beyond == 0 && self.free() > 0 {
-            return self.keep(header, body);
+        if beyond >= self.free() {
+            self.owes_ack = true;
+            return Received::OverAllocation;
         }
-        self.owes_ack = true;
-        if beyond < self.free() {
-            Received::Ahead
-        } else {
-            Received::OverAllocation
-        }
+        self.keep(beyond, header, body)
     }
 
     fn join(&mut self, header: &SpxHeader) -> Received {
@@ -87,18 +83,41 @@ impl Link {
         Received::Confirmed
     }
 
-    fn keep(&mut self, header: &SpxHeader, body: &[u8]) -> Received {
+    /// Keeps a unit at its place, unless it was kept before.
+    fn keep(&mut self, beyond: u16, header: &SpxHeader, body: &[u8]) -> Received {
+        let place = usize::from(self.held + beyond);
+        if self.ring.len() <= place {
+            self.ring.resize_with(place + 1, || None);
+        }
+        if self.ring[place].is_some() {
+            self.owes_ack = true;
+            return Received::Repeat;
+        }
         let is_end = header.stream == END_STREAM;
-        self.held.push_back(Unit {
+        self.ring[place] = Some(Unit {
             stream: header.stream,
             last: header.last,
             body: Fragment::new(if is_end { &[] } else { body }),
         });
-        self.expected = self.expected.wrapping_add(1);
-        if !is_end {
-            self.owes_ack = true;
-            return Received::Kept;
+        self.settle()
+    }
+
+    /// Holds the units that stand in order now. Behind an end nothing is kept.
+    fn settle(&mut self) -> Received {
+        while let Some(Some(unit)) = self.ring.get(usize::from(self.held)) {
+            let is_end = unit.stream == END_STREAM;
+            self.held += 1;
+            self.expected = self.expected.wrapping_add(1);
+            if is_end {
+                self.ring.truncate(self.held.into());
+                return self.ended();
+            }
         }
+        self.owes_ack = true;
+        Received::Kept
+    }
+
+    fn ended(&mut self) -> Received {
         self.peer_ended = true;
         self.owes_confirm = true;
         if self.state != State::Confirmed {

@@ -2,6 +2,7 @@
 
 ghost use Rattle.std.specs.Prelude.{◌≡◌, ◌≤◌, ◌<◌, [], All, Err, IfErr, IfOk, IfSome, IsOk, IsOkUnless, IsTrue, None, OnErr, OnOk, Some, length, option_map};
 ghost use Rattle.std.specs.Borrow.{sem};
+ghost use Rattle.spx_link.specs.Due.{IsNextDue};
 ghost use Rattle.spx_link.specs.Limits.{end_stream};
 ghost use Rattle.spx_link.specs.Links.{ChangesOnly, IsLive, link_at, polled};
 ghost use Rattle.spx_link.specs.LinksLending.{RestsSo};
@@ -53,6 +54,15 @@ impl Links {
         ensures fits { length result.body.now ≤ 534 }
     {
         link_at_place(&self.links, place).carry(chosen)
+    }
+
+    /// What `Link::next_due` answers, by a live id.
+    pub fn next_due(&self, id: u16) -> Option<u64>
+        requires { IsLive self.now id }
+        ensures { IfSome (link_at self.now id) (λ l. IsNextDue l result) }
+    {
+        let place = place_of(&self.links, id);
+        self.links[place].next_due()
     }
 
     /// What `Link::receive` does, by a live id. It takes no memory. The caller owes a body of at most 534 bytes.

@@ -1,0 +1,7 @@
+use Rattle.spx_link.specs.Due.{IsNextDue}
+use Rattle.spx_link.proofs.Calls.{by_id}
+use Rattle.spx_link.proofs.links.Links.next_due.Goals as goal
+
+pub returns : goal.returns
+returns c =
+    by_id c.args.self.now c.self.inside.last c.self.inside.links.items c.deref.result.now c.args.id c.place_of-place.result c.index.result.now (λ l. IsNextDue l c.next_due.result) c.self.view_is c.deref.ensures.value c.place_of-place.ensures.place c.index.ensures c.next_due.ensures

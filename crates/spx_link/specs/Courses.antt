@@ -1,0 +1,40 @@
+-- How far a connection comes: what is true of a link in its states, and kept by each of its calls.
+use Rattle.std.specs.Prelude.{◌≡◌, ℕ, ◌+◌, Bool, true, false, [], length}
+use Rattle.spx_link.specs.declared.state.State.{State}
+use Rattle.spx_link.specs.declared.state.State.TheVariants.{Opening, Live, Ending, PeerEnded, Confirmed, Lost}
+use Rattle.spx_link.specs.LinkView.{LinkView}
+use Rattle.spx_link.specs.Marks.{mark}
+
+-- the states before an end is queued here or came from the peer
+abbrev pub is_open : State → Bool
+is_open Opening = true
+is_open Live = true
+is_open Ending = false
+is_open PeerEnded = false
+is_open Confirmed = false
+is_open Lost = false
+
+-- the states that read no packet but one that joins
+abbrev pub is_apart : State → Bool
+is_apart Opening = true
+is_apart Live = false
+is_apart Ending = false
+is_apart PeerEnded = false
+is_apart Confirmed = false
+is_apart Lost = true
+
+-- in an open state no end is queued
+abbrev pub HasNoEndWhileOpen : LinkView → Type 0
+HasNoEndWhileOpen l = is_open l.state ≡ true → l.end_queued ≡ false
+
+-- once confirmed, the end was queued, and all that was queued is acknowledged
+pub record IsWhole (l : LinkView) : Type 0 where
+  pub end_queued : l.end_queued ≡ true
+  pub queue : l.queue ≡ []
+
+abbrev pub IsWholeOnceConfirmed : LinkView → Type 0
+IsWholeOnceConfirmed l = l.state ≡ Confirmed → IsWhole l
+
+-- so many units were taken: with those held they are the units before the one that is expected
+abbrev pub HasTaken : ℕ → LinkView → Type 0
+HasTaken taken l = mark (taken + length l.held) ≡ l.expected

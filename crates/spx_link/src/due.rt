@@ -1,0 +1,101 @@
+//! When a link acts by itself: till then its carrier may sleep.
+
+ghost use Rattle.std.specs.Prelude.{◌≡◌};
+ghost use Rattle.spx_link.specs.Due as spec;
+ghost use Rattle.spx_link.specs.Due.{IsNextDue};
+
+use crate::limits::RESEND_AFTER;
+use crate::link::Link;
+use crate::queue::{earlier, earliest};
+use crate::state::State;
+
+impl Link {
+    /// The moment, in milliseconds, before which a poll at any moment gives nothing. From it on a
+    /// poll sends something or gives the link up. None where that takes a packet or a call first.
+    ///
+    /// A carrier that has polled till nothing came may sleep until then, or until a packet comes.
+    pub fn next_due(&self) -> Option<u64>
+        ensures { IsNextDue self.now result }
+    {
+        self.due()
+    }
+
+    /// That moment, by the rules of `poll`.
+    pub(crate) fn due(&self) -> Option<u64>
+        ensures { result ≡ spec.due_link self.now }
+    {
+        match self.state {
+            State::Opening => self.request_due(),
+            State::Lost => None,
+            _ => self.joined_due(),
+        }
+    }
+
+    fn request_due(&self) -> Option<u64>
+        ensures { result ≡ spec.request_due self.now }
+    {
+        if self.asked_count == 0 {
+            return Some(0);
+        }
+        again_at(self.asked_at)
+    }
+
+    fn joined_due(&self) -> Option<u64>
+        ensures { result ≡ spec.joined_due self.now }
+    {
+        if self.owes_reply || self.owes_confirm || self.may_send() || self.owes_ack {
+            return Some(0);
+        }
+        self.working_due()
+    }
+
+    fn working_due(&self) -> Option<u64>
+        ensures { result ≡ spec.working_due self.now }
+    {
+        if !self.is_working() {
+            return None;
+        }
+        match earliest(&self.queue, usize::from(self.out)) {
+            Some(at) => again_at(at),
+            None => self.probe_due(),
+        }
+    }
+
+    fn probe_due(&self) -> Option<u64>
+        ensures { result ≡ spec.probe_due self.now }
+    {
+        if self.is_waiting() && self.room == 0 {
+            again_at(self.spoke)
+        } else {
+            None
+        }
+    }
+}
+
+/// When what was sent at a moment is sent again.
+fn again_at(at: u64) -> Option<u64>
+    ensures { result ≡ spec.again_at at }
+{
+    at.checked_add(RESEND_AFTER)
+}
+
+/// When the first of some links is due.
+pub fn soonest(links: &[Link]) -> Option<u64>
+    ensures { result ≡ spec.soonest links.now }
+{
+    let mut soonest = None;
+    for link in links {
+        soonest = sooner(link.due(), soonest);
+    }
+    soonest
+}
+
+/// The earlier of two moments, where there are.
+fn sooner(due: Option<u64>, other: Option<u64>) -> Option<u64>
+    ensures { result ≡ spec.sooner due other }
+{
+    match due {
+        None => other,
+        Some(due) => Some(earlier(due, other)),
+    }
+}

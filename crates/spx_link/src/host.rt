@@ -1,0 +1,94 @@
+//! What a host does with a link: it makes it, has it reply again, and gives it up.
+
+ghost use Rattle.std.specs.Prelude.{◌≡◌, IfOk};
+ghost use Rattle.spx_link.specs.Offer as spec;
+
+use crate::buffers::Buffers;
+use crate::limits::NO_ID;
+use crate::link::Link;
+use crate::state::State;
+use ipx_wire::{Address, Socket, SpxHeader};
+use std::alloc::{AllocError, Global};
+use std::collections::VecDeque;
+
+impl Link {
+    /// A link that asks for a connection from a socket here to an address, with its buffers taken
+    /// from memory. `now` is in milliseconds.
+    ///
+    /// The caller owes an id from 0001 to FFFE that no other link of its host has, and 1 to 8,192
+    /// buffers. A host calls `Links::dial`, which gives the id.
+    pub fn dial(
+        alloc: Global,
+        own: u16,
+        local: Socket,
+        remote: Address,
+        buffers: u16,
+        now: u64,
+    ) -> Result<Link, AllocError>
+        ensures { IfOk result (λ l. l ≡ spec.dialed own local remote buffers now) }
+    {
+        let buffers = Buffers::new(alloc, buffers)?;
+        Ok(Link {
+            state: State::Opening,
+            own,
+            peer: NO_ID,
+            local,
+            remote,
+            queue: VecDeque::new(alloc),
+            out: 0,
+            next: 0,
+            room: 0,
+            expected: 0,
+            buffers,
+            asked_at: 0,
+            asked_count: 0,
+            spoke: now,
+            probes: 0,
+            owes_reply: false,
+            owes_confirm: false,
+            owes_ack: false,
+            accepted: false,
+            end_queued: false,
+            peer_ended: false,
+        })
+    }
+
+    /// A link that a request from an address to a socket here asked for. It owes its reply.
+    ///
+    /// The caller owes what it owes `dial`. A host calls `Links::accept`.
+    pub fn accept(
+        alloc: Global,
+        own: u16,
+        local: Socket,
+        remote: Address,
+        request: &SpxHeader,
+        buffers: u16,
+        now: u64,
+    ) -> Result<Link, AllocError>
+        ensures { IfOk result (λ l. l ≡ spec.accepted_from own local remote request.now buffers now) }
+    {
+        let mut link = Link::dial(alloc, own, local, remote, buffers, now)?;
+        link.state = State::Live;
+        link.peer = request.from_id;
+        link.owes_reply = true;
+        link.accepted = true;
+        link.read_limit(request.limit);
+        Ok(link)
+    }
+
+    /// It owes its reply again. A host calls this where the request that made the link comes once
+    /// more: the reply to it was lost.
+    pub fn owe_reply(&mut self)
+        ensures { self.new ≡ spec.owe_reply_link self.old }
+    {
+        self.owes_reply = true;
+    }
+
+    /// It is given up: it sends and reads nothing from then on, and what it holds may still be
+    /// taken. A host calls this where the units of its peer make no message.
+    pub fn lose(&mut self)
+        ensures { self.new ≡ spec.lose_link self.old }
+    {
+        self.state = State::Lost;
+    }
+}
