@@ -11,7 +11,5 @@ pub mod Calling
 pub mod Releasing
 pub mod Routing
 pub mod Stepping
-pub mod PollLoop
 pub mod Beginning
-pub mod FromLinks
 pub mod Lists
