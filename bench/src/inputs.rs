@@ -222,6 +222,18 @@ pub fn routes_and_services(routes: u32, services: u32) -> Records {
     Records::of(SAP_RECORD, rip.chain(sap))
 }
 
+/// The same, with the services in the order of their types and names.
+pub fn routes_and_services_by_key(routes: u32, services: u32) -> Records {
+    let rip = parts(routes, 50, &[1, 2, 3]).map(|(port, numbers)| rip_response(port, numbers));
+    let mut by_key = (0..services).collect::<Vec<_>>();
+    by_key.sort_unstable_by_key(|number| (number % 3, number * 1237 % 4096));
+    let sap = by_key
+        .chunks(7)
+        .zip([1, 2, 3].into_iter().cycle())
+        .map(|(numbers, port)| sap_response(port, numbers.iter().copied()));
+    Records::of(SAP_RECORD, rip.chain(sap))
+}
+
 /// A request or query by broadcast from the neighbour on port 1.
 pub fn asking(socket: u16, body: &[u8]) -> Records {
     Records::of(RIP_RECORD, [control(1, socket, body)].into_iter())

@@ -13,6 +13,7 @@ unsafe extern "C" {
         count: usize,
         size: usize,
         rounds: u32,
+        apart: u64,
     ) -> u64;
 
     fn ipx_bench_tell(heard: *const u8, count: usize, size: usize, rounds: u32) -> u64;
@@ -48,7 +49,7 @@ pub fn decode(datagrams: &[u8], size: usize, rounds: u32) -> u64 {
     unsafe { ipx_bench_decode(datagrams.as_ptr(), datagrams.len(), size, rounds) }
 }
 
-pub fn receive(heard: &Records, records: &Records, rounds: u32) -> u64 {
+pub fn receive(heard: &Records, records: &Records, rounds: u32, apart: u64) -> u64 {
     // SAFETY: each pointer and the length behind it are one slice, which is only read.
     unsafe {
         ipx_bench_receive(
@@ -59,6 +60,7 @@ pub fn receive(heard: &Records, records: &Records, rounds: u32) -> u64 {
             records.bytes.len(),
             records.size,
             rounds,
+            apart,
         )
     }
 }

@@ -2,7 +2,7 @@
 
 use crate::inputs::{
     FIRST_LEARNED, LEAD, PORT_NETWORKS, Records, asking, fifty_of, others, packets, refused,
-    routes, routes_and_services,
+    routes, routes_and_services, routes_and_services_by_key,
 };
 use crate::plain::spx::MOST_DATA;
 use crate::scripts::{Met, Script, bytes, scripts};
@@ -51,15 +51,21 @@ fn decode_all(name: String, records: Records) -> Row {
     }
 }
 
+/// Records that a router which heard others is handed in each round, all at one moment.
 fn receive(name: String, heard: Records, records: Records) -> Row {
+    receive_apart(name, heard, records, 0)
+}
+
+/// The same, with so many milliseconds from one round to the next.
+fn receive_apart(name: String, heard: Records, records: Records, apart: u64) -> Row {
     let calls = records.count() as u32;
     let inputs = Rc::new((heard, records));
     let same = Rc::clone(&inputs);
     Row {
         name,
         calls,
-        ours: Box::new(move |rounds| ours::receive(&inputs.0, &inputs.1, rounds)),
-        theirs: Box::new(move |rounds| theirs::receive(&same.0, &same.1, rounds)),
+        ours: Box::new(move |rounds| ours::receive(&inputs.0, &inputs.1, rounds, apart)),
+        theirs: Box::new(move |rounds| theirs::receive(&same.0, &same.1, rounds, apart)),
     }
 }
 
@@ -79,21 +85,32 @@ fn forward_learned(size: usize, count: u32) -> Row {
     receive(name, heard, records)
 }
 
-fn hear() -> Row {
-    let name = format!("hear 50 routes of {KNOWN} known");
-    receive(name, routes(KNOWN, &[2]), fifty_of(KNOWN))
+/// Routes that are heard again, all at one moment and then each time a millisecond later.
+fn hear() -> [Row; 2] {
+    let row = |when: &str, apart| {
+        let name = format!("hear 50 routes of {KNOWN} known{when}");
+        receive_apart(name, routes(KNOWN, &[2]), fifty_of(KNOWN), apart)
+    };
+    [row("", 0), row(", later", 1)]
 }
 
-/// All routes and services, told to a router that knows them already after the first round.
-fn hear_all() -> Row {
-    let records = routes_and_services(ROUTES, SERVICES);
-    let mut row = receive(
-        format!("hear {ROUTES} routes, {SERVICES} services"),
-        Records::none(),
-        records,
-    );
-    row.calls = 1;
-    row
+/// All routes and services, told to a router that knows them already after the first round: the
+/// services scattered or by key, and all at one moment or each time a minute later.
+fn hear_all() -> [Row; 4] {
+    let row = |how: &str, records, apart| {
+        let name = format!("hear {ROUTES} routes, {SERVICES} services{how}");
+        let mut row = receive_apart(name, Records::none(), records, apart);
+        row.calls = 1;
+        row
+    };
+    let scattered = || routes_and_services(ROUTES, SERVICES);
+    let by_key = || routes_and_services_by_key(ROUTES, SERVICES);
+    [
+        row("", scattered(), 0),
+        row(", later", scattered(), 60_000),
+        row(" by key", by_key(), 0),
+        row(" by key, later", by_key(), 60_000),
+    ]
 }
 
 /// What is asked of a router that holds all routes and services.
@@ -169,7 +186,9 @@ pub fn all() -> Vec<Row> {
         .chain([decode_refused()])
         .chain(SIZES.into_iter().map(forward_direct))
         .chain(learned)
-        .chain([forward_with_all_held(), hear(), hear_all()])
+        .chain([forward_with_all_held()])
+        .chain(hear())
+        .chain(hear_all())
         .chain(ask_all())
         .chain([tell()])
         .chain(OFFERED.map(pass))
@@ -216,6 +235,10 @@ pub fn check_answers() {
         (
             "told",
             joined(vec![routes_and_services(ROUTES, SERVICES), others()]),
+        ),
+        (
+            "told by key",
+            joined(vec![routes_and_services_by_key(ROUTES, SERVICES), others()]),
         ),
         ("others", others()),
     ];

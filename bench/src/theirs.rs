@@ -63,19 +63,19 @@ fn router_of_three() -> Router {
     Router::new(ports.collect())
 }
 
-fn feed(router: &mut Router, record: &[u8]) -> Option<Outcome> {
+fn feed(router: &mut Router, record: &[u8], now: u64) -> Option<Outcome> {
     let port = *record.first()?;
     let datagram = record.get(LEAD..)?;
     if port == 0 || port > 3 {
         return None;
     }
-    Some(router.receive(port, datagram, MOMENT))
+    Some(router.receive(port, datagram, now))
 }
 
-fn fed_digests(router: &mut Router, records: &Records) -> u64 {
+fn fed_digests(router: &mut Router, records: &Records, now: u64) -> u64 {
     let mut digest = 0;
     for record in records.bytes.chunks_exact(records.size) {
-        let fed = feed(router, record).map_or(2, |outcome| outcome_digest(&outcome));
+        let fed = feed(router, record, now).map_or(2, |outcome| outcome_digest(&outcome));
         digest = mixed(digest, fed);
     }
     digest
@@ -97,12 +97,14 @@ pub fn decode(datagrams: &[u8], size: usize, rounds: u32) -> u64 {
 }
 
 #[inline(never)]
-pub fn receive(heard: &Records, records: &Records, rounds: u32) -> u64 {
+pub fn receive(heard: &Records, records: &Records, rounds: u32, apart: u64) -> u64 {
     let mut router = router_of_three();
-    fed_digests(&mut router, heard);
+    fed_digests(&mut router, heard, MOMENT);
     let mut digest = 0;
+    let mut now = MOMENT;
     for _ in 0..rounds {
-        digest = mixed(digest, fed_digests(&mut router, records));
+        digest = mixed(digest, fed_digests(&mut router, records, now));
+        now = now.saturating_add(apart);
     }
     digest
 }
@@ -110,7 +112,7 @@ pub fn receive(heard: &Records, records: &Records, rounds: u32) -> u64 {
 #[inline(never)]
 pub fn tell(heard: &Records, rounds: u32) -> u64 {
     let mut router = router_of_three();
-    fed_digests(&mut router, heard);
+    fed_digests(&mut router, heard, MOMENT);
     let mut digest = 0;
     for round in 0..rounds {
         let told = router.tell(u64::from(round) * 60_000);
@@ -180,7 +182,7 @@ pub fn answers(records: &Records) -> Vec<u8> {
     let mut router = router_of_three();
     let mut out = Vec::new();
     for record in records.bytes.chunks_exact(records.size) {
-        if let Some(outcome) = feed(&mut router, record) {
+        if let Some(outcome) = feed(&mut router, record, MOMENT) {
             write_outcome(&outcome, &mut out);
         }
     }

@@ -3,7 +3,7 @@
 ghost use Rattle.std.specs.Prelude.{◌≡◌, ◌≤◌, length};
 
 use crate::faults::reason_number;
-use crate::feeding::{feed, router_of_three};
+use crate::feeding::{MOMENT, feed, router_of_three};
 use ipx_router::{Outcome, Reply, Router};
 use ipx_wire::OutOfMemory;
 use std::alloc::Global;
@@ -55,7 +55,7 @@ fn write_answer(
     requires { length router.old.ports ≡ 3 }
     ensures { length router.new.ports ≡ 3 }
 {
-    match feed(alloc, router, record)? {
+    match feed(alloc, router, record, MOMENT)? {
         Some(outcome) => write_outcome(out, &outcome),
         None => Ok(()),
     }

@@ -1,13 +1,12 @@
 //! Decoding alone.
 
 use crate::digest::{mixed, packet_digest};
-use crate::faults::fault_number;
 use ipx_wire::decode;
 
 fn decoded_digest(bytes: &[u8]) -> u64 {
     match decode(bytes) {
         Ok(packet) => packet_digest(&packet),
-        Err(fault) => u64::from(fault_number(fault)),
+        Err(fault) => u64::from(fault.number()),
     }
 }
 

@@ -9,8 +9,8 @@ use std::alloc::Global;
 /// How many bytes stand before a datagram in a record. The first is the port that it comes in on.
 pub const LEAD: usize = 16;
 
-/// The moment at which all datagrams come in. It is later than any moment of telling, so that what
-/// was heard then does not get old.
+/// The moment at which the first datagrams come in. It is later than any moment of telling, so that
+/// what was heard then does not get old.
 pub const MOMENT: u64 = 1 << 60;
 
 /// A router with ports on the networks 11, 22 and 33 (hexadecimal).
@@ -39,11 +39,13 @@ pub fn router_of_three(alloc: Global) -> Result<Router, OutOfMemory>
     }
 }
 
-/// Hands the datagram of a record to the router. A record that names no port is no datagram.
+/// Hands the datagram of a record to the router at a moment. A record that names no port is no
+/// datagram.
 pub fn feed(
     alloc: Global,
     router: &mut Router,
     record: &[u8],
+    now: u64,
 ) -> Result<Option<Outcome>, OutOfMemory>
     requires { length router.old.ports ≡ 3 }
     ensures { length router.new.ports ≡ 3 }
@@ -55,6 +57,6 @@ pub fn feed(
     if port == 0 || port > 3 {
         return Ok(None);
     }
-    let outcome = router.receive(alloc, port, &record[LEAD..], MOMENT)?;
+    let outcome = router.receive(alloc, port, &record[LEAD..], now)?;
     Ok(Some(outcome))
 }

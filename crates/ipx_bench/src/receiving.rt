@@ -3,35 +3,36 @@
 ghost use Rattle.std.specs.Prelude.{◌≡◌, ◌≤◌, length};
 
 use crate::digest::{mixed, outcome_digest};
-use crate::feeding::{feed, router_of_three};
+use crate::feeding::{MOMENT, feed, router_of_three};
 use ipx_router::Router;
 use std::alloc::Global;
 
-fn fed_digest(alloc: Global, router: &mut Router, record: &[u8]) -> u64
+fn fed_digest(alloc: Global, router: &mut Router, record: &[u8], now: u64) -> u64
     requires { length router.old.ports ≡ 3 }
     ensures { length router.new.ports ≡ 3 }
 {
-    match feed(alloc, router, record) {
+    match feed(alloc, router, record, now) {
         Ok(Some(outcome)) => outcome_digest(&outcome),
         Ok(None) => 2,
         Err(_) => 3,
     }
 }
 
-/// Hands each record to the router, and answers the digest of what became of them.
-pub fn fed_digests(alloc: Global, router: &mut Router, records: &[u8], size: usize) -> u64
+/// Hands each record to the router at one moment, and answers the digest of what became of them.
+pub fn fed_digests(alloc: Global, router: &mut Router, records: &[u8], size: usize, now: u64) -> u64
     requires router { length router.old.ports ≡ 3 }
     requires size { 1 ≤ size }
     ensures { length router.new.ports ≡ 3 }
 {
     let mut digest = 0;
     for record in records.chunks_exact(size) {
-        digest = mixed(digest, fed_digest(alloc, router, record));
+        digest = mixed(digest, fed_digest(alloc, router, record, now));
     }
     digest
 }
 
-/// Hands each heard record to a new router, and then each timed one, again and again.
+/// Hands each heard record to a new router, and then each timed one, again and again, each round so
+/// many milliseconds after the one before it.
 ///
 /// Answers the digest of what became of the timed ones. Both kinds of records have one size each.
 #[unsafe(no_mangle)]
@@ -42,6 +43,7 @@ pub extern "C" fn ipx_bench_receive(
     records: &[u8],
     size: usize,
     rounds: u32,
+    apart: u64,
 ) -> u64 {
     if heard_size == 0 || size == 0 {
         return 0;
@@ -49,10 +51,12 @@ pub extern "C" fn ipx_bench_receive(
     let Ok(mut router) = router_of_three(alloc) else {
         return 0;
     };
-    let _ = fed_digests(alloc, &mut router, heard, heard_size);
+    let _ = fed_digests(alloc, &mut router, heard, heard_size, MOMENT);
     let mut digest = 0;
+    let mut now = MOMENT;
     for _ in 0..rounds {
-        digest = mixed(digest, fed_digests(alloc, &mut router, records, size));
+        digest = mixed(digest, fed_digests(alloc, &mut router, records, size, now));
+        now = now.saturating_add(apart);
     }
     digest
 }

@@ -3,7 +3,7 @@
 ghost use Rattle.std.specs.Prelude.{◌≡◌, length};
 
 use crate::digest::{mixed, replies_digest};
-use crate::feeding::router_of_three;
+use crate::feeding::{MOMENT, router_of_three};
 use crate::receiving::fed_digests;
 use ipx_router::Router;
 use std::alloc::Global;
@@ -28,7 +28,7 @@ pub extern "C" fn ipx_bench_tell(alloc: Global, heard: &[u8], size: usize, round
     let Ok(mut router) = router_of_three(alloc) else {
         return 0;
     };
-    let _ = fed_digests(alloc, &mut router, heard, size);
+    let _ = fed_digests(alloc, &mut router, heard, size, MOMENT);
     let mut digest = 0;
     for round in 0..rounds {
         let now = u64::from(round) * PERIOD;

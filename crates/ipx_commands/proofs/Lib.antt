@@ -6,3 +6,6 @@ pub mod Inputs
 pub mod Places
 pub mod Protocols
 pub mod VectorLines
+pub mod Readings
+pub mod Outputs
+pub mod HopOutputs

@@ -2,99 +2,86 @@
 use Rattle.std.specs.Prelude.{◌≡◌, ℕ, ◌+◌, Bool, true, false, List, [], ◌∷◌, ◌++◌, length, map, codes, count_by, nat_lt, ◌==◌, if◌then◌else◌, MatchBool}
 use Rattle.std.specs.List.{AllZip, enumerate_from, flat_map, list_all, take_while}
 use Rattle.std.specs.Fmt.{decimal}
-use Rattle.ipx_wire.specs.declared.fault.IpxFault.{IpxFault}
-use Rattle.ipx_wire.specs.declared.fault.IpxFault.TheVariants.{Short, Checksummed, LengthShort, Truncated, TooLong}
-use Rattle.ipx_wire.specs.declared.spx.fault.SpxFault.{SpxFault}
-use Rattle.ipx_wire.specs.declared.spx.fault.SpxFault.TheVariants.{SpxShort, OverSize}
-use Rattle.ipx_control.specs.declared.fault.ControlFault.{ControlFault}
-use Rattle.ipx_control.specs.declared.fault.ControlFault.TheVariants.{NoOperation, UnknownOperation, TooManyEntries, QueryShort, OutOfMemory}
+use Rattle.ipx_wire.specs.Ipx.{ipx_fault_number}
+use Rattle.ipx_wire.specs.Spx.{spx_fault_number}
+use Rattle.ipx_control.specs.Fault.{control_fault_number}
 use Rattle.ipx_commands.specs.declared.check.Verdict as code
 use Rattle.ipx_commands.specs.declared.check.Verdict.TheVariants as verdicts
-use Rattle.ipx_commands.specs.Reading.{Datum, NoPacket, NoSpx, NoControl, Holds, IsReading}
-use Rattle.ipx_commands.specs.CheckLine.{LineForm, Skipped, Vector, Malformed, input_lines, line_form}
-
--- a fault's number
-abbrev pub ipx_fault_number : IpxFault → ℕ
-ipx_fault_number (Short have) = 1
-ipx_fault_number (Checksummed value) = 2
-ipx_fault_number (LengthShort value) = 3
-ipx_fault_number (Truncated said have) = 4
-ipx_fault_number (TooLong value) = 5
-
-abbrev pub spx_fault_number : SpxFault → ℕ
-spx_fault_number (SpxShort have) = 6
-spx_fault_number (OverSize have) = 7
-
-abbrev pub control_fault_number : ControlFault → ℕ
-control_fault_number NoOperation = 8
-control_fault_number (UnknownOperation n) = 9
-control_fault_number (TooManyEntries n) = 10
-control_fault_number (QueryShort have) = 11
-control_fault_number OutOfMemory = 12
+use Rattle.ipx_commands.specs.Reading.{ReadingView, NoPacket, NoSpx, NoControl, Holds, IsReading}
+use Rattle.ipx_commands.specs.CheckLine.{LineView, Skipped, Vector, Malformed, input_lines, line_form}
 
 -- the number of the fault that refuses a datagram, 0 where none does
-abbrev pub outcome : Datum → ℕ
+abbrev pub outcome : ReadingView → ℕ
 outcome (NoPacket f) = ipx_fault_number f
 outcome (NoSpx f) = spx_fault_number f
 outcome (NoControl f) = control_fault_number f
 outcome (Holds d c) = 0
 
--- what a line tells: it is no vector, or a vector whose datagram has the outcome that it wants, or not
-pub data Verdict : Type 0 where
-  NoVector : Verdict
-  Passed : Verdict
-  Failed : Verdict
+-- what a line tells: it is no vector, or a vector whose datagram has the outcome that it wants,
+-- or another one
+pub data VerdictView : Type 0 where
+  NoVector : VerdictView
+  Passed : VerdictView
+  Failed : VerdictView
 
-abbrev pub verdict_view : code.Verdict → Verdict
+abbrev pub verdict_view : code.Verdict → VerdictView
 verdict_view verdicts.NoVector = NoVector
 verdict_view verdicts.Passed = Passed
 verdict_view verdicts.Failed = Failed
 
-abbrev pub IsVerdict : LineForm → Verdict → Type 0
+abbrev pub IsVerdict : LineView → VerdictView → Type 0
 IsVerdict Skipped v = v ≡ NoVector
-IsVerdict (Vector number bytes) v = (r : Datum) × IsReading bytes r × (v ≡ (if outcome r == number then Passed else Failed))
+IsVerdict (Vector number bytes) v = (r : ReadingView) × IsReading bytes r
+    × (v ≡ (if outcome r == number then Passed else Failed))
 IsVerdict Malformed v = ⊥
 
-abbrev pub is_known : LineForm → Bool
+abbrev pub is_known : LineView → Bool
 is_known Skipped = true
 is_known (Vector number bytes) = true
 is_known Malformed = false
 
-abbrev pub is_vector : Verdict → Bool
+abbrev pub is_vector : VerdictView → Bool
 is_vector NoVector = false
 is_vector Passed = true
 is_vector Failed = true
 
-abbrev pub is_failed : Verdict → Bool
+abbrev pub is_failed : VerdictView → Bool
 is_failed NoVector = false
 is_failed Passed = false
 is_failed Failed = true
 
--- the line of a vector that failed, on the line of a number
-abbrev pub failed_line : ℕ → Verdict → List ℕ
+-- written for a vector that failed: the number of its line, from 1
+abbrev pub failed_line : ℕ → VerdictView → List ℕ
 failed_line place NoVector = []
 failed_line place Passed = []
 failed_line place Failed = codes "line " ++ (decimal place ++ 10 ∷ [])
 
-abbrev pub failed_lines : List Verdict → List ℕ
+abbrev pub failed_lines : List VerdictView → List ℕ
 failed_lines vs = flat_map (λ p. failed_line p.0 p.1) (enumerate_from 1 vs)
 
--- the last line: how many vectors there were and how many failed, or, where a line of no known form follows, its number
-abbrev pub last_line : Bool → List Verdict → List ℕ
-last_line true vs = codes "checked " ++ (decimal (count_by is_vector vs) ++ (codes " failed " ++ (decimal (count_by is_failed vs) ++ 10 ∷ [])))
+-- the last line: how many vectors there were and how many failed, or, where a line of no known form
+-- follows, its number
+abbrev pub last_line : Bool → List VerdictView → List ℕ
+last_line true vs =
+    codes "checked " ++ (decimal (count_by is_vector vs)
+    ++ (codes " failed " ++ (decimal (count_by is_failed vs) ++ 10 ∷ [])))
 last_line false vs = codes "line " ++ (decimal (length vs + 1) ++ codes " bad\n")
 
-abbrev pub check_status : Bool → List Verdict → ℕ
+abbrev pub check_status : Bool → List VerdictView → ℕ
 check_status true vs = if count_by is_failed vs == 0 then 0 else 1
 check_status false vs = 2
 
--- what is written for lines: what those tell that stand before the first one of no known form, and a last line
-abbrev pub ChecksLines : List LineForm → List ℕ → ℕ → Type 0
+-- what is written for lines: what those tell that stand before the first one of no known form, and
+-- a last line
+abbrev pub ChecksLines : List LineView → List ℕ → ℕ → Type 0
 ChecksLines lines text status =
-    (vs : List Verdict) × AllZip IsVerdict (take_while is_known lines) vs
-    × (text ≡ failed_lines vs ++ last_line (list_all is_known lines) vs) × (status ≡ check_status (list_all is_known lines) vs)
+    (vs : List VerdictView) × AllZip IsVerdict (take_while is_known lines) vs
+    × (text ≡ failed_lines vs ++ last_line (list_all is_known lines) vs)
+    × (status ≡ check_status (list_all is_known lines) vs)
 
 -- what is written for an input: a bad line 0 where it is over 1,000,000 bytes
 abbrev pub CheckWrites : List ℕ → List ℕ → ℕ → Type 0
 CheckWrites input text status =
-    MatchBool (nat_lt 1000000 (length input)) ((text ≡ codes "line 0 bad\n") × (status ≡ 2)) (ChecksLines (map line_form (input_lines input)) text status)
+    MatchBool (nat_lt 1000000 (length input))
+    ((text ≡ codes "line 0 bad\n") × (status ≡ 2))
+    (ChecksLines (map line_form (input_lines input)) text status)

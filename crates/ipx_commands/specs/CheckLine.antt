@@ -1,5 +1,5 @@
 -- The lines that `check` reads.
-use Rattle.std.specs.Prelude.{ℕ, ◌+◌, ◌-◌, ◌*◌, ◌&&◌, List, length, drop, take, slice_index, position, Option, Some, None, codes, nat_le, nat_eq, ◌==◌, if◌then◌else◌}
+use Rattle.std.specs.Prelude.{ℕ, ◌+◌, ◌-◌, ◌*◌, ◌&&◌, Bool, List, length, drop, take, slice_index, position, Option, Some, None, codes, nat_le, nat_eq, ◌==◌, if◌then◌else◌}
 use Rattle.std.specs.List.{list_all, slice_split, starts_with}
 use Rattle.std.specs.Result.{result_ok}
 use Rattle.hex.specs.Hex.{decode_of}
@@ -10,42 +10,51 @@ use Rattle.ipx_commands.specs.declared.check_line.Line.TheVariants as lines
 abbrev pub input_lines : List ℕ → List (List ℕ)
 input_lines input = slice_split (λ b. b == 10) input
 
--- a line is skipped, or a vector, or of no known form; a vector is the number of the fault that its datagram must have, 0 for none, and the datagram
-pub data LineForm : Type 0 where
-  Skipped : LineForm
-  Vector : ℕ → List ℕ → LineForm
-  Malformed : LineForm
+-- a line is skipped, or a vector, or of no known form; a vector is the number of the fault that its
+-- datagram must have, 0 for none, and the datagram
+pub data LineView : Type 0 where
+  Skipped : LineView
+  Vector : ℕ → List ℕ → LineView
+  Malformed : LineView
 
-abbrev pub line_view : code.Line → LineForm
+abbrev pub line_view : code.Line → LineView
 line_view lines.Skipped = Skipped
 line_view (lines.Vector number bytes) = Vector number bytes.items
 line_view lines.Malformed = Malformed
 
+-- a byte is a digit from one to another
+abbrev pub is_from_to : ℕ → ℕ → ℕ → Bool
+is_from_to low high byte = nat_le low byte && nat_le byte high
+
 -- a number from 1 to 39 without a leading zero
 abbrev pub fault_number : List ℕ → Option ℕ
 fault_number digits =
-    if (length digits == 1) && (nat_le 49 (slice_index digits 0) && nat_le (slice_index digits 0) 57)
+    if (length digits == 1) && is_from_to 49 57 (slice_index digits 0)
     then Some (slice_index digits 0 - 48)
-    else if (length digits == 2) && ((nat_le 49 (slice_index digits 0) && nat_le (slice_index digits 0) 51) && (nat_le 48 (slice_index digits 1) && nat_le (slice_index digits 1) 57))
+    else if (length digits == 2)
+    && (is_from_to 49 51 (slice_index digits 0) && is_from_to 48 57 (slice_index digits 1))
     then Some (10 * (slice_index digits 0 - 48) + (slice_index digits 1 - 48))
     else None
 
 -- a vector, where there is a number and the text is hex
-abbrev pub vector_of : Option ℕ → Option (List ℕ) → LineForm
+abbrev pub vector_of : Option ℕ → Option (List ℕ) → LineView
 vector_of None bytes = Malformed
 vector_of (Some number) None = Malformed
 vector_of (Some number) (Some bytes) = Vector number bytes
 
 -- what stands behind `bad `: a number, the first blank and a text in hex
-abbrev pub bad_vector : List ℕ → Option ℕ → LineForm
+abbrev pub bad_vector : List ℕ → Option ℕ → LineView
 bad_vector rest None = Malformed
-bad_vector rest (Some blank) = vector_of (fault_number (take blank rest)) (result_ok (decode_of (drop (blank + 1) rest)))
+bad_vector rest (Some blank) =
+    vector_of (fault_number (take blank rest)) (result_ok (decode_of (drop (blank + 1) rest)))
 
 -- a line of blanks alone, or that begins with `#`, is skipped; else it is `ok HEX` or `bad N HEX`
-abbrev pub line_form : List ℕ → LineForm
+abbrev pub line_form : List ℕ → LineView
 line_form line =
     if list_all (λ b. b == 32) line then Skipped
     else if starts_with nat_eq line (codes "#") then Skipped
-    else if starts_with nat_eq line (codes "ok ") then vector_of (Some 0) (result_ok (decode_of (drop 3 line)))
-    else if starts_with nat_eq line (codes "bad ") then bad_vector (drop 4 line) (position (λ b. b == 32) (drop 4 line))
+    else if starts_with nat_eq line (codes "ok ")
+    then vector_of (Some 0) (result_ok (decode_of (drop 3 line)))
+    else if starts_with nat_eq line (codes "bad ")
+    then bad_vector (drop 4 line) (position (λ b. b == 32) (drop 4 line))
     else Malformed

@@ -1,8 +1,9 @@
 -- What is read out of a datagram: a packet with what its body holds, or the fault that refuses it.
 use Rattle.std.specs.Prelude.{◌≡◌, ℕ, List, Option, Some, None, ◌==◌, if◌then◌else◌}
-use Rattle.ipx_wire.specs.declared.packet.IpxHeader.{IpxHeader}
-use Rattle.ipx_wire.specs.declared.fault.IpxFault.{IpxFault}
-use Rattle.ipx_wire.specs.declared.spx.SpxHeader.{SpxHeader}
+use Rattle.ipx_wire.specs.Assigned.{rip_socket, sap_socket, spx_type}
+use Rattle.ipx_wire.specs.declared.ipx.packet.IpxHeader.{IpxHeader}
+use Rattle.ipx_wire.specs.declared.ipx.fault.IpxFault.{IpxFault}
+use Rattle.ipx_wire.specs.declared.spx.packet.SpxHeader.{SpxHeader}
 use Rattle.ipx_wire.specs.declared.spx.fault.SpxFault.{SpxFault}
 use Rattle.ipx_wire.specs.Ipx.{PacketView, IsIpx, ipx_fault, view}
 use Rattle.ipx_wire.specs.Spx.{IsSpx, spx_fault}
@@ -21,36 +22,37 @@ pub data Protocol : Type 0 where
   Sap : Protocol
   Other : Protocol
 
--- destination socket 0453 is RIP and 0452 SAP
+-- by the destination socket
 abbrev pub protocol_at : ℕ → Protocol
 protocol_at socket =
-    if socket == 0x453 then Rip
-    else if socket == 0x452 then Sap
+    if socket == rip_socket then Rip
+    else if socket == sap_socket then Sap
     else Other
 
--- packet type 5 is SPX, whatever the socket
+-- SPX has a packet type of its own, whatever the socket
 abbrev pub protocol_of : IpxHeader → Protocol
-protocol_of h = if h.kind == 5 then Spx else protocol_at h.to.socket.0
+protocol_of h = if h.kind == spx_type then Spx else protocol_at h.to.socket.0
 
 -- what a body holds, without where it lies in memory
-pub data Content : Type 0 where
-  Plain : Content
-  OfSpx : SpxHeader → List ℕ → Content
-  OfRip : RipView → Content
-  OfSap : SapView → Content
+pub data ContentsView : Type 0 where
+  Plain : ContentsView
+  OfSpx : SpxHeader → List ℕ → ContentsView
+  OfRip : RipView → ContentsView
+  OfSap : SapView → ContentsView
 
-abbrev pub content_view : code.Contents → Content
-content_view bodies.Plain = Plain
-content_view (bodies.OfSpx header payload) = OfSpx header payload.now
-content_view (bodies.OfRip rip) = OfRip (rip_view rip)
-content_view (bodies.OfSap sap) = OfSap (sap_view sap)
+abbrev pub contents_view : code.Contents → ContentsView
+contents_view bodies.Plain = Plain
+contents_view (bodies.OfSpx header payload) = OfSpx header payload.now
+contents_view (bodies.OfRip rip) = OfRip (rip_view rip)
+contents_view (bodies.OfSap sap) = OfSap (sap_view sap)
 
 -- a body's bytes hold this; only those of SPX, RIP and SAP are read
-abbrev pub IsContent : Protocol → List ℕ → Content → Type 0
-IsContent Spx body c = (h : SpxHeader) × (payload : List ℕ) × IsSpx h payload body × (c ≡ OfSpx h payload)
-IsContent Rip body c = (m : RipView) × (tail : List ℕ) × IsRip m body tail × (c ≡ OfRip m)
-IsContent Sap body c = (m : SapView) × (tail : List ℕ) × IsSap m body tail × (c ≡ OfSap m)
-IsContent Other body c = c ≡ Plain
+abbrev pub IsContents : Protocol → List ℕ → ContentsView → Type 0
+IsContents Spx body c =
+    (h : SpxHeader) × (payload : List ℕ) × IsSpx h payload body × (c ≡ OfSpx h payload)
+IsContents Rip body c = (m : RipView) × (tail : List ℕ) × IsRip m body tail × (c ≡ OfRip m)
+IsContents Sap body c = (m : SapView) × (tail : List ℕ) × IsSap m body tail × (c ≡ OfSap m)
+IsContents Other body c = c ≡ Plain
 
 -- the fault that refuses a body of RIP or SAP
 abbrev pub body_fault : Protocol → List ℕ → Option ControlFault
@@ -60,21 +62,24 @@ body_fault Sap body = sap_fault body
 body_fault Other body = None
 
 -- a packet with what its body holds, or the fault that refuses the packet or its body
-pub data Datum : Type 0 where
-  NoPacket : IpxFault → Datum
-  NoSpx : SpxFault → Datum
-  NoControl : ControlFault → Datum
-  Holds : PacketView → Content → Datum
+pub data ReadingView : Type 0 where
+  NoPacket : IpxFault → ReadingView
+  NoSpx : SpxFault → ReadingView
+  NoControl : ControlFault → ReadingView
+  Holds : PacketView → ContentsView → ReadingView
 
-abbrev pub reading_view : readings_of.Reading → Datum
+abbrev pub reading_view : readings_of.Reading → ReadingView
 reading_view (readings.NoPacket fault) = NoPacket fault
 reading_view (readings.NoSpx fault) = NoSpx fault
 reading_view (readings.NoControl fault) = NoControl fault
-reading_view (readings.Holds packet contents) = Holds (view packet) (content_view contents)
+reading_view (readings.Holds packet contents) = Holds (view packet) (contents_view contents)
 
 -- the bytes are read as this
-abbrev pub IsReading : List ℕ → Datum → Type 0
+abbrev pub IsReading : List ℕ → ReadingView → Type 0
 IsReading bytes (NoPacket f) = ipx_fault bytes ≡ Some f
-IsReading bytes (NoSpx f) = (d : PacketView) × (tail : List ℕ) × IsIpx d bytes tail × (protocol_of d.header ≡ Spx) × (spx_fault d.body ≡ Some f)
-IsReading bytes (NoControl f) = (d : PacketView) × (tail : List ℕ) × IsIpx d bytes tail × (body_fault (protocol_of d.header) d.body ≡ Some f)
-IsReading bytes (Holds d c) = (tail : List ℕ) × IsIpx d bytes tail × IsContent (protocol_of d.header) d.body c
+IsReading bytes (NoSpx f) = (d : PacketView) × (tail : List ℕ) × IsIpx d bytes tail
+    × (protocol_of d.header ≡ Spx) × (spx_fault d.body ≡ Some f)
+IsReading bytes (NoControl f) = (d : PacketView) × (tail : List ℕ) × IsIpx d bytes tail
+    × (body_fault (protocol_of d.header) d.body ≡ Some f)
+IsReading bytes (Holds d c) =
+    (tail : List ℕ) × IsIpx d bytes tail × IsContents (protocol_of d.header) d.body c

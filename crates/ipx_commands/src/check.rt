@@ -5,22 +5,21 @@ ghost use Rattle.std.specs.Io.KnownBytes.{Appends};
 ghost use Rattle.ipx_commands.specs.Text.{IsInput};
 ghost use Rattle.ipx_commands.specs.Reading.{reading_view};
 ghost use Rattle.ipx_commands.specs.CheckLine.{Malformed as no_line, Vector as vector, input_lines, line_form};
-ghost use Rattle.ipx_commands.specs.Check.{CheckWrites, ChecksLines, Failed as told_failed, IsVerdict, Verdict as Told, check_status, control_fault_number, failed_line, failed_lines, ipx_fault_number, last_line, outcome, spx_fault_number, verdict_view};
+ghost use Rattle.ipx_commands.specs.Check.{CheckWrites, ChecksLines, Failed as told_failed, IsVerdict, VerdictView, check_status, failed_line, failed_lines, last_line, outcome, verdict_view};
 ghost use Rattle.ipx_commands.specs.Tally.{IsTally};
 
 use crate::check_line::{Line, read_line};
 use crate::input::{InputFault, read_up_to};
 use crate::output::{tell_no_memory, write_lines};
 use crate::reading::{Reading, read_datagram};
-use ipx_control::ControlFault;
-use ipx_wire::{IpxFault, OutOfMemory, SpxFault};
+use ipx_wire::OutOfMemory;
 use std::alloc::{AllocError, Global};
 use std::io::{Read, Write};
 
-/// The longest input.
+/// The longest input, in bytes.
 const MOST: usize = 1_000_000;
 
-/// What a line tells.
+/// Whether the datagram of a line has the outcome that the line wants.
 #[derive(Clone, Copy)]
 pub enum Verdict {
     NoVector,
@@ -38,48 +37,15 @@ pub struct Tally {
     failed: usize,
 }
 
-fn number_of_ipx_fault(fault: IpxFault) -> u8
-    ensures { result ≡ ipx_fault_number fault }
-{
-    match fault {
-        IpxFault::Short(_) => 1,
-        IpxFault::Checksummed(_) => 2,
-        IpxFault::LengthShort(_) => 3,
-        IpxFault::Truncated(_, _) => 4,
-        IpxFault::TooLong(_) => 5,
-    }
-}
-
-fn number_of_spx_fault(fault: SpxFault) -> u8
-    ensures { result ≡ spx_fault_number fault }
-{
-    match fault {
-        SpxFault::SpxShort(_) => 6,
-        SpxFault::OverSize(_) => 7,
-    }
-}
-
-fn number_of_control_fault(fault: ControlFault) -> u8
-    ensures { result ≡ control_fault_number fault }
-{
-    match fault {
-        ControlFault::NoOperation => 8,
-        ControlFault::UnknownOperation(_) => 9,
-        ControlFault::TooManyEntries(_) => 10,
-        ControlFault::QueryShort(_) => 11,
-        ControlFault::OutOfMemory => 12,
-    }
-}
-
 /// The number of the fault that refuses a datagram, 0 where none does.
 fn outcome_of(reading: &Reading<'_>) -> u8
     ensures { result ≡ outcome (reading_view reading.now) }
 {
     match reading {
-        Reading::NoPacket(fault) => return number_of_ipx_fault(*fault),
-        Reading::NoSpx(fault) => return number_of_spx_fault(*fault),
-        Reading::NoControl(fault) => return number_of_control_fault(*fault),
-        Reading::Holds(_, _) => return 0,
+        Reading::NoPacket(fault) => fault.number(),
+        Reading::NoSpx(fault) => fault.number(),
+        Reading::NoControl(fault) => fault.number(),
+        Reading::Holds(_, _) => 0,
     }
 }
 
@@ -93,9 +59,11 @@ fn verdict_on(alloc: Global, number: u8, bytes: &[u8]) -> Result<Verdict, OutOfM
     Ok(Verdict::Failed)
 }
 
-/// What a line tells, if it is of a known form.
+/// `None` is a line of no known form.
 fn verdict_of(alloc: Global, line: &[u8]) -> Result<Option<Verdict>, OutOfMemory>
-    ensures { IfOk result (λ o. MatchOption o (line_form line.now ≡ no_line) (λ v. IsVerdict (line_form line.now) (verdict_view v))) }
+    ensures { IfOk result (λ o. MatchOption o
+        (line_form line.now ≡ no_line)
+        (λ v. IsVerdict (line_form line.now) (verdict_view v))) }
 {
     match read_line(alloc, line)? {
         Line::Malformed => return Ok(None),
@@ -113,12 +81,13 @@ fn failed_to_line(alloc: Global, place: usize) -> Result<String, AllocError>
     format!(in alloc; "line {place}\n")
 }
 
-/// One more verdict.
+/// Counts one more line; where its vector failed, the line is written.
 fn note(alloc: Global, tally: &mut Tally, verdict: Verdict) -> Result<(), AllocError>
     requires lines { tally.old.lines ≤ 1000001 }
     requires vectors { tally.old.vectors ≤ tally.old.lines }
     requires failed { tally.old.failed ≤ tally.old.lines }
-    ensures { OnOk result ((vs : List Told) → IsTally vs tally.old → IsTally (vs ++ verdict_view verdict ∷ []) tally.new) }
+    ensures { OnOk result ((vs : List VerdictView) → IsTally vs tally.old
+        → IsTally (vs ++ verdict_view verdict ∷ []) tally.new) }
 {
     let place = tally.lines + 1;
     match verdict {
@@ -145,7 +114,9 @@ fn note(alloc: Global, tally: &mut Tally, verdict: Verdict) -> Result<(), AllocE
 /// The lines and the status where a line of no known form comes next.
 fn lines_at_bad_line(alloc: Global, tally: &Tally) -> Result<(String, u8), OutOfMemory>
     requires { tally.now.lines ≤ 1000001 }
-    ensures { IfOk result (λ r. (vs : List Told) → IsTally vs tally.now → (string_bytes r.0 ≡ failed_lines vs ++ last_line false vs) × (r.1 ≡ check_status false vs)) }
+    ensures { IfOk result (λ r. (vs : List VerdictView) → IsTally vs tally.now
+        → (string_bytes r.0 ≡ failed_lines vs ++ last_line false vs)
+        × (r.1 ≡ check_status false vs)) }
 {
     let text = tally.text.as_str();
     let place = tally.lines + 1;
@@ -154,7 +125,9 @@ fn lines_at_bad_line(alloc: Global, tally: &Tally) -> Result<(String, u8), OutOf
 
 /// The lines and the status where all lines were read.
 fn lines_at_end(alloc: Global, tally: &Tally) -> Result<(String, u8), OutOfMemory>
-    ensures { IfOk result (λ r. (vs : List Told) → IsTally vs tally.now → (string_bytes r.0 ≡ failed_lines vs ++ last_line true vs) × (r.1 ≡ check_status true vs)) }
+    ensures { IfOk result (λ r. (vs : List VerdictView) → IsTally vs tally.now
+        → (string_bytes r.0 ≡ failed_lines vs ++ last_line true vs)
+        × (r.1 ≡ check_status true vs)) }
 {
     let text = tally.text.as_str();
     let vectors = tally.vectors;
@@ -166,10 +139,10 @@ fn lines_at_end(alloc: Global, tally: &Tally) -> Result<(String, u8), OutOfMemor
     Ok((lines, 1))
 }
 
-/// The lines and the status for lines of vectors.
 fn check_lines(alloc: Global, input: &[u8]) -> Result<(String, u8), OutOfMemory>
     requires { length input.now ≤ 1000000 }
-    ensures { IfOk result (λ r. ChecksLines (map line_form (input_lines input.now)) (string_bytes r.0) r.1) }
+    ensures { IfOk result (λ r.
+        ChecksLines (map line_form (input_lines input.now)) (string_bytes r.0) r.1) }
 {
     let mut tally = Tally {
         text: String::new(alloc),
@@ -186,7 +159,6 @@ fn check_lines(alloc: Global, input: &[u8]) -> Result<(String, u8), OutOfMemory>
     lines_at_end(alloc, &tally)
 }
 
-/// The lines and the status for an input.
 fn lines_for_input(alloc: Global, input: &[u8]) -> Result<(String, u8), OutOfMemory>
     ensures { IfOk result (λ r. CheckWrites input.now (string_bytes r.0) r.1) }
 {
@@ -196,16 +168,18 @@ fn lines_for_input(alloc: Global, input: &[u8]) -> Result<(String, u8), OutOfMem
     check_lines(alloc, input)
 }
 
-/// Reads lines of vectors, at most 1,000,000 bytes, and writes which of them have another outcome
-/// than they want, and how many vectors there were and how many failed.
+/// The command `check`: reads lines of vectors, at most 1,000,000 bytes, and writes which of them
+/// have another outcome than they want, and how many vectors there were and how many failed.
 ///
 /// `Ok` is the status that goes with the lines that were written: 0 where all vectors passed, 1
 /// where one failed, 2 for a line of no known form and for an input that is too long. `Err` is the
 /// status 1 of a read or write fault, after which nothing more is written, or of want of memory,
 /// which writes `fault (14) OutOfMemory`.
 pub fn do_check<R: Read, W: Write>(alloc: Global, reader: &mut R, writer: &mut W) -> Result<u8, u8>
-    ensures written { IfOk result (λ status. (input : List ℕ) × IsInput (R.remaining reader.old) input × (lines : List ℕ)
-        × CheckWrites input lines status × Appends (W.contents writer.old) (W.contents writer.new) lines) }
+    ensures written { IfOk result (λ status.
+        (input : List ℕ) × IsInput (R.remaining reader.old) input
+        × (lines : List ℕ) × CheckWrites input lines status
+        × Appends (W.contents writer.old) (W.contents writer.new) lines) }
     ensures fault { IfErr result (λ status. status ≡ 1) }
 {
     let input = match read_up_to(alloc, reader, MOST + 1) {

@@ -61,7 +61,8 @@ fn vector_in(alloc: Global, number: Option<u8>, text: &[u8]) -> Result<Line, Out
 
 /// What stands behind `bad `: a number, the first blank and a text in hex.
 fn bad_vector_in(alloc: Global, rest: &[u8]) -> Result<Line, OutOfMemory>
-    ensures { IfOk result (λ l. line_view l ≡ bad_vector rest.now (position (λ b. b == 32) rest.now)) }
+    ensures { IfOk result (λ l.
+        line_view l ≡ bad_vector rest.now (position (λ b. b == 32) rest.now)) }
 {
     match place_of(rest, b' ') {
         Some(end) => return vector_in(alloc, fault_number_of(&rest[..end]), &rest[end + 1..]),
@@ -69,7 +70,6 @@ fn bad_vector_in(alloc: Global, rest: &[u8]) -> Result<Line, OutOfMemory>
     }
 }
 
-/// What a line is.
 pub fn read_line(alloc: Global, line: &[u8]) -> Result<Line, OutOfMemory>
     ensures { IfOk result (λ l. line_view l ≡ line_form line.now) }
 {

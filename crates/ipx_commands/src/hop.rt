@@ -4,18 +4,19 @@ ghost use Rattle.std.specs.Prelude.{◌≡◌, IfErr, IfOk, ℕ, List, string_by
 ghost use Rattle.std.specs.Option.{option_map};
 ghost use Rattle.std.specs.Io.KnownBytes.{Appends};
 ghost use Rattle.ipx_commands.specs.Text.{IsInput, packet_of_text, without_line_end};
-ghost use Rattle.ipx_commands.specs.Hop.{HopAnswers, HopWrites, hop_routing};
+ghost use Rattle.ipx_router.specs.OutcomeView.{view};
+ghost use Rattle.ipx_commands.specs.Hop.{HopAnswers, HopOutcome, HopWrites, hop_routing};
 
 use crate::input::{InputFault, read_up_to};
 use crate::line::{outcome_lines, outcome_status};
 use crate::output::tell_no_memory;
 use hex::FromHexError;
-use ipx_router::{Port, Router};
+use ipx_router::{Outcome, Port, Router};
 use ipx_wire::{Network, Node, OutOfMemory};
 use std::alloc::Global;
 use std::io::{Read, Write};
 
-/// The longest text.
+/// The longest text, in bytes, with its line end.
 const MOST: usize = 4096;
 
 fn cut_line_end(text: &[u8]) -> &[u8]
@@ -61,18 +62,25 @@ fn hop_router(alloc: Global) -> Result<Router, OutOfMemory>
     }
 }
 
-/// The lines and the status for bytes that come in on port 1.
-fn line_for_bytes(alloc: Global, bytes: &[u8]) -> Result<(String, u8), OutOfMemory>
-    ensures { IfOk result (λ r. HopAnswers bytes.now (string_bytes r.0) r.1) }
+/// What becomes of bytes that come in on port 1.
+fn outcome_for_bytes(alloc: Global, bytes: &[u8]) -> Result<Outcome, OutOfMemory>
+    ensures { IfOk result (λ o. HopOutcome bytes.now (view o)) }
 {
     let mut router = hop_router(alloc)?;
     let outcome = router.receive(alloc, 1, bytes, 0)?;
+    Ok(outcome)
+}
+
+/// The lines and the status for those bytes.
+fn line_for_bytes(alloc: Global, bytes: &[u8]) -> Result<(String, u8), OutOfMemory>
+    ensures { IfOk result (λ r. HopAnswers bytes.now (string_bytes r.0) r.1) }
+{
+    let outcome = outcome_for_bytes(alloc, bytes)?;
     let lines = outcome_lines(alloc, &outcome)?;
     let status = outcome_status(&outcome);
     Ok((lines, status))
 }
 
-/// The line and the status for a text.
 fn line_for_text(alloc: Global, text: &[u8]) -> Result<(String, u8), OutOfMemory>
     ensures { IfOk result (λ r. HopWrites text.now (string_bytes r.0) r.1) }
 {
@@ -82,16 +90,18 @@ fn line_for_text(alloc: Global, text: &[u8]) -> Result<(String, u8), OutOfMemory
     }
 }
 
-/// Reads one packet in hex, at most 4,096 bytes of text with at most one line end, and writes what
-/// becomes of it on port 1 of a router with two ports.
+/// The command `hop`: reads one packet in hex, at most 4,096 bytes of text with at most one line
+/// end, and writes what becomes of it on port 1 of a router with two ports.
 ///
-/// `Ok` is the status that goes with the lines that were written: 0 for a packet that goes on, is
-/// answered or is heard, 1 for one that is dropped, 2 for text that is no packet in hex. `Err` is the status 1 of a read or
-/// write fault, after which nothing more is written, or of want of memory, which writes
-/// `fault (14) OutOfMemory`.
+/// `Ok` is the status that goes with the lines that were written: 0 for a packet that is forwarded,
+/// answered or heard, 1 for one that is dropped, 2 for text that is no packet in hex. `Err` is the
+/// status 1 of a read or write fault, after which nothing more is written, or of want of memory,
+/// which writes `fault (14) OutOfMemory`.
 pub fn do_hop<R: Read, W: Write>(alloc: Global, reader: &mut R, writer: &mut W) -> Result<u8, u8>
-    ensures written { IfOk result (λ status. (input : List ℕ) × IsInput (R.remaining reader.old) input × (line : List ℕ)
-        × HopWrites input line status × Appends (W.contents writer.old) (W.contents writer.new) line) }
+    ensures written { IfOk result (λ status.
+        (input : List ℕ) × IsInput (R.remaining reader.old) input
+        × (line : List ℕ) × HopWrites input line status
+        × Appends (W.contents writer.old) (W.contents writer.new) line) }
     ensures fault { IfErr result (λ status. status ≡ 1) }
 {
     let text = match read_up_to(alloc, reader, MOST + 1) {

@@ -5,6 +5,7 @@ mod check;
 mod check_line;
 mod hop;
 mod input;
+mod laws;
 mod line;
 mod output;
 mod place;
@@ -14,12 +15,6 @@ mod show_line;
 
 pub use check::do_check;
 pub use hop::do_hop;
+pub use laws::{check_is_one, hop_is_one, reading_is_one, show_is_one};
 pub use output::tell_no_memory;
 pub use show::do_show;
-
-#[cfg(test)]
-mod check_tests;
-#[cfg(test)]
-mod show_tests;
-#[cfg(test)]
-mod tests;

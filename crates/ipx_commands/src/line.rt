@@ -2,64 +2,104 @@
 
 ghost use Rattle.std.specs.Prelude.{◌≡◌, IfOk, string_bytes};
 ghost use Rattle.std.specs.List.{flat_map};
-ghost use Rattle.ipx_router.specs.Answer.{view};
+ghost use Rattle.ipx_router.specs.OutcomeView.{view};
 ghost use Rattle.ipx_router.specs.Packets.{sending_of, sendings};
-ghost use Rattle.ipx_commands.specs.Line.{control_fault_text, fault_text, lines_of, reason_text, sending_line, sending_text, spx_fault_text, status_of};
+ghost use Rattle.ipx_commands.specs.Line.{control_fault_name, control_fault_text, fault_name, fault_text, lines_of, no_route_name, numbered, reason_text, sending_line, sending_text, spx_fault_name, spx_fault_text, status_of};
 
 use ipx_control::ControlFault;
 use ipx_router::{Outcome, Reason, Reply};
-use ipx_wire::{IpxFault, SpxFault};
+use ipx_wire::{IpxFault, Network, SpxFault};
 use std::alloc::{AllocError, Global};
 
+/// A number in brackets, and what it stands for.
+fn numbered_text(alloc: Global, number: u8, name: &str) -> Result<String, AllocError>
+    ensures { IfOk result (λ t. string_bytes t ≡ numbered number name.now) }
+{
+    format!(in alloc; "({number}) {name}")
+}
+
+fn fault_to_name(alloc: Global, fault: IpxFault) -> Result<String, AllocError>
+    ensures { IfOk result (λ t. string_bytes t ≡ fault_name fault) }
+{
+    match fault {
+        IpxFault::Short(have) => format!(in alloc; "Short {have}"),
+        IpxFault::Checksummed(value) => format!(in alloc; "Checksummed {value}"),
+        IpxFault::LengthShort(value) => format!(in alloc; "LengthShort {value}"),
+        IpxFault::Truncated(said, have) => format!(in alloc; "Truncated {said} {have}"),
+        IpxFault::TooLong(value) => format!(in alloc; "TooLong {value}"),
+    }
+}
+
+fn spx_fault_to_name(alloc: Global, fault: SpxFault) -> Result<String, AllocError>
+    ensures { IfOk result (λ t. string_bytes t ≡ spx_fault_name fault) }
+{
+    match fault {
+        SpxFault::SpxShort(have) => format!(in alloc; "SpxShort {have}"),
+        SpxFault::OverSize(have) => format!(in alloc; "OverSize {have}"),
+    }
+}
+
+fn control_fault_to_name(alloc: Global, fault: ControlFault) -> Result<String, AllocError>
+    ensures { IfOk result (λ t. string_bytes t ≡ control_fault_name fault) }
+{
+    match fault {
+        ControlFault::NoOperation => String::from_str(alloc, "NoOperation"),
+        ControlFault::UnknownOperation(operation) => {
+            format!(in alloc; "UnknownOperation {operation}")
+        }
+        ControlFault::TooManyEntries(count) => format!(in alloc; "TooManyEntries {count}"),
+        ControlFault::QueryShort(have) => format!(in alloc; "QueryShort {have}"),
+        ControlFault::OutOfMemory => String::from_str(alloc, "OutOfMemory"),
+    }
+}
+
+/// A fault of an IPX header: its number, its name and its values.
 pub fn fault_to_text(alloc: Global, fault: IpxFault) -> Result<String, AllocError>
     ensures { IfOk result (λ t. string_bytes t ≡ fault_text fault) }
 {
-    match fault {
-        IpxFault::Short(have) => format!(in alloc; "(1) Short {have}"),
-        IpxFault::Checksummed(value) => format!(in alloc; "(2) Checksummed {value}"),
-        IpxFault::LengthShort(value) => format!(in alloc; "(3) LengthShort {value}"),
-        IpxFault::Truncated(said, have) => format!(in alloc; "(4) Truncated {said} {have}"),
-        IpxFault::TooLong(value) => format!(in alloc; "(5) TooLong {value}"),
-    }
+    let name = fault_to_name(alloc, fault)?;
+    numbered_text(alloc, fault.number(), &name)
 }
 
+/// The same of an SPX header.
 pub fn spx_fault_to_text(alloc: Global, fault: SpxFault) -> Result<String, AllocError>
     ensures { IfOk result (λ t. string_bytes t ≡ spx_fault_text fault) }
 {
-    match fault {
-        SpxFault::SpxShort(have) => format!(in alloc; "(6) SpxShort {have}"),
-        SpxFault::OverSize(have) => format!(in alloc; "(7) OverSize {have}"),
-    }
+    let name = spx_fault_to_name(alloc, fault)?;
+    numbered_text(alloc, fault.number(), &name)
 }
 
+/// The same of a RIP or SAP packet.
 pub fn control_fault_to_text(alloc: Global, fault: ControlFault) -> Result<String, AllocError>
     ensures { IfOk result (λ t. string_bytes t ≡ control_fault_text fault) }
 {
-    match fault {
-        ControlFault::NoOperation => String::from_str(alloc, "(8) NoOperation"),
-        ControlFault::UnknownOperation(operation) => {
-            format!(in alloc; "(9) UnknownOperation {operation}")
-        }
-        ControlFault::TooManyEntries(count) => format!(in alloc; "(10) TooManyEntries {count}"),
-        ControlFault::QueryShort(have) => format!(in alloc; "(11) QueryShort {have}"),
-        ControlFault::OutOfMemory => String::from_str(alloc, "(12) OutOfMemory"),
-    }
+    let name = control_fault_to_name(alloc, fault)?;
+    numbered_text(alloc, fault.number(), &name)
 }
 
+fn no_route_to_name(alloc: Global, network: Network) -> Result<String, AllocError>
+    ensures { IfOk result (λ t. string_bytes t ≡ no_route_name network) }
+{
+    let digits = hex::encode(alloc, network.0.to_be_bytes())?;
+    format!(in alloc; "NoRoute {digits}")
+}
+
+/// Why a packet was dropped: the reason's number and name, or those of the fault that it holds.
 pub fn reason_to_text(alloc: Global, reason: Reason) -> Result<String, AllocError>
     ensures { IfOk result (λ t. string_bytes t ≡ reason_text reason) }
 {
+    let number = reason.number();
     match reason {
         Reason::Bad(fault) => fault_to_text(alloc, fault),
-        Reason::Propagated => String::from_str(alloc, "(19) Propagated"),
-        Reason::NotOurs => String::from_str(alloc, "(20) NotOurs"),
+        Reason::Propagated => numbered_text(alloc, number, "Propagated"),
+        Reason::NotOurs => numbered_text(alloc, number, "NotOurs"),
         Reason::NoRoute(network) => {
-            let digits = hex::encode(alloc, network.0.to_be_bytes())?;
-            format!(in alloc; "(21) NoRoute {digits}")
+            let name = no_route_to_name(alloc, network)?;
+            numbered_text(alloc, number, &name)
         }
-        Reason::HopLimit => String::from_str(alloc, "(22) HopLimit"),
+        Reason::HopLimit => numbered_text(alloc, number, "HopLimit"),
         Reason::BadControl(fault) => control_fault_to_text(alloc, fault),
-        Reason::TableFull => String::from_str(alloc, "(24) TableFull"),
+        Reason::TableFull => numbered_text(alloc, number, "TableFull"),
     }
 }
 
@@ -109,7 +149,7 @@ pub fn outcome_lines(alloc: Global, outcome: &Outcome) -> Result<String, AllocEr
     }
 }
 
-/// The status that goes with an outcome.
+/// 1 for a packet that was dropped, else 0.
 pub fn outcome_status(outcome: &Outcome) -> u8
     ensures { result ≡ status_of (view outcome.now) }
 {

@@ -6,7 +6,8 @@ ghost use Rattle.std.specs.Io.KnownBytes.{Appends};
 use ipx_wire::OutOfMemory;
 use std::io::Write;
 
-/// Writes that memory ran out, if that can be written, and answers the status that goes with it.
+/// Writes `fault (14) OutOfMemory`, if that can be written, and answers status 1. A program calls
+/// it where memory runs out before it knows which command to run.
 pub fn tell_no_memory<W: Write>(writer: &mut W) -> u8
     ensures { result ≡ 1 }
 {

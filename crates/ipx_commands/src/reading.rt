@@ -2,10 +2,12 @@
 
 ghost use Rattle.std.specs.Prelude.{◌≡◌, ◌⊎◌, IfOk, IfErr, Some, None};
 ghost use Rattle.ipx_wire.specs.Spx.{spx_fault};
-ghost use Rattle.ipx_commands.specs.Reading.{IsContent, IsReading, Spx, body_fault, content_view, protocol_at, reading_view};
+ghost use Rattle.ipx_commands.specs.Reading.{IsContents, IsReading, Spx, body_fault, contents_view, protocol_at, reading_view};
 
 use ipx_control::{ControlFault, Rip, Sap, decode_rip, decode_sap};
-use ipx_wire::{IpxFault, OutOfMemory, Packet, Socket, SpxFault, SpxHeader, decode, decode_spx};
+use ipx_wire::{
+    IpxFault, OutOfMemory, Packet, Socket, SpxFault, SpxHeader, decode, decode_spx, packet_type,
+};
 use std::alloc::Global;
 
 /// What a body holds. The payload of an SPX packet is lent.
@@ -28,7 +30,7 @@ pub enum Reading<'a> {
 
 /// What the body of a packet of type 5 holds.
 fn spx_contents(body: &[u8]) -> Result<Contents<'_>, SpxFault>
-    ensures found { IfOk result (λ c. IsContent Spx body.now (content_view c)) }
+    ensures found { IfOk result (λ c. IsContents Spx body.now (contents_view c)) }
     ensures fault { IfErr result (λ f. spx_fault body.now ≡ Some f) }
 {
     let (header, payload) = decode_spx(body)?;
@@ -42,21 +44,24 @@ fn contents_at<'a>(
     socket: Socket,
     body: &'a [u8],
 ) -> Result<Contents<'a>, ControlFault>
-    ensures found { IfOk result (λ c. IsContent (protocol_at socket.0) body.now (content_view c)) }
-    ensures fault { IfErr result (λ f. (f ≡ ControlFault.OutOfMemory) ⊎ (body_fault (protocol_at socket.0) body.now ≡ Some f)) }
+    ensures found { IfOk result (λ c.
+        IsContents (protocol_at socket.0) body.now (contents_view c)) }
+    ensures fault { IfErr result (λ f. (f ≡ ControlFault.OutOfMemory)
+        ⊎ (body_fault (protocol_at socket.0) body.now ≡ Some f)) }
 {
-    if socket.0 == 0x453 {
+    if socket.0 == Socket::RIP.0 {
         let rip = decode_rip(alloc, body)?;
         return Ok(Contents::OfRip(rip));
     }
-    if socket.0 == 0x452 {
+    if socket.0 == Socket::SAP.0 {
         let sap = decode_sap(alloc, body)?;
         return Ok(Contents::OfSap(sap));
     }
     Ok(Contents::Plain)
 }
 
-/// What a datagram is. Packet type 5 is SPX, whatever the socket.
+/// Reads a datagram and what its body holds. Packet type 5 is SPX, whatever the socket; else the
+/// destination socket says what the body is. It wants memory for the entries of RIP and SAP alone.
 pub fn read_datagram(alloc: Global, bytes: &[u8]) -> Result<Reading<'_>, OutOfMemory>
     ensures { IfOk result (λ r. IsReading bytes.now (reading_view r)) }
 {
@@ -64,7 +69,7 @@ pub fn read_datagram(alloc: Global, bytes: &[u8]) -> Result<Reading<'_>, OutOfMe
         Ok(packet) => packet,
         Err(fault) => return Ok(Reading::NoPacket(fault)),
     };
-    if packet.header.kind == 5 {
+    if packet.header.kind == packet_type::SPX {
         match spx_contents(packet.body) {
             Ok(contents) => return Ok(Reading::Holds(packet, contents)),
             Err(fault) => return Ok(Reading::NoSpx(fault)),

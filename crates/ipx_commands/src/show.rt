@@ -12,7 +12,6 @@ use ipx_wire::OutOfMemory;
 use std::alloc::Global;
 use std::io::Write;
 
-/// The lines and the status for a datagram.
 fn lines_for_bytes(alloc: Global, bytes: &[u8]) -> Result<(String, u8), OutOfMemory>
     ensures { IfOk result (λ r. Shows bytes.now (string_bytes r.0) r.1) }
 {
@@ -22,7 +21,6 @@ fn lines_for_bytes(alloc: Global, bytes: &[u8]) -> Result<(String, u8), OutOfMem
     Ok((lines, status))
 }
 
-/// The lines and the status for a text.
 fn lines_for_text(alloc: Global, text: &str) -> Result<(String, u8), OutOfMemory>
     ensures { IfOk result (λ r. ShowWrites text.now (string_bytes r.0) r.1) }
 {
@@ -33,15 +31,16 @@ fn lines_for_text(alloc: Global, text: &str) -> Result<(String, u8), OutOfMemory
     }
 }
 
-/// Writes the fields of the packet that a text in hex stands for, and of the SPX, RIP or SAP packet
-/// in its body, or the fault that refuses them.
+/// The command `show`: writes the fields of the packet that a text in hex stands for, and of the
+/// SPX, RIP or SAP packet in its body, or the fault that refuses them.
 ///
 /// `Ok` is the status that goes with the lines that were written: 0 for a packet, 1 for one that is
 /// refused, 2 for text that is no hex. `Err` is the status 1 of a write fault, after which nothing
 /// more is written, or of want of memory, which writes `fault (14) OutOfMemory`.
 pub fn do_show<W: Write>(alloc: Global, text: &str, writer: &mut W) -> Result<u8, u8>
-    ensures written { IfOk result (λ status. (lines : List ℕ)
-        × ShowWrites text.now lines status × Appends (W.contents writer.old) (W.contents writer.new) lines) }
+    ensures written { IfOk result (λ status.
+        (lines : List ℕ) × ShowWrites text.now lines status
+        × Appends (W.contents writer.old) (W.contents writer.new) lines) }
     ensures fault { IfErr result (λ status. status ≡ 1) }
 {
     write_lines(writer, lines_for_text(alloc, text))

@@ -5,8 +5,8 @@ ghost use Rattle.std.specs.List.{before_first, flat_map};
 ghost use Rattle.ipx_wire.specs.Ipx.{view};
 ghost use Rattle.ipx_control.specs.Rip.{rip_view};
 ghost use Rattle.ipx_control.specs.Sap.{sap_view};
-ghost use Rattle.ipx_commands.specs.Reading.{content_view, reading_view};
-ghost use Rattle.ipx_commands.specs.ShowLine.{address_text, bit_text, content_lines, control_text, counts_text, header_lines, ids_text, name_byte, name_text, reach, reading_lines, reading_status, rip_entry_line, rip_lines, sap_lines, service_line, spx_line, word_text};
+ghost use Rattle.ipx_commands.specs.Reading.{contents_view, reading_view};
+ghost use Rattle.ipx_commands.specs.ShowLine.{address_text, bit_text, contents_lines, control_text, counts_text, header_lines, ids_text, name_byte, name_text, reach, reading_lines, reading_status, rip_entry_line, rip_lines, sap_lines, service_line, spx_line, word_text};
 
 use crate::line::{control_fault_to_text, fault_to_text, spx_fault_to_text};
 use crate::place::place_of;
@@ -211,7 +211,7 @@ fn sap_to_lines(alloc: Global, sap: &Sap) -> Result<String, AllocError>
 }
 
 fn contents_to_lines(alloc: Global, contents: &Contents<'_>) -> Result<String, AllocError>
-    ensures { IfOk result (λ t. string_bytes t ≡ content_lines (content_view contents.now)) }
+    ensures { IfOk result (λ t. string_bytes t ≡ contents_lines (contents_view contents.now)) }
 {
     match contents {
         Contents::Plain => return Ok(String::new(alloc)),
@@ -221,7 +221,7 @@ fn contents_to_lines(alloc: Global, contents: &Contents<'_>) -> Result<String, A
     }
 }
 
-/// The lines of what a datagram is.
+/// The header, and what the body holds; or the fault, on one line.
 pub fn reading_to_lines(alloc: Global, reading: &Reading<'_>) -> Result<String, AllocError>
     ensures { IfOk result (λ t. string_bytes t ≡ reading_lines (reading_view reading.now)) }
 {
@@ -246,7 +246,7 @@ pub fn reading_to_lines(alloc: Global, reading: &Reading<'_>) -> Result<String, 
     }
 }
 
-/// The status that goes with it.
+/// 0 for a packet, 1 for one that is refused.
 pub fn reading_to_status(reading: &Reading<'_>) -> u8
     ensures { result ≡ reading_status (reading_view reading.now) }
 {

@@ -4,9 +4,9 @@ use Rattle.std.specs.Prelude.{All}
 use Rattle.std.specs.List.{flat_map}
 use Rattle.std.proofs.lemmas.List.{drop-append-le, length-drop, length-append, drop-drop, drop_at, flat_map_more, take_more}
 use Rattle.std.proofs.lemmas.List.Elements.{All-push}
+use Rattle.ipx_wire.specs.FieldLaws.{FieldLaws}
 use Rattle.ipx_wire.specs.Ipx.{IsBytes, IsWritten}
 use Rattle.ipx_control.specs.Entries.{AreEntries}
-use Rattle.ipx_control.proofs.Fields.{IsBytes-drop}
 use Rattle.ipx_control.proofs.Parts.{write-rest}
 use borrow.Rule.Slice.PartMut.{put_mid}
 
@@ -77,13 +77,13 @@ length-spelled size InRange spelled len (e ∷ es) r =
     omega (arith, length-spelled size InRange spelled len es (All-tail InRange e es r), len e (All-head InRange e es r), length-append (spelled e) (flat_map spelled es))
 
 -- entries and their tail have one list of bytes
-pub entries_alike : {E : Type 0} (IsEntry : E → List ℕ → Type 0) (size : ℕ)
+pub entries_alike : FieldLaws → {E : Type 0} (IsEntry : E → List ℕ → Type 0) (size : ℕ)
     → ((e : E) (xs ys : List ℕ) → IsBytes xs → IsBytes ys → size ≤ length xs → size ≤ length ys → IsEntry e xs → IsEntry e ys → drop size xs ≡ drop size ys → xs ≡ ys)
     → (es : List E) (xs ys tail : List ℕ) → IsBytes xs → IsBytes ys → AreEntries IsEntry size es xs tail → AreEntries IsEntry size es ys tail → xs ≡ ys
-entries_alike IsEntry size alike [] xs ys tail p q x y = x ∙ sym y
-entries_alike IsEntry size alike (e ∷ es) xs ys tail p q x y =
+entries_alike laws IsEntry size alike [] xs ys tail p q x y = x ∙ sym y
+entries_alike laws IsEntry size alike (e ∷ es) xs ys tail p q x y =
     alike e xs ys p q x.0 y.0 x.1 y.1
-    (entries_alike IsEntry size alike es (drop size xs) (drop size ys) tail (IsBytes-drop size xs p) (IsBytes-drop size ys q) x.2 y.2)
+    (entries_alike laws IsEntry size alike es (drop size xs) (drop size ys) tail (laws.bytes.behind size xs p) (laws.bytes.behind size ys q) x.2 y.2)
 
 -- one more entry, written behind those that were
 pub written_more : {E : Type 0} (spelled : E → List ℕ) (size : ℕ) (es : List E) (i : ℕ) (d : E) (old xs ys : List ℕ) → i < length es → length (spelled (get_or es i d)) ≡ size

@@ -1,6 +1,4 @@
 pub mod Parts
-pub mod Fields
-pub mod Addresses
 pub mod ByteLists
 pub mod EntryLists
 pub mod Faults

@@ -5,11 +5,11 @@ use Rattle.std.specs.List.{flat_map}
 use Rattle.std.proofs.lemmas.List.{drop-append-le, drop-drop, length-append, length-drop, append-nil}
 use Rattle.byteorder.specs.Endian.{big_bytes}
 use Rattle.byteorder.specs.Numbers.{big_number-reads_back}
+use Rattle.ipx_wire.specs.FieldLaws.{FieldLaws}
 use Rattle.ipx_wire.specs.Ipx.{IsBytes, IsWritten, number}
-use Rattle.ipx_control.specs.declared.rip.RipEntry.{RipEntry}
+use Rattle.ipx_control.specs.declared.rip.packet.RipEntry.{RipEntry}
 use Rattle.ipx_control.specs.Entries.{AreEntries}
 use Rattle.ipx_control.specs.Rip.{IsRip, IsRipEntry, IsRipEntryInRange, IsRipInRange, RipView, Request, Response, rip_entries, rip_entry_bytes, rip_fault, rip_operation}
-use Rattle.ipx_control.proofs.Fields.{IsBytes-drop, four_alike, number-append, two_alike}
 use Rattle.std.proofs.lemmas.Bool.{eqb-true, le-ltb, ltb-false}
 use Rattle.ipx_control.specs.declared.fault.ControlFault.TheVariants.{NoOperation, TooManyEntries, UnknownOperation}
 use Rattle.ipx_control.proofs.Faults.{either_true, first_true, no_fault_here, no_fault_there, second_true}
@@ -37,18 +37,18 @@ same_rip_entry a b bytes p q =
     let one : rip_entry_of a.network.0 a.hops a.ticks ≡ rip_entry_of b.network.0 b.hops b.ticks = rw (network, hops, ticks) refl in
     one
 
-IsRipEntry-append : (e : RipEntry) (bytes tail : List ℕ) → 8 ≤ length bytes → IsRipEntry e bytes → IsRipEntry e (bytes ++ tail)
-IsRipEntry-append e bytes tail le p = record {
-  network = number-append 4 0 bytes tail (omega arith) ∙ p.network;
-  hops = number-append 2 4 bytes tail (omega arith) ∙ p.hops;
-  ticks = number-append 2 6 bytes tail (omega arith) ∙ p.ticks;
+IsRipEntry-append : FieldLaws → (e : RipEntry) (bytes tail : List ℕ) → 8 ≤ length bytes → IsRipEntry e bytes → IsRipEntry e (bytes ++ tail)
+IsRipEntry-append laws e bytes tail le p = record {
+  network = laws.numbers.before_any_bytes 4 0 bytes tail (omega arith) ∙ p.network;
+  hops = laws.numbers.before_any_bytes 2 4 bytes tail (omega arith) ∙ p.hops;
+  ticks = laws.numbers.before_any_bytes 2 6 bytes tail (omega arith) ∙ p.ticks;
 }
 
-rip_entry_alike : (e : RipEntry) (xs ys : List ℕ) → IsBytes xs → IsBytes ys → 8 ≤ length xs → 8 ≤ length ys → IsRipEntry e xs → IsRipEntry e ys → drop 8 xs ≡ drop 8 ys → xs ≡ ys
-rip_entry_alike e xs ys p q l m x y r =
-    let at6 : drop 6 xs ≡ drop 6 ys = two_alike (drop 6 xs) (drop 6 ys) (IsBytes-drop 6 xs p) (IsBytes-drop 6 ys q) (omega (arith, length-drop 6 xs)) (omega (arith, length-drop 6 ys)) (x.ticks ∙ sym y.ticks) (drop-drop 2 6 xs ∙ r ∙ sym (drop-drop 2 6 ys)) in
-    let at4 : drop 4 xs ≡ drop 4 ys = two_alike (drop 4 xs) (drop 4 ys) (IsBytes-drop 4 xs p) (IsBytes-drop 4 ys q) (omega (arith, length-drop 4 xs)) (omega (arith, length-drop 4 ys)) (x.hops ∙ sym y.hops) (drop-drop 2 4 xs ∙ at6 ∙ sym (drop-drop 2 4 ys)) in
-    four_alike xs ys p q (omega arith) (omega arith) (x.network ∙ sym y.network) at4
+rip_entry_alike : FieldLaws → (e : RipEntry) (xs ys : List ℕ) → IsBytes xs → IsBytes ys → 8 ≤ length xs → 8 ≤ length ys → IsRipEntry e xs → IsRipEntry e ys → drop 8 xs ≡ drop 8 ys → xs ≡ ys
+rip_entry_alike laws e xs ys p q l m x y r =
+    let at6 : drop 6 xs ≡ drop 6 ys = laws.numbers.two_are_one_list (drop 6 xs) (drop 6 ys) (laws.bytes.behind 6 xs p) (laws.bytes.behind 6 ys q) (omega (arith, length-drop 6 xs)) (omega (arith, length-drop 6 ys)) (x.ticks ∙ sym y.ticks) (drop-drop 2 6 xs ∙ r ∙ sym (drop-drop 2 6 ys)) in
+    let at4 : drop 4 xs ≡ drop 4 ys = laws.numbers.two_are_one_list (drop 4 xs) (drop 4 ys) (laws.bytes.behind 4 xs p) (laws.bytes.behind 4 ys q) (omega (arith, length-drop 4 xs)) (omega (arith, length-drop 4 ys)) (x.hops ∙ sym y.hops) (drop-drop 2 4 xs ∙ at6 ∙ sym (drop-drop 2 4 ys)) in
+    laws.numbers.four_are_one_list xs ys p q (omega arith) (omega arith) (x.network ∙ sym y.network) at4
 
 -- ---- a packet
 
@@ -76,20 +76,20 @@ same_rip (Response es) (Response fs) bytes s t x y =
     let same = same_entries IsRipEntry 8 same_rip_entry es fs (drop 2 bytes) s t x.short_tail y.short_tail x.entries y.entries in
     (ap Response same.0, same.1)
 
-pub rip_more : (m : RipView) (bytes tail : List ℕ) → length tail < 8 → IsRip m bytes [] → IsRip m (bytes ++ tail) tail
-rip_more m bytes tail short x = record {
+pub rip_more : FieldLaws → (m : RipView) (bytes tail : List ℕ) → length tail < 8 → IsRip m bytes [] → IsRip m (bytes ++ tail) tail
+rip_more laws m bytes tail short x = record {
   has_operation = omega (arith, x.has_operation, length-append bytes tail);
-  operation = number-append 2 0 bytes tail x.has_operation ∙ x.operation;
+  operation = laws.numbers.before_any_bytes 2 0 bytes tail x.has_operation ∙ x.operation;
   entries = subst (λ (b : List ℕ). AreEntries IsRipEntry 8 (rip_entries m) b tail) (sym (drop-append-le 2 bytes tail x.has_operation))
-      (AreEntries-append IsRipEntry 8 IsRipEntry-append (rip_entries m) (drop 2 bytes) [] tail x.entries);
+      (AreEntries-append IsRipEntry 8 (IsRipEntry-append laws) (rip_entries m) (drop 2 bytes) [] tail x.entries);
   limit = x.limit;
   short_tail = short;
 }
 
-pub rip_alike : (m : RipView) (xs ys tail : List ℕ) → IsBytes xs → IsBytes ys → IsRip m xs tail → IsRip m ys tail → xs ≡ ys
-rip_alike m xs ys tail p q x y =
-    let rest = entries_alike IsRipEntry 8 rip_entry_alike (rip_entries m) (drop 2 xs) (drop 2 ys) tail (IsBytes-drop 2 xs p) (IsBytes-drop 2 ys q) x.entries y.entries in
-    two_alike xs ys p q x.has_operation y.has_operation (x.operation ∙ sym y.operation) rest
+pub rip_alike : FieldLaws → (m : RipView) (xs ys tail : List ℕ) → IsBytes xs → IsBytes ys → IsRip m xs tail → IsRip m ys tail → xs ≡ ys
+rip_alike laws m xs ys tail p q x y =
+    let rest = entries_alike laws IsRipEntry 8 (rip_entry_alike laws) (rip_entries m) (drop 2 xs) (drop 2 ys) tail (laws.bytes.behind 2 xs p) (laws.bytes.behind 2 ys q) x.entries y.entries in
+    laws.numbers.two_are_one_list xs ys p q x.has_operation y.has_operation (x.operation ∙ sym y.operation) rest
 
 -- how many entries a packet has
 pub rip_count : (m : RipView) (bytes tail : List ℕ) → IsRip m bytes tail → (length bytes - 2) / 8 ≡ length (rip_entries m)

@@ -1,22 +1,29 @@
 -- The bytes of a SAP packet hold it, with any tail that may stand behind them, and hold no other.
-use Rattle.std.proofs.Common.{◌≡◌, ◌≢◌, ◌≤◌, ◌<◌, ◌/◌, ◌^◌, ℕ, ◌-◌, ◌*◌, Bool, true, false, List, ◌++◌, [], length, take, drop, arith, sym, ap, ◌∙◌, refl, subst, append_assoc, ◌⊎◌, inl, inr}
+use Rattle.std.proofs.Common.{◌≡◌, ◌≢◌, ◌≤◌, ◌<◌, ◌/◌, ◌^◌, ℕ, ◌-◌, ◌*◌, Bool, true, false, List, ◌++◌, [], length, take, drop, arith, sym, ap, ◌∙◌, refl, subst, append_assoc, take-append-drop, ◌⊎◌, inl, inr}
 use Rattle.std.specs.Prelude.{nat_lt, ◌==◌, ◌||◌, None}
 use Rattle.std.specs.List.{flat_map}
 use Rattle.std.proofs.lemmas.List.{drop-append-le, drop-drop, length-append, length-drop, take-append-le, take_at, drop_at, append-nil}
 use Rattle.byteorder.specs.Endian.{big_bytes, big_number}
 use Rattle.byteorder.specs.Numbers.{big_number-reads_back}
 use Rattle.ipx_wire.specs.declared.address.Address.{Address}
+use Rattle.ipx_wire.specs.FieldLaws.{FieldLaws}
 use Rattle.ipx_wire.specs.Ipx.{IsAddress, IsBytes, IsWritten, address_bytes, number}
-use Rattle.ipx_control.specs.declared.sap.ServiceEntry.{ServiceEntry}
+use Rattle.ipx_control.specs.declared.sap.packet.ServiceEntry.{ServiceEntry}
 use Rattle.ipx_control.specs.Entries.{AreEntries}
 use Rattle.ipx_control.specs.Sap.{IsSap, IsSapQuery, IsSapResponse, IsSapInRange, IsSapTail, AreServicesInRange, IsServiceEntry, IsServiceEntryInRange, SapView, Query, Response, query_operation, response_operation, sap_fault, service_bytes}
-use Rattle.ipx_control.proofs.Fields.{IsBytes-drop, number-append, part_alike, two_alike}
-use Rattle.ipx_control.proofs.Addresses.{IsAddress-append, address_alike, address_read, length-address, same_address}
 use Rattle.std.proofs.lemmas.Bool.{eqb-true, le-ltb, ltb-false}
 use Rattle.ipx_control.specs.declared.fault.ControlFault.TheVariants.{NoOperation, QueryShort, TooManyEntries, UnknownOperation}
 use Rattle.ipx_control.proofs.Faults.{either_true, no_query_fault, no_response_fault, no_sap_fault_here}
 use Rattle.ipx_control.proofs.Parts.{written-front}
 use Rattle.ipx_control.proofs.EntryLists.{AreEntries-append, entries_alike, entries_read, entries_there, length-entries, same_entries}
+
+pub length-address : (a : Address) → length a.node.0 ≡ 6 → length (address_bytes a) ≡ 12
+length-address a e = omega (arith, e, length-append a.node.0 (big_bytes 2 a.socket.0))
+
+-- the next n elements are alike
+part_alike : (n : ℕ) (xs ys : List ℕ) → take n xs ≡ take n ys → drop n xs ≡ drop n ys → xs ≡ ys
+part_alike n xs ys e r =
+    sym (take-append-drop n xs) ∙ ap (λ (t : List ℕ). t ++ drop n xs) e ∙ ap (λ (t : List ℕ). take n ys ++ t) r ∙ take-append-drop n ys
 
 -- ---- one service
 
@@ -25,8 +32,8 @@ length-service e r =
     let front = big_bytes 2 e.kind ++ e.name in
     omega (arith, r.name, length-address e.at r.at.node, length-append (front ++ address_bytes e.at) (big_bytes 2 e.hops), length-append front (address_bytes e.at))
 
-pub service_read : (e : ServiceEntry) (rest : List ℕ) → IsServiceEntryInRange e → IsServiceEntry e (service_bytes e ++ rest)
-service_read e rest r =
+pub service_read : FieldLaws → (e : ServiceEntry) (rest : List ℕ) → IsServiceEntryInRange e → IsServiceEntry e (service_bytes e ++ rest)
+service_read laws e rest r =
     let kind = big_bytes 2 e.kind in
     let at = address_bytes e.at in
     let hops = big_bytes 2 e.hops in
@@ -38,37 +45,37 @@ service_read e rest r =
     record {
       kind = ap (big_number 2) parts ∙ big_number-reads_back 2 e.kind (e.name ++ (at ++ (hops ++ rest))) (omega (arith, r.kind));
       name = ap (take 48) at_name ∙ take_at e.name (at ++ (hops ++ rest)) 48 r.name;
-      at = subst (IsAddress e.at) (sym at_address) (address_read e.at (hops ++ rest) r.at);
+      at = subst (IsAddress e.at) (sym at_address) (laws.addresses.is_read e.at (hops ++ rest) r.at);
       hops = ap (big_number 2) at_hops ∙ big_number-reads_back 2 e.hops rest (omega (arith, r.hops));
     }
 
 service_of : ℕ → List ℕ → Address → ℕ → ServiceEntry
 service_of kind name at hops = record { kind = kind; name = name; at = at; hops = hops }
 
-pub same_service : (a b : ServiceEntry) (bytes : List ℕ) → IsServiceEntry a bytes → IsServiceEntry b bytes → a ≡ b
+pub same_service : FieldLaws → (a b : ServiceEntry) (bytes : List ℕ) → IsServiceEntry a bytes → IsServiceEntry b bytes → a ≡ b
 unfolding service_of
-same_service a b bytes p q =
+same_service laws a b bytes p q =
     let kind : a.kind ≡ b.kind = sym p.kind ∙ q.kind in
     let name : a.name ≡ b.name = sym p.name ∙ q.name in
-    let at : a.at ≡ b.at = same_address a.at b.at (drop 50 bytes) p.at q.at in
+    let at : a.at ≡ b.at = laws.addresses.is_one a.at b.at (drop 50 bytes) p.at q.at in
     let hops : a.hops ≡ b.hops = sym p.hops ∙ q.hops in
     let one : service_of a.kind a.name a.at a.hops ≡ service_of b.kind b.name b.at b.hops = rw (kind, name, at, hops) refl in
     one
 
-IsServiceEntry-append : (e : ServiceEntry) (bytes tail : List ℕ) → 64 ≤ length bytes → IsServiceEntry e bytes → IsServiceEntry e (bytes ++ tail)
-IsServiceEntry-append e bytes tail le p = record {
-  kind = number-append 2 0 bytes tail (omega arith) ∙ p.kind;
+IsServiceEntry-append : FieldLaws → (e : ServiceEntry) (bytes tail : List ℕ) → 64 ≤ length bytes → IsServiceEntry e bytes → IsServiceEntry e (bytes ++ tail)
+IsServiceEntry-append laws e bytes tail le p = record {
+  kind = laws.numbers.before_any_bytes 2 0 bytes tail (omega arith) ∙ p.kind;
   name = ap (take 48) (drop-append-le 2 bytes tail (omega arith)) ∙ take-append-le 48 (drop 2 bytes) tail (omega (arith, length-drop 2 bytes)) ∙ p.name;
-  at = subst (IsAddress e.at) (sym (drop-append-le 50 bytes tail (omega arith))) (IsAddress-append e.at (drop 50 bytes) tail (omega (arith, length-drop 50 bytes)) p.at);
-  hops = number-append 2 62 bytes tail (omega arith) ∙ p.hops;
+  at = subst (IsAddress e.at) (sym (drop-append-le 50 bytes tail (omega arith))) (laws.addresses.before_any_bytes e.at (drop 50 bytes) tail (omega (arith, length-drop 50 bytes)) p.at);
+  hops = laws.numbers.before_any_bytes 2 62 bytes tail (omega arith) ∙ p.hops;
 }
 
-service_alike : (e : ServiceEntry) (xs ys : List ℕ) → IsBytes xs → IsBytes ys → 64 ≤ length xs → 64 ≤ length ys → IsServiceEntry e xs → IsServiceEntry e ys → drop 64 xs ≡ drop 64 ys → xs ≡ ys
-service_alike e xs ys p q l m x y r =
-    let at62 : drop 62 xs ≡ drop 62 ys = two_alike (drop 62 xs) (drop 62 ys) (IsBytes-drop 62 xs p) (IsBytes-drop 62 ys q) (omega (arith, length-drop 62 xs)) (omega (arith, length-drop 62 ys)) (x.hops ∙ sym y.hops) (drop-drop 2 62 xs ∙ r ∙ sym (drop-drop 2 62 ys)) in
-    let at50 : drop 50 xs ≡ drop 50 ys = address_alike e.at (drop 50 xs) (drop 50 ys) (IsBytes-drop 50 xs p) (IsBytes-drop 50 ys q) (omega (arith, length-drop 50 xs)) (omega (arith, length-drop 50 ys)) x.at y.at (drop-drop 12 50 xs ∙ at62 ∙ sym (drop-drop 12 50 ys)) in
+service_alike : FieldLaws → (e : ServiceEntry) (xs ys : List ℕ) → IsBytes xs → IsBytes ys → 64 ≤ length xs → 64 ≤ length ys → IsServiceEntry e xs → IsServiceEntry e ys → drop 64 xs ≡ drop 64 ys → xs ≡ ys
+service_alike laws e xs ys p q l m x y r =
+    let at62 : drop 62 xs ≡ drop 62 ys = laws.numbers.two_are_one_list (drop 62 xs) (drop 62 ys) (laws.bytes.behind 62 xs p) (laws.bytes.behind 62 ys q) (omega (arith, length-drop 62 xs)) (omega (arith, length-drop 62 ys)) (x.hops ∙ sym y.hops) (drop-drop 2 62 xs ∙ r ∙ sym (drop-drop 2 62 ys)) in
+    let at50 : drop 50 xs ≡ drop 50 ys = laws.addresses.are_one_list e.at (drop 50 xs) (drop 50 ys) (laws.bytes.behind 50 xs p) (laws.bytes.behind 50 ys q) (omega (arith, length-drop 50 xs)) (omega (arith, length-drop 50 ys)) x.at y.at (drop-drop 12 50 xs ∙ at62 ∙ sym (drop-drop 12 50 ys)) in
     let at2 : drop 2 xs ≡ drop 2 ys = part_alike 48 (drop 2 xs) (drop 2 ys) (x.name ∙ sym y.name) (drop-drop 48 2 xs ∙ at50 ∙ sym (drop-drop 48 2 ys)) in
-    two_alike xs ys p q (omega arith) (omega arith) (x.kind ∙ sym y.kind) at2
+    laws.numbers.two_are_one_list xs ys p q (omega arith) (omega arith) (x.kind ∙ sym y.kind) at2
 
 -- ---- a packet
 
@@ -86,12 +93,12 @@ query_read nearest kind tail r = record {
   rest = refl;
 }
 
-pub response_read : (nearest : Bool) (services : List ServiceEntry) (tail : List ℕ) → AreServicesInRange services → length tail < 64
+pub response_read : FieldLaws → (nearest : Bool) (services : List ServiceEntry) (tail : List ℕ) → AreServicesInRange services → length tail < 64
     → IsSapResponse nearest services (response_bytes nearest services ++ tail) tail
-response_read nearest services tail r short = record {
+response_read laws nearest services tail r short = record {
   has_operation = omega arith;
   operation = elim nearest as (λ b. number 2 0 (big_bytes 2 (response_operation b) ++ (flat_map service_bytes services ++ tail)) ≡ response_operation b) [ true ↦ refl | false ↦ refl ];
-  entries = entries_read IsServiceEntry 64 IsServiceEntryInRange service_bytes length-service service_read services tail r.each;
+  entries = entries_read IsServiceEntry 64 IsServiceEntryInRange service_bytes length-service (service_read laws) services tail r.each;
   limit = r.limit;
   short_tail = short;
 }
@@ -100,9 +107,9 @@ abbrev pub sap_bytes : SapView → List ℕ
 sap_bytes (Query nearest kind) = query_bytes nearest kind
 sap_bytes (Response nearest services) = response_bytes nearest services
 
-pub sap_read : (m : SapView) (tail : List ℕ) → IsSapInRange m → IsSapTail m tail → IsSap m (sap_bytes m ++ tail) tail
-sap_read (Query nearest kind) tail r fits = query_read nearest kind tail r
-sap_read (Response nearest services) tail r fits = response_read nearest services tail r fits
+pub sap_read : FieldLaws → (m : SapView) (tail : List ℕ) → IsSapInRange m → IsSapTail m tail → IsSap m (sap_bytes m ++ tail) tail
+sap_read laws (Query nearest kind) tail r fits = query_read nearest kind tail r
+sap_read laws (Response nearest services) tail r fits = response_read laws nearest services tail r fits
 
 same_flag_query : (a b : Bool) → query_operation a ≡ query_operation b → a ≡ b
 same_flag_query true true e = refl
@@ -122,41 +129,41 @@ query_is_no_response true false e = omega (arith, e)
 query_is_no_response false true e = omega (arith, e)
 query_is_no_response false false e = omega (arith, e)
 
-pub same_sap : (m n : SapView) (bytes s t : List ℕ) → IsSap m bytes s → IsSap n bytes t → (m ≡ n) × (s ≡ t)
-same_sap (Query a j) (Query b k) bytes s t x y =
+pub same_sap : FieldLaws → (m n : SapView) (bytes s t : List ℕ) → IsSap m bytes s → IsSap n bytes t → (m ≡ n) × (s ≡ t)
+same_sap laws (Query a j) (Query b k) bytes s t x y =
     let flag : a ≡ b = same_flag_query a b (sym x.operation ∙ y.operation) in
     let kind : j ≡ k = sym x.service ∙ y.service in
     (rw (flag, kind) refl, sym x.rest ∙ y.rest)
-same_sap (Query a j) (Response b services) bytes s t x y = absurd (query_is_no_response a b (sym x.operation ∙ y.operation))
-same_sap (Response a services) (Query b k) bytes s t x y = absurd (query_is_no_response b a (sym y.operation ∙ x.operation))
-same_sap (Response a es) (Response b fs) bytes s t x y =
+same_sap laws (Query a j) (Response b services) bytes s t x y = absurd (query_is_no_response a b (sym x.operation ∙ y.operation))
+same_sap laws (Response a services) (Query b k) bytes s t x y = absurd (query_is_no_response b a (sym y.operation ∙ x.operation))
+same_sap laws (Response a es) (Response b fs) bytes s t x y =
     let flag : a ≡ b = same_flag_response a b (sym x.operation ∙ y.operation) in
-    let same = same_entries IsServiceEntry 64 same_service es fs (drop 2 bytes) s t x.short_tail y.short_tail x.entries y.entries in
+    let same = same_entries IsServiceEntry 64 (same_service laws) es fs (drop 2 bytes) s t x.short_tail y.short_tail x.entries y.entries in
     (rw (flag, same.0) refl, same.1)
 
-pub sap_more : (m : SapView) (bytes tail : List ℕ) → IsSapTail m tail → IsSap m bytes [] → IsSap m (bytes ++ tail) tail
-sap_more (Query nearest kind) bytes tail fits x = record {
+pub sap_more : FieldLaws → (m : SapView) (bytes tail : List ℕ) → IsSapTail m tail → IsSap m bytes [] → IsSap m (bytes ++ tail) tail
+sap_more laws (Query nearest kind) bytes tail fits x = record {
   has_query = omega (arith, x.has_query, length-append bytes tail);
-  operation = number-append 2 0 bytes tail (omega (arith, x.has_query)) ∙ x.operation;
-  service = number-append 2 2 bytes tail x.has_query ∙ x.service;
+  operation = laws.numbers.before_any_bytes 2 0 bytes tail (omega (arith, x.has_query)) ∙ x.operation;
+  service = laws.numbers.before_any_bytes 2 2 bytes tail x.has_query ∙ x.service;
   rest = drop-append-le 4 bytes tail x.has_query ∙ ap (λ (t : List ℕ). t ++ tail) x.rest;
 }
-sap_more (Response nearest services) bytes tail fits x = record {
+sap_more laws (Response nearest services) bytes tail fits x = record {
   has_operation = omega (arith, x.has_operation, length-append bytes tail);
-  operation = number-append 2 0 bytes tail x.has_operation ∙ x.operation;
+  operation = laws.numbers.before_any_bytes 2 0 bytes tail x.has_operation ∙ x.operation;
   entries = subst (λ (b : List ℕ). AreEntries IsServiceEntry 64 services b tail) (sym (drop-append-le 2 bytes tail x.has_operation))
-      (AreEntries-append IsServiceEntry 64 IsServiceEntry-append services (drop 2 bytes) [] tail x.entries);
+      (AreEntries-append IsServiceEntry 64 (IsServiceEntry-append laws) services (drop 2 bytes) [] tail x.entries);
   limit = x.limit;
   short_tail = fits;
 }
 
-pub sap_alike : (m : SapView) (xs ys tail : List ℕ) → IsBytes xs → IsBytes ys → IsSap m xs tail → IsSap m ys tail → xs ≡ ys
-sap_alike (Query nearest kind) xs ys tail p q x y =
-    let at2 : drop 2 xs ≡ drop 2 ys = two_alike (drop 2 xs) (drop 2 ys) (IsBytes-drop 2 xs p) (IsBytes-drop 2 ys q) (omega (arith, x.has_query, length-drop 2 xs)) (omega (arith, y.has_query, length-drop 2 ys)) (x.service ∙ sym y.service) (drop-drop 2 2 xs ∙ x.rest ∙ sym y.rest ∙ sym (drop-drop 2 2 ys)) in
-    two_alike xs ys p q (omega (arith, x.has_query)) (omega (arith, y.has_query)) (x.operation ∙ sym y.operation) at2
-sap_alike (Response nearest services) xs ys tail p q x y =
-    let rest = entries_alike IsServiceEntry 64 service_alike services (drop 2 xs) (drop 2 ys) tail (IsBytes-drop 2 xs p) (IsBytes-drop 2 ys q) x.entries y.entries in
-    two_alike xs ys p q x.has_operation y.has_operation (x.operation ∙ sym y.operation) rest
+pub sap_alike : FieldLaws → (m : SapView) (xs ys tail : List ℕ) → IsBytes xs → IsBytes ys → IsSap m xs tail → IsSap m ys tail → xs ≡ ys
+sap_alike laws (Query nearest kind) xs ys tail p q x y =
+    let at2 : drop 2 xs ≡ drop 2 ys = laws.numbers.two_are_one_list (drop 2 xs) (drop 2 ys) (laws.bytes.behind 2 xs p) (laws.bytes.behind 2 ys q) (omega (arith, x.has_query, length-drop 2 xs)) (omega (arith, y.has_query, length-drop 2 ys)) (x.service ∙ sym y.service) (drop-drop 2 2 xs ∙ x.rest ∙ sym y.rest ∙ sym (drop-drop 2 2 ys)) in
+    laws.numbers.two_are_one_list xs ys p q (omega (arith, x.has_query)) (omega (arith, y.has_query)) (x.operation ∙ sym y.operation) at2
+sap_alike laws (Response nearest services) xs ys tail p q x y =
+    let rest = entries_alike laws IsServiceEntry 64 (service_alike laws) services (drop 2 xs) (drop 2 ys) tail (laws.bytes.behind 2 xs p) (laws.bytes.behind 2 ys q) x.entries y.entries in
+    laws.numbers.two_are_one_list xs ys p q x.has_operation y.has_operation (x.operation ∙ sym y.operation) rest
 
 -- how many services a response has
 pub service_count : (nearest : Bool) (services : List ServiceEntry) (bytes tail : List ℕ) → IsSapResponse nearest services bytes tail → (length bytes - 2) / 64 ≡ length services
@@ -186,11 +193,11 @@ response_found nearest services bytes tail room operation entries short few = re
 }
 
 -- what was written is the packet
-pub response_written : (nearest : Bool) (services : List ServiceEntry) (old xs : List ℕ) (k : ℕ) → AreServicesInRange services → IsWritten old (response_bytes nearest services) xs k
+pub response_written : FieldLaws → (nearest : Bool) (services : List ServiceEntry) (old xs : List ℕ) (k : ℕ) → AreServicesInRange services → IsWritten old (response_bytes nearest services) xs k
     → IsSapResponse nearest services (take k xs) []
-response_written nearest services old xs k r was =
+response_written laws nearest services old xs k r was =
     let bytes = response_bytes nearest services in
-    subst (λ (t : List ℕ). IsSapResponse nearest services t []) (append-nil bytes ∙ sym (written-front old bytes xs k was)) (response_read nearest services [] r (omega arith))
+    subst (λ (t : List ℕ). IsSapResponse nearest services t []) (append-nil bytes ∙ sym (written-front old bytes xs k was)) (response_read laws nearest services [] r (omega arith))
 
 -- ---- faults
 

@@ -6,7 +6,8 @@ use Rattle.ipx_control.specs.declared.fault.ControlFault.TheVariants.{TooManyEnt
 -- the bytes are the entries, of `size` bytes each, and then the tail
 abbrev pub AreEntries : {E : Type 0} → (E → List ℕ → Type 0) → ℕ → List E → List ℕ → List ℕ → Type 0
 AreEntries IsEntry size [] bytes tail = bytes ≡ tail
-AreEntries IsEntry size (e ∷ es) bytes tail = (size ≤ length bytes) × IsEntry e bytes × AreEntries IsEntry size es (drop size bytes) tail
+AreEntries IsEntry size (e ∷ es) bytes tail =
+    (size ≤ length bytes) × IsEntry e bytes × AreEntries IsEntry size es (drop size bytes) tail
 
 -- the fault of so many entries, where a packet may hold `most`
 abbrev pub entries_fault : ℕ → ℕ → Option ControlFault

@@ -1,13 +1,21 @@
--- RIP packets (Novell IPX Router Specification): which bytes hold one, and the first fault of bytes that hold none.
+-- RIP packets (Novell IPX Router Specification): which bytes hold one, and the first fault of bytes
+-- that hold none.
 use Rattle.std.specs.Prelude.{◌≡◌, ◌≤◌, ◌<◌, ◌^◌, ℕ, ◌+◌, ◌-◌, ◌*◌, ◌/◌, List, ◌++◌, length, drop, All, Option, Some, nat_lt, ◌==◌, ◌||◌, if◌then◌else◌}
 use Rattle.byteorder.specs.Endian.{big_bytes}
 use Rattle.ipx_wire.specs.Ipx.{number}
 use Rattle.ipx_control.specs.declared.fault.ControlFault.{ControlFault}
 use Rattle.ipx_control.specs.declared.fault.ControlFault.TheVariants.{NoOperation, UnknownOperation}
-use Rattle.ipx_control.specs.declared.rip.RipEntry.{RipEntry}
-use Rattle.ipx_control.specs.declared.rip.Rip.{Rip}
-use Rattle.ipx_control.specs.declared.rip.Rip.TheVariants as rips
+use Rattle.ipx_control.specs.declared.rip.packet.RipEntry.{RipEntry}
+use Rattle.ipx_control.specs.declared.rip.packet.Rip.{Rip}
+use Rattle.ipx_control.specs.declared.rip.packet.Rip.TheVariants as rips
 use Rattle.ipx_control.specs.Entries.{AreEntries, entries_fault}
+
+-- the bytes of an entry, and how many entries a packet may hold
+abbrev pub rip_entry_size : ℕ
+rip_entry_size = 8
+
+abbrev pub rip_max_entries : ℕ
+rip_max_entries = 50
 
 -- a RIP packet without where its entries lie in memory
 pub data RipView : Type 0 where
@@ -32,19 +40,21 @@ pub record IsRipEntry (e : RipEntry) (bytes : List ℕ) : Type 0 where
   pub hops : number 2 4 bytes ≡ e.hops
   pub ticks : number 2 6 bytes ≡ e.ticks
 
--- the bytes are the packet, operation 2 and then at most 50 entries, and a tail that is shorter than an entry
+-- the bytes are the packet, operation 2 and then entries within the limit, and a tail that is
+-- shorter than an entry
 pub record IsRip (m : RipView) (bytes tail : List ℕ) : Type 0 where
   pub has_operation : 2 ≤ length bytes
   pub operation : number 2 0 bytes ≡ rip_operation m
-  pub entries : AreEntries IsRipEntry 8 (rip_entries m) (drop 2 bytes) tail
-  pub limit : length (rip_entries m) ≤ 50
-  pub short_tail : length tail < 8
+  pub entries : AreEntries IsRipEntry rip_entry_size (rip_entries m) (drop 2 bytes) tail
+  pub limit : length (rip_entries m) ≤ rip_max_entries
+  pub short_tail : length tail < rip_entry_size
 
 -- the first condition that keeps bytes from being a RIP packet
 abbrev pub rip_fault : List ℕ → Option ControlFault
 rip_fault bytes =
     if nat_lt (length bytes) 2 then Some NoOperation
-    else if (number 2 0 bytes == 1) || (number 2 0 bytes == 2) then entries_fault 50 ((length bytes - 2) / 8)
+    else if (number 2 0 bytes == 1) || (number 2 0 bytes == 2) then
+    entries_fault rip_max_entries ((length bytes - 2) / rip_entry_size)
     else Some (UnknownOperation (number 2 0 bytes))
 
 -- what an entry can hold
@@ -56,11 +66,11 @@ pub record IsRipEntryInRange (e : RipEntry) : Type 0 where
 -- what a packet can hold
 pub record IsRipInRange (m : RipView) : Type 0 where
   pub entries : All IsRipEntryInRange (rip_entries m)
-  pub limit : length (rip_entries m) ≤ 50
+  pub limit : length (rip_entries m) ≤ rip_max_entries
 
 -- how many bytes a packet takes
 abbrev pub rip_size : RipView → ℕ
-rip_size m = 2 + 8 * length (rip_entries m)
+rip_size m = 2 + rip_entry_size * length (rip_entries m)
 
 -- the bytes of an entry
 abbrev pub rip_entry_bytes : RipEntry → List ℕ

@@ -1,15 +1,24 @@
--- SAP packets (Novell IPX Router Specification): which bytes hold one, and the first fault of bytes that hold none.
+-- SAP packets (Novell IPX Router Specification): which bytes hold one, and the first fault of bytes
+-- that hold none.
 use Rattle.std.specs.Prelude.{◌≡◌, ◌≤◌, ◌<◌, ◌^◌, ℕ, ◌+◌, ◌-◌, ◌*◌, ◌/◌, Bool, List, [], ◌++◌, length, take, drop, All, Option, Some, None, nat_lt, ◌==◌, ◌||◌, if◌then◌else◌}
 use Rattle.byteorder.specs.Endian.{big_bytes}
 use Rattle.ipx_wire.specs.Ipx.{IsAddress, IsAddressInRange, IsBytes, address_bytes, number}
 use Rattle.ipx_control.specs.declared.fault.ControlFault.{ControlFault}
 use Rattle.ipx_control.specs.declared.fault.ControlFault.TheVariants.{NoOperation, UnknownOperation, QueryShort}
-use Rattle.ipx_control.specs.declared.sap.ServiceEntry.{ServiceEntry}
-use Rattle.ipx_control.specs.declared.sap.Sap.{Sap}
-use Rattle.ipx_control.specs.declared.sap.Sap.TheVariants as saps
+use Rattle.ipx_control.specs.declared.sap.packet.ServiceEntry.{ServiceEntry}
+use Rattle.ipx_control.specs.declared.sap.packet.Sap.{Sap}
+use Rattle.ipx_control.specs.declared.sap.packet.Sap.TheVariants as saps
 use Rattle.ipx_control.specs.Entries.{AreEntries, entries_fault}
 
--- a SAP packet without where its services lie in memory; the flag says whether it is about the nearest service
+-- the bytes of a service, and how many services a response may hold
+abbrev pub service_size : ℕ
+service_size = 64
+
+abbrev pub sap_max_services : ℕ
+sap_max_services = 7
+
+-- a SAP packet without where its services lie in memory; the flag says whether it is about the
+-- nearest service
 pub data SapView : Type 0 where
   Query : Bool → ℕ → SapView
   Response : Bool → List ServiceEntry → SapView
@@ -44,13 +53,15 @@ pub record IsSapQuery (nearest : Bool) (kind : ℕ) (bytes tail : List ℕ) : Ty
   pub service : number 2 2 bytes ≡ kind
   pub rest : drop 4 bytes ≡ tail
 
--- the bytes are a response, operation 2 and then at most 7 services, and a tail that is shorter than a service
-pub record IsSapResponse (nearest : Bool) (services : List ServiceEntry) (bytes tail : List ℕ) : Type 0 where
+-- the bytes are a response, operation 2 and then services within the limit, and a tail that is
+-- shorter than a service
+pub record IsSapResponse (nearest : Bool) (services : List ServiceEntry)
+    (bytes tail : List ℕ) : Type 0 where
   pub has_operation : 2 ≤ length bytes
   pub operation : number 2 0 bytes ≡ response_operation nearest
-  pub entries : AreEntries IsServiceEntry 64 services (drop 2 bytes) tail
-  pub limit : length services ≤ 7
-  pub short_tail : length tail < 64
+  pub entries : AreEntries IsServiceEntry service_size services (drop 2 bytes) tail
+  pub limit : length services ≤ sap_max_services
+  pub short_tail : length tail < service_size
 
 -- the bytes are the packet, and then the tail
 abbrev pub IsSap : SapView → List ℕ → List ℕ → Type 0
@@ -64,7 +75,8 @@ sap_fault bytes =
     else if (number 2 0 bytes == 1) || (number 2 0 bytes == 3) then (
     if nat_lt (length bytes) 4 then Some (QueryShort (length bytes)) else None
     )
-    else if (number 2 0 bytes == 2) || (number 2 0 bytes == 4) then entries_fault 7 ((length bytes - 2) / 64)
+    else if (number 2 0 bytes == 2) || (number 2 0 bytes == 4) then
+    entries_fault sap_max_services ((length bytes - 2) / service_size)
     else Some (UnknownOperation (number 2 0 bytes))
 
 -- what a service can hold
@@ -82,7 +94,7 @@ pub record HoldsBytes (e : ServiceEntry) : Type 0 where
 -- what a packet can hold
 pub record AreServicesInRange (services : List ServiceEntry) : Type 0 where
   pub each : All IsServiceEntryInRange services
-  pub limit : length services ≤ 7
+  pub limit : length services ≤ sap_max_services
 
 abbrev pub IsSapInRange : SapView → Type 0
 IsSapInRange (Query nearest kind) = kind < 2 ^ 16
@@ -91,17 +103,17 @@ IsSapInRange (Response nearest services) = AreServicesInRange services
 -- which tails may stand behind a packet: any behind a query, a short one behind a response
 abbrev pub IsSapTail : SapView → List ℕ → Type 0
 IsSapTail (Query nearest kind) tail = Unit {0}
-IsSapTail (Response nearest services) tail = length tail < 64
+IsSapTail (Response nearest services) tail = length tail < service_size
 
 -- how many services a packet may not pass
 abbrev pub IsSapWithinLimit : SapView → Type 0
 IsSapWithinLimit (Query nearest kind) = Unit {0}
-IsSapWithinLimit (Response nearest services) = length services ≤ 7
+IsSapWithinLimit (Response nearest services) = length services ≤ sap_max_services
 
 -- how many bytes a packet takes
 abbrev pub sap_size : SapView → ℕ
 sap_size (Query nearest kind) = 4
-sap_size (Response nearest services) = 2 + 64 * length services
+sap_size (Response nearest services) = 2 + service_size * length services
 
 -- the bytes of a service
 abbrev pub service_bytes : ServiceEntry → List ℕ

@@ -1,21 +1,15 @@
-//! RIP packets: which networks are asked for, and which are reached at what cost.
+//! RIP packets (Novell IPX Router Specification, RIP).
 
-use ipx_wire::Network;
+mod laws;
+mod packet;
+mod reading;
+mod writing;
 
-/// A network of a RIP packet (Novell IPX Router Specification, RIP packet structure).
-///
-/// In a request network FFFFFFFF asks for all. Hops of 16 or more say that it is not reached.
-/// A tick is an eighteenth of a second.
-#[derive(Clone, Copy, Debug, PartialEq, Eq)]
-pub struct RipEntry {
-    pub network: Network,
-    pub hops: u16,
-    pub ticks: u16,
-}
-
-/// What a RIP packet says: operation 1 asks, operation 2 answers.
-#[derive(Debug, Drop)]
-pub enum Rip {
-    Request(Vec<RipEntry>),
-    Response(Vec<RipEntry>),
-}
+pub use laws::{
+    bytes_are_one_rip, rip_before_any_tail, rip_fault_is_of_no_rip, rip_has_bytes,
+    rip_is_one_list_of_bytes,
+};
+pub(crate) use packet::RIP_ENTRY_SIZE;
+pub use packet::{RIP_MAX_ENTRIES, Rip, RipEntry};
+pub use reading::decode_rip;
+pub use writing::encode_rip_into;

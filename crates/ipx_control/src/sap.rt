@@ -1,29 +1,15 @@
-//! SAP packets: which services are asked for, and where they are.
+//! SAP packets (Novell IPX Router Specification, SAP).
 
-use ipx_wire::Address;
+mod laws;
+mod packet;
+mod reading;
+mod writing;
 
-/// A service of a SAP packet (Novell IPX Router Specification, SAP packet structure).
-///
-/// `kind` is the service type. All 48 bytes are the name; its text ends before the first zero
-/// byte. Hops of 16 or more say that the service is down.
-#[derive(Clone, Copy, Debug, PartialEq, Eq)]
-pub struct ServiceEntry {
-    pub kind: u16,
-    pub name: [u8; 48],
-    pub at: Address,
-    pub hops: u16,
-}
-
-/// What a SAP packet says: operations 1 and 2 are the general query and response, 3 and 4 those
-/// for the nearest service. Service type FFFF asks for services of every type.
-#[derive(Debug, Drop)]
-pub enum Sap {
-    Query {
-        nearest: bool,
-        kind: u16,
-    },
-    Response {
-        nearest: bool,
-        services: Vec<ServiceEntry>,
-    },
-}
+pub use laws::{
+    bytes_are_one_sap, sap_before_any_tail, sap_fault_is_of_no_sap, sap_has_bytes,
+    sap_is_one_list_of_bytes,
+};
+pub(crate) use packet::SERVICE_SIZE;
+pub use packet::{SAP_MAX_SERVICES, Sap, ServiceEntry};
+pub use reading::decode_sap;
+pub use writing::encode_sap_into;

@@ -1,6 +1,6 @@
 -- What a written packet is read as, and what it is read as once a router carried it.
 use Rattle.std.proofs.Common.{◌≡◌, ℕ, List, [], sym, ◌∙◌, ap, subst}
-use Rattle.ipx_wire.specs.declared.spx.SpxHeader.{SpxHeader}
+use Rattle.ipx_wire.specs.declared.spx.packet.SpxHeader.{SpxHeader}
 use Rattle.ipx_wire.specs.declared.address.Network.{Network}
 use Rattle.ipx_wire.specs.Ipx.{PacketView}
 use Rattle.ipx_wire.specs.Spx.{IsSpx}

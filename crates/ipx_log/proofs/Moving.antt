@@ -1,7 +1,7 @@
 -- What stays tied when one end of a machine moves.
 use Rattle.std.proofs.Common.{◌≡◌, ◌≢◌, ◌+◌, ℕ, Bool, true, List, ◌++◌, length, take, drop, set, Option, Some, None, refl, sym, ◌∙◌, inl, inr, ap, subst, arith}
 use Rattle.std.specs.Prelude.{slice_get}
-use Rattle.ipx_wire.specs.declared.spx.SpxHeader.{SpxHeader}
+use Rattle.ipx_wire.specs.declared.spx.packet.SpxHeader.{SpxHeader}
 use Rattle.spx_link.specs.declared.unit.Unit.{Unit}
 use Rattle.spx_link.specs.LinkView.{LinkView}
 use Rattle.spx_link.specs.Machine.{End, Packet}

@@ -3,7 +3,7 @@ use Rattle.std.proofs.Common.{◌≡◌, ◌≢◌, ◌-◌, ◌<◌, ℕ, Bool,
 use Rattle.std.specs.Prelude.{slice_get}
 use Rattle.std.proofs.lemmas.Bool.{cond_both}
 use Rattle.std.proofs.lemmas.Option.{slice_get_within}
-use Rattle.ipx_wire.specs.declared.spx.SpxHeader.{SpxHeader}
+use Rattle.ipx_wire.specs.declared.spx.packet.SpxHeader.{SpxHeader}
 use Rattle.ipx_wire.specs.Ipx.{PacketView}
 use Rattle.spx_link.specs.declared.received.Received.TheVariants.{Stranger}
 use Rattle.spx_link.specs.LinkView.{LinkView}

@@ -1,6 +1,6 @@
 -- How the link of an end c and the parcels that it sent are tied to its half of the machine, beside that of d.
 use Rattle.std.specs.Prelude.{ℕ, ◌≡◌, ◌<◌, ◌≤◌, Bool, List, length, take, Some, slice_get, slice_index_or}
-use Rattle.ipx_wire.specs.declared.spx.SpxHeader.{SpxHeader}
+use Rattle.ipx_wire.specs.declared.spx.packet.SpxHeader.{SpxHeader}
 use Rattle.ipx_wire.specs.Ipx.{PacketView}
 use Rattle.spx_link.specs.LinkView.{LinkView}
 use Rattle.spx_link.specs.Limits.{most_units}

@@ -4,7 +4,7 @@ use Rattle.std.specs.Prelude.{ℕ, ◌≡◌, List}
 use Rattle.ipx_wire.specs.Connection.{IsConnectionPacket, sequence_in}
 use Rattle.ipx_wire.specs.Ipx.{PacketView, IsIpx}
 use Rattle.ipx_wire.specs.Spx.{IsSpx}
-use Rattle.ipx_wire.specs.declared.spx.SpxHeader.{SpxHeader}
+use Rattle.ipx_wire.specs.declared.spx.packet.SpxHeader.{SpxHeader}
 use Rattle.spx_link.specs.Machine.{End, Machine, Packet, Step, IsStep, WasSent, AreSound, new_end, got}
 use Rattle.ipx_pairs.specs.Allowances.{AllowanceLaws}
 use Rattle.ipx_pairs.specs.Confirmed.{CloseLaws}

@@ -2,7 +2,7 @@
 -- and nothing is left in its queue.
 use Rattle.std.proofs.Common.{ℕ, ◌≡◌, ◌≢◌, ◌==◌, ◌&&◌, ◌||◌, not, Bool, true, false, cond, nat_le, nat_lt, List, [], ◌∷◌, length, drop, Option, Some, None, slice_get, refl, ◌∙◌, inl, inr, arith, eqb-true, length-drop, length-set}
 use Rattle.std.proofs.lemmas.Bool.{cond_both, and_parts}
-use Rattle.ipx_wire.specs.declared.spx.SpxHeader.{SpxHeader}
+use Rattle.ipx_wire.specs.declared.spx.packet.SpxHeader.{SpxHeader}
 use Rattle.spx_link.specs.declared.unit.Unit.{Unit}
 use Rattle.spx_link.specs.declared.queue.Queued.{Queued}
 use Rattle.spx_link.specs.declared.state.State.{State}

@@ -1,7 +1,7 @@
 -- What no call changes of a link, and what polls make of its next number.
 use Rattle.std.proofs.Common.{ℕ, ◌≡◌, ◌==◌, true, ◌&&◌, ◌||◌, nat_le, nat_lt, List, [], ◌∷◌, Option, Some, None, slice_get, refl}
 use Rattle.std.proofs.lemmas.Bool.{cond_both}
-use Rattle.ipx_wire.specs.declared.spx.SpxHeader.{SpxHeader}
+use Rattle.ipx_wire.specs.declared.spx.packet.SpxHeader.{SpxHeader}
 use Rattle.spx_link.specs.declared.unit.Unit.{Unit}
 use Rattle.spx_link.specs.declared.queue.Queued.{Queued}
 use Rattle.spx_link.specs.declared.received.Received.{Received}

@@ -5,7 +5,7 @@ use Rattle.std.proofs.lemmas.List.{map-append, drop-append-le, drop-drop, drop-m
 use Rattle.std.proofs.lemmas.Option.{slice_get_within, slice_get-map}
 use Rattle.ipx_wire.specs.declared.address.Socket.{Socket}
 use Rattle.ipx_wire.specs.declared.address.Address.{Address}
-use Rattle.ipx_wire.specs.declared.spx.SpxHeader.{SpxHeader}
+use Rattle.ipx_wire.specs.declared.spx.packet.SpxHeader.{SpxHeader}
 use Rattle.spx_link.specs.declared.unit.Unit.{Unit}
 use Rattle.spx_link.specs.declared.queue.Queued.{Queued}
 use Rattle.spx_link.specs.declared.outgoing.Sent.{Sent}

@@ -4,7 +4,7 @@ use Rattle.std.proofs.lemmas.Bool.{not-true, cond_both, and_parts, and_cases, lt
 use Rattle.std.proofs.lemmas.Bool.Decides.{nat_tests}
 use Rattle.std.proofs.lemmas.List.{drop-append-le, drop-map, drop_all, length-map, drop-drop}
 use Rattle.std.proofs.lemmas.Option.{slice_get_within}
-use Rattle.ipx_wire.specs.declared.spx.SpxHeader.{SpxHeader}
+use Rattle.ipx_wire.specs.declared.spx.packet.SpxHeader.{SpxHeader}
 use Rattle.spx_link.specs.declared.unit.Unit.{Unit}
 use Rattle.spx_link.specs.declared.state.State.{State}
 use Rattle.spx_link.specs.declared.received.Received.{Received}

@@ -2,7 +2,7 @@
 use Rattle.std.specs.Prelude.{ℕ, ◌≡◌, ◌≢◌, ◌⊎◌, ◌<◌, Bool, true, false, List, Option, Some}
 use Rattle.ipx_wire.specs.declared.address.Socket.{Socket}
 use Rattle.ipx_wire.specs.declared.address.Address.{Address}
-use Rattle.ipx_wire.specs.declared.spx.SpxHeader.{SpxHeader}
+use Rattle.ipx_wire.specs.declared.spx.packet.SpxHeader.{SpxHeader}
 use Rattle.spx_link.specs.declared.outgoing.Sent.{Sent}
 use Rattle.spx_link.specs.declared.outgoing.Sent.TheVariants as Sents
 use Rattle.spx_link.specs.declared.state.State.{State}

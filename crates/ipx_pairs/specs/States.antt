@@ -1,6 +1,6 @@
 -- What the calls of a link do to its state, as far as the stages of a connection need it (Novell SPX: opening, live, lost).
 use Rattle.std.specs.Prelude.{ℕ, ◌≡◌, ◌≢◌, Bool, true, false, List, None, Some}
-use Rattle.ipx_wire.specs.declared.spx.SpxHeader.{SpxHeader}
+use Rattle.ipx_wire.specs.declared.spx.packet.SpxHeader.{SpxHeader}
 use Rattle.spx_link.specs.declared.state.State.{State}
 use Rattle.spx_link.specs.declared.state.State.TheVariants.{Opening, Live, Ending, PeerEnded, Confirmed, Lost}
 use Rattle.spx_link.specs.declared.received.Received.TheVariants.{Stranger, Joined}

@@ -1,6 +1,6 @@
 -- Each call of a link is a step of the machine: receive of a fresh packet, poll, take, offer and end.
 use Rattle.std.specs.Prelude.{ℕ, ◌≡◌, ◌≢◌, ◌<◌, ◌≤◌, ◌+◌, ◌++◌, Bool, List, [], ◌∷◌, None, Some, slice_get}
-use Rattle.ipx_wire.specs.declared.spx.SpxHeader.{SpxHeader}
+use Rattle.ipx_wire.specs.declared.spx.packet.SpxHeader.{SpxHeader}
 use Rattle.spx_link.specs.declared.unit.Unit.{Unit}
 use Rattle.spx_link.specs.declared.received.Received.TheVariants.{Stranger}
 use Rattle.spx_link.specs.Limits.{most_units, end_stream}

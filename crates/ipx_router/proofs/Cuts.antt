@@ -1,5 +1,6 @@
 -- Packets added one after another, and the ports that they leave by.
-use Rattle.std.proofs.Common.{◌≡◌, ℕ, Bool, true, false, ◌<◌, List, [], ◌∷◌, ◌++◌, length, take, drop, refl, sym, ap, ◌∙◌, arith, inl, inr, min, append-nil}
+use Rattle.ipx_wire.specs.Assigned.{packet_exchange_type, rip_socket, rip_type, sap_socket}
+use Rattle.std.proofs.Common.{◌≡◌, ℕ, Bool, true, false, ◌<◌, List, [], ◌∷◌, ◌++◌, length, take, drop, refl, sym, ap, ◌∙◌, subst, arith, inl, inr, min, append-nil}
 use Rattle.std.proofs.lemmas.Bool.{cases_lt}
 use Rattle.std.proofs.lemmas.List.{take_all, drop_all}
 use Rattle.std.specs.List.{All}
@@ -7,12 +8,14 @@ use Rattle.std.proofs.lemmas.List.Elements.{All-cons, All-nil}
 use Rattle.ipx_router.specs.declared.outcome.Reply.{Reply}
 use Rattle.std.specs.Prelude.{◌==◌}
 use borrow.Author.Tests.{eqb-true}
-use Rattle.ipx_control.specs.declared.rip.RipEntry.{RipEntry}
-use Rattle.ipx_control.specs.declared.sap.ServiceEntry.{ServiceEntry}
+use Rattle.ipx_control.specs.declared.rip.packet.RipEntry.{RipEntry}
+use Rattle.ipx_control.specs.declared.sap.packet.ServiceEntry.{ServiceEntry}
+use Rattle.ipx_control.specs.Rip.{RipView}
 use Rattle.ipx_control.specs.Rip as rip
+use Rattle.ipx_control.specs.Sap.{SapView}
 use Rattle.ipx_control.specs.Sap as sap
 use Rattle.ipx_router.specs.declared.packets.Recipient.{Recipient}
-use Rattle.ipx_router.specs.Packets.{AreCutOf, AreRoutePackets, AreServicePackets, IsRipPacket, IsSapPacket, SendingView, sending_of, sendings}
+use Rattle.ipx_router.specs.Packets.{AreCutOf, AreRoutePackets, AreServicePackets, AreOwn, IsOwn, IsRipPacket, IsSapPacket, SendingView, own_header, sending_of, sendings}
 use Rattle.ipx_router.specs.Adding.{AddsPackets, IsLeftToAdd}
 
 pub sendings_push : (old : List Reply) (r : Reply) (later : List SendingView) → sendings (old ++ r ∷ []) ++ later ≡ sendings old ++ (sending_of r ∷ later)
@@ -36,12 +39,16 @@ module _ {E : Type 0} (most : ℕ) (IsPacketOf : List E → SendingView → Type
 pub cut_none : {E : Type 0} (most : ℕ) (IsPacketOf : List E → SendingView → Type 0) (entries : List E) (old : List Reply) → IsLeftToAdd (AreCutOf most IsPacketOf) entries entries old old
 cut_none most IsPacketOf entries old later cut = (later, refl, cut)
 
--- packets of which each leaves by one port all leave by it
-pub cut_port : {E : Type 0} (most : ℕ) (IsPacketOf : List E → SendingView → Type 0) (number : ℕ) → ((part : List E) (s : SendingView) → IsPacketOf part s → s.port ≡ number)
-    → (entries : List E) (sent : List SendingView) → AreCutOf most IsPacketOf entries sent → All (λ (s : SendingView). s.port ≡ number) sent
-cut_port most IsPacketOf number by entries [] cut = All-nil (λ (s : SendingView). s.port ≡ number)
-cut_port most IsPacketOf number by entries (s ∷ sent) cut =
-    All-cons (λ (s : SendingView). s.port ≡ number) s sent (by (take most entries) s cut.1) (cut_port most IsPacketOf number by (drop most entries) sent cut.2)
+-- packets added to none
+pub added_alone : (ArePackets : List SendingView → Type 0) (new : List Reply) → AddsPackets ArePackets [] new → ArePackets (sendings new)
+added_alone ArePackets new p = subst ArePackets (sym p.1) p.2
+
+-- what holds of each packet of a part holds of all packets of a list
+pub cut_all : {E : Type 0} (most : ℕ) (IsPacketOf : List E → SendingView → Type 0) (P : SendingView → Type 0) → ((part : List E) (s : SendingView) → IsPacketOf part s → P s)
+    → (entries : List E) (sent : List SendingView) → AreCutOf most IsPacketOf entries sent → All P sent
+cut_all most IsPacketOf P by entries [] cut = All-nil P
+cut_all most IsPacketOf P by entries (s ∷ sent) cut =
+    All-cons P s sent (by (take most entries) s cut.1) (cut_all most IsPacketOf P by (drop most entries) sent cut.2)
 
 -- what is taken of a list of at most so many is taken of the list
 pub take_fewer : {E : Type 0} (most n : ℕ) (xs : List E) → n ≡ min (length xs) most → (take n xs ≡ take most xs) × (drop n xs ≡ drop most xs)
@@ -52,13 +59,33 @@ take_fewer most n xs e = elim (cases_lt most (length xs)) [
       (take_all n xs (omega arith) ∙ sym (take_all most xs (omega arith)), drop_all n xs (omega arith) ∙ sym (drop_all most xs (omega arith)))
 ]
 
-pub route_packets_port : (to : Recipient) (entries : List RipEntry) (sent : List SendingView) → AreRoutePackets to entries sent → All (λ (s : SendingView). s.port ≡ to.number) sent
-route_packets_port to entries sent cut =
-    cut_port 50 (λ part. IsRipPacket to (rip.Response part)) to.number (λ part s p. let q : IsRipPacket to (rip.Response part) s = p in q.port) entries sent cut
+module _ (to : Recipient) where
+  pub route_packets_port : (entries : List RipEntry) (sent : List SendingView) → AreRoutePackets to entries sent → All (λ (s : SendingView). s.port ≡ to.number) sent
+  route_packets_port entries sent cut =
+      cut_all 50 (λ part. IsRipPacket to (rip.Response part)) (λ (s : SendingView). s.port ≡ to.number) (λ part s p. let q : IsRipPacket to (rip.Response part) s = p in q.port) entries sent cut
 
-pub service_packets_port : (to : Recipient) (nearest : Bool) (entries : List ServiceEntry) (sent : List SendingView) → AreServicePackets to nearest entries sent → All (λ (s : SendingView). s.port ≡ to.number) sent
-service_packets_port to nearest entries sent cut =
-    cut_port 7 (λ part. IsSapPacket to (sap.Response nearest part)) to.number (λ part s p. let q : IsSapPacket to (sap.Response nearest part) s = p in q.port) entries sent cut
+  pub service_packets_port : (nearest : Bool) (entries : List ServiceEntry) (sent : List SendingView) → AreServicePackets to nearest entries sent → All (λ (s : SendingView). s.port ≡ to.number) sent
+  service_packets_port nearest entries sent cut =
+      cut_all 7 (λ part. IsSapPacket to (sap.Response nearest part)) (λ (s : SendingView). s.port ≡ to.number) (λ part s p. let q : IsSapPacket to (sap.Response nearest part) s = p in q.port) entries sent cut
+
+  -- RIP and SAP are no SPX
+  pub rip_packet_own : (m : RipView) (s : SendingView) → IsRipPacket to m s → IsOwn s
+  rip_packet_own m s p =
+      let q : IsRipPacket to m s = p in
+      record { packet = record { header = own_header to rip_type rip_socket; body = q.body }; is = q.packet.packet; no_spx = λ e. omega (arith, e) }
+
+  pub sap_packet_own : (m : SapView) (s : SendingView) → IsSapPacket to m s → IsOwn s
+  sap_packet_own m s p =
+      let q : IsSapPacket to m s = p in
+      record { packet = record { header = own_header to packet_exchange_type sap_socket; body = q.body }; is = q.packet.packet; no_spx = λ e. omega (arith, e) }
+
+  pub route_packets_own : (entries : List RipEntry) (sent : List SendingView) → AreRoutePackets to entries sent → AreOwn sent
+  route_packets_own entries sent cut =
+      cut_all 50 (λ part. IsRipPacket to (rip.Response part)) IsOwn (λ part s p. rip_packet_own (rip.Response part) s p) entries sent cut
+
+  pub service_packets_own : (nearest : Bool) (entries : List ServiceEntry) (sent : List SendingView) → AreServicePackets to nearest entries sent → AreOwn sent
+  service_packets_own nearest entries sent cut =
+      cut_all 7 (λ part. IsSapPacket to (sap.Response nearest part)) IsOwn (λ part s p. sap_packet_own (sap.Response nearest part) s p) entries sent cut
 
 pub some_left : {E : Type 0} (xs : List E) → (length xs == 0) ≡ false → 0 < length xs
 some_left [] e = cc

@@ -1,15 +1,16 @@
 -- The nearest service, one more at a time.
 use Rattle.std.proofs.Common.{◌≡◌, ℕ, Bool, true, false, cond, List, [], ◌∷◌, ◌++◌, Option, Some, None, refl, sym, ap, ◌∙◌, subst, inl, inr}
 use mathlib.Core.Bool.{true≢false}
-use Rattle.std.specs.Prelude.{MatchOption}
+use Rattle.std.specs.Prelude.{Contains, MatchOption}
 use Rattle.std.specs.Cmp.{IsTotalOrder}
 use Rattle.std.specs.Ordering.{is_lt, ordering_reverse}
 use Rattle.std.specs.declared.cmp.Ordering.{Ordering}
 use Rattle.std.specs.declared.cmp.Ordering.TheVariants.{Less, Equal, Greater}
 use Rattle.std.proofs.lemmas.Cmp.{nat_cmp_total, nat_list_cmp_total, on_total, then_total}
 use Rattle.std.proofs.lemmas.List.Elements.{Contains-append_left, Contains-push, Contains-push_cases}
-use Rattle.ipx_control.specs.declared.sap.ServiceEntry.{ServiceEntry}
-use Rattle.ipx_router.specs.Asking.{IsNearest, NoneIsNear, is_near, is_nearer, nearer, nearness}
+use Rattle.ipx_control.specs.declared.sap.packet.ServiceEntry.{ServiceEntry}
+use Rattle.ipx_router.specs.Replying.{IsNearest, NoneIsNear, is_near, is_nearer, nearness}
+use Rattle.ipx_router.specs.Picking.{nearer}
 
 nearness_total : IsTotalOrder nearness
 nearness_total =
@@ -42,14 +43,14 @@ not_nearer_than_nearer x y h near far =
     decide (is_nearer x y) (λ e. absurd (true≢false (sym (ap is_lt (nearness_total.trans x y h (is_less (nearness x y) e) (is_less (nearness y h) near))) ∙ far)))
 
 -- a service that is not near changes nothing
-pub nearest_skip : (held : Option ServiceEntry) (told : List ServiceEntry) (kind : ℕ) (y : ServiceEntry) → MatchOption held (NoneIsNear told kind) (IsNearest told kind) → is_near kind y ≡ false
-    → MatchOption held (NoneIsNear (told ++ y ∷ []) kind) (IsNearest (told ++ y ∷ []) kind)
+pub nearest_skip : (held : Option ServiceEntry) (told : List ServiceEntry) (kind : ℕ) (y : ServiceEntry) → MatchOption held (NoneIsNear (Contains told) kind) (IsNearest (Contains told) kind) → is_near kind y ≡ false
+    → MatchOption held (NoneIsNear (Contains (told ++ y ∷ [])) kind) (IsNearest (Contains (told ++ y ∷ [])) kind)
 nearest_skip None told kind y n far = λ x c. elim (Contains-push_cases told y x c) [
   | inl old ↦ n x old
   | inr same ↦ subst (λ v. is_near kind v ≡ false) same far
 ]
 nearest_skip (Some h) told kind y n far = record {
-  stands = Contains-append_left told (y ∷ []) h n.stands;
+  told = Contains-append_left told (y ∷ []) h n.told;
   near = n.near;
   least = λ x c near. elim (Contains-push_cases told y x c) [
     | inl old ↦ n.least x old near
@@ -57,9 +58,9 @@ nearest_skip (Some h) told kind y n far = record {
   ];
 }
 
-kept : (told : List ServiceEntry) (kind : ℕ) (h y : ServiceEntry) → IsNearest told kind h → is_near kind y ≡ true → (b : Bool) → is_nearer y h ≡ b → IsNearest (told ++ y ∷ []) kind (cond b y h)
+kept : (told : List ServiceEntry) (kind : ℕ) (h y : ServiceEntry) → IsNearest (Contains told) kind h → is_near kind y ≡ true → (b : Bool) → is_nearer y h ≡ b → IsNearest (Contains (told ++ y ∷ [])) kind (cond b y h)
 kept told kind h y n near true e = record {
-  stands = Contains-push told y;
+  told = Contains-push told y;
   near = near;
   least = λ x c near_x. elim (Contains-push_cases told y x c) [
     | inl old ↦ not_nearer_than_nearer x y h e (n.least x old near_x)
@@ -67,7 +68,7 @@ kept told kind h y n near true e = record {
   ];
 }
 kept told kind h y n near false e = record {
-  stands = Contains-append_left told (y ∷ []) h n.stands;
+  told = Contains-append_left told (y ∷ []) h n.told;
   near = n.near;
   least = λ x c near_x. elim (Contains-push_cases told y x c) [
     | inl old ↦ n.least x old near_x
@@ -76,10 +77,10 @@ kept told kind h y n near false e = record {
 }
 
 -- of a near service and the one that is held the nearer is the nearest
-pub nearest_more : (held : Option ServiceEntry) (told : List ServiceEntry) (kind : ℕ) (y : ServiceEntry) → MatchOption held (NoneIsNear told kind) (IsNearest told kind) → is_near kind y ≡ true
-    → IsNearest (told ++ y ∷ []) kind (nearer held y)
+pub nearest_more : (held : Option ServiceEntry) (told : List ServiceEntry) (kind : ℕ) (y : ServiceEntry) → MatchOption held (NoneIsNear (Contains told) kind) (IsNearest (Contains told) kind) → is_near kind y ≡ true
+    → IsNearest (Contains (told ++ y ∷ [])) kind (nearer held y)
 nearest_more None told kind y n near = record {
-  stands = Contains-push told y;
+  told = Contains-push told y;
   near = near;
   least = λ x c near_x. elim (Contains-push_cases told y x c) [
     | inl old ↦ absurd (true≢false (sym near_x ∙ n x old))

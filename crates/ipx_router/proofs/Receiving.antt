@@ -1,19 +1,17 @@
 -- From what is answered once old offers have gone to what the router answers.
 use Rattle.std.proofs.Common.{◌≡◌, ℕ, ◌-◌, ◌<◌, Bool, true, false, ltb, List, [], ◌∷◌, length, Option, Some, None, Result, Ok, Err, refl, sym, subst, inl, inr, arith}
-use Rattle.std.specs.Prelude.{slice_get, IfOk, IfErr, IfSome, OnErr, IsOk, MatchOption, MatchResult, count_by, ◌⊎◌, ◌==◌, ◌||◌, ◌/◌, if◌then◌else◌}
-use Rattle.std.specs.List.{All}
+use Rattle.std.specs.Prelude.{IfOk, IfErr, OnErr, IsOk, MatchOption, MatchResult, count_by, ◌⊎◌, ◌==◌, ◌||◌, ◌/◌, if◌then◌else◌}
 use Rattle.std.proofs.Math.Path.{fun_ext}
 use Rattle.std.proofs.lemmas.Bool.{false≢true}
-use Rattle.std.proofs.lemmas.List.Elements.{All-weaker}
 use Rattle.ipx_wire.specs.declared.address.Network.{Network}
 use Rattle.ipx_wire.specs.declared.memory.OutOfMemory.{OutOfMemory}
 use Rattle.ipx_wire.specs.Ipx.{PacketView, number}
 use Rattle.ipx_control.specs.declared.fault.ControlFault.{ControlFault}
 use Rattle.ipx_control.specs.declared.fault.ControlFault.TheVariants.{NoOperation, UnknownOperation, TooManyEntries, QueryShort, OutOfMemory as out_of_memory_fault}
-use Rattle.ipx_control.specs.declared.rip.RipEntry.{RipEntry}
-use Rattle.ipx_control.specs.declared.rip.Rip.{Rip}
-use Rattle.ipx_control.specs.declared.sap.ServiceEntry.{ServiceEntry}
-use Rattle.ipx_control.specs.declared.sap.Sap.{Sap}
+use Rattle.ipx_control.specs.declared.rip.packet.RipEntry.{RipEntry}
+use Rattle.ipx_control.specs.declared.rip.packet.Rip.{Rip}
+use Rattle.ipx_control.specs.declared.sap.packet.ServiceEntry.{ServiceEntry}
+use Rattle.ipx_control.specs.declared.sap.packet.Sap.{Sap}
 use Rattle.ipx_control.specs.Rip.{RipView, IsRip, rip_entries, rip_fault}
 use Rattle.ipx_control.specs.Rip as rip
 use Rattle.ipx_control.specs.Sap.{SapView, IsSap, sap_fault, sap_services}
@@ -30,13 +28,13 @@ use Rattle.ipx_router.specs.declared.port.Port.{Port}
 use Rattle.ipx_router.specs.declared.port.PortNow.{PortNow}
 use Rattle.ipx_router.specs.declared.reason.Reason.TheVariants.{BadControl, TableFull}
 use Rattle.ipx_router.specs.RouterView.{RouterView}
-use Rattle.ipx_router.specs.Knowledge.{Routes, Services, HoldsRoutes, HoldsServices, Tables, known_aged, known_at, known_in, routes_in, services_in}
-use Rattle.ipx_router.specs.Control.{source_of, asker}
-use Rattle.ipx_router.specs.Hearing.{HeardRoutes, HeardServices, StopsAtRoute, StopsAtService, WantsAtRoute, WantsAtService, is_heard}
-use Rattle.ipx_router.specs.Packets.{SendingView}
-use Rattle.ipx_router.specs.Ports.{AreOnPorts, IsPortNumber}
-use Rattle.ipx_router.specs.Answer.{OutcomeView, Heard, Dropped, Replies, Forward, AnswersBytes, AnswersRip, AnswersRipMessage, AnswersSap, AnswersSapMessage, HearsRoutes, HearsServices, HoldsPacket, IsOnPort, LeavesBytes, LeavesRipMessage, LeavesRoutes, LeavesSapMessage, LeavesServices, StopsHearingRoutes, StopsHearingServices, OnwardForEachReading, PassesOn, view}
-use Rattle.ipx_router.proofs.Cuts.{route_packets_port, service_packets_port}
+use Rattle.ipx_router.specs.Knowledge.{AreTables, KeepsRest, Routes, Services, HoldsRoutes, HoldsServices, known_aged, known_at, known_in, routes_in, services_in, tables}
+use Rattle.ipx_router.specs.Hearing.{AtEntry, GrowsByRoute, GrowsByService, HeardRoutes, HeardServices, IsFullForRoute, IsFullForService, is_heard, source_of}
+use Rattle.ipx_router.specs.Ports.{IsPort}
+use Rattle.ipx_router.specs.OutcomeView.{OutcomeView, Heard, Dropped, view}
+use Rattle.ipx_router.specs.Answer.{AnswersBytes, AnswersRip, AnswersRipMessage, AnswersSap, AnswersSapMessage, HearsRoutes, HearsServices, Receives}
+use Rattle.ipx_router.specs.WantOfMemory.{BytesWantMemory, HearingRoutesWantsMemory, HearingServicesWantsMemory, RipMessageWantsMemory, RipWantsMemory, SapMessageWantsMemory, SapWantsMemory, WantsMemory}
+use Rattle.ipx_router.specs.Forwarded.{ForwardsEachReading, ForwardsOneHopOn, ForwardsPacket}
 
 -- what tables say once old offers have gone is what is known then
 pub known_same : (ports : List Port) (now : ℕ) (old_routes routes : Table Network RouteMetric) (old_services services : Table ServiceKey ServiceMetric)
@@ -46,23 +44,22 @@ known_same ports now old_routes routes old_services services r s = λ i. record 
 
 -- ---- on the port of a number
 
-module _ (old : RouterView) (port now : ℕ) (bytes : List ℕ) (arrived : Port) (there : slice_get old.ports (port - 1) ≡ Some arrived) (new : Tables) where
-  pub answers_on : (o : Result Outcome OutOfMemory) → IfOk o (λ x. AnswersBytes (known_at old now) (record { number = port; port = arrived; now = now }) bytes (view x) new)
-      → IfOk o (λ x. IfSome (slice_get old.ports (port - 1)) (λ p. AnswersBytes (known_at old now) (record { number = port; port = p; now = now }) bytes (view x) new))
-  answers_on (Ok x) a =
-      subst (λ (m : Option Port). IfSome m (λ p. AnswersBytes (known_at old now) (record { number = port; port = p; now = now }) bytes (view x) new)) (sym there) a
-  answers_on (Err e) a = tt
+module _ (old : RouterView) (port now : ℕ) (bytes : List ℕ) (arrived : Port) (is : IsPort old.ports port arrived) where
+  pub receives_on : (new : RouterView) → KeepsRest old new → new.told ≡ old.told → AreTables (tables new)
+      → (o : Result Outcome OutOfMemory) → IfOk o (λ x. AnswersBytes (known_at old now) (record { number = port; port = arrived; now = now }) bytes (view x) (tables new))
+      → IfOk o (λ x. Receives old port bytes now (view x) new)
+  receives_on new rest told valid (Ok x) a = record { answers = (arrived, is, a); rest = rest; told = told; valid = valid }
+  receives_on new rest told valid (Err e) a = tt
 
-  pub leaves_on : (o : Result Outcome OutOfMemory) → OnErr o (LeavesBytes (known_at old now) (record { number = port; port = arrived; now = now }) bytes new)
-      → OnErr o (IfSome (slice_get old.ports (port - 1)) (λ p. LeavesBytes (known_at old now) (record { number = port; port = p; now = now }) bytes new))
-  leaves_on (Ok x) a = tt
-  leaves_on (Err e) a =
-      subst (λ (m : Option Port). IfSome m (λ p. LeavesBytes (known_at old now) (record { number = port; port = p; now = now }) bytes new)) (sym there) a
+  pub wants_on : (new : RouterView) → (o : Result Outcome OutOfMemory) → OnErr o (BytesWantMemory (known_at old now) (record { number = port; port = arrived; now = now }) bytes (tables new))
+      → OnErr o (WantsMemory old port bytes now new)
+  wants_on new (Ok x) a = tt
+  wants_on new (Err e) a = (arrived, is, a)
 
-pub passes_on : (r : RouterView) (port : ℕ) (bytes : List ℕ) (arrived : Port) (o : Result Outcome OutOfMemory) → slice_get r.ports (port - 1) ≡ Some arrived
-    → IfOk o (λ x. HoldsPacket bytes (view x)) → IfOk o (λ x. OnwardForEachReading arrived bytes (view x)) → IfOk o (λ x. PassesOn r port bytes (view x))
-passes_on r port bytes arrived (Ok x) there found onward = (arrived, there, found, onward)
-passes_on r port bytes arrived (Err e) there found onward = tt
+  pub forwards_on : (o : Result Outcome OutOfMemory) → IfOk o (λ x. ForwardsPacket bytes (view x)) → IfOk o (λ x. ForwardsEachReading arrived bytes (view x))
+      → IfOk o (λ x. ForwardsOneHopOn old port bytes (view x))
+  forwards_on (Ok x) found one_hop_on = (arrived, is, found, one_hop_on)
+  forwards_on (Err e) found one_hop_on = tt
 
 -- ---- responses
 
@@ -75,7 +72,7 @@ module _ (ports : List Port) (routes : Routes) (at : PortNow) (d : PacketView) (
 
   pub rip_heard : (heard : Result ℕ TableFault) (o : Result Outcome OutOfMemory)
       → IfOk heard (λ n. (n ≡ count_by (is_heard ports) entries) × HeardRoutes ports source at.now entries routes (length entries) new)
-      → IfErr heard (λ f. (n : ℕ) × HeardRoutes ports source at.now entries routes n new × (f ≡ Full → StopsAtRoute ports source entries n new) × (f ≡ out_of_memory → WantsAtRoute ports source entries n new))
+      → IfErr heard (λ f. (n : ℕ) × HeardRoutes ports source at.now entries routes n new × (f ≡ Full → AtEntry entries n (IsFullForRoute ports source new)) × (f ≡ out_of_memory → AtEntry entries n (GrowsByRoute ports source new)))
       → IfOk o (λ x. MatchResult heard (λ n. view x ≡ Heard n) (λ f. (f ≡ Full) × (view x ≡ Dropped TableFull)))
       → IfOk o (λ x. AnswersRip ports routes at d (view x) new)
   rip_heard (Ok n) (Ok x) ok err says = subst (λ (a : OutcomeView). AnswersRip ports routes at d a new) (sym says) (rip_answer (Heard n) ok)
@@ -83,14 +80,14 @@ module _ (ports : List Port) (routes : Routes) (at : PortNow) (d : PacketView) (
   rip_heard (Ok n) (Err e) ok err says = tt
   rip_heard (Err f) (Err e) ok err says = tt
 
-  pub rip_left : (heard : Result ℕ TableFault) (o : Result Outcome OutOfMemory)
-      → IfErr heard (λ f. (n : ℕ) × HeardRoutes ports source at.now entries routes n new × (f ≡ Full → StopsAtRoute ports source entries n new) × (f ≡ out_of_memory → WantsAtRoute ports source entries n new))
-      → OnErr o (heard ≡ Err out_of_memory) → OnErr o (LeavesRoutes ports routes at d new)
-  rip_left heard (Ok x) err says = tt
-  rip_left (Ok n) (Err e) err says = cc
-  rip_left (Err f) (Err e) err says =
+  pub rip_wants : (heard : Result ℕ TableFault) (o : Result Outcome OutOfMemory)
+      → IfErr heard (λ f. (n : ℕ) × HeardRoutes ports source at.now entries routes n new × (f ≡ Full → AtEntry entries n (IsFullForRoute ports source new)) × (f ≡ out_of_memory → AtEntry entries n (GrowsByRoute ports source new)))
+      → OnErr o (heard ≡ Err out_of_memory) → OnErr o (RipWantsMemory ports routes at d new)
+  rip_wants heard (Ok x) err says = tt
+  rip_wants (Ok n) (Err e) err says = cc
+  rip_wants (Err f) (Err e) err says =
       let wants : f ≡ out_of_memory = cc in
-      (rip.Response entries, tail, is, subst (λ (s : Source). StopsHearingRoutes ports routes s at.now entries new) from (inr (err.0, err.1, err.3 wants)))
+      (rip.Response entries, tail, is, subst (λ (s : Source). HearingRoutesWantsMemory ports routes s at.now entries new) from (inr (err.0, err.1, err.3 wants)))
 
 module _ (services : Services) (at : PortNow) (d : PacketView) (tail : List ℕ) (nearest : Bool) (entries : List ServiceEntry) (source : Source) (from : source ≡ source_of at d.header)
     (none : sap_fault d.body ≡ None) (is : IsSap (sap.Response nearest entries) d.body tail) (new : Table ServiceKey ServiceMetric) where
@@ -101,7 +98,7 @@ module _ (services : Services) (at : PortNow) (d : PacketView) (tail : List ℕ)
 
   pub sap_heard : (heard : Result ℕ TableFault) (o : Result Outcome OutOfMemory)
       → IfOk heard (λ n. (n ≡ length entries) × HeardServices source at.now entries services (length entries) new)
-      → IfErr heard (λ f. (n : ℕ) × HeardServices source at.now entries services n new × (f ≡ Full → StopsAtService source entries n new) × (f ≡ out_of_memory → WantsAtService source entries n new))
+      → IfErr heard (λ f. (n : ℕ) × HeardServices source at.now entries services n new × (f ≡ Full → AtEntry entries n (IsFullForService source new)) × (f ≡ out_of_memory → AtEntry entries n (GrowsByService source new)))
       → IfOk o (λ x. MatchResult heard (λ n. view x ≡ Heard n) (λ f. (f ≡ Full) × (view x ≡ Dropped TableFull)))
       → IfOk o (λ x. AnswersSap services at d (view x) new)
   sap_heard (Ok n) (Ok x) ok err says = subst (λ (a : OutcomeView). AnswersSap services at d a new) (sym says) (sap_answer (Heard n) ok)
@@ -109,14 +106,14 @@ module _ (services : Services) (at : PortNow) (d : PacketView) (tail : List ℕ)
   sap_heard (Ok n) (Err e) ok err says = tt
   sap_heard (Err f) (Err e) ok err says = tt
 
-  pub sap_left : (heard : Result ℕ TableFault) (o : Result Outcome OutOfMemory)
-      → IfErr heard (λ f. (n : ℕ) × HeardServices source at.now entries services n new × (f ≡ Full → StopsAtService source entries n new) × (f ≡ out_of_memory → WantsAtService source entries n new))
-      → OnErr o (heard ≡ Err out_of_memory) → OnErr o (LeavesServices services at d new)
-  sap_left heard (Ok x) err says = tt
-  sap_left (Ok n) (Err e) err says = cc
-  sap_left (Err f) (Err e) err says =
+  pub sap_wants : (heard : Result ℕ TableFault) (o : Result Outcome OutOfMemory)
+      → IfErr heard (λ f. (n : ℕ) × HeardServices source at.now entries services n new × (f ≡ Full → AtEntry entries n (IsFullForService source new)) × (f ≡ out_of_memory → AtEntry entries n (GrowsByService source new)))
+      → OnErr o (heard ≡ Err out_of_memory) → OnErr o (SapWantsMemory services at d new)
+  sap_wants heard (Ok x) err says = tt
+  sap_wants (Ok n) (Err e) err says = cc
+  sap_wants (Err f) (Err e) err says =
       let wants : f ≡ out_of_memory = cc in
-      (sap.Response nearest entries, tail, is, subst (λ (s : Source). StopsHearingServices services s at.now entries new) from (inr (err.0, err.1, err.3 wants)))
+      (sap.Response nearest entries, tail, is, subst (λ (s : Source). HearingServicesWantsMemory services s at.now entries new) from (inr (err.0, err.1, err.3 wants)))
 
 -- ---- want of memory for the entries of a body
 
@@ -154,73 +151,20 @@ some_entry (e ∷ es) none = omega arith
 
 module _ (ports : List Port) (routes : Routes) (at : PortNow) (d : PacketView) (f : ControlFault)
     (no_memory : (m : RipView) (tail : List ℕ) → IsRip m d.body tail → rip_entries m ≡ [] → IsOk {T = Rip} (Err f)) (new : Table Network RouteMetric) (same : HoldsRoutes new routes) where
-  rip_unread_by : (m : RipView) → (rip_entries m ≡ [] → ⊥) → LeavesRipMessage ports routes at d.header m new
-  rip_unread_by (rip.Request asked) some = same
+  rip_unread_by : (m : RipView) → (rip_entries m ≡ [] → ⊥) → RipMessageWantsMemory ports routes at d.header m new
+  rip_unread_by (rip.Request asked) some = (some_entry asked some, same)
   rip_unread_by (rip.Response entries) some = inl (some_entry entries some, same)
 
-  pub rip_unread : (m : RipView) × (tail : List ℕ) × IsRip m d.body tail → LeavesRoutes ports routes at d new
+  pub rip_unread : (m : RipView) × (tail : List ℕ) × IsRip m d.body tail → RipWantsMemory ports routes at d new
   rip_unread found =
       (found.0, found.1, found.2, rip_unread_by found.0 (λ none. false≢true (no_memory found.0 found.1 found.2 none)))
 
 module _ (services : Services) (at : PortNow) (d : PacketView) (f : ControlFault)
     (no_memory : (m : SapView) (tail : List ℕ) → IsSap m d.body tail → sap_services m ≡ [] → IsOk {T = Sap} (Err f)) (new : Table ServiceKey ServiceMetric) (same : HoldsServices new services) where
-  sap_unread_by : (m : SapView) → (sap_services m ≡ [] → ⊥) → LeavesSapMessage services at d.header m new
-  sap_unread_by (sap.Query nearest kind) some = same
+  sap_unread_by : (m : SapView) → (sap_services m ≡ [] → ⊥) → SapMessageWantsMemory services at d.header m new
+  sap_unread_by (sap.Query nearest kind) some = absurd (some refl)
   sap_unread_by (sap.Response nearest entries) some = inl (some_entry entries some, same)
 
-  pub sap_unread : (m : SapView) × (tail : List ℕ) × IsSap m d.body tail → LeavesServices services at d new
+  pub sap_unread : (m : SapView) × (tail : List ℕ) × IsSap m d.body tail → SapWantsMemory services at d new
   sap_unread found =
       (found.0, found.1, found.2, sap_unread_by found.0 (λ none. false≢true (no_memory found.0 found.1 found.2 none)))
-
--- ---- replies leave by the port that was asked on
-
-on_ports : (count number : ℕ) (sent : List SendingView) → IsPortNumber count number → All (λ (s : SendingView). s.port ≡ number) sent → AreOnPorts count sent
-on_ports count number sent is all = All-weaker (λ (s : SendingView). s.port ≡ number) (λ (s : SendingView). IsPortNumber count s.port) (λ s e. (omega (arith, e, is.0), omega (arith, e, is.1))) sent all
-
-heard_there : (count : ℕ) (ports : List Port) (routes : Routes) (source : Source) (now : ℕ) (entries : List RipEntry) (a : OutcomeView) (new : Table Network RouteMetric) → HearsRoutes ports routes source now entries a new → IsOnPort count a
-heard_there count ports routes source now entries (Heard n) new h = tt
-heard_there count ports routes source now entries (Dropped r) new h = tt
-heard_there count ports routes source now entries (Forward port next bytes) new h = absurd h
-heard_there count ports routes source now entries (Replies sent) new h = absurd h
-
-services_there : (count : ℕ) (services : Services) (source : Source) (now : ℕ) (entries : List ServiceEntry) (a : OutcomeView) (new : Table ServiceKey ServiceMetric) → HearsServices services source now entries a new → IsOnPort count a
-services_there count services source now entries (Heard n) new h = tt
-services_there count services source now entries (Dropped r) new h = tt
-services_there count services source now entries (Forward port next bytes) new h = absurd h
-services_there count services source now entries (Replies sent) new h = absurd h
-
-module _ (count : ℕ) (ports : List Port) (routes : Routes) (at : PortNow) (is : IsPortNumber count at.number) (d : PacketView) (a : OutcomeView) (new : Table Network RouteMetric) where
-  rip_message_there : (m : RipView) → AnswersRipMessage ports routes at d.header m a new → IsOnPort count a
-  rip_message_there (rip.Request asked) h =
-      subst (IsOnPort count) (sym h.1) (on_ports count at.number h.0 is (route_packets_port (asker at d.header) _ h.0 h.2.packets))
-  rip_message_there (rip.Response entries) h = heard_there count ports routes (source_of at d.header) at.now entries a new h
-
-  rip_there_by : (f : Option ControlFault) → MatchOption f ((m : RipView) × (tail : List ℕ) × IsRip m d.body tail × AnswersRipMessage ports routes at d.header m a new) (λ f. (a ≡ Dropped (BadControl f)) × HoldsRoutes new routes) → IsOnPort count a
-  rip_there_by None h = rip_message_there h.0 h.3
-  rip_there_by (Some f) h = subst (IsOnPort count) (sym h.0) tt
-
-  pub rip_there : AnswersRip ports routes at d a new → IsOnPort count a
-  rip_there h = rip_there_by (rip_fault d.body) h
-
-module _ (count : ℕ) (services : Services) (at : PortNow) (is : IsPortNumber count at.number) (d : PacketView) (a : OutcomeView) (new : Table ServiceKey ServiceMetric) where
-  sap_message_there : (m : SapView) → AnswersSapMessage services at d.header m a new → IsOnPort count a
-  sap_message_there (sap.Query nearest kind) h =
-      subst (IsOnPort count) (sym h.1) (on_ports count at.number h.0 is (service_packets_port (asker at d.header) nearest _ h.0 h.2.packets))
-  sap_message_there (sap.Response nearest entries) h = services_there count services (source_of at d.header) at.now entries a new h
-
-  sap_there_by : (f : Option ControlFault) → MatchOption f ((m : SapView) × (tail : List ℕ) × IsSap m d.body tail × AnswersSapMessage services at d.header m a new) (λ f. (a ≡ Dropped (BadControl f)) × HoldsServices new services) → IsOnPort count a
-  sap_there_by None h = sap_message_there h.0 h.3
-  sap_there_by (Some f) h = subst (IsOnPort count) (sym h.0) tt
-
-  pub sap_there : AnswersSap services at d a new → IsOnPort count a
-  sap_there h = sap_there_by (sap_fault d.body) h
-
-pub rip_there_ok : (count : ℕ) (ports : List Port) (routes : Routes) (at : PortNow) (is : IsPortNumber count at.number) (d : PacketView) (new : Table Network RouteMetric) (o : Result Outcome OutOfMemory)
-    → IfOk o (λ x. AnswersRip ports routes at d (view x) new) → IfOk o (λ x. IsOnPort count (view x))
-rip_there_ok count ports routes at is d new (Ok x) h = rip_there count ports routes at is d (view x) new h
-rip_there_ok count ports routes at is d new (Err e) h = tt
-
-pub sap_there_ok : (count : ℕ) (services : Services) (at : PortNow) (is : IsPortNumber count at.number) (d : PacketView) (new : Table ServiceKey ServiceMetric) (o : Result Outcome OutOfMemory)
-    → IfOk o (λ x. AnswersSap services at d (view x) new) → IfOk o (λ x. IsOnPort count (view x))
-sap_there_ok count services at is d new (Ok x) h = sap_there count services at is d (view x) new h
-sap_there_ok count services at is d new (Err e) h = tt

@@ -13,7 +13,7 @@ use Rattle.std.proofs.lemmas.Bool.{cases_lt}
 use Rattle.std.proofs.lemmas.Cmp.{nat_cmp_total, on_total}
 use Rattle.std.proofs.lemmas.List.Elements.{Contains-get_or}
 use Rattle.ipx_wire.specs.declared.address.Network.{Network}
-use Rattle.ipx_control.specs.declared.rip.RipEntry.{RipEntry}
+use Rattle.ipx_control.specs.declared.rip.packet.RipEntry.{RipEntry}
 use Rattle.ipx_tables.specs.Route.{network_cmp, network_exact}
 use Rattle.ipx_tables.specs.Sorted.{IsRising, IsAtKey, IsGapFor}
 use Rattle.ipx_router.specs.Told.{route_key}

@@ -10,7 +10,7 @@ use Rattle.std.proofs.lemmas.List.Elements.{All-contains, Contains-get_or}
 use Rattle.std.proofs.lemmas.List.Quantifiers.{position-Some}
 use Rattle.std.specs.Prelude.{Contains, is_none, MatchOption, ◌==◌, ◌&&◌}
 use Rattle.ipx_wire.specs.declared.address.Network.{Network}
-use Rattle.ipx_control.specs.declared.rip.RipEntry.{RipEntry}
+use Rattle.ipx_control.specs.declared.rip.packet.RipEntry.{RipEntry}
 use Rattle.ipx_tables.specs.declared.route.RouteMetric.{RouteMetric}
 use Rattle.ipx_tables.specs.declared.source.Source.{Source}
 use Rattle.ipx_tables.specs.Best.{IsBest}
@@ -29,7 +29,7 @@ use Rattle.ipx_router.specs.Placing.{AddsHeard, AreToldPorts, HasNetwork, PutsEn
 abbrev pub no_item : Network × Source × RouteMetric
 no_item = (record { 0 = 0 }, record { port = 0; neighbour = record { 0 = [] } }, record { ticks = 0; hops = 0 })
 
-network_from : (a b : Network) → a.0 ≡ b.0 → a ≡ b
+pub network_from : (a b : Network) → a.0 ≡ b.0 → a ≡ b
 network_from a b e = ap (λ (n : ℕ). let x : Network = record { 0 = n } in x) e
 
 abbrev pub no_port : Port
@@ -42,7 +42,7 @@ elsewhere (Some place) number e = (place, refl, eqb-false (place + 1) number (no
 pub not_itself : (a b : ℕ) → (a ≡ b → ⊥) → not (nat_eq a b) ≡ true
 not_itself a b ne = elim (eqb_tells a b) [ inl same ↦ absurd (ne same.1) | inr other ↦ not_from_false _ other.0 ]
 
-both : (a b : Bool) → (a && b) ≡ true → (a ≡ true) × (b ≡ true)
+pub both : (a b : Bool) → (a && b) ≡ true → (a ≡ true) × (b ≡ true)
 both true b e = (refl, e)
 both false b e = cc
 

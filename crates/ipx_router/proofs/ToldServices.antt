@@ -1,13 +1,13 @@
 -- The told services, from the listing of the best offers.
-use Rattle.std.proofs.Common.{◌≡◌, ℕ, Bool, true, not, List, get_or, map, sym, ap, ◌∙◌, subst}
+use Rattle.std.proofs.Common.{◌≡◌, ℕ, Bool, true, false, not, List, get_or, map, sym, ap, ◌∙◌, subst}
 use borrow.Author.Tests.{eqb-false}
-use Rattle.std.specs.Prelude.{Contains, ◌==◌}
+use Rattle.std.specs.Prelude.{Contains, ◌==◌, ◌&&◌}
 use Rattle.std.specs.List.{filter}
 use Rattle.std.specs.declared.cmp.Ordering.TheVariants.{Less}
 use Rattle.std.proofs.lemmas.Bool.{not-true}
 use Rattle.std.proofs.lemmas.List.Elements.{All-contains, Contains-get_or}
 use Rattle.std.proofs.lemmas.List.Kept.{AllPairs-filter}
-use Rattle.ipx_control.specs.declared.sap.ServiceEntry.{ServiceEntry}
+use Rattle.ipx_control.specs.declared.sap.packet.ServiceEntry.{ServiceEntry}
 use Rattle.ipx_tables.specs.declared.service.ServiceKey.{ServiceKey}
 use Rattle.ipx_tables.specs.declared.service.ServiceMetric.{ServiceMetric}
 use Rattle.ipx_tables.specs.declared.source.Source.{Source}
@@ -17,8 +17,15 @@ use Rattle.ipx_tables.specs.Service.{service_before, service_key_cmp, service_ke
 use Rattle.ipx_router.specs.declared.port.PortNow.{PortNow}
 use Rattle.ipx_router.specs.Knowledge.{Services}
 use Rattle.ipx_router.specs.Told.{AreToldServices, IsToldService, key_of_service, told_service}
+use Rattle.ipx_router.specs.Replying.{is_asked}
+use Rattle.ipx_router.specs.Picking.{NoneIsAsked, is_item_asked}
+use Rattle.ipx_router.specs.WantOfMemory.{HasToReply}
 use Rattle.ipx_router.proofs.Members.{rising_map, map_has, map_only, filter_has, filter_only}
-use Rattle.ipx_router.proofs.ToldRoutes.{not_itself}
+use Rattle.ipx_router.proofs.ToldRoutes.{both, not_itself}
+
+and_false : (a b : Bool) → a ≡ true → (a && b) ≡ false → b ≡ false
+and_false true b p e = e
+and_false false b p e = cc
 
 Item : Type 0
 Item = ServiceKey × Source × ServiceMetric
@@ -63,3 +70,24 @@ module _ (services : Services) (at : PortNow) (heard : List (ServiceKey × Sourc
     in_order = rising_map told_service service_key_cmp key_of_service (filter comes_elsewhere heard) (AllPairs-filter (λ a b. service_key_cmp a.0 b.0 ≡ Less) comes_elsewhere heard listing.in_order);
     stands = λ x. (told_is x, told_has x);
   }
+
+  -- ---- whether one of them is asked for
+
+  module _ (nearest : Bool) (kind : ℕ) where
+    abbrev test : ServiceKey × Source × ServiceMetric → Bool
+    test = is_item_asked at nearest kind
+
+    -- an item that is asked for is told
+    pub item_replied : (item : ServiceKey × Source × ServiceMetric) → Contains heard item → test item ≡ true → HasToReply services at nearest kind
+    item_replied item c e =
+        let parts = both _ _ e in
+        let there : Contains told (told_service item) = map_has told_service (filter comes_elsewhere heard) item (filter_has comes_elsewhere heard item c.0 c.1 c.2 parts.0) in
+        (told_service item, told_is (told_service item) there, parts.1)
+
+    -- what is told is an item, which is asked for if that is
+    pub none_replied : ((item : ServiceKey × Source × ServiceMetric) → Contains heard item → test item ≡ false) → NoneIsAsked services at nearest kind
+    none_replied none e t =
+        let from = map_only told_service (filter comes_elsewhere heard) e (told_has e t) in
+        let item = from.0 in
+        let kept = filter_only comes_elsewhere heard item from.1 in
+        ap (is_asked nearest kind) from.2 ∙ and_false _ _ kept.1 (none item kept.0)

@@ -1,45 +1,58 @@
--- What becomes of a packet for another network.
-use Rattle.std.specs.Prelude.{ℕ, ◌+◌, List, [], Option, Some, None, nat_le, ◌==◌, if◌then◌else◌, unwrap_or}
-use Rattle.ipx_wire.specs.declared.address.Node.{Node}
-use Rattle.ipx_wire.specs.declared.packet.IpxHeader.{IpxHeader}
-use Rattle.ipx_wire.specs.Ipx.{PacketView, IsIpx}
+-- What becomes of a packet for another network: by its route it is forwarded or dropped
+-- (Novell IPX Router Specification, forwarding).
+use Rattle.std.specs.Prelude.{◌≡◌, ℕ, ◌+◌, List, Option, Some, None, nat_le, ◌==◌, if◌then◌else◌, unwrap_or}
+use Rattle.ipx_wire.specs.declared.ipx.packet.IpxHeader.{IpxHeader}
+use Rattle.ipx_wire.specs.Assigned.{local_network}
+use Rattle.ipx_wire.specs.Ipx.{PacketView}
 use Rattle.ipx_router.specs.declared.port.Port.{Port}
-use Rattle.ipx_router.specs.declared.reason.Reason.{Reason}
+use Rattle.ipx_router.specs.declared.port.PortNow.{PortNow}
 use Rattle.ipx_router.specs.declared.reason.Reason.TheVariants.{NoRoute, HopLimit}
 use Rattle.ipx_router.specs.declared.forwarding.Fate.{Fate}
 use Rattle.ipx_router.specs.declared.forwarding.Fate.TheVariants as fates
 use Rattle.ipx_router.specs.declared.route.Route.{Route}
+use Rattle.ipx_router.specs.Knowledge.{Routes}
+use Rattle.ipx_router.specs.Route.{IsRouteOrNone}
+use Rattle.ipx_router.specs.Packets.{AreBytesOf}
+use Rattle.ipx_router.specs.OutcomeView.{OutcomeView, Forward, Dropped}
 
--- it leaves by a port for a node, or is dropped
-pub data Decision : Type 0 where
-  Leaves : ℕ → Node → Decision
-  Stays : Reason → Decision
-
-abbrev pub fate_of : Fate → Decision
-fate_of (fates.Leaves port next) = Leaves port next
-fate_of (fates.Stays reason) = Stays reason
-
-abbrev pub IfLeaves : Fate → Type 0 → Type 0
-IfLeaves (fates.Leaves port next) fact = fact
-IfLeaves (fates.Stays reason) fact = Unit {0}
-
-abbrev pub IfLeavesBy : Fate → (ℕ → Type 0) → Type 0
-IfLeavesBy (fates.Leaves port next) fact = fact port
-IfLeavesBy (fates.Stays reason) fact = Unit {0}
-
--- a packet that fifteen routers carried goes no further; the next node is the neighbour, or on a port's own network the destination
-abbrev pub by_route : IpxHeader → Option Route → Decision
-by_route h None = Stays (NoRoute h.to.network)
+-- a packet that fifteen routers carried goes no further; the next node is the neighbour, or on a
+-- port's own network the destination
+abbrev pub by_route : IpxHeader → Option Route → Fate
+by_route h None = fates.Dropped (NoRoute h.to.network)
 by_route h (Some route) =
-    if nat_le 15 h.hops then Stays HopLimit else Leaves route.port (unwrap_or route.neighbour h.to.node)
+    if nat_le 15 h.hops then fates.Dropped HopLimit
+    else fates.Forward route.port (unwrap_or route.neighbour h.to.node)
 
--- a header one hop on, with the network that it came from
-abbrev pub one_hop_on : Port → IpxHeader → IpxHeader
-one_hop_on arrived h = record h {
+-- the header of a packet that is forwarded: one hop more, and the network that it came from
+abbrev pub forward_header : Port → IpxHeader → IpxHeader
+forward_header arrived h = record h {
   hops = h.hops + 1;
-  from = record h.from { network = if h.from.network.0 == 0 then arrived.network else h.from.network };
+  from = record h.from {
+    network = if h.from.network.0 == local_network then arrived.network else h.from.network;
+  };
 }
 
--- the bytes are the packet one hop on, and nothing behind it
-abbrev pub IsOneHopOn : Port → PacketView → List ℕ → Type 0
-IsOneHopOn arrived d bytes = IsIpx (record d { header = one_hop_on arrived d.header }) bytes []
+-- a packet as it is forwarded
+abbrev pub forward_packet : Port → PacketView → PacketView
+forward_packet arrived d = record d { header = forward_header arrived d.header }
+
+-- the bytes are the packet as it is forwarded, and nothing behind it
+abbrev pub IsForwarded : Port → PacketView → List ℕ → Type 0
+IsForwarded arrived d = AreBytesOf (forward_packet arrived d)
+
+-- the answer is what the fate says
+abbrev pub IsFate : Port → PacketView → Fate → OutcomeView → Type 0
+IsFate arrived d (fates.Dropped reason) a = a ≡ Dropped reason
+IsFate arrived d (fates.Forward port next) a =
+    (bytes : List ℕ) × (a ≡ Forward port next bytes) × IsForwarded arrived d bytes
+
+-- a packet for another network is answered by its route
+abbrev pub Forwards : List Port → Routes → PortNow → PacketView → OutcomeView → Type 0
+Forwards ports routes at d a = (route : Option Route)
+    × IsRouteOrNone ports routes at.now d.header.to.network route
+    × IsFate at.port d (by_route d.header route) a
+
+-- a fact of the port that a fate forwards by
+abbrev pub IfForward : Fate → (ℕ → Type 0) → Type 0
+IfForward (fates.Forward port next) Fact = Fact port
+IfForward (fates.Dropped reason) Fact = Unit {0}

@@ -41,7 +41,8 @@ known_in ports routes services =
     record { ports = ports; routes = routes_in routes; services = services_in services }
 
 -- what is known at a moment: offers that are old then have gone
-abbrev pub known_aged : List Port → Table Network RouteMetric → Table ServiceKey ServiceMetric → ℕ → Known
+abbrev pub known_aged : List Port → Table Network RouteMetric
+    → Table ServiceKey ServiceMetric → ℕ → Known
 known_aged ports routes services now = record {
   ports = ports;
   routes = after_age (routes_in routes) now;

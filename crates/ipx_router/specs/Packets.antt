@@ -1,16 +1,19 @@
 -- The packets of a router's own, and how lists are cut into them.
-use Rattle.std.specs.Prelude.{◌≡◌, ◌<◌, ℕ, Bool, List, [], ◌∷◌, length, take, drop, map}
+use Rattle.std.specs.Prelude.{◌≡◌, ◌≢◌, ◌<◌, ℕ, Bool, List, [], ◌∷◌, All, length, take, drop, map}
 use Rattle.ipx_wire.specs.declared.address.Node.{Node}
-use Rattle.ipx_wire.specs.declared.packet.IpxHeader.{IpxHeader}
-use Rattle.ipx_wire.specs.Ipx.{IsIpx}
-use Rattle.ipx_control.specs.declared.rip.RipEntry.{RipEntry}
-use Rattle.ipx_control.specs.declared.sap.ServiceEntry.{ServiceEntry}
+use Rattle.ipx_wire.specs.declared.ipx.packet.IpxHeader.{IpxHeader}
+use Rattle.ipx_wire.specs.Ipx.{IsBytes, IsIpx, PacketView}
+use Rattle.ipx_wire.specs.Assigned.{broadcast_node, packet_exchange_type, rip_socket, rip_type, sap_socket, spx_type}
+use Rattle.ipx_control.specs.declared.rip.packet.RipEntry.{RipEntry}
+use Rattle.ipx_control.specs.declared.sap.packet.ServiceEntry.{ServiceEntry}
 use Rattle.ipx_control.specs.Rip.{RipView, IsRip}
 use Rattle.ipx_control.specs.Rip as rip
 use Rattle.ipx_control.specs.Sap.{SapView, IsSap}
 use Rattle.ipx_control.specs.Sap as sap
 use Rattle.ipx_router.specs.declared.outcome.Reply.{Reply}
 use Rattle.ipx_router.specs.declared.packets.Recipient.{Recipient}
+use Rattle.ipx_router.specs.declared.port.Port.{Port}
+use Rattle.ipx_router.specs.declared.port.PortNow.{PortNow}
 
 -- a packet to be sent, without where its bytes lie in memory
 pub record SendingView : Type 0 where
@@ -24,14 +27,40 @@ sending_of r = record { port = r.port; next = r.next; bytes = r.bytes.items }
 abbrev pub sendings : List Reply → List SendingView
 sendings = map sending_of
 
--- the sockets of RIP and SAP
-abbrev pub rip_socket : ℕ
-rip_socket = 0x453
+-- the bytes are the packet and nothing behind it, each a number under 256
+pub record AreBytesOf (p : PacketView) (bytes : List ℕ) : Type 0 where
+  pub packet : IsIpx p bytes []
+  pub in_range : IsBytes bytes
 
-abbrev pub sap_socket : ℕ
-sap_socket = 0x452
+-- a packet that no end of SPX reads
+pub record IsOwn (s : SendingView) : Type 0 where
+  pub packet : PacketView
+  pub is : IsIpx packet s.bytes []
+  pub no_spx : packet.header.kind ≢ spx_type
 
--- the header of a packet of the router's own, from its port to a node and socket of that port's network
+abbrev pub AreOwn : List SendingView → Type 0
+AreOwn = All IsOwn
+
+-- whom a request or query is answered
+abbrev pub asker : PortNow → IpxHeader → Recipient
+asker at h =
+    record { number = at.number; port = at.port; node = h.from.node; socket = h.from.socket }
+
+-- node FFFFFFFFFFFF is all nodes of a network
+abbrev pub broadcast : Node
+broadcast = record { 0 = broadcast_node }
+
+-- all nodes of a port's network, at a socket
+abbrev pub all_nodes : ℕ → Port → ℕ → Recipient
+all_nodes number port socket = record {
+  number = number;
+  port = port;
+  node = broadcast;
+  socket = record { 0 = socket };
+}
+
+-- the header of a packet of the router's own, from its port to a node and socket of that port's
+-- network
 abbrev pub own_header : Recipient → ℕ → ℕ → IpxHeader
 own_header to kind socket = record {
   hops = 0;
@@ -41,24 +70,28 @@ own_header to kind socket = record {
 }
 
 -- a packet of the router's own with such a body, and nothing behind it
-pub record IsOwnPacket (to : Recipient) (kind socket : ℕ) (IsBody : List ℕ → Type 0) (s : SendingView) : Type 0 where
+pub record IsOwnPacket (to : Recipient) (kind socket : ℕ) (IsBody : List ℕ → Type 0)
+    (s : SendingView) : Type 0 where
   pub port : s.port ≡ to.number
   pub next : s.next ≡ to.node
   pub body : List ℕ
   pub says : IsBody body
-  pub packet : IsIpx (record { header = own_header to kind socket; body = body }) s.bytes []
+  pub packet : AreBytesOf (record { header = own_header to kind socket; body = body }) s.bytes
 
 abbrev pub IsRipPacket : Recipient → RipView → SendingView → Type 0
-IsRipPacket to message = IsOwnPacket to 1 rip_socket (λ body. IsRip message body [])
+IsRipPacket to message = IsOwnPacket to rip_type rip_socket (λ body. IsRip message body [])
 
 abbrev pub IsSapPacket : Recipient → SapView → SendingView → Type 0
-IsSapPacket to message = IsOwnPacket to 4 sap_socket (λ body. IsSap message body [])
+IsSapPacket to message =
+    IsOwnPacket to packet_exchange_type sap_socket (λ body. IsSap message body [])
 
 module _ {E : Type 0} (most : ℕ) (IsPacketOf : List E → SendingView → Type 0) where
-  -- the packets that a list is cut into: each holds as many entries as it may, and the last what is left
+  -- the packets that a list is cut into: each holds as many entries as it may, and the last what is
+  -- left
   abbrev pub AreCutOf : List E → List SendingView → Type 0
   AreCutOf entries [] = entries ≡ []
-  AreCutOf entries (s ∷ ss) = (0 < length entries) × IsPacketOf (take most entries) s × AreCutOf (drop most entries) ss
+  AreCutOf entries (s ∷ ss) =
+      (0 < length entries) × IsPacketOf (take most entries) s × AreCutOf (drop most entries) ss
 
 -- the packets of a list of routes, of 50 at most
 abbrev pub AreRoutePackets : Recipient → List RipEntry → List SendingView → Type 0

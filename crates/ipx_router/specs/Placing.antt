@@ -1,7 +1,7 @@
--- The told routes in the making.
+-- Words of the private functions that make the list of told routes.
 use Rattle.std.specs.Prelude.{◌≡◌, ◌<◌, ◌⊎◌, ℕ, ◌+◌, ◌==◌, ◌&&◌, Bool, true, false, not, List, slice_index_or, Option, Some, None, is_none, Contains}
 use Rattle.ipx_wire.specs.declared.address.Network.{Network}
-use Rattle.ipx_control.specs.declared.rip.RipEntry.{RipEntry}
+use Rattle.ipx_control.specs.declared.rip.packet.RipEntry.{RipEntry}
 use Rattle.ipx_tables.specs.declared.route.RouteMetric.{RouteMetric}
 use Rattle.ipx_tables.specs.declared.source.Source.{Source}
 use Rattle.ipx_tables.specs.Route.{network_cmp}
@@ -15,7 +15,8 @@ use Rattle.ipx_router.specs.Told.{route_key, told_route}
 abbrev pub HasNetwork : List RipEntry → Network → Type 0
 HasNetwork told network = (x : RipEntry) × Contains told x × (x.network ≡ network)
 
--- the list stays in order, and all that it gains is the entry, unless one of its network stood there
+-- the list stays in order, and all that it gains is the entry, unless one of its network stood
+-- there
 pub record PutsEntry (old : List RipEntry) (entry : RipEntry) (new : List RipEntry) : Type 0 where
   pub in_order : IsRising network_cmp route_key new
   pub keeps : (x : RipEntry) → Contains old x → Contains new x
@@ -34,27 +35,33 @@ abbrev pub no_way : RouteMetric
 no_way = record { ticks = 0; hops = 0 }
 
 abbrev pub IsToldPort : List Port → PortNow → RipEntry → Type 0
-IsToldPort ports at x = (is_told_port ports at x.network ≡ true) × (x ≡ told_route x.network no_way at)
+IsToldPort ports at x =
+    (is_told_port ports at x.network ≡ true) × (x ≡ told_route x.network no_way at)
 
 -- the networks of the first n ports, as far as they are told
-pub record AreToldPorts (ports : List Port) (at : PortNow) (n : ℕ) (told : List RipEntry) : Type 0 where
+pub record AreToldPorts (ports : List Port) (at : PortNow) (n : ℕ)
+    (told : List RipEntry) : Type 0 where
   pub in_order : IsRising network_cmp route_key told
   pub only : (x : RipEntry) → Contains told x → IsToldPort ports at x
-  pub all : (k : ℕ) (d : Port) → k < n → is_told_port ports at (slice_index_or ports k d).network ≡ true
+  pub all : (k : ℕ) (d : Port) → k < n
+      → is_told_port ports at (slice_index_or ports k d).network ≡ true
       → HasNetwork told (slice_index_or ports k d).network
 
 -- the best offer is a route, and came by another port
 abbrev pub is_told_item : List Port → PortNow → Network × Source × RouteMetric → Bool
 is_told_item ports at item = is_none (direct_route ports item.0) && not (item.1.port == at.number)
 
-abbrev pub IsToldItem : List Port → PortNow → List (Network × Source × RouteMetric) → RipEntry → Type 0
+abbrev pub IsToldItem : List Port → PortNow → List (Network × Source × RouteMetric)
+    → RipEntry → Type 0
 IsToldItem ports at heard x = (item : Network × Source × RouteMetric) × Contains heard item
     × (is_told_item ports at item ≡ true) × (x ≡ told_route item.0 item.2 at)
 
 -- the first n of the best offers were added, as far as they are told
-pub record AddsHeard (ports : List Port) (at : PortNow) (heard : List (Network × Source × RouteMetric)) (n : ℕ) (old new : List RipEntry) : Type 0 where
+pub record AddsHeard (ports : List Port) (at : PortNow)
+    (heard : List (Network × Source × RouteMetric)) (n : ℕ) (old new : List RipEntry) : Type 0 where
   pub in_order : IsRising network_cmp route_key new
   pub keeps : (x : RipEntry) → Contains old x → Contains new x
   pub only : (x : RipEntry) → Contains new x → Contains old x ⊎ IsToldItem ports at heard x
-  pub all : (k : ℕ) (d : Network × Source × RouteMetric) → k < n → is_told_item ports at (slice_index_or heard k d) ≡ true
+  pub all : (k : ℕ) (d : Network × Source × RouteMetric) → k < n
+      → is_told_item ports at (slice_index_or heard k d) ≡ true
       → HasNetwork new (slice_index_or heard k d).0

@@ -1,11 +1,15 @@
 -- The numbers of a router's ports, from 1 on.
-use Rattle.std.specs.Prelude.{◌≡◌, ◌≤◌, ℕ, List, Some, All, length}
-use Rattle.ipx_wire.specs.declared.address.Network.{Network}
-use Rattle.ipx_tables.specs.declared.route.RouteMetric.{RouteMetric}
+use Rattle.std.specs.Prelude.{◌≡◌, ◌≤◌, ℕ, ◌-◌, List, Some, All, length, slice_get}
 use Rattle.ipx_tables.specs.declared.source.Source.{Source}
+use Rattle.ipx_tables.specs.Content.{Content}
 use Rattle.ipx_router.specs.declared.port.Port.{Port}
-use Rattle.ipx_router.specs.Knowledge.{AreTables, Routes, Tables, routes_in}
+use Rattle.ipx_router.specs.NewRouter.{IsOwnNetwork}
+use Rattle.ipx_router.specs.Knowledge.{AreTables, Tables, routes_in, services_in}
 use Rattle.ipx_router.specs.Packets.{SendingView}
+
+-- the port of a number
+abbrev pub IsPort : List Port → ℕ → Port → Type 0
+IsPort ports number port = (1 ≤ number) × (slice_get ports (number - 1) ≡ Some port)
 
 abbrev pub IsPortNumber : ℕ → ℕ → Type 0
 IsPortNumber count port = (1 ≤ port) × (port ≤ count)
@@ -14,12 +18,15 @@ IsPortNumber count port = (1 ≤ port) × (port ≤ count)
 abbrev pub AreOnPorts : ℕ → List SendingView → Type 0
 AreOnPorts count sent = All (λ s. IsPortNumber count s.port) sent
 
--- each route was heard on a port that is there
-abbrev pub AreFromPorts : ℕ → Routes → Type 0
-AreFromPorts count routes = (p : Network × Source) (v : RouteMetric × ℕ) → routes p ≡ Some v → IsPortNumber count p.1.port
+-- each offer was heard on a port that is there
+abbrev pub AreFromPorts : {K M : Type 0} → ℕ → Content K M → Type 0
+AreFromPorts {K} {M} count c =
+    (p : K × Source) (v : M × ℕ) → c p ≡ Some v → IsPortNumber count p.1.port
 
--- at most 16 ports, and tables of offers, with routes over those ports alone
+-- at most 16 ports on networks of their own, and tables of offers that came by those ports alone
 pub record IsSound (ports : List Port) (t : Tables) : Type 0 where
   pub count : length ports ≤ 16
-  pub sources : AreFromPorts (length ports) (routes_in t.0)
+  pub networks : All IsOwnNetwork ports
+  pub routes_from : AreFromPorts (length ports) (routes_in t.0)
+  pub services_from : AreFromPorts (length ports) (services_in t.1)
   pub tables : AreTables t

@@ -15,21 +15,29 @@ direct_route ports network = position (λ p. p.network.0 == network.0) ports
 
 -- a port's own network is no hop and no tick away, and never gets old
 abbrev pub over_port : ℕ → Route
-over_port place = record { port = place + 1; neighbour = None; metric = record { ticks = 0; hops = 0 } }
+over_port place = record {
+  port = place + 1;
+  neighbour = None;
+  metric = record { ticks = 0; hops = 0 };
+}
 
 abbrev pub over_neighbour : Source × RouteMetric → Route
-over_neighbour best = record { port = best.0.port; neighbour = Some best.0.neighbour; metric = best.1 }
+over_neighbour best =
+    record { port = best.0.port; neighbour = Some best.0.neighbour; metric = best.1 }
 
 -- the best offer of a network is its route
 abbrev pub IsHeardRoute : Routes → ℕ → Network → Route → Type 0
 IsHeardRoute routes now network route =
-    (best : Source × RouteMetric) × IsBest route_before routes network now best × (route ≡ over_neighbour best)
+    (best : Source × RouteMetric) × IsBest route_before routes network now best
+    × (route ≡ over_neighbour best)
 
 abbrev pub IsRouteTo : List Port → Routes → ℕ → Network → Route → Type 0
 IsRouteTo ports routes now network route =
-    MatchOption (direct_route ports network) (IsHeardRoute routes now network route) (λ place. route ≡ over_port place)
+    MatchOption (direct_route ports network)
+    (IsHeardRoute routes now network route) (λ place. route ≡ over_port place)
 
 -- the route to a network, or that there is none
 abbrev pub IsRouteOrNone : List Port → Routes → ℕ → Network → Option Route → Type 0
-IsRouteOrNone ports routes now network None = (direct_route ports network ≡ None) × NoneCounts routes network now
+IsRouteOrNone ports routes now network None =
+    (direct_route ports network ≡ None) × NoneCounts routes network now
 IsRouteOrNone ports routes now network (Some route) = IsRouteTo ports routes now network route

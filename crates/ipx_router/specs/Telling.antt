@@ -1,44 +1,18 @@
 -- What a router tells its neighbours of itself, and when.
-use Rattle.std.specs.Prelude.{◌≡◌, ℕ, ◌+◌, ◌-◌, Bool, true, false, List, [], ◌∷◌, ◌++◌, Option, Some, None, nat_le, MatchBool}
-use Rattle.ipx_control.specs.declared.rip.RipEntry.{RipEntry}
-use Rattle.ipx_control.specs.declared.sap.ServiceEntry.{ServiceEntry}
-use Rattle.ipx_control.specs.Rip as rip
-use Rattle.ipx_control.specs.Sap as sap
+use Rattle.std.specs.Prelude.{◌≡◌, ◌⊎◌, ℕ, ◌+◌, ◌-◌, Bool, true, false, List, [], ◌∷◌, ◌++◌, Option, Some, None, nat_le, MatchBool}
+use Rattle.ipx_wire.specs.Assigned.{rip_socket, sap_socket}
+use Rattle.ipx_control.specs.declared.rip.packet.RipEntry.{RipEntry}
+use Rattle.ipx_control.specs.declared.sap.packet.ServiceEntry.{ServiceEntry}
 use Rattle.ipx_router.specs.declared.port.Port.{Port}
 use Rattle.ipx_router.specs.declared.port.PortNow.{PortNow}
-use Rattle.ipx_router.specs.declared.packets.Recipient.{Recipient}
 use Rattle.ipx_router.specs.Knowledge.{Known, Routes, Services}
-use Rattle.ipx_router.specs.Control.{broadcast}
-use Rattle.ipx_router.specs.Told.{AreToldRoutes, AreToldServices}
-use Rattle.ipx_router.specs.Packets.{SendingView, AreRoutePackets, AreServicePackets, IsRipPacket, IsSapPacket, rip_socket, sap_socket}
-
--- all nodes of a port's network, at a socket
-abbrev pub all_nodes : ℕ → Port → ℕ → Recipient
-all_nodes number port socket = record {
-  number = number;
-  port = port;
-  node = broadcast;
-  socket = record { 0 = socket };
-}
-
--- a request for all routes and a query for all services
-abbrev pub all_asked : RipEntry
-all_asked = record { network = record { 0 = 4294967295 }; hops = 65535; ticks = 65535 }
-
--- the packets by which a router asks on a port
-abbrev pub AreAsked : ℕ → Port → List SendingView → Type 0
-AreAsked number port sent = (a b : SendingView) × (sent ≡ a ∷ b ∷ [])
-    × IsRipPacket (all_nodes number port rip_socket) (rip.Request (all_asked ∷ [])) a
-    × IsSapPacket (all_nodes number port sap_socket) (sap.Query false 65535) b
-
--- the packets by which a router asks on its ports, which are numbered from a first one on
-abbrev pub AreStarts : ℕ → List Port → List SendingView → Type 0
-AreStarts number [] sent = sent ≡ []
-AreStarts number (port ∷ ports) sent = (first rest : List SendingView) × (sent ≡ first ++ rest)
-    × AreAsked number port first × AreStarts (number + 1) ports rest
+use Rattle.ipx_router.specs.Told.{AreToldRoutes, AreToldServices, IsToldRoute, IsToldService}
+use Rattle.ipx_router.specs.Packets.{SendingView, AreRoutePackets, AreServicePackets, all_nodes}
+use Rattle.ipx_router.specs.Ports.{IsPort}
 
 -- the packets that tell what is known on one port: routes, and then services
-pub record AreTold (ports : List Port) (routes : Routes) (services : Services) (at : PortNow) (sent : List SendingView) : Type 0 where
+pub record AreTold (ports : List Port) (routes : Routes) (services : Services) (at : PortNow)
+    (sent : List SendingView) : Type 0 where
   pub told_routes : List RipEntry
   pub told_services : List ServiceEntry
   pub route_packets : List SendingView
@@ -46,13 +20,17 @@ pub record AreTold (ports : List Port) (routes : Routes) (services : Services) (
   pub are : sent ≡ route_packets ++ service_packets
   pub of_routes : AreToldRoutes ports routes at told_routes
   pub of_services : AreToldServices services at told_services
-  pub in_route_packets : AreRoutePackets (all_nodes at.number at.port rip_socket) told_routes route_packets
-  pub in_service_packets : AreServicePackets (all_nodes at.number at.port sap_socket) false told_services service_packets
+  pub in_route_packets :
+      AreRoutePackets (all_nodes at.number at.port rip_socket) told_routes route_packets
+  pub in_service_packets :
+      AreServicePackets (all_nodes at.number at.port sap_socket) false told_services service_packets
 
 -- the packets of each port, which are numbered from a first one on
-abbrev pub AreTellings : List Port → Routes → Services → ℕ → ℕ → List Port → List SendingView → Type 0
+abbrev pub AreTellings : List Port → Routes → Services → ℕ → ℕ → List Port → List SendingView
+    → Type 0
 AreTellings ports routes services now number [] sent = sent ≡ []
-AreTellings ports routes services now number (port ∷ later) sent = (first rest : List SendingView) × (sent ≡ first ++ rest)
+AreTellings ports routes services now number (port ∷ later) sent =
+    (first rest : List SendingView) × (sent ≡ first ++ rest)
     × AreTold ports routes services (record { number = number; port = port; now = now }) first
     × AreTellings ports routes services now (number + 1) later rest
 
@@ -66,3 +44,13 @@ abbrev pub Tells : Known → Option ℕ → ℕ → List SendingView → Option 
 Tells k last now sent told = MatchBool (is_due last now)
     (AreTellings k.ports k.routes k.services now 1 k.ports sent × (told ≡ Some now))
     ((sent ≡ []) × (told ≡ last))
+
+-- a route or a service is to be told on a port
+abbrev pub IsSomeTold : Known → PortNow → Type 0
+IsSomeTold k at = ((e : RipEntry) × IsToldRoute k.ports k.routes at e)
+    ⊎ ((e : ServiceEntry) × IsToldService k.services at e)
+
+-- on some port something is to be told
+abbrev pub HasToTell : Known → ℕ → Type 0
+HasToTell k now = (number : ℕ) × (port : Port) × IsPort k.ports number port
+    × IsSomeTold k (record { number = number; port = port; now = now })

@@ -1,9 +1,10 @@
--- What a router tells on a port: its routes and services, without those that leave by that port (Novell IPX Router Specification, split horizon).
+-- What a router tells on a port: its routes and services, without those that leave by that port
+-- (Novell IPX Router Specification, split horizon).
 use Rattle.std.specs.Prelude.{◌≡◌, ◌≢◌, ◌↔◌, ℕ, ◌+◌, List, Contains, min}
 use Rattle.std.specs.declared.cmp.Ordering.{Ordering}
 use Rattle.ipx_wire.specs.declared.address.Network.{Network}
-use Rattle.ipx_control.specs.declared.rip.RipEntry.{RipEntry}
-use Rattle.ipx_control.specs.declared.sap.ServiceEntry.{ServiceEntry}
+use Rattle.ipx_control.specs.declared.rip.packet.RipEntry.{RipEntry}
+use Rattle.ipx_control.specs.declared.sap.packet.ServiceEntry.{ServiceEntry}
 use Rattle.ipx_tables.specs.declared.route.RouteMetric.{RouteMetric}
 use Rattle.ipx_tables.specs.declared.service.ServiceKey.{ServiceKey}
 use Rattle.ipx_tables.specs.declared.service.ServiceMetric.{ServiceMetric}
@@ -19,7 +20,8 @@ use Rattle.ipx_router.specs.declared.route.Route.{Route}
 use Rattle.ipx_router.specs.Route.{IsRouteTo}
 
 -- the list, in the order of the keys, of just what a fact holds of
-pub record IsListOf {X K : Type 0} (cmp : K → K → Ordering) (key_of : X → K) (fact : X → Type 0) (xs : List X) : Type 0 where
+pub record IsListOf {X K : Type 0} (cmp : K → K → Ordering) (key_of : X → K) (fact : X → Type 0)
+    (xs : List X) : Type 0 where
   pub in_order : IsRising cmp key_of xs
   pub stands : (x : X) → Contains xs x ↔ fact x
 
@@ -34,10 +36,15 @@ told_ticks ticks cost = min (ticks + cost) 65535
 -- a route as it is told on a port
 abbrev pub told_route : Network → RouteMetric → PortNow → RipEntry
 told_route network metric at =
-    record { network = network; hops = told_hops metric.hops; ticks = told_ticks metric.ticks at.port.cost }
+    record {
+      network = network;
+      hops = told_hops metric.hops;
+      ticks = told_ticks metric.ticks at.port.cost;
+    }
 
 -- what is told of a route that leaves by another port
-pub record IsToldRoute (ports : List Port) (routes : Routes) (at : PortNow) (entry : RipEntry) : Type 0 where
+pub record IsToldRoute (ports : List Port) (routes : Routes) (at : PortNow)
+    (entry : RipEntry) : Type 0 where
   pub route : Route
   pub leads : IsRouteTo ports routes at.now entry.network route
   pub elsewhere : route.port ≢ at.number

@@ -6,22 +6,33 @@ ghost use Rattle.ipx_tables.specs.Route.{network_cmp};
 ghost use Rattle.ipx_tables.specs.Service.{service_key_cmp};
 ghost use Rattle.ipx_router.specs.Knowledge.{routes_in, services_in};
 ghost use Rattle.ipx_router.specs.Told.{key_of_service};
-ghost use Rattle.ipx_router.specs.Hearing.{HeardRoutes, HeardServices, StopsAtRoute, StopsAtService, WantsAtRoute, WantsAtService, is_heard};
+ghost use Rattle.ipx_router.specs.Hearing.{AtEntry, GrowsByRoute, GrowsByService, HeardRoutes, HeardServices, IsFullForRoute, IsFullForService, is_heard, source_of};
 ghost use Rattle.ipx_router.specs.Ports.{AreFromPorts, IsPortNumber};
 
 use crate::networks::has_network;
-use crate::port::Port;
+use crate::port::{Port, PortNow};
 use ipx_control::{RipEntry, ServiceEntry};
 use ipx_tables::{
     RouteMetric, RouteTable, ServiceKey, ServiceMetric, ServiceTable, Source, TableFault,
 };
+use ipx_wire::{IpxHeader, Network};
 use std::alloc::Global;
+
+/// Whom a response is heard from: the node that sent it, on the port that it came in on.
+pub fn neighbour_of(at: PortNow, header: IpxHeader) -> Source
+    ensures { result ≡ source_of at header }
+{
+    Source {
+        port: at.number,
+        neighbour: header.from.node,
+    }
+}
 
 fn is_route_heard(ports: &[Port], entry: &RipEntry) -> bool
     ensures { result ≡ is_heard ports.now entry.now }
 {
     let network = entry.network;
-    !(network.0 == 0 || network.0 == 0xffff_ffff || has_network(ports, network))
+    !(network == Network::LOCAL || network == Network::ALL || has_network(ports, network))
 }
 
 /// Hears the entries in order, and answers how many: none of the networks that a router does not
@@ -34,15 +45,18 @@ pub fn hear_routes(
     entries: &[RipEntry],
     now: u64,
 ) -> Result<u16, TableFault>
-    requires { length entries.now ≤ 50 }
+    requires few { length entries.now ≤ 50 }
+    requires table { IsTable network_cmp routes.old }
     ensures heard { IfOk result (λ n. (n ≡ count_by (is_heard ports.now) entries.now)
-        × HeardRoutes ports.now source now entries.now (routes_in routes.old) (length entries.now) routes.new) }
+        × HeardRoutes ports.now source now entries.now (routes_in routes.old)
+        (length entries.now) routes.new) }
     ensures refused { IfErr result (λ f. (n : ℕ)
         × HeardRoutes ports.now source now entries.now (routes_in routes.old) n routes.new
-        × (f ≡ TableFault.Full → StopsAtRoute ports.now source entries.now n routes.new)
-        × (f ≡ TableFault.OutOfMemory → WantsAtRoute ports.now source entries.now n routes.new)) }
+        × (f ≡ TableFault.Full → AtEntry entries.now n (IsFullForRoute ports.now source routes.new))
+        × (f ≡ TableFault.OutOfMemory
+        → AtEntry entries.now n (GrowsByRoute ports.now source routes.new))) }
     ensures most { routes.new.most ≡ routes.old.most }
-    ensures valid { IsTable network_cmp routes.old → IsTable network_cmp routes.new }
+    ensures valid { IsTable network_cmp routes.new }
     ensures sources { (count : ℕ) → IsPortNumber count source.port
         → AreFromPorts count (routes_in routes.old) → AreFromPorts count (routes_in routes.new) }
 {
@@ -68,15 +82,21 @@ pub fn hear_services(
     entries: &[ServiceEntry],
     now: u64,
 ) -> Result<u16, TableFault>
-    requires { length entries.now ≤ 7 }
+    requires few { length entries.now ≤ 7 }
+    requires table { IsTable service_key_cmp services.old }
     ensures heard { IfOk result (λ n. (n ≡ length entries.now)
-        × HeardServices source now entries.now (services_in services.old) (length entries.now) services.new) }
+        × HeardServices source now entries.now (services_in services.old)
+        (length entries.now) services.new) }
     ensures refused { IfErr result (λ f. (n : ℕ)
         × HeardServices source now entries.now (services_in services.old) n services.new
-        × (f ≡ TableFault.Full → StopsAtService source entries.now n services.new)
-        × (f ≡ TableFault.OutOfMemory → WantsAtService source entries.now n services.new)) }
+        × (f ≡ TableFault.Full → AtEntry entries.now n (IsFullForService source services.new))
+        × (f ≡ TableFault.OutOfMemory
+        → AtEntry entries.now n (GrowsByService source services.new))) }
     ensures most { services.new.most ≡ services.old.most }
-    ensures valid { IsTable service_key_cmp services.old → IsTable service_key_cmp services.new }
+    ensures valid { IsTable service_key_cmp services.new }
+    ensures sources { (count : ℕ) → IsPortNumber count source.port
+        → AreFromPorts count (services_in services.old)
+        → AreFromPorts count (services_in services.new) }
 {
     let mut heard = 0;
     for entry in entries {

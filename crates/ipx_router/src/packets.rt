@@ -1,23 +1,17 @@
 //! The packets of a router's own.
 
 ghost use Rattle.std.specs.Prelude.{◌≡◌, ◌≤◌, ◌+◌, ◌++◌, ℕ, Bool, List, [], ◌∷◌, length, OnOk, IfOk, map};
-ghost use Rattle.ipx_wire.specs.Ipx.{IsIpx};
+ghost use Rattle.ipx_wire.specs.Ipx.{IsBytes, IsIpx};
 ghost use Rattle.ipx_control.specs.Rip.{rip_entries, rip_view};
 ghost use Rattle.ipx_control.specs.Sap.{IsSapWithinLimit, sap_view};
-ghost use Rattle.ipx_router.specs.Packets.{AreRoutePackets, AreServicePackets, IsRipPacket, IsSapPacket, own_header, sending_of, sendings};
+ghost use Rattle.ipx_router.specs.Packets.{AreBytesOf, AreRoutePackets, AreServicePackets, IsRipPacket, IsSapPacket, all_nodes, asker, own_header, sending_of, sendings};
 ghost use Rattle.ipx_router.specs.Adding.{AddsPackets};
 
 use crate::outcome::Reply;
-use crate::port::Port;
+use crate::port::{Port, PortNow};
 use ipx_control::{Rip, RipEntry, Sap, ServiceEntry, encode_rip_into, encode_sap_into};
-use ipx_wire::{Address, IpxHeader, Node, OutOfMemory, Packet, Socket, encode_into};
+use ipx_wire::{Address, IpxHeader, Node, OutOfMemory, Packet, Socket, encode_into, packet_type};
 use std::alloc::Global;
-
-pub const BROADCAST: Node = Node([0xff; 6]);
-
-pub const RIP_SOCKET: Socket = Socket(0x0453);
-
-pub const SAP_SOCKET: Socket = Socket(0x0452);
 
 /// How many entries a packet holds at most.
 const MOST_ROUTES_A_PACKET: usize = 50;
@@ -33,13 +27,53 @@ pub struct Recipient {
     pub socket: Socket,
 }
 
-/// The bytes of a packet.
-fn packet_bytes(alloc: Global, header: IpxHeader, body: &[u8]) -> Result<Vec<u8>, OutOfMemory>
+/// Whom a request or query is answered: the node and socket that it came from.
+pub fn recipient_of(at: PortNow, header: IpxHeader) -> Recipient
+    ensures { result ≡ asker at header }
+{
+    Recipient {
+        number: at.number,
+        port: at.port,
+        node: header.from.node,
+        socket: header.from.socket,
+    }
+}
+
+/// All nodes of a port's network, at a socket.
+pub fn everyone(number: u8, port: Port, socket: Socket) -> Recipient
+    ensures { result ≡ all_nodes number port socket.0 }
+{
+    Recipient {
+        number,
+        port,
+        node: Node::BROADCAST,
+        socket,
+    }
+}
+
+/// Bytes are numbers under 256.
+pub fn are_bytes(bytes: &[u8])
+    ensures { IsBytes bytes.now }
+{
+    let _ = bytes;
+}
+
+fn encoded(alloc: Global, header: IpxHeader, body: &[u8]) -> Result<Vec<u8>, OutOfMemory>
     requires { length body.now ≤ 1470 }
     ensures { IfOk result (λ v. IsIpx (record { header = header; body = body.now }) v.items []) }
 {
     let mut bytes = vec![in alloc; 0; 30 + body.len()]?;
     encode_into(&Packet { header, body }, &mut bytes);
+    Ok(bytes)
+}
+
+/// The bytes of a packet.
+fn packet_bytes(alloc: Global, header: IpxHeader, body: &[u8]) -> Result<Vec<u8>, OutOfMemory>
+    requires { length body.now ≤ 1470 }
+    ensures { IfOk result (λ v. AreBytesOf (record { header = header; body = body.now }) v.items) }
+{
+    let bytes = encoded(alloc, header, body)?;
+    are_bytes(&bytes);
     Ok(bytes)
 }
 
@@ -69,7 +103,11 @@ pub fn rip_packet(alloc: Global, to: Recipient, message: &Rip) -> Result<Reply, 
 {
     let mut body = [0u8; 402];
     let count = encode_rip_into(message, &mut body);
-    let bytes = packet_bytes(alloc, header_to(to, 1, RIP_SOCKET), &body[..count])?;
+    let bytes = packet_bytes(
+        alloc,
+        header_to(to, packet_type::RIP, Socket::RIP),
+        &body[..count],
+    )?;
     Ok(Reply {
         port: to.number,
         next: to.node,
@@ -83,7 +121,11 @@ pub fn sap_packet(alloc: Global, to: Recipient, message: &Sap) -> Result<Reply, 
 {
     let mut body = [0u8; 450];
     let count = encode_sap_into(message, &mut body);
-    let bytes = packet_bytes(alloc, header_to(to, 4, SAP_SOCKET), &body[..count])?;
+    let bytes = packet_bytes(
+        alloc,
+        header_to(to, packet_type::PACKET_EXCHANGE, Socket::SAP),
+        &body[..count],
+    )?;
     Ok(Reply {
         port: to.number,
         next: to.node,
@@ -98,7 +140,8 @@ pub fn add_route_packets(
     to: Recipient,
     entries: &[RipEntry],
 ) -> Result<(), OutOfMemory>
-    ensures { OnOk result (AddsPackets (AreRoutePackets to entries.now) replies.old.items replies.new.items) }
+    ensures { OnOk result
+        (AddsPackets (AreRoutePackets to entries.now) replies.old.items replies.new.items) }
 {
     let mut rest = entries;
     while !rest.is_empty() {
@@ -118,7 +161,9 @@ pub fn add_service_packets(
     nearest: bool,
     entries: &[ServiceEntry],
 ) -> Result<(), OutOfMemory>
-    ensures { OnOk result (AddsPackets (AreServicePackets to nearest entries.now) replies.old.items replies.new.items) }
+    ensures { OnOk result
+        (AddsPackets (AreServicePackets to nearest entries.now)
+        replies.old.items replies.new.items) }
 {
     let mut rest = entries;
     while !rest.is_empty() {

@@ -22,8 +22,10 @@ pub struct Route {
 
 /// The best offer of a network, as a route.
 fn heard_route(routes: &RouteTable, network: Network, now: u64) -> Option<Route>
-    ensures port { (count : ℕ) → AreFromPorts count (routes_in routes.now) → IfSome result (λ r. IsPortNumber count r.port) }
-    ensures route { MatchOption result (NoneCounts (routes_in routes.now) network now) (IsHeardRoute (routes_in routes.now) now network) }
+    ensures port { (count : ℕ) → AreFromPorts count (routes_in routes.now)
+        → IfSome result (λ r. IsPortNumber count r.port) }
+    ensures route { MatchOption result (NoneCounts (routes_in routes.now) network now)
+        (IsHeardRoute (routes_in routes.now) now network) }
 {
     match routes.best(&network, now) {
         None => None,

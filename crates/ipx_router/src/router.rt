@@ -1,19 +1,24 @@
 //! The router.
 
-ghost use Rattle.std.specs.Prelude.{◌≡◌, ◌≤◌, ◌-◌, List, true, [], length, All, IfOk, IfErr, OnOk, OnErr, Some, None};
+ghost use Rattle.std.specs.Prelude.{◌≡◌, ◌≤◌, [], length, true, All, IfOk, IfErr, OnOk, OnErr, Some, None};
 ghost use Rattle.ipx_router.specs.NewRouter.{IsOwnNetwork, ports_fault};
 ghost use Rattle.ipx_router.specs.Knowledge.{AreTables, HoldsKnown, KeepsRest, known_at, tables};
-ghost use Rattle.ipx_router.specs.Packets.{sendings};
+ghost use Rattle.ipx_router.specs.Packets.{AreOwn, sendings};
 ghost use Rattle.ipx_router.specs.Ports.{AreOnPorts};
-ghost use Rattle.ipx_router.specs.Answer.{Answers, IsOnPort, Leaves, PassesOn, view};
-ghost use Rattle.ipx_router.specs.Telling.{AreStarts, Tells, is_due};
+ghost use Rattle.ipx_router.specs.OutcomeView.{IsOnPort, replies_of, view};
+ghost use Rattle.ipx_router.specs.Answer.{Receives};
+ghost use Rattle.ipx_router.specs.WantOfMemory.{WantsMemory};
+ghost use Rattle.ipx_router.specs.Forwarded.{ForwardsOneHopOn};
+ghost use Rattle.ipx_router.specs.Starting.{AreStarts};
+ghost use Rattle.ipx_router.specs.Telling.{HasToTell, Tells, is_due};
 
 use crate::answering::receive_at;
 use crate::fault::NewFault;
 use crate::networks::twin_of;
 use crate::outcome::{Outcome, Reply};
 use crate::port::{Port, PortNow};
-use crate::telling::{ask_all, tell_at};
+use crate::starting::ask_all;
+use crate::telling::tell_at;
 use ipx_tables::{RouteTable, ServiceTable, route_table, service_table};
 use ipx_wire::OutOfMemory;
 use std::alloc::Global;
@@ -34,19 +39,29 @@ impl Model for Router {
 
     ghost Value = { RouterView };
 
-    ghost view = { λ r. record { ports = r.ports.items; routes = r.routes; services = r.services; told = r.told } };
+    ghost view = { λ r. record {
+      ports = r.ports.items;
+      routes = r.routes;
+      services = r.services;
+      told = r.told;
+    } };
 
     ghost invariant = { λ r. IsSound r.ports.items (r.routes, r.services) };
 }
 
 impl Router {
-    /// A router of these ports. Their networks are neither 0 nor FFFFFFFF.
+    /// A router of these ports, numbered from 1 in their order, which knows nothing yet.
+    ///
+    /// The caller owes networks other than 0, which means the network at hand, and FFFFFFFF, which
+    /// means all. What else is wrong with the ports is answered by `NewFault`.
     pub fn new(alloc: Global, ports: Vec<Port>) -> Result<Router, NewFault>
         requires { All IsOwnNetwork ports.items }
         ensures ports { IfOk result (λ r. r.ports ≡ ports.items) }
-        ensures knows_nothing { IfOk result (λ r. (r.routes.offers ≡ []) × (r.services.offers ≡ []) × (r.told ≡ None)) }
+        ensures knows_nothing { IfOk result (λ r.
+            (r.routes.offers ≡ []) × (r.services.offers ≡ []) × (r.told ≡ None)) }
         ensures room { IfOk result (λ r. (r.routes.most ≡ 1024) × (r.services.most ≡ 4096)) }
         ensures valid { IfOk result (λ r. AreTables (tables r)) }
+        ensures networks { IfOk result (λ r. All IsOwnNetwork r.ports) }
         ensures sound { OnOk result (ports_fault ports.items ≡ None) }
         ensures fault { IfErr result (λ f. ports_fault ports.items ≡ Some f) }
     {
@@ -67,16 +82,20 @@ impl Router {
         })
     }
 
-    /// Its ports. The first is port 1.
+    /// Its ports. The first is port 1. A caller counts them before it names a port to `receive`.
     pub fn ports(&self) -> &[Port]
         ensures ports { result.now ≡ self.now.ports }
         ensures valid { AreTables (tables self.now) }
+        ensures networks { All IsOwnNetwork self.now.ports }
     {
         self.ports.as_slice()
     }
 
-    /// What becomes of bytes that come in on a port, at a moment in milliseconds. The port is one of
-    /// the router's. Offers that are three minutes old go first, for good.
+    /// What becomes of bytes that come in on a port. It is called for each datagram, at once.
+    ///
+    /// `port` is the number of one of the router's ports, and `now` a moment in milliseconds: the
+    /// caller owes the first. Offers that are three minutes old go first, for good, whatever is
+    /// answered. After want of memory the entries before it were heard, and the others were not.
     pub fn receive(
         &mut self,
         alloc: Global,
@@ -86,13 +105,15 @@ impl Router {
     ) -> Result<Outcome, OutOfMemory>
         requires first { 1 ≤ port }
         requires last { port ≤ length self.old.ports }
-        ensures answer { IfOk result (λ o. Answers self.old port bytes.now now (view o) self.new) }
-        // After want of memory the entries before it were heard, and the others were not.
-        ensures refused { OnErr result (Leaves self.old port bytes.now now self.new) }
-        ensures onward { IfOk result (λ o. PassesOn self.old port bytes.now (view o)) }
+        ensures answer { IfOk result (λ o. Receives self.old port bytes.now now (view o) self.new) }
+        ensures refused { OnErr result (WantsMemory self.old port bytes.now now self.new) }
+        ensures one_hop_on { IfOk result (λ o. ForwardsOneHopOn self.old port bytes.now (view o)) }
         ensures there { IfOk result (λ o. IsOnPort (length self.old.ports) (view o)) }
+        // What the router makes itself is no packet of SPX.
+        ensures own { IfOk result (λ o. AreOwn (replies_of (view o))) }
         ensures rest { KeepsRest self.old self.new }
         ensures valid { AreTables (tables self.new) }
+        ensures networks { All IsOwnNetwork self.new.ports }
         ensures told { self.new.told ≡ self.old.told }
     {
         let arrived = self.ports[port as usize - 1];
@@ -111,24 +132,34 @@ impl Router {
         )
     }
 
-    /// The packets by which it asks its neighbours for all routes and services, as it starts.
+    /// The packets by which it asks its neighbours for all routes and services. It is called once,
+    /// as the router starts.
     pub fn start(&self, alloc: Global) -> Result<Vec<Reply>, OutOfMemory>
         ensures asks { IfOk result (λ v. AreStarts 1 self.now.ports (sendings v.items)) }
         ensures there { IfOk result (λ v. AreOnPorts (length self.now.ports) (sendings v.items)) }
+        ensures own { IfOk result (λ v. AreOwn (sendings v.items)) }
     {
         ask_all(alloc, &self.ports)
     }
 
-    /// The packets by which it tells its neighbours routes and services, if it is time: at first, and
-    /// then when 60,000 milliseconds have passed. After want of memory it is still time.
+    /// The packets by which it tells its neighbours routes and services, if it is time: at first,
+    /// and
+    /// then when 60,000 milliseconds have passed since the last time. It is called every so often;
+    /// `now` is a moment in milliseconds.
+    ///
+    /// Offers that are three minutes old go first, for good, whatever is answered. Memory is wanted
+    /// only where it is time and something is to be told, and then it is still time.
     pub fn tell(&mut self, alloc: Global, now: u64) -> Result<Vec<Reply>, OutOfMemory>
-        ensures tells { IfOk result (λ v. Tells (known_at self.old now) self.old.told now (sendings v.items) self.new.told) }
-        // Memory is wanted only where it is time.
-        ensures refused { OnErr result ((is_due self.old.told now ≡ true) × (self.new.told ≡ self.old.told)) }
+        ensures tells { IfOk result (λ v.
+            Tells (known_at self.old now) self.old.told now (sendings v.items) self.new.told) }
+        ensures refused { OnErr result ((is_due self.old.told now ≡ true)
+            × HasToTell (known_at self.old now) now × (self.new.told ≡ self.old.told)) }
         ensures known { HoldsKnown (known_at self.old now) (tables self.new) }
         ensures there { IfOk result (λ v. AreOnPorts (length self.old.ports) (sendings v.items)) }
+        ensures own { IfOk result (λ v. AreOwn (sendings v.items)) }
         ensures rest { KeepsRest self.old self.new }
         ensures valid { AreTables (tables self.new) }
+        ensures networks { All IsOwnNetwork self.new.ports }
     {
         tell_at(
             alloc,

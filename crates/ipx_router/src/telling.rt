@@ -1,21 +1,20 @@
 //! What a router tells its neighbours of itself.
 
-ghost use Rattle.std.specs.Prelude.{◌≡◌, ◌≤◌, ℕ, true, [], length, OnErr, OnOk, IfOk};
-ghost use Rattle.ipx_router.specs.Telling.{AreAsked, AreStarts, AreTellings, AreTold, Tells, all_nodes, is_due};
-ghost use Rattle.ipx_router.specs.Knowledge.{AreTables, HoldsKnown, known_aged, routes_in, services_in};
-ghost use Rattle.ipx_router.specs.Ports.{AreFromPorts, AreOnPorts};
+ghost use Rattle.std.specs.Prelude.{◌≡◌, ◌≤◌, true, length, OnErr, OnOk, IfOk};
+ghost use Rattle.ipx_tables.specs.Listing.{IsListing};
+ghost use Rattle.ipx_tables.specs.Route.{network_cmp, route_before};
+ghost use Rattle.ipx_tables.specs.Service.{service_before, service_key_cmp};
+ghost use Rattle.ipx_router.specs.Telling.{AreTellings, AreTold, HasToTell, Tells, is_due};
+ghost use Rattle.ipx_router.specs.Knowledge.{HoldsKnown, Routes, Services, known_aged, known_in, routes_in, services_in};
+ghost use Rattle.ipx_router.specs.Ports.{AreOnPorts, IsSound};
 ghost use Rattle.ipx_router.specs.Packets.{sendings};
 ghost use Rattle.ipx_router.specs.Adding.{AddsPackets};
 
 use crate::outcome::Reply;
-use crate::packets::{
-    BROADCAST, RIP_SOCKET, Recipient, SAP_SOCKET, add_route_packets, add_service_packets,
-    rip_packet, sap_packet,
-};
+use crate::packets::{add_route_packets, add_service_packets, everyone};
 use crate::port::{Port, PortNow};
-use crate::told::{told_routes, told_services};
-use ipx_control::{Rip, RipEntry, Sap};
-use ipx_tables::{RouteTable, ServiceTable};
+use crate::told::{routes_as_told, services_as_told};
+use ipx_tables::{RouteMetric, RouteTable, ServiceKey, ServiceMetric, ServiceTable, Source};
 use ipx_wire::{Network, OutOfMemory, Socket};
 use std::alloc::Global;
 
@@ -32,74 +31,31 @@ fn is_time(told: Option<u64>, now: u64) -> bool
     }
 }
 
-fn everyone(number: u8, port: Port, socket: Socket) -> Recipient
-    ensures { result ≡ all_nodes number port socket.0 }
-{
-    Recipient {
-        number,
-        port,
-        node: BROADCAST,
-        socket,
-    }
-}
-
-/// Adds a request for all routes and a query for all services.
-fn ask_on(alloc: Global, asked: &mut Vec<Reply>, number: u8, port: Port) -> Result<(), OutOfMemory>
-    ensures { OnOk result (AddsPackets (AreAsked number port) asked.old.items asked.new.items) }
-{
-    let all = RipEntry {
-        network: Network(0xffff_ffff),
-        hops: 0xffff,
-        ticks: 0xffff,
-    };
-    let networks = vec![in alloc; all]?;
-    let routes = Rip::Request(networks);
-    let for_routes = rip_packet(alloc, everyone(number, port, RIP_SOCKET), &routes)?;
-    let services = Sap::Query {
-        nearest: false,
-        kind: 0xffff,
-    };
-    let for_services = sap_packet(alloc, everyone(number, port, SAP_SOCKET), &services)?;
-    asked.push(for_routes)?;
-    asked.push(for_services)?;
-    Ok(())
-}
-
-/// The packets by which a router asks on all its ports.
-pub fn ask_all(alloc: Global, ports: &[Port]) -> Result<Vec<Reply>, OutOfMemory>
-    requires { length ports.now ≤ 16 }
-    ensures asks { IfOk result (λ v. AreStarts 1 ports.now (sendings v.items)) }
-    ensures there { IfOk result (λ v. AreOnPorts (length ports.now) (sendings v.items)) }
-{
-    let mut asked = Vec::new(alloc);
-    for (i, port) in ports.iter().enumerate() {
-        ask_on(alloc, &mut asked, i as u8 + 1, *port)?;
-    }
-    Ok(asked)
-}
-
-/// Adds the packets that tell routes and services on a port.
+/// Adds the packets that tell on a port the routes and services that were heard.
 fn tell_on(
     alloc: Global,
     told: &mut Vec<Reply>,
     ports: &[Port],
-    routes: &RouteTable,
-    services: &ServiceTable,
+    heard_routes: &[(Network, Source, RouteMetric)],
+    heard_services: &[(ServiceKey, Source, ServiceMetric)],
     at: PortNow,
 ) -> Result<(), OutOfMemory>
-    ensures { OnOk result (AddsPackets (AreTold ports.now (routes_in routes.now) (services_in services.now) at) told.old.items told.new.items) }
+    ensures { OnOk result ((routes : Routes) (services : Services)
+        → IsListing network_cmp route_before routes at.now heard_routes.now
+        → IsListing service_key_cmp service_before services at.now heard_services.now
+        → AddsPackets (AreTold ports.now routes services at) told.old.items told.new.items) }
 {
-    let known_routes = told_routes(alloc, ports, routes, at)?;
-    let known_services = told_services(alloc, services, at)?;
-    let for_routes = everyone(at.number, at.port, RIP_SOCKET);
+    let known_routes = routes_as_told(alloc, ports, heard_routes, at)?;
+    let known_services = services_as_told(alloc, heard_services, at)?;
+    let for_routes = everyone(at.number, at.port, Socket::RIP);
     add_route_packets(alloc, told, for_routes, &known_routes)?;
-    let for_services = everyone(at.number, at.port, SAP_SOCKET);
+    let for_services = everyone(at.number, at.port, Socket::SAP);
     add_service_packets(alloc, told, for_services, false, &known_services)?;
     Ok(())
 }
 
-/// The packets that tell routes and services on all ports.
-fn tell_all(
+/// The packets that tell routes and services on each port. Each table is listed once for all ports.
+fn tell_each(
     alloc: Global,
     ports: &[Port],
     routes: &RouteTable,
@@ -107,9 +63,16 @@ fn tell_all(
     now: u64,
 ) -> Result<Vec<Reply>, OutOfMemory>
     requires { length ports.now ≤ 16 }
-    ensures tells { IfOk result (λ v. AreTellings ports.now (routes_in routes.now) (services_in services.now) now 1 ports.now (sendings v.items)) }
+    ensures tells { IfOk result (λ v. AreTellings ports.now
+        (routes_in routes.now) (services_in services.now) now 1 ports.now (sendings v.items)) }
     ensures there { IfOk result (λ v. AreOnPorts (length ports.now) (sendings v.items)) }
 {
+    let Ok(heard_routes) = routes.list(alloc, now) else {
+        return Err(OutOfMemory);
+    };
+    let Ok(heard_services) = services.list(alloc, now) else {
+        return Err(OutOfMemory);
+    };
     let mut told = Vec::new(alloc);
     for (i, port) in ports.iter().enumerate() {
         let at = PortNow {
@@ -117,9 +80,30 @@ fn tell_all(
             port: *port,
             now,
         };
-        tell_on(alloc, &mut told, ports, routes, services, at)?;
+        tell_on(alloc, &mut told, ports, &heard_routes, &heard_services, at)?;
     }
     Ok(told)
+}
+
+/// The packets that tell routes and services on all ports. On a lone port there is nothing to tell:
+/// all that the router knows leaves by it.
+fn tell_all(
+    alloc: Global,
+    ports: &[Port],
+    routes: &RouteTable,
+    services: &ServiceTable,
+    now: u64,
+) -> Result<Vec<Reply>, OutOfMemory>
+    requires { IsSound ports.now (routes.now, services.now) }
+    ensures tells { IfOk result (λ v. AreTellings ports.now
+        (routes_in routes.now) (services_in services.now) now 1 ports.now (sendings v.items)) }
+    ensures refused { OnErr result (HasToTell (known_in ports.now routes.now services.now) now) }
+    ensures there { IfOk result (λ v. AreOnPorts (length ports.now) (sendings v.items)) }
+{
+    if ports.len() < 2 {
+        return Ok(Vec::new(alloc));
+    }
+    tell_each(alloc, ports, routes, services, now)
 }
 
 /// The packets by which it tells its neighbours, if it is time, and when it told last. Offers that
@@ -132,15 +116,18 @@ pub fn tell_at(
     told: &mut Option<u64>,
     now: u64,
 ) -> Result<Vec<Reply>, OutOfMemory>
-    requires count { length ports.now ≤ 16 }
-    requires sources { AreFromPorts (length ports.now) (routes_in routes.old) }
-    ensures tells { IfOk result (λ v. Tells (known_aged ports.now routes.old services.old now) told.old now (sendings v.items) told.new) }
-    ensures refused { OnErr result ((is_due told.old now ≡ true) × (told.new ≡ told.old)) }
-    ensures known { HoldsKnown (known_aged ports.now routes.old services.old now) (routes.new, services.new) }
+    requires { IsSound ports.now (routes.old, services.old) }
+    ensures tells { IfOk result (λ v.
+        Tells (known_aged ports.now routes.old services.old now) told.old now
+        (sendings v.items) told.new) }
+    ensures refused { OnErr result ((is_due told.old now ≡ true)
+        × HasToTell (known_aged ports.now routes.old services.old now) now
+        × (told.new ≡ told.old)) }
+    ensures known { HoldsKnown (known_aged ports.now routes.old services.old now)
+        (routes.new, services.new) }
     ensures there { IfOk result (λ v. AreOnPorts (length ports.now) (sendings v.items)) }
     ensures most { (routes.new.most ≡ routes.old.most) × (services.new.most ≡ services.old.most) }
-    ensures valid { AreTables (routes.old, services.old) → AreTables (routes.new, services.new) }
-    ensures sources { AreFromPorts (length ports.now) (routes_in routes.new) }
+    ensures sound { IsSound ports.now (routes.new, services.new) }
 {
     routes.age(now);
     services.age(now);

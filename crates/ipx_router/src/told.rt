@@ -2,8 +2,10 @@
 
 ghost use Rattle.std.specs.Prelude.{◌≡◌, ◌≢◌, ◌⊎◌, ◌<◌, ℕ, List, Contains, OnOk, IfErr, IfOk, Some, None, length, slice_index_or, filter, map, not, ◌==◌};
 ghost use Rattle.ipx_tables.specs.Sorted.{IsAtKey, IsGapFor, IsRising};
-ghost use Rattle.ipx_tables.specs.Route.{network_cmp};
-ghost use Rattle.ipx_router.specs.Knowledge.{routes_in, services_in};
+ghost use Rattle.ipx_tables.specs.Listing.{IsListing};
+ghost use Rattle.ipx_tables.specs.Route.{network_cmp, route_before};
+ghost use Rattle.ipx_tables.specs.Service.{service_before, service_key_cmp};
+ghost use Rattle.ipx_router.specs.Knowledge.{Routes, Services, routes_in, services_in};
 ghost use Rattle.ipx_router.specs.Route.{direct_route};
 ghost use Rattle.ipx_router.specs.Told.{AreToldRoutes, AreToldServices, route_key, told_route, told_service};
 ghost use Rattle.ipx_router.specs.Placing.{AddsHeard, AreToldPorts, PutsEntry, is_told_item, is_told_port};
@@ -92,7 +94,8 @@ fn add_heard(
     at: PortNow,
 ) -> Result<(), OutOfMemory>
     requires { IsRising network_cmp route_key told.old.items }
-    ensures { OnOk result (AddsHeard ports.now at heard.now (length heard.now) told.old.items told.new.items) }
+    ensures { OnOk result (AddsHeard ports.now at heard.now (length heard.now)
+        told.old.items told.new.items) }
 {
     for item in heard {
         if is_over_other_neighbour(ports, *item, at) {
@@ -100,6 +103,23 @@ fn add_heard(
         }
     }
     Ok(())
+}
+
+/// What is told on a port of the routes that were heard, by network.
+pub fn routes_as_told(
+    alloc: Global,
+    ports: &[Port],
+    heard: &[(Network, Source, RouteMetric)],
+    at: PortNow,
+) -> Result<Vec<RipEntry>, OutOfMemory>
+    ensures { IfOk result (λ v. (routes : Routes)
+        → IsListing network_cmp route_before routes at.now heard.now
+        → AreToldRoutes ports.now routes at v.items) }
+{
+    let mut told = told_ports(alloc, ports, at)?;
+    add_heard(&mut told, ports, heard, at)?;
+    one_best::<Network, RouteMetric>();
+    Ok(told)
 }
 
 /// The routes that are told on a port, by network.
@@ -114,13 +134,12 @@ pub fn told_routes(
     let Ok(heard) = routes.list(alloc, at.now) else {
         return Err(OutOfMemory);
     };
-    let mut told = told_ports(alloc, ports, at)?;
-    add_heard(&mut told, ports, &heard, at)?;
-    one_best::<Network, RouteMetric>();
+    let told = routes_as_told(alloc, ports, &heard, at)?;
     Ok(told)
 }
 
-fn told_service_of(item: &(ServiceKey, Source, ServiceMetric)) -> ServiceEntry
+/// A service as it is told.
+pub fn told_service_of(item: &(ServiceKey, Source, ServiceMetric)) -> ServiceEntry
     ensures { result ≡ told_service item.now }
 {
     let onward = item.2.one_more();
@@ -133,18 +152,34 @@ fn told_service_of(item: &(ServiceKey, Source, ServiceMetric)) -> ServiceEntry
 }
 
 /// The services that came by another port, as they are told.
-fn services_as_told(
+fn services_by_other_ports(
     alloc: Global,
     heard: &[(ServiceKey, Source, ServiceMetric)],
     at: PortNow,
 ) -> Result<Vec<ServiceEntry>, OutOfMemory>
-    ensures { IfOk result (λ v. v.items ≡ map told_service (filter (λ item. not (item.1.port == at.number)) heard.now)) }
+    ensures { IfOk result (λ v. v.items
+        ≡ map told_service (filter (λ item. not (item.1.port == at.number)) heard.now)) }
 {
     let told = heard
         .iter()
         .filter(|item| item.1.port != at.number)
         .map(told_service_of)
         .collect::<Vec<ServiceEntry>>(alloc)?;
+    Ok(told)
+}
+
+/// What is told on a port of the services that were heard, by kind and name.
+pub fn services_as_told(
+    alloc: Global,
+    heard: &[(ServiceKey, Source, ServiceMetric)],
+    at: PortNow,
+) -> Result<Vec<ServiceEntry>, OutOfMemory>
+    ensures { IfOk result (λ v. (services : Services)
+        → IsListing service_key_cmp service_before services at.now heard.now
+        → AreToldServices services at v.items) }
+{
+    let told = services_by_other_ports(alloc, heard, at)?;
+    one_best::<ServiceKey, ServiceMetric>();
     Ok(told)
 }
 
@@ -160,6 +195,5 @@ pub fn told_services(
         return Err(OutOfMemory);
     };
     let told = services_as_told(alloc, &heard, at)?;
-    one_best::<ServiceKey, ServiceMetric>();
     Ok(told)
 }

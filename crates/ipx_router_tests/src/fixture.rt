@@ -11,7 +11,8 @@ fn node(last: u8) -> Node {
     Node([0, 0, 0x7f, 0, 0, last])
 }
 
-fn port(network: u32, last: u8, cost: u16) -> Port
+/// A port with a node 00007f0000xx.
+pub fn port(network: u32, last: u8, cost: u16) -> Port
     ensures { result.network.0 ≡ network }
 {
     Port {

@@ -8,7 +8,7 @@ use std::process::Abort;
 use std::test::Fail;
 
 /// A RIP response on port 2 with 50 networks from a first one on.
-fn fifty_networks(alloc: Global, first: u32) -> Result<String, AllocError> {
+pub fn fifty_networks(alloc: Global, first: u32) -> Result<String, AllocError> {
     let mut text = String::from_str(
         alloc,
         "ffff01b0000100000022ffffffffffff04530000002200007f00000904530002",

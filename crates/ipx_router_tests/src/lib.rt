@@ -7,9 +7,17 @@ mod fixture;
 #[cfg(test)]
 mod full;
 #[cfg(test)]
+mod index;
+#[cfg(test)]
 mod metrics;
 #[cfg(test)]
+mod new_router;
+#[cfg(test)]
 mod offers;
+#[cfg(test)]
+mod order;
+#[cfg(test)]
+mod prefixes;
 #[cfg(test)]
 mod refused;
 #[cfg(test)]

@@ -62,23 +62,23 @@ module _ {X : Type 0} (test : X → Bool) (beats : X → X → Bool) (w : IsStri
   not_itself a b h = grind (arith, w.one_way a b, w.one_way b a)
 
   -- the better of two is as good as both
-  better_left : (best : Option X) (a r : X) → beats (better_of test beats best a) r ≡ false → AsGood test beats best r
+  better_left : (best : Option X) (a r : X) → beats (better_of beats best a) r ≡ false → AsGood test beats best r
   better_left None a r h = tt
   better_left (Some b) a r h = grind (arith, w.one_way a b, w.chain b a r)
 
-  better_right : (best : Option X) (a r : X) → beats (better_of test beats best a) r ≡ false → beats a r ≡ false
+  better_right : (best : Option X) (a r : X) → beats (better_of beats best a) r ≡ false → beats a r ≡ false
   better_right None a r h = h
   better_right (Some b) a r h = grind (arith, w.chain a b r)
 
   pub best_beats : (xs : List X) (best : Option X) (r : X) → best_from test beats best xs ≡ Some r → AsGood test beats best r × Beats test beats r xs
   best_beats [] None r h = (tt, tt)
   best_beats [] (Some b) r h = (not_itself b r (grind arith), tt)
-  best_beats (x ∷ xs) best r h = elim (test x) as (λ t. test x ≡ t → best_from test beats (cond t (Some (better_of test beats best x)) best) xs ≡ Some r → AsGood test beats best r × Beats test beats r (x ∷ xs)) [
+  best_beats (x ∷ xs) best r h = elim (test x) as (λ t. test x ≡ t → best_from test beats (cond t (Some (better_of beats best x)) best) xs ≡ Some r → AsGood test beats best r × Beats test beats r (x ∷ xs)) [
     | true ↦ λ e g. let rest = best_beats xs _ r g in (better_left best x r rest.0, ((λ k. better_right best x r rest.0), rest.1))
     | false ↦ λ e g. let rest = best_beats xs _ r g in (rest.0, ((λ k. absurd (true≢false (sym k ∙ e))), rest.1))
   ] refl h
 
-  better_is : (best : Option X) (a r : X) → better_of test beats best a ≡ r → (best ≡ Some r) ⊎ (r ≡ a)
+  better_is : (best : Option X) (a r : X) → better_of beats best a ≡ r → (best ≡ Some r) ⊎ (r ≡ a)
   better_is None a r h = inr (sym h)
   better_is (Some b) a r h = elim (beats a b) as (λ t. cond t a b ≡ r → (Some b ≡ Some r) ⊎ (r ≡ a)) [ true ↦ λ e. inr (sym e) | false ↦ λ e. inl (ap Some e) ] h
 
@@ -87,7 +87,7 @@ module _ {X : Type 0} (test : X → Bool) (beats : X → X → Bool) (w : IsStri
 
   pub best_is_from : (xs : List X) (best : Option X) (r : X) → best_from test beats best xs ≡ Some r → (best ≡ Some r) ⊎ IsFrom test beats r xs
   best_is_from [] best r h = inl h
-  best_is_from (x ∷ xs) best r h = elim (test x) as (λ t. test x ≡ t → best_from test beats (cond t (Some (better_of test beats best x)) best) xs ≡ Some r → (best ≡ Some r) ⊎ IsFrom test beats r (x ∷ xs)) [
+  best_is_from (x ∷ xs) best r h = elim (test x) as (λ t. test x ≡ t → best_from test beats (cond t (Some (better_of beats best x)) best) xs ≡ Some r → (best ≡ Some r) ⊎ IsFrom test beats r (x ∷ xs)) [
     | true ↦ λ e g. elim (best_is_from xs _ r g) [
       | inl same ↦ elim (better_is best x r (some_same _ _ same)) [ inl old ↦ inl old | inr here ↦ inr (inl (e, here)) ]
       | inr rest ↦ inr (inr rest)
@@ -97,7 +97,7 @@ module _ {X : Type 0} (test : X → Bool) (beats : X → X → Bool) (w : IsStri
 
   pub best_none : (xs : List X) (best : Option X) → best_from test beats best xs ≡ None → (best ≡ None) × AllByRecursion (λ x. test x ≡ false) xs
   best_none [] best h = (h, tt)
-  best_none (x ∷ xs) best h = elim (test x) as (λ t. test x ≡ t → best_from test beats (cond t (Some (better_of test beats best x)) best) xs ≡ None → (best ≡ None) × AllByRecursion (λ x. test x ≡ false) (x ∷ xs)) [
+  best_none (x ∷ xs) best h = elim (test x) as (λ t. test x ≡ t → best_from test beats (cond t (Some (better_of beats best x)) best) xs ≡ None → (best ≡ None) × AllByRecursion (λ x. test x ≡ false) (x ∷ xs)) [
     | true ↦ λ e g. let rest = (best_none xs _ g).0 in cc
     | false ↦ λ e g. let rest = best_none xs _ g in (rest.0, (e, rest.1))
   ] refl h

@@ -1,4 +1,11 @@
 pub mod Lists
+pub mod Places
+pub mod Held
+pub mod Outcomes
+pub mod Ordered
+pub mod Pairing
+pub mod Walks
+pub mod Halving
 pub mod Best
 pub mod Listed
 pub mod LastWord

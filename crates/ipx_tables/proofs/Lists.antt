@@ -1,8 +1,8 @@
 -- What an edit of a list of offers does to what the list says.
-use Rattle.std.proofs.Common.{◌≡◌, ℕ, zero, suc, ◌≤◌, Bool, true, false, cond, List, [], ◌∷◌, ◌++◌, length, set, Option, Some, None, refl, sym, ap, ◌∙◌, arith}
+use Rattle.std.proofs.Common.{◌≡◌, ℕ, zero, suc, ◌≤◌, Bool, true, false, cond, List, [], ◌∷◌, length, set, Option, Some, None, refl, sym, ap, ◌∙◌, arith}
 use mathlib.Core.Bool.{true≢false}
 use Rattle.std.specs.Option.{is_some}
-use Rattle.std.specs.List.{remove, filter}
+use Rattle.std.specs.List.{insert, remove, filter}
 use Rattle.std.specs.Cmp.{IsEquivalence, IsTotalOrder}
 use Rattle.std.specs.declared.cmp.Ordering.{Ordering}
 use Rattle.std.proofs.lemmas.Cmp.{eq_by_cmp_equiv, then_total, on_total, nat_cmp_total, nat_list_cmp_total}
@@ -53,10 +53,13 @@ module _ {K M : Type 0} {same : K × Source → K × Source → Bool} (e : IsEqu
         let rest : found same told (o ∷ remove os i) q ≡ cond (same p q) None (found same told (o ∷ os) q) = grind (arith, found_remove os p i a.1 (at_tail o os p i h) q, not_same os p (pair_of o) i (at_tail o os p i h) a.0, e.symm p (pair_of o), e.congr (pair_of o) q p, e.symm q p) in
         rest
 
-    -- a new offer at the end
-    pub found_push : (os : List (Offer K M)) (x : Offer K M) → found same said_of os (pair_of x) ≡ None → (q : K × Source) → found same told (os ++ x ∷ []) q ≡ cond (same (pair_of x) q) (Some (told x)) (found same told os q)
-    found_push [] x n q = refl
-    found_push (o ∷ os) x n q = grind (arith, found_push os x, e.symm (pair_of o) (pair_of x), e.congr (pair_of o) q (pair_of x), e.symm q (pair_of x))
+    -- a new offer anywhere
+    pub found_insert : (os : List (Offer K M)) (x : Offer K M) (i : ℕ) → found same said_of os (pair_of x) ≡ None → (q : K × Source) → found same told (insert os i x) q ≡ cond (same (pair_of x) q) (Some (told x)) (found same told os q)
+    found_insert os x zero n q = refl
+    found_insert [] x (suc i) n q = refl
+    found_insert (o ∷ os) x (suc i) n q =
+        let rest : found same told (o ∷ insert os i x) q ≡ cond (same (pair_of x) q) (Some (told x)) (found same told (o ∷ os) q) = grind (arith, found_insert os x i, e.symm (pair_of o) (pair_of x), e.congr (pair_of o) q (pair_of x), e.symm q (pair_of x)) in
+        rest
 
     -- keeping what is young
     pub told_filter : (os : List (Offer K M)) (now : ℕ) → IsApart same os → (q : K × Source) → found same told (filter (λ o. is_young now o.heard) os) q ≡ cond (is_some (still now (found same said_of os q))) (found same told os q) None
@@ -69,19 +72,10 @@ module _ {K M : Type 0} {same : K × Source → K × Source → Bool} (e : IsEqu
   found_filter (o ∷ os) now a q = grind (arith, found_filter os now a.1 q, found_same said_of os (pair_of o) q, a.0)
 
   -- what is not found stays so
-  pub apart_set : (os : List (Offer K M)) (p : K × Source) (x : Offer K M) (i : ℕ) → IsApart same os → IsAt same os p i → same (pair_of x) p ≡ true → IsApart same (set os i x)
-  apart_set [] p x i a h s = absurd (omega (arith, h.in_range))
-  apart_set (o ∷ os) p x zero a h s = (found_same said_of os (pair_of x) (pair_of o) (grind (arith, h.here o, e.congr (pair_of x) p (pair_of o), e.symm p (pair_of o))) ∙ a.0, a.1)
-  apart_set (o ∷ os) p x (suc i) a h s = (grind (arith, found_set said_of os p x i a.1 (at_tail o os p i h) s (pair_of o), not_same os p (pair_of o) i (at_tail o os p i h) a.0, a.0), apart_set os p x i a.1 (at_tail o os p i h) s)
-
   pub apart_remove : (os : List (Offer K M)) (p : K × Source) (i : ℕ) → IsApart same os → IsAt same os p i → IsApart same (remove os i)
   apart_remove [] p i a h = absurd (omega (arith, h.in_range))
   apart_remove (o ∷ os) p zero a h = a.1
   apart_remove (o ∷ os) p (suc i) a h = (grind (arith, found_remove said_of os p i a.1 (at_tail o os p i h) (pair_of o), a.0), apart_remove os p i a.1 (at_tail o os p i h))
-
-  pub apart_push : (os : List (Offer K M)) (x : Offer K M) → IsApart same os → found same said_of os (pair_of x) ≡ None → IsApart same (os ++ x ∷ [])
-  apart_push [] x a n = (refl, tt)
-  apart_push (o ∷ os) x a n = (grind (arith, found_push said_of os x, e.symm (pair_of o) (pair_of x), a.0), apart_push os x a.1 (grind (arith, e.symm (pair_of o) (pair_of x))))
 
   pub apart_filter : (os : List (Offer K M)) (now : ℕ) → IsApart same os → IsApart same (filter (λ o. is_young now o.heard) os)
   apart_filter [] now a = tt
@@ -122,24 +116,14 @@ module _ {K M : Type 0} {cmp : K → K → Ordering} (o : IsTotalOrder cmp) (dea
     pub hear_set : {B : Type 0} (told : Offer K M → B) → dead metric ≡ false → (q : K × Source) → found (is_same cmp) told (set os i (record { key = key; source = source; metric = metric; heard = now })) q ≡ told_after told q
     hear_set told d q = found_set (same_equiv o) told os (key, source) _ i apart here ((same_equiv o).refl (key, source)) q ∙ ap (λ b. cond (is_same cmp (key, source) q) (cond b None (Some (told (record { key = key; source = source; metric = metric; heard = now })))) (found (is_same cmp) told os q)) (sym d)
 
-    pub hear_set_apart : IsApart (is_same cmp) (set os i (record { key = key; source = source; metric = metric; heard = now }))
-    hear_set_apart = apart_set (same_equiv o) os (key, source) _ i apart here ((same_equiv o).refl (key, source))
-
-    pub hear_removed_apart : IsApart (is_same cmp) (remove os i)
-    hear_removed_apart = apart_remove (same_equiv o) os (key, source) i apart here
-
     pub hear_there : content cmp os (key, source) ≡ None → ⊥
     hear_there n = true≢false (sym ((same_equiv o).refl (key, source)) ∙ not_same (same_equiv o) os (key, source) (key, source) i here n)
 
     pub hear_some : is_some (content cmp os (key, source)) ≡ true
     hear_some = elim (content cmp os (key, source)) as (λ v. content cmp os (key, source) ≡ v → is_some v ≡ true) [ None ↦ λ e. absurd (hear_there e) | Some v ↦ λ e. refl ] refl
 
-  module _ (n : content cmp os (key, source) ≡ None) where
-    pub hear_pushed : {B : Type 0} (told : Offer K M → B) → dead metric ≡ false → (q : K × Source) → found (is_same cmp) told (os ++ (record { key = key; source = source; metric = metric; heard = now }) ∷ []) q ≡ told_after told q
-    hear_pushed told d q = found_push (same_equiv o) told os (record { key = key; source = source; metric = metric; heard = now }) n q ∙ ap (λ b. cond (is_same cmp (key, source) q) (cond b None (Some (told (record { key = key; source = source; metric = metric; heard = now })))) (found (is_same cmp) told os q)) (sym d)
-
-    pub hear_pushed_apart : IsApart (is_same cmp) (os ++ (record { key = key; source = source; metric = metric; heard = now }) ∷ [])
-    hear_pushed_apart = apart_push (same_equiv o) os _ apart n
+  pub hear_inserted : {B : Type 0} (told : Offer K M → B) (i : ℕ) → content cmp os (key, source) ≡ None → dead metric ≡ false → (q : K × Source) → found (is_same cmp) told (insert os i (record { key = key; source = source; metric = metric; heard = now })) q ≡ told_after told q
+  hear_inserted told i n d q = found_insert (same_equiv o) told os (record { key = key; source = source; metric = metric; heard = now }) i n q ∙ ap (λ b. cond (is_same cmp (key, source) q) (cond b None (Some (told (record { key = key; source = source; metric = metric; heard = now })))) (found (is_same cmp) told os q)) (sym d)
 
 -- a filter keeps no more than there is
 pub filter_short : {X : Type 0} (p : X → Bool) (xs : List X) → length (filter p xs) ≤ length xs

@@ -2,9 +2,12 @@ pub mod Order
 pub mod Route
 pub mod Service
 pub mod Content
+pub mod Room
 pub mod Best
 pub mod Calls
 pub mod Sorted
 pub mod Listing
 pub mod Scan
+pub mod Walk
+pub mod Marks
 pub mod Expiry

@@ -1,11 +1,11 @@
--- Words of the private functions that scan a list of offers.
+-- Words of the private functions that read offers.
 use Rattle.std.specs.Prelude.{◌≡◌, ℕ, ◌<◌, Bool, true, cond, ◌&&◌, List, [], ◌∷◌, Option, Some, None, length, slice_index_or}
 use Rattle.std.specs.declared.cmp.Ordering.{Ordering}
-use Rattle.std.specs.Ordering.{is_eq, ordering_then}
+use Rattle.std.specs.Ordering.{is_eq}
 use Rattle.ipx_tables.specs.declared.source.Source.{Source}
 use Rattle.ipx_tables.specs.declared.offer.Offer.{Offer}
 use Rattle.ipx_tables.specs.Content.{is_young, pair_of}
-use Rattle.ipx_tables.specs.Best.{rank_cmp, is_better}
+use Rattle.ipx_tables.specs.Best.{is_better}
 
 -- the offer at place i is of this key and source
 pub record IsAt {K M : Type 0} (same : K × Source → K × Source → Bool) (os : List (Offer K M)) (p : K × Source) (i : ℕ) : Type 0 where
@@ -24,20 +24,13 @@ told_of o = (o.source, o.metric)
 abbrev pub offer_beats : {K M : Type 0} → (M → M → Bool) → Offer K M → Offer K M → Bool
 offer_beats before a b = is_better before (told_of a) (told_of b)
 
+-- the better of an item and the one that is held, if there is one
+abbrev pub better_of : {X : Type 0} → (X → X → Bool) → Option X → X → X
+better_of beats None a = a
+better_of beats (Some b) a = cond (beats a b) a b
+
 -- the best of those that pass a test, beginning with one or none
 module _ {X : Type 0} (test : X → Bool) (beats : X → X → Bool) where
-  abbrev pub better_of : Option X → X → X
-  better_of None a = a
-  better_of (Some b) a = cond (beats a b) a b
-
   abbrev pub best_from : Option X → List X → Option X
   best_from best [] = best
-  best_from best (x ∷ xs) = best_from (cond (test x) (Some (better_of best x)) best) xs
-
--- an offer that counts, as an item of a listing
-abbrev pub item_of : {K M : Type 0} → ℕ → Offer K M → Option (K × Source × M)
-item_of now o = cond (is_young now o.heard) (Some (o.key, o.source, o.metric)) None
-
--- by key, and of one key the better one first
-abbrev pub item_cmp : {K M : Type 0} → (K → K → Ordering) → (M → M → Bool) → K × Source × M → K × Source × M → Ordering
-item_cmp cmp before a b = ordering_then (cmp a.0 b.0) (rank_cmp before (a.1, a.2) (b.1, b.2))
+  best_from best (x ∷ xs) = best_from (cond (test x) (Some (better_of beats best x)) best) xs

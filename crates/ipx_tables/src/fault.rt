@@ -3,7 +3,7 @@
 ghost use Rattle.std.specs.Prelude.{◌≡◌};
 ghost use Rattle.ipx_tables.specs.declared.fault.TableFault.TheVariants.{OutOfMemory};
 
-use std::alloc::AllocFailed;
+use std::alloc::{AllocError, AllocFailed};
 use thiserror::Error;
 
 /// Why a table refused a call.
@@ -22,5 +22,13 @@ impl<T: Drop> From<AllocFailed<T>> for TableFault {
 
     fn from(_error: AllocFailed<T>) -> TableFault {
         TableFault::OutOfMemory
+    }
+}
+
+impl From<AllocError> for TableFault {
+    ghost from_gives = { λ _ e. e ≡ OutOfMemory };
+
+    fn from(_error: AllocError) -> TableFault {
+        Self::OutOfMemory
     }
 }

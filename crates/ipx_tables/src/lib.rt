@@ -2,15 +2,19 @@
 #![tactic(auto)]
 
 mod fault;
+mod finding;
 mod laws;
-mod listing;
+mod mark;
+mod marks;
 mod metric;
+mod moments;
 mod offer;
 mod offers;
 mod route;
-mod scan;
 mod service;
+mod shelf;
 mod source;
+mod walk;
 
 pub use fault::TableFault;
 pub use laws::{
@@ -23,3 +27,4 @@ pub use offers::Offers;
 pub use route::{MOST_ROUTES, RouteMetric, RouteTable, route_table};
 pub use service::{MOST_SERVICES, ServiceKey, ServiceMetric, ServiceTable, service_table};
 pub use source::Source;
+pub use walk::Bests;

@@ -1,16 +1,20 @@
-//! A table of offers, as one list that is scanned.
+//! A table of offers.
 
-ghost use Rattle.std.specs.Prelude.{◌≡◌, ◌≤◌, ◌<◌, ◌+◌, ◌↔◌, false, true, [], Some, None, Ok, Err, IsOk, IsSome, OnOk, OnErr, IfSome, IfNone, IfOk, IfErr, length, is_some, count_by, All, if◌then◌else◌};
+ghost use Rattle.std.specs.Prelude.{◌≡◌, ℕ, ◌≤◌, ◌<◌, ◌+◌, ◌^◌, ◌↔◌, false, true, [], Some, None, Ok, Err, IsOk, IsSome, OnOk, OnErr, IfSome, IfNone, IfOk, IfErr, length, is_some, count_by, All, if◌then◌else◌};
+ghost use Rattle.std.specs.Ordering.{is_eq};
 ghost use Rattle.ipx_tables.specs.Content.{IsTable, content, heard_key, after_hear, keys_after_hear, after_age, is_young};
+ghost use Rattle.ipx_tables.specs.Room.{Grows, IsFull};
 ghost use Rattle.ipx_tables.specs.Best.{IsBest, NoneCounts};
 ghost use Rattle.ipx_tables.specs.Listing.{IsListing};
 
 use crate::fault::TableFault;
-use crate::listing::{items_that_count, listing_order};
+use crate::finding::best_in;
 use crate::metric::Metric;
+use crate::moments::{expiry, keep_young};
 use crate::offer::Offer;
-use crate::scan::{best_of, expiry, keep_young, place_of};
+use crate::shelf::Shelf;
 use crate::source::Source;
+use crate::walk::{Bests, bests_on};
 use std::alloc::Global;
 use std::marker::Model;
 
@@ -20,9 +24,9 @@ use std::marker::Model;
 #[derive(Drop)]
 pub struct Offers<K: Ord + Copy, M: Metric + Copy> {
     most: usize,
-    /// No offer is old before this moment. It may be too early, which costs one scan.
+    /// No offer is old before this moment. It may be too early, which costs one look at the oldest.
     none_old_before: u64,
-    offers: Vec<Offer<K, M>>,
+    shelf: Shelf<K, M>,
 }
 
 impl<K: Ord + Copy, M: Metric + Copy> Model for Offers<K, M> {
@@ -31,10 +35,10 @@ impl<K: Ord + Copy, M: Metric + Copy> Model for Offers<K, M> {
 
     ghost Value = { Table K M };
 
-    ghost view = { λ o. record { most = o.most; offers = o.offers.items } };
+    ghost view = { λ o. record { most = o.most; offers = o.shelf } };
 
-    ghost invariant = { λ o. IsTable K.cmp (record { most = o.most; offers = o.offers.items })
-        × NoneOldBefore o.none_old_before o.offers.items };
+    ghost invariant = { λ o. IsTable K.cmp (record { most = o.most; offers = o.shelf })
+        × NoneOldBefore o.none_old_before o.shelf };
 }
 
 impl<K: Ord + Copy, M: Metric + Copy> Offers<K, M> {
@@ -46,7 +50,7 @@ impl<K: Ord + Copy, M: Metric + Copy> Offers<K, M> {
         Offers {
             most,
             none_old_before: u64::MAX,
-            offers: Vec::new(alloc),
+            shelf: Shelf::new(alloc),
         }
     }
 
@@ -75,13 +79,9 @@ impl<K: Ord + Copy, M: Metric + Copy> Offers<K, M> {
 
         // When each refusal comes.
         ensures full { (result ≡ Err TableFault.Full)
-            ↔ ((M.dead metric ≡ false)
-            × (content K.cmp self.old.offers (key, source) ≡ None)
-            × (self.old.most ≤ length self.old.offers)) }
+            ↔ IsFull K.cmp M.dead self.old (key, source) metric }
         ensures out_of_memory { result ≡ Err TableFault.OutOfMemory
-            → (M.dead metric ≡ false)
-            × (content K.cmp self.old.offers (key, source) ≡ None)
-            × (length self.old.offers < self.old.most) }
+            → Grows K.cmp M.dead self.old (key, source) metric }
         ensures no_memory_if_dead { M.dead metric ≡ true → IsOk result }
         ensures no_memory_if_there { IsSome (content K.cmp self.old.offers (key, source)) → IsOk result }
 
@@ -91,10 +91,10 @@ impl<K: Ord + Copy, M: Metric + Copy> Offers<K, M> {
             + (if is_some (content K.cmp self.old.offers (key, source)) then 1 else 0)
             ≡ length self.old.offers + (if M.dead metric then 0 else 1)) }
     {
-        let place = place_of(&self.offers, key, source);
+        let place = self.shelf.place_of(key, source);
         if metric.dead() {
-            if let Some(at) = place {
-                let _gone = self.offers.remove(at);
+            if let Ok(at) = place {
+                self.shelf.take_out(at);
             }
             return Ok(());
         }
@@ -105,15 +105,17 @@ impl<K: Ord + Copy, M: Metric + Copy> Offers<K, M> {
             metric,
             heard: now,
         };
-        if let Some(at) = place {
-            self.offers[at] = offer;
-            return Ok(());
+        match place {
+            Ok(at) => {
+                self.shelf.replace(at, offer);
+                Ok(())
+            }
+            Err(_) if self.shelf.len() >= self.most => Err(TableFault::Full),
+            Err(at) => {
+                self.shelf.add(at, offer)?;
+                Ok(())
+            }
         }
-        if self.offers.len() >= self.most {
-            return Err(TableFault::Full);
-        }
-        self.offers.push(offer)?;
-        Ok(())
     }
 
     /// Takes out for good each offer that was heard three minutes ago or earlier.
@@ -135,7 +137,7 @@ impl<K: Ord + Copy, M: Metric + Copy> Offers<K, M> {
         if now < self.none_old_before {
             return;
         }
-        self.none_old_before = keep_young(&mut self.offers, now);
+        self.none_old_before = keep_young(&mut self.shelf, now);
     }
 
     /// The best of the offers of this key that count: those heard less than three minutes ago.
@@ -145,8 +147,37 @@ impl<K: Ord + Copy, M: Metric + Copy> Offers<K, M> {
         ensures none { IfNone result (NoneCounts (content K.cmp self.now.offers) key.now now) }
         ensures valid { IsTable K.cmp self.now }
     {
-        let best = best_of(&self.offers, *key, now)?;
-        Some((best.source, best.metric))
+        self.best_steps(key, now).0
+    }
+
+    /// The best, and how many offers were read to find it: those of the key, one more, and one for
+    /// each binary digit of how many offers there are.
+    pub fn best_steps(&self, key: &K, now: u64) -> (Option<(Source, M)>, usize)
+        ensures least { IfSome result.0
+            (IsBest M.before (content K.cmp self.now.offers) key.now now) }
+        ensures none { IfNone result.0 (NoneCounts (content K.cmp self.now.offers) key.now now) }
+        ensures steps { (digits : ℕ) → length self.now.offers < 2 ^ digits
+            → result.1 ≤ count_by (λ o. is_eq (K.cmp o.key key.now)) self.now.offers + 1 + digits }
+        ensures valid { IsTable K.cmp self.now }
+    {
+        let (best, steps) = best_in(&self.shelf, *key, now);
+        match best {
+            None => (None, steps),
+            Some(best) => (Some((best.source, best.metric)), steps),
+        }
+    }
+
+    /// Walks over each key that has a best, with its best, by key. It takes no memory.
+    pub fn bests(&self, now: u64) -> Bests<'_, K, M>
+        ensures listed { IsListing K.cmp M.before (content K.cmp self.now.offers) now result }
+        ensures keys { All
+            (λ item. heard_key K.cmp self.now.offers (item.0, item.1) ≡ Some item.0) result }
+        ensures none { ((key : K) → NoneCounts (content K.cmp self.now.offers) key now)
+            → result ≡ [] }
+        ensures valid { IsTable K.cmp self.now }
+    {
+        let _offers = self.shelf.len();
+        bests_on(&self.shelf, now)
     }
 
     /// Each key that has a best, with its best, by key. Its only fault is `OutOfMemory`.
@@ -161,9 +192,10 @@ impl<K: Ord + Copy, M: Metric + Copy> Offers<K, M> {
         ensures no_memory_if_none { ((key : K) → NoneCounts (content K.cmp self.now.offers) key now) → IsOk result }
         ensures valid { IsTable K.cmp self.now }
     {
-        let mut listed = items_that_count(alloc, &self.offers, now)?;
-        listed.sort_unstable_by(|a, b| listing_order(a, b));
-        listed.dedup_by(|item, kept| item.0.cmp(&kept.0).is_eq());
+        let mut listed = Vec::new(alloc);
+        for item in self.bests(now) {
+            listed.push(item)?;
+        }
         Ok(listed)
     }
 }

@@ -1,13 +1,14 @@
 //! The program `ipx`: routers and endpoints of a Novell internetwork, from the command line.
 #![tactic(auto)]
 
+mod help;
 mod words;
 
 use clap::error::ErrorKind;
 use ipx_commands::{do_check, do_hop, do_show, tell_no_memory};
 use std::process::ExitCode;
 use std::{env, io};
-use words::{Task, task_of};
+use words::{Task, fault_of, task_of};
 
 /// The words of the command line, or the status with which the program ends without them.
 fn given_words(rt: &HostRuntime) -> Result<Vec<String>, u8> {
@@ -19,7 +20,7 @@ fn given_words(rt: &HostRuntime) -> Result<Vec<String>, u8> {
             Err(tell_no_memory(&mut io::writer(rt)))
         }
         Err(_) => {
-            let _ = eprintln!(rt; "error: an argument is no text");
+            let _ = eprintln!(rt; "error: an argument is not UTF-8 text");
             Err(2)
         }
     }
@@ -34,19 +35,20 @@ fn do_task(rt: &HostRuntime, task: Task<'_>) -> Result<u8, u8> {
 }
 
 /// Tells why the words ask for nothing, and answers the status that goes with it.
-fn tell_usage(rt: &HostRuntime, error: clap::Error) -> u8 {
+fn tell_usage(rt: &HostRuntime, words: &[String]) -> u8 {
+    let error = fault_of(rt.alloc(), words);
     if error.kind() == ErrorKind::OutOfMemory {
         return tell_no_memory(&mut io::writer(rt));
     }
-    let _ = eprintln!(rt; "{error}");
+    let _ = eprint!(rt; "{error}");
     2
 }
 
 fn run(rt: &HostRuntime) -> Result<u8, u8> {
     let words = given_words(rt)?;
-    match task_of(rt.alloc(), words.as_slice()) {
-        Ok(task) => do_task(rt, task),
-        Err(error) => Err(tell_usage(rt, error)),
+    match task_of(words.as_slice()) {
+        Some(task) => do_task(rt, task),
+        None => Err(tell_usage(rt, words.as_slice())),
     }
 }
 

@@ -1,8 +1,8 @@
 -- A header that was written in front of a body in its place makes a packet of both.
 use Rattle.std.proofs.Common.{◌≡◌, ◌≤◌, ℕ, ◌+◌, List, ◌++◌, [], length, take, drop, arith, sym, ap, ◌∙◌, refl, append_assoc, append-nil, subst, take-append-drop}
 use Rattle.std.proofs.lemmas.List.{length-append, length-drop, length-take, take_at, drop_at}
-use Rattle.ipx_wire.specs.declared.packet.IpxHeader.{IpxHeader}
-use Rattle.ipx_wire.specs.declared.spx.SpxHeader.{SpxHeader}
+use Rattle.ipx_wire.specs.declared.ipx.packet.IpxHeader.{IpxHeader}
+use Rattle.ipx_wire.specs.declared.spx.packet.SpxHeader.{SpxHeader}
 use Rattle.ipx_wire.specs.Ipx.{IsHeaderInRange, IsInRange, IsIpx, header_bytes, ipx_bytes, packet_of}
 use Rattle.ipx_wire.specs.Spx.{HasFreeBitsClear, IsSpx, IsSpxInRange, spx_bytes, spx_header_bytes}
 use Rattle.ipx_wire.proofs.RoundTrip.{ipx_read, length-header}

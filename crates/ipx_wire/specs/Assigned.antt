@@ -1,4 +1,5 @@
--- Assigned numbers and sizes of the field (Novell IPX, Novell SPX): those that mean the same on every network.
+-- Assigned numbers and sizes of the field (Novell IPX, Novell SPX): those that mean the same on
+-- every network.
 use Rattle.std.specs.Prelude.{ℕ, List, replicate}
 
 -- well-known sockets: where a file server is asked, where services are told, where routes are told
@@ -51,7 +52,8 @@ ipx_max_packet_size = 1500
 abbrev pub ipx_max_body_size : ℕ
 ipx_max_body_size = 1470
 
--- the bytes of an SPX header, of the longest data, of both, and of the longest SPX packet with its IPX header
+-- the bytes of an SPX header, of the longest data, of both, and of the longest SPX packet with its
+-- IPX header
 abbrev pub spx_header_size : ℕ
 spx_header_size = 12
 

@@ -3,7 +3,7 @@ use Rattle.std.specs.Prelude.{◌≡◌, ℕ, ◌+◌, List}
 use Rattle.ipx_wire.specs.Assigned.{ipx_header_size, spx_type}
 use Rattle.ipx_wire.specs.Ipx.{IsIpx, PacketView, number}
 use Rattle.ipx_wire.specs.Spx.{IsSpx}
-use Rattle.ipx_wire.specs.declared.spx.SpxHeader.{SpxHeader}
+use Rattle.ipx_wire.specs.declared.spx.packet.SpxHeader.{SpxHeader}
 
 -- the datagram is an IPX packet of type 5 that holds this SPX packet, whatever follows it
 pub record IsConnectionPacket (p : PacketView) (h : SpxHeader) (body bytes : List ℕ) : Type 0 where

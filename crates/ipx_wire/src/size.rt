@@ -18,5 +18,6 @@ pub const SPX_MAX_DATA_SIZE: usize = 534;
 /// The most bytes of an SPX header and its data: of the body of an IPX packet of type 5.
 pub const SPX_MAX_SIZE: usize = 546;
 
-/// The most bytes of an SPX packet with the IPX header in front: room for any packet of a connection.
+/// The most bytes of an SPX packet with the IPX header in front: room for any packet of a
+/// connection.
 pub const SPX_MAX_PACKET_SIZE: usize = 576;

@@ -1,7 +1,7 @@
 -- What a link answers to a packet and what it becomes (Novell SPX, and this project's profile): one function
 -- for each rule.
 use Rattle.std.specs.Prelude.{ℕ, ◌+◌, ◌==◌, nat_lt, nat_le, Bool, true, false, ◌&&◌, ◌||◌, not, List, [], ◌∷◌, ◌++◌, length, drop, zero, suc, Option, Some, None, is_some, if◌then◌else◌}
-use Rattle.ipx_wire.specs.declared.spx.SpxHeader.{SpxHeader}
+use Rattle.ipx_wire.specs.declared.spx.packet.SpxHeader.{SpxHeader}
 use Rattle.spx_link.specs.declared.state.State.{State}
 use Rattle.spx_link.specs.declared.state.State.TheVariants as States
 use Rattle.spx_link.specs.declared.received.Received.{Received}

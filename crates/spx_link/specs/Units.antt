@@ -1,6 +1,6 @@
 -- The units of a link: those queued, and the one that a packet carries.
 use Rattle.std.specs.Prelude.{◌≡◌, ℕ, ◌==◌, ◌&&◌, not, false, List, [], map, if◌then◌else◌}
-use Rattle.ipx_wire.specs.declared.spx.SpxHeader.{SpxHeader}
+use Rattle.ipx_wire.specs.declared.spx.packet.SpxHeader.{SpxHeader}
 use Rattle.spx_link.specs.declared.unit.Unit.{Unit}
 use Rattle.spx_link.specs.declared.queue.Queued.{Queued}
 use Rattle.spx_link.specs.Limits.{end_stream}

@@ -2,7 +2,7 @@
 //! laws of their functions.
 
 ghost use Rattle.std.specs.Prelude.{◌≡◌, ◌≢◌, ◌↔◌, ◌<◌, ◌+◌, ◌++◌, ℕ, [], ◌∷◌, true, false, drop, length, slice_get, IfSome, List, None, Some};
-ghost use Rattle.ipx_wire.specs.declared.spx.SpxHeader.{SpxHeader};
+ghost use Rattle.ipx_wire.specs.declared.spx.packet.SpxHeader.{SpxHeader};
 ghost use Rattle.ipx_wire.specs.declared.address.Socket.{Socket};
 ghost use Rattle.ipx_wire.specs.declared.address.Address.{Address};
 ghost use Rattle.spx_link.specs.declared.unit.Unit as units;

@@ -95,10 +95,12 @@ pub struct End {
 }
 
 impl End {
-    /// A link that asks for a connection.
+    /// A link that asks for a connection, made once more where memory was refused.
     pub fn dial(alloc: Global, buffers: u16) -> Result<End, LinksFault> {
         let mut links = Links::new(alloc);
-        links.dial(alloc, HERE, there(), buffers, 0)?;
+        if links.dial(alloc, HERE, there(), buffers, 0).is_err() {
+            links.dial(alloc, HERE, there(), buffers, 0)?;
+        }
         Ok(End { links, alloc })
     }
 

@@ -13,6 +13,8 @@ mod due;
 #[cfg(test)]
 mod end;
 #[cfg(test)]
+mod ipx;
+#[cfg(test)]
 mod messages;
 #[cfg(test)]
 mod no_memory;
@@ -24,3 +26,5 @@ mod rows;
 mod spx;
 #[cfg(test)]
 mod windows;
+#[cfg(test)]
+mod wire_texts;

@@ -25,6 +25,9 @@ fn push_at_last(
     inbox: &mut Inbox,
     unit: &Unit,
 ) -> Result<Option<Message>, Fail> {
+    if unit.stream >= 0xfe {
+        return Ok(None);
+    }
     match inbox.push(alloc, unit) {
         Ok(message) => Ok(message),
         Err(fault) => {

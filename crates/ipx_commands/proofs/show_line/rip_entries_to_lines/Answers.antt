@@ -1,5 +1,5 @@
 use Rattle.std.proofs.Common.{◌∙◌}
-use Rattle.ipx_control.specs.declared.rip.RipEntry.{RipEntry}
+use Rattle.ipx_control.specs.declared.rip.packet.RipEntry.{RipEntry}
 use Rattle.ipx_commands.specs.ShowLine.{rip_entry_line}
 use Rattle.ipx_commands.proofs.Places.{texts_more}
 use Rattle.ipx_commands.proofs.show_line.rip_entries_to_lines.Goals as goal

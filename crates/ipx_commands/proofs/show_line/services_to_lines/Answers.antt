@@ -1,5 +1,5 @@
 use Rattle.std.proofs.Common.{◌∙◌, []}
-use Rattle.ipx_control.specs.declared.sap.ServiceEntry.{ServiceEntry}
+use Rattle.ipx_control.specs.declared.sap.packet.ServiceEntry.{ServiceEntry}
 use Rattle.ipx_commands.specs.ShowLine.{service_line}
 use Rattle.ipx_commands.proofs.Places.{texts_more}
 use Rattle.ipx_commands.proofs.show_line.services_to_lines.Goals as goal

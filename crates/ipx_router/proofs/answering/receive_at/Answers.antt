@@ -1,14 +1,16 @@
-use Rattle.std.proofs.Common.{length, subst}
+use Rattle.std.proofs.Common.{subst}
 use Rattle.std.specs.Prelude.{IfOk, OnErr}
-use Rattle.ipx_router.specs.Knowledge.{Known, routes_in}
-use Rattle.ipx_router.specs.Answer.{AnswersBytes, LeavesBytes, view}
-use Rattle.ipx_router.proofs.HearingLemmas.{sources_aged}
+use Rattle.ipx_router.specs.Knowledge.{Known}
+use Rattle.ipx_router.specs.OutcomeView.{view}
+use Rattle.ipx_router.specs.Answer.{AnswersBytes}
+use Rattle.ipx_router.specs.WantOfMemory.{BytesWantMemory}
 use Rattle.ipx_router.proofs.Receiving.{known_same}
-use Rattle.ipx_router.proofs.KeptTables.{tables_kept}
+use Rattle.ipx_router.proofs.KeptTables.{sound_aged}
 use Rattle.ipx_router.proofs.answering.receive_at.Goals as goal
 
-pub answer_to-requires-clause-sources : goal.answer_to-requires-clause-sources
-answer_to-requires-clause-sources c = sources_aged (length c.args.ports.now) (routes_in c.args.routes.now) (routes_in c.age.new.self) c.args.at.now c.requires.sources c.age.ensures.aged
+pub answer_to-requires-clause-sound : goal.answer_to-requires-clause-sound
+answer_to-requires-clause-sound c =
+    sound_aged c.args.ports.now c.args.at.now (c.args.routes.now, c.args.services.now) (c.age.new.self, c.age-2.new.self) c.requires.sound c.age.ensures.valid c.age-2.ensures.valid c.age.ensures.most c.age-2.ensures.most c.age.ensures.aged c.age-2.ensures.aged
 
 pub returns-clause-answer : goal.returns-clause-answer
 returns-clause-answer c =
@@ -18,8 +20,4 @@ returns-clause-answer c =
 pub returns-clause-refused : goal.returns-clause-refused
 returns-clause-refused c =
     let same = known_same c.args.ports.now c.args.at.now c.args.routes.now c.age.new.self c.args.services.now c.age-2.new.self c.age.ensures.aged c.age-2.ensures.aged in
-    subst (λ (k : Known). OnErr c.answer_to.result (LeavesBytes k c.args.at c.args.bytes.now (c.answer_to.new.routes, c.answer_to.new.services))) same c.answer_to.ensures.refused
-
-pub returns-clause-valid : goal.returns-clause-valid
-returns-clause-valid c = λ are.
-    c.answer_to.ensures.valid (tables_kept (c.args.routes.now, c.args.services.now) (c.age.new.self, c.age-2.new.self) (λ _. c.age.ensures.valid) (λ _. c.age-2.ensures.valid) c.age.ensures.most c.age-2.ensures.most are)
+    subst (λ (k : Known). OnErr c.answer_to.result (BytesWantMemory k c.args.at c.args.bytes.now (c.answer_to.new.routes, c.answer_to.new.services))) same c.answer_to.ensures.refused

@@ -13,6 +13,6 @@ invariant-loop-entry l = record {
   few : l.heard ≤ l.entry-index;
   heard : HeardRoutes l.ports l.source l.now l.entries (routes_in l.fn.routes) l.entry-index l.routes;
   most : l.routes.most ≡ l.fn.routes.most;
-  valid : IsTable network_cmp l.fn.routes → IsTable network_cmp l.routes;
+  valid : IsTable network_cmp l.routes;
   sources : (count : ℕ) → IsPortNumber count l.source.port → AreFromPorts count (routes_in l.fn.routes) → AreFromPorts count (routes_in l.routes);
 }

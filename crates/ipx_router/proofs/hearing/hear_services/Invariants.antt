@@ -1,8 +1,9 @@
-use Rattle.std.proofs.Common.{◌≡◌}
+use Rattle.std.proofs.Common.{◌≡◌, ℕ}
 use Rattle.ipx_tables.specs.Content.{IsTable}
 use Rattle.ipx_tables.specs.Service.{service_key_cmp}
 use Rattle.ipx_router.specs.Knowledge.{services_in}
 use Rattle.ipx_router.specs.Hearing.{HeardServices}
+use Rattle.ipx_router.specs.Ports.{AreFromPorts, IsPortNumber}
 use Rattle.ipx_router.proofs.hearing.hear_services.Given as goal
 
 abbrev pub invariant-loop-entry : goal.invariant-loop-entry
@@ -10,5 +11,6 @@ invariant-loop-entry l = record {
   count : l.heard ≡ l.entry-index;
   heard : HeardServices l.source l.now l.entries (services_in l.fn.services) l.entry-index l.services;
   most : l.services.most ≡ l.fn.services.most;
-  valid : IsTable service_key_cmp l.fn.services → IsTable service_key_cmp l.services;
+  valid : IsTable service_key_cmp l.services;
+  sources : (count : ℕ) → IsPortNumber count l.source.port → AreFromPorts count (services_in l.fn.services) → AreFromPorts count (services_in l.services);
 }

@@ -1,5 +1,5 @@
 use Rattle.std.proofs.Common.{◌∙◌, List, sym, subst, take}
-use Rattle.ipx_control.specs.declared.rip.RipEntry.{RipEntry}
+use Rattle.ipx_control.specs.declared.rip.packet.RipEntry.{RipEntry}
 use Rattle.ipx_control.specs.Rip as rip
 use Rattle.ipx_router.specs.Packets.{IsRipPacket, sending_of}
 use Rattle.ipx_router.proofs.Cuts.{cut_done, cut_more, none_left, some_left, take_fewer}

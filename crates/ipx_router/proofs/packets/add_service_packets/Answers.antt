@@ -1,5 +1,5 @@
 use Rattle.std.proofs.Common.{◌∙◌, List, sym, subst, take}
-use Rattle.ipx_control.specs.declared.sap.ServiceEntry.{ServiceEntry}
+use Rattle.ipx_control.specs.declared.sap.packet.ServiceEntry.{ServiceEntry}
 use Rattle.ipx_control.specs.Sap as sap
 use Rattle.ipx_router.specs.Packets.{IsSapPacket, sending_of}
 use Rattle.ipx_router.proofs.Cuts.{cut_done, cut_more, none_left, some_left, take_fewer}

@@ -1,27 +1,17 @@
-use Rattle.std.proofs.Common.{◌+◌, List, [], append-nil, refl, sym, subst}
-use Rattle.std.proofs.lemmas.List.{drop_all, drop_more}
-use Rattle.ipx_router.specs.declared.port.Port.{Port}
+use Rattle.std.proofs.Common.{Result, Ok, Err, arith}
+use Rattle.std.specs.Prelude.{OnErr}
 use Rattle.ipx_router.specs.Knowledge.{routes_in, services_in}
-use Rattle.ipx_router.specs.Packets.{SendingView, sendings}
-use Rattle.ipx_router.specs.Telling.{AreTellings}
-use Rattle.ipx_router.proofs.Tellings.{tellings_more, tellings_there}
-use Rattle.ipx_router.proofs.ToldRoutes.{no_port}
+use Rattle.ipx_router.proofs.LonePort.{nothing_to_tell, something_to_tell}
 use Rattle.ipx_router.proofs.telling.tell_all.Goals as goal
-use Rattle.ipx_router.proofs.telling.tell_all.Goals.{After-loop-i}
 
-pub loop-i-preserved : goal.loop-i-preserved
-loop-i-preserved c =
-    tellings_more c.args.ports.now c.loop-i.i _ (drop_more c.args.ports.now c.loop-i.i no_port c.loop-i-test.true) c.loop-i.told.items c.tell_on.new.told.items (routes_in c.args.routes.now) (services_in c.args.services.now) c.args.now c.loop-i.invariant c.in_ok-tell_on.ensures
+pub returns-then-ports-lt2-clause-tells : goal.returns-then-ports-lt2-clause-tells
+returns-then-ports-lt2-clause-tells c =
+    rw c.new.ensures.items (nothing_to_tell c.args.ports.now (routes_in c.args.routes.now) (services_in c.args.services.now) c.args.now c.if-ports-lt2.true c.requires.routes_from c.requires.services_from)
 
-all_told_so_far : (c : After-loop-i) → AreTellings c.args.ports.now (routes_in c.args.routes.now) (services_in c.args.services.now) c.args.now 1 c.args.ports.now (sendings c.loop-i.told.items)
-all_told_so_far c =
-    let over = drop_all c.loop-i.i c.args.ports.now c.loop-i-test.false in
-    let P : List Port → List SendingView → Type 0 = AreTellings c.args.ports.now (routes_in c.args.routes.now) (services_in c.args.services.now) c.args.now (c.loop-i.i + 1) in
-    subst (AreTellings c.args.ports.now (routes_in c.args.routes.now) (services_in c.args.services.now) c.args.now 1 c.args.ports.now) (append-nil (sendings c.loop-i.told.items))
-    (c.loop-i.invariant [] (subst (λ (ps : List Port). P ps []) (sym over) refl))
+on_err : {A E P : Type 0} (r : Result A E) → P → OnErr r P
+on_err (Ok x) p = tt
+on_err (Err e) p = p
 
-pub returns-clause-tells : goal.returns-clause-tells
-returns-clause-tells c = all_told_so_far c
-
-pub returns-clause-there : goal.returns-clause-there
-returns-clause-there c = tellings_there c.args.ports.now (routes_in c.args.routes.now) (services_in c.args.services.now) c.args.now (sendings c.loop-i.told.items) (all_told_so_far c)
+pub returns-clause-refused : goal.returns-clause-refused
+returns-clause-refused c =
+    on_err c.tell_each.result (something_to_tell c.args.ports.now (routes_in c.args.routes.now) (services_in c.args.services.now) c.args.now (omega arith))

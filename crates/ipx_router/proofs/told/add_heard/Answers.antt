@@ -1,5 +1,5 @@
 use Rattle.std.proofs.Common.{◌∙◌, sym, subst}
-use Rattle.ipx_control.specs.declared.rip.RipEntry.{RipEntry}
+use Rattle.ipx_control.specs.declared.rip.packet.RipEntry.{RipEntry}
 use Rattle.ipx_router.specs.Placing.{PutsEntry}
 use Rattle.ipx_router.proofs.ToldRoutes.{no_item, item_more, item_skip}
 use Rattle.ipx_router.proofs.told.add_heard.Goals as goal

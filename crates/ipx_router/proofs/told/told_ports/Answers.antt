@@ -1,5 +1,5 @@
 use Rattle.std.proofs.Common.{◌≡◌, ◌∙◌, length, sym, subst, ℕ, arith}
-use Rattle.ipx_control.specs.declared.rip.RipEntry.{RipEntry}
+use Rattle.ipx_control.specs.declared.rip.packet.RipEntry.{RipEntry}
 use Rattle.ipx_router.specs.Placing.{AreToldPorts, PutsEntry}
 use Rattle.ipx_router.proofs.ToldRoutes.{no_port, port_more, port_skip}
 use Rattle.ipx_router.proofs.told.told_ports.Goals as goal

@@ -5,6 +5,8 @@ use Rattle.ipx_router.proofs.router.Router.new.Goals as goal
 pub invariant_of-result : goal.invariant_of-result
 invariant_of-result c = record {
   count = omega arith;
-  sources = λ p v h. (let none = rw c.route_table.ensures.empty at h in cc);
+  networks = c.requires;
+  routes_from = λ p v h. (let none = rw c.route_table.ensures.empty at h in cc);
+  services_from = λ p v h. (let none = rw c.service_table.ensures.empty at h in cc);
   tables = tables_empty c.route_table.result c.service_table.result c.route_table.ensures.empty c.service_table.ensures.empty c.route_table.ensures.most c.service_table.ensures.most;
 }

@@ -1,0 +1,39 @@
+//! Want of memory: each command answers as usual, or says that memory ran out, whichever request is
+//! refused. The writer has its room before.
+
+use crate::texts::{CHECKED, FIELDS, FORWARD, NO_MEMORY, PACKET, VECTOR};
+use ipx_commands::{do_check, do_hop, do_show};
+
+/// Whether the status goes with what was written: the usual lines, or that memory ran out.
+fn is_told(answer: Result<u8, u8>, written: &[u8], lines: &str) -> bool {
+    match answer {
+        Ok(status) => status == 0 && written == lines.as_bytes(),
+        Err(status) => status == 1 && written == NO_MEMORY.as_bytes(),
+    }
+}
+
+#[test]
+fn refused_hop(rt: HostRuntime) {
+    if let Ok(mut written) = Vec::with_capacity(rt.alloc(), 256) {
+        let mut reader = PACKET.as_bytes();
+        let answer = do_hop(rt.alloc(), &mut reader, &mut written);
+        assert!(rt; is_told(answer, written.as_slice(), FORWARD));
+    }
+}
+
+#[test]
+fn refused_show(rt: HostRuntime) {
+    if let Ok(mut written) = Vec::with_capacity(rt.alloc(), 256) {
+        let answer = do_show(rt.alloc(), PACKET, &mut written);
+        assert!(rt; is_told(answer, written.as_slice(), FIELDS));
+    }
+}
+
+#[test]
+fn refused_check(rt: HostRuntime) {
+    if let Ok(mut written) = Vec::with_capacity(rt.alloc(), 256) {
+        let mut reader = VECTOR.as_bytes();
+        let answer = do_check(rt.alloc(), &mut reader, &mut written);
+        assert!(rt; is_told(answer, written.as_slice(), CHECKED));
+    }
+}

@@ -1,5 +1,0 @@
-use Rattle.ipx_control.proofs.RipPackets.{same_rip}
-use Rattle.ipx_control.proofs.laws.bytes_are_one_rip.Goals as goal
-
-pub returns : goal.returns
-returns c = same_rip

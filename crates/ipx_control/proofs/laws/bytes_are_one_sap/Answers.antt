@@ -1,5 +1,0 @@
-use Rattle.ipx_control.proofs.SapPackets.{same_sap}
-use Rattle.ipx_control.proofs.laws.bytes_are_one_sap.Goals as goal
-
-pub returns : goal.returns
-returns c = same_sap

@@ -1,5 +1,0 @@
-use Rattle.ipx_control.proofs.SapPackets.{sap_more}
-use Rattle.ipx_control.proofs.laws.sap_before_any_tail.Goals as goal
-
-pub returns : goal.returns
-returns c = sap_more

@@ -1,0 +1,47 @@
+//! Laws of RIP packets and their bytes, which follow from what a packet is.
+
+ghost use Rattle.std.specs.Prelude.{◌≡◌, ◌<◌, ◌++◌, ℕ, List, [], length, None};
+ghost use Rattle.ipx_wire.specs.Ipx.{IsBytes};
+ghost use Rattle.ipx_control.specs.Rip.{IsRip, IsRipInRange, RipView, rip_entry_size, rip_fault};
+
+use ipx_wire::field_laws;
+
+/// No bytes are two RIP packets.
+pub fn bytes_are_one_rip()
+    ensures { (m n : RipView) (bytes s t : List ℕ) → IsRip m bytes s → IsRip n bytes t
+        → (m ≡ n) × (s ≡ t) }
+{}
+
+/// Each RIP packet in range has bytes, which are read as it with any short tail behind them.
+pub fn rip_has_bytes()
+    ensures { (m : RipView) → IsRipInRange m → (bytes : List ℕ)
+        × ((tail : List ℕ) → length tail < rip_entry_size → IsRip m (bytes ++ tail) tail)
+        × IsBytes bytes }
+{
+    field_laws();
+}
+
+/// Bytes that are a RIP packet with nothing behind it are that packet with any short tail behind
+/// it.
+pub fn rip_before_any_tail()
+    ensures { (m : RipView) (bytes tail : List ℕ) → length tail < rip_entry_size
+        → IsRip m bytes [] → IsRip m (bytes ++ tail) tail }
+{
+    field_laws();
+}
+
+/// A RIP packet and what follows it have one list of bytes.
+pub fn rip_is_one_list_of_bytes()
+    ensures { (m : RipView) (a b tail : List ℕ) → IsBytes a → IsBytes b
+        → IsRip m a tail → IsRip m b tail → a ≡ b }
+{
+    field_laws();
+}
+
+/// Bytes have no RIP fault just where they are a RIP packet.
+pub fn rip_fault_is_of_no_rip()
+    ensures packet { (bytes : List ℕ) → rip_fault bytes ≡ None
+        → (m : RipView) × (tail : List ℕ) × IsRip m bytes tail }
+    ensures no_fault { (m : RipView) (bytes tail : List ℕ) → IsRip m bytes tail
+        → rip_fault bytes ≡ None }
+{}

@@ -1,0 +1,15 @@
+use Rattle.ipx_router.specs.Knowledge.{services_in}
+use Rattle.ipx_router.proofs.Picked.{nearest_ok, services_ok}
+use Rattle.ipx_router.proofs.replying.asked_services.Goals as goal
+
+pub returns-then-nearest : goal.returns-then-nearest
+returns-then-nearest c =
+    let told = c.in_ok-told.told.items in
+    rw c.if-nearest.true
+    (nearest_ok (services_in c.args.services.now) c.args.at told c.in_ok-told.ensures c.args.kind (λ v. v.items) c.nearest_alone.result (rw c.deref.ensures.value at c.nearest_alone.ensures))
+
+pub returns : goal.returns
+returns c =
+    let told = c.in_ok-told.told.items in
+    rw c.if-nearest.false
+    (services_ok (services_in c.args.services.now) c.args.at told c.in_ok-told.ensures c.args.kind (λ v. v.items) c.services_of_kind.result (rw c.deref-2.ensures.value at c.services_of_kind.ensures))

@@ -1,0 +1,33 @@
+-- Words of the private functions that pick from the list of what is told.
+use Rattle.std.specs.Prelude.{◌≡◌, ℕ, ◌==◌, ◌&&◌, Bool, false, not, List, Option, Some, None, find, if◌then◌else◌}
+use Rattle.std.specs.List.{filter_map}
+use Rattle.ipx_control.specs.declared.rip.packet.RipEntry.{RipEntry}
+use Rattle.ipx_control.specs.declared.sap.packet.ServiceEntry.{ServiceEntry}
+use Rattle.ipx_tables.specs.declared.service.ServiceKey.{ServiceKey}
+use Rattle.ipx_tables.specs.declared.service.ServiceMetric.{ServiceMetric}
+use Rattle.ipx_tables.specs.declared.source.Source.{Source}
+use Rattle.ipx_router.specs.declared.port.PortNow.{PortNow}
+use Rattle.ipx_router.specs.Knowledge.{Services}
+use Rattle.ipx_router.specs.Told.{IsToldService, told_service}
+use Rattle.ipx_router.specs.Replying.{asks_all, is_asked, is_nearer}
+
+-- all that are told where all are asked for, else those of the asked networks that are told
+abbrev pub routes_asked : List RipEntry → List RipEntry → List RipEntry
+routes_asked told asked =
+    if asks_all asked then told
+    else filter_map (λ e. find (λ t. t.network.0 == e.network.0) told) asked
+
+-- the nearer of a service and the one that is held, if there is one
+abbrev pub nearer : Option ServiceEntry → ServiceEntry → ServiceEntry
+nearer None service = service
+nearer (Some held) service = if is_nearer service held then service else held
+
+-- no told service is asked for
+abbrev pub NoneIsAsked : Services → PortNow → Bool → ℕ → Type 0
+NoneIsAsked services at nearest kind =
+    (e : ServiceEntry) → IsToldService services at e → is_asked nearest kind e ≡ false
+
+-- the best offer of a service came by another port, and is asked for
+abbrev pub is_item_asked : PortNow → Bool → ℕ → ServiceKey × Source × ServiceMetric → Bool
+is_item_asked at nearest kind item =
+    not (item.1.port == at.number) && is_asked nearest kind (told_service item)

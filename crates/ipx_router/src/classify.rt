@@ -1,0 +1,54 @@
+//! What a packet is to a router, by its header.
+
+ghost use Rattle.std.specs.Prelude.{◌≡◌};
+ghost use Rattle.ipx_router.specs.Classify.{concern_of, concern_on_network, is_from_neighbour};
+
+use crate::port::Port;
+use crate::reason::Reason;
+use ipx_wire::{IpxHeader, Network, Node, Socket, packet_type};
+
+/// What a packet is to the router.
+pub enum Concern {
+    Dropped(Reason),
+    /// It is for the router's RIP socket.
+    Rip,
+    /// It is for the router's SAP socket.
+    Sap,
+    /// It is for another network.
+    Forward,
+}
+
+fn comes_from_neighbour(arrived: Port, header: IpxHeader) -> bool
+    ensures { result ≡ is_from_neighbour arrived header }
+{
+    let for_us = header.to.node == arrived.node || header.to.node == Node::BROADCAST;
+    let from_here = header.from.network == Network::LOCAL || header.from.network == arrived.network;
+    for_us && from_here && header.from.node != arrived.node
+}
+
+fn on_network(arrived: Port, header: IpxHeader) -> Concern
+    ensures { result ≡ concern_on_network arrived header }
+{
+    if !comes_from_neighbour(arrived, header) {
+        return Concern::Dropped(Reason::NotOurs);
+    }
+    if header.to.socket == Socket::RIP {
+        return Concern::Rip;
+    }
+    if header.to.socket == Socket::SAP {
+        return Concern::Sap;
+    }
+    Concern::Dropped(Reason::NotOurs)
+}
+
+pub fn concern_with(arrived: Port, header: IpxHeader) -> Concern
+    ensures { result ≡ concern_of arrived header }
+{
+    if header.kind == packet_type::NETBIOS_PROPAGATION {
+        return Concern::Dropped(Reason::Propagated);
+    }
+    if header.to.network == Network::LOCAL || header.to.network == arrived.network {
+        return on_network(arrived, header);
+    }
+    Concern::Forward
+}

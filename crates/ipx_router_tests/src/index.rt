@@ -1,0 +1,102 @@
+//! Worked rows of the two orders in which a table keeps its offers: by key, and by the moment heard.
+
+use crate::metrics::route;
+use ipx_tables::{RouteTable, Source, TableFault, route_table};
+use ipx_wire::{Network, Node};
+use std::alloc::Global;
+use std::process::Abort;
+use std::test::Fail;
+
+const A: Network = Network(0x11);
+
+const B: Network = Network(0x22);
+
+/// The neighbour 00007f000001 of port 1.
+const SOURCE: Source = Source {
+    port: 1,
+    neighbour: Node([0, 0, 0x7f, 0, 0, 1]),
+};
+
+fn hear(
+    alloc: Global,
+    table: &mut RouteTable,
+    network: Network,
+    now: u64,
+) -> Result<(), TableFault> {
+    table.hear(alloc, network, SOURCE, route(2, 2), now)
+}
+
+fn counts(table: &RouteTable, network: Network, now: u64) -> bool {
+    table.best(&network, now) == Some((SOURCE, route(2, 2)))
+}
+
+#[test]
+fn index_rows(rt: HostRuntime) -> Result<(), Fail> {
+    an_offer_of_the_last_moment_stays(&rt, rt.alloc())?;
+    what_is_heard_again_grows_old_later(&rt, rt.alloc())?;
+    few_offers_are_read(&rt, rt.alloc())
+}
+
+fn an_offer_of_the_last_moment_stays(rt: &impl Abort, alloc: Global) -> Result<(), Fail> {
+    let mut table = route_table(alloc);
+    hear(alloc, &mut table, A, 18_446_744_073_709_551_615)?;
+    assert!(rt; counts(&table, A, 18_446_744_073_709_551_615));
+    assert!(rt; counts(&table, A, 0));
+    table.age(18_446_744_073_709_551_615);
+    assert!(rt; counts(&table, A, 0));
+    table.age(0);
+    assert!(rt; counts(&table, A, 0));
+    Ok(())
+}
+
+fn what_is_heard_again_grows_old_later(rt: &impl Abort, alloc: Global) -> Result<(), Fail> {
+    let mut table = route_table(alloc);
+    hear(alloc, &mut table, A, 0)?;
+    hear(alloc, &mut table, B, 1)?;
+    hear(alloc, &mut table, A, 2)?;
+    table.age(180_001);
+    assert!(rt; counts(&table, A, 180_001));
+    assert!(rt; !counts(&table, B, 1));
+    Ok(())
+}
+
+/// Networks 1 to a last one, each heard once, and asked for again where memory was refused.
+fn networks_to(alloc: Global, last: u32) -> Result<RouteTable, TableFault> {
+    let mut table = route_table(alloc);
+    for network in 1..=last {
+        if hear(alloc, &mut table, Network(network), 0).is_err() {
+            hear(alloc, &mut table, Network(network), 0)?;
+        }
+    }
+    Ok(table)
+}
+
+/// Whether at most so many offers are read for the best of each network from 1 to a last one.
+fn reads_few(table: &RouteTable, last: u32, most: usize) -> bool {
+    (1..=last).all(|network| table.best_steps(&Network(network), 0).1 <= most)
+}
+
+/// One offer of the key, one more, and a digit of the table's length each: 11 of 1,024, 3 of 5.
+fn few_offers_are_read(rt: &impl Abort, alloc: Global) -> Result<(), Fail> {
+    assert!(rt; reads_few(&networks_to(alloc, 1024)?, 1024, 13));
+    assert!(rt; reads_few(&networks_to(alloc, 5)?, 5, 5));
+    Ok(())
+}
+
+/// Whether each of the networks from 1 to a last one is heard again.
+fn all_heard_again(alloc: Global, table: &mut RouteTable, last: u32) -> bool {
+    let mut all = true;
+    for network in 1..=last {
+        all &= hear(alloc, table, Network(network), 60_000).is_ok();
+    }
+    all
+}
+
+/// A full table hears 1,024 offers again. Run with each request for memory refused, it shows that
+/// none is made by then.
+#[test]
+fn refused_memory_of_a_full_table(rt: HostRuntime) -> Result<(), Fail> {
+    let mut table = networks_to(rt.alloc(), 1024)?;
+    assert!(rt; all_heard_again(rt.alloc(), &mut table, 1024));
+    Ok(())
+}

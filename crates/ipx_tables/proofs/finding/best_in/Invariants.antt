@@ -1,0 +1,19 @@
+use Rattle.std.proofs.Common.{◌≡◌, ℕ, ◌+◌, ◌-◌, ◌^◌, ◌<◌, ◌≤◌, length, get_or, drop, take, None, false, count_by}
+use Rattle.std.specs.Ordering.{is_lt, is_eq}
+use Rattle.ipx_tables.specs.declared.offer.Offer.{Offer}
+use Rattle.ipx_tables.specs.Scan.{best_from, is_candidate, offer_beats}
+use Rattle.ipx_tables.proofs.finding.best_in.Given as goal
+
+-- from the best so far, what is left gives the best of all; what was read is of the key
+abbrev pub invariant-loop-at : goal.invariant-loop-at
+invariant-loop-at g l =
+    let best = best_from (is_candidate g.K.Ord.cmp l.key l.now) (offer_beats g.M.Metric.before) in
+    record {
+      within : l.at ≤ length l.shelf;
+      above : (j : ℕ) (o : Offer g.row.K.Denot g.row.M.Denot) → l.at ≤ j → j < length l.shelf → is_lt (g.K.Ord.cmp (get_or l.shelf j o).key l.key) ≡ false;
+      best : best l.best (drop l.at l.shelf) ≡ best None l.shelf;
+      cost : (digits : ℕ) → length l.shelf < 2 ^ digits → l.steps ≤ count_by (λ o. is_eq (g.K.Ord.cmp o.key l.key)) (take l.at l.shelf) + digits;
+    }
+
+abbrev pub decreases-loop-at : goal.decreases-loop-at
+decreases-loop-at g l = length l.shelf - l.at

@@ -1,0 +1,18 @@
+use Rattle.std.proofs.Common.{◌≡◌, ℕ, ◌+◌, ◌-◌, ◌^◌, ◌<◌, ◌≤◌, length, get_or, true, false}
+use Rattle.std.specs.Ordering.{is_lt}
+use Rattle.ipx_tables.specs.declared.offer.Offer.{Offer}
+use Rattle.ipx_tables.proofs.finding.first_of.Given as goal
+
+-- what lies before is below the key, and what lies behind is not; each reading used up a digit
+abbrev pub invariant-loop-low : goal.invariant-loop-low
+invariant-loop-low g l = record {
+  ordered : l.low ≤ l.high;
+  within : l.high ≤ length l.shelf;
+  below : (j : ℕ) (o : Offer g.row.K.Denot g.row.M.Denot) → j < l.low → is_lt (g.K.Ord.cmp (get_or l.shelf j o).key l.key) ≡ true;
+  above : (j : ℕ) (o : Offer g.row.K.Denot g.row.M.Denot) → l.high ≤ j → j < length l.shelf → is_lt (g.K.Ord.cmp (get_or l.shelf j o).key l.key) ≡ false;
+  more : l.initial.steps ≤ l.steps;
+  cost : (digits : ℕ) → length l.shelf < 2 ^ digits → (l.steps ≤ l.initial.steps + digits) × (l.high - l.low < 2 ^ (l.initial.steps + digits - l.steps));
+}
+
+abbrev pub decreases-loop-low : goal.decreases-loop-low
+decreases-loop-low g l = l.high - l.low

@@ -1,0 +1,27 @@
+-- Words of the walk over the best of each key.
+use Rattle.std.specs.Prelude.{ℕ, Bool, cond, List, [], ◌∷◌}
+use Rattle.std.specs.declared.cmp.Ordering.{Ordering}
+use Rattle.std.specs.Ordering.{is_eq}
+use Rattle.ipx_tables.specs.declared.source.Source.{Source}
+use Rattle.ipx_tables.specs.declared.offer.Offer.{Offer}
+use Rattle.ipx_tables.specs.Content.{is_young}
+use Rattle.ipx_tables.specs.Best.{is_better}
+
+-- an offer as an item of a listing
+abbrev pub item_of : {K M : Type 0} → Offer K M → K × Source × M
+item_of o = (o.key, o.source, o.metric)
+
+module _ {K M : Type 0} (cmp : K → K → Ordering) (before : M → M → Bool) where
+  -- the first item is the better one
+  abbrev pub item_beats : K × Source × M → K × Source × M → Bool
+  item_beats a b = is_better before (a.1, a.2) (b.1, b.2)
+
+  -- an item goes before those of higher keys; of its own key only the better one stays
+  abbrev pub put_first : K × Source × M → List (K × Source × M) → List (K × Source × M)
+  put_first a [] = a ∷ []
+  put_first a (b ∷ bs) = cond (is_eq (cmp a.0 b.0)) (cond (item_beats b a) (b ∷ bs) (a ∷ bs)) (a ∷ b ∷ bs)
+
+  -- the best of each key that has one, where the keys do not fall
+  abbrev pub bests_of : ℕ → List (Offer K M) → List (K × Source × M)
+  bests_of now [] = []
+  bests_of now (o ∷ os) = cond (is_young now o.heard) (put_first (item_of o) (bests_of now os)) (bests_of now os)

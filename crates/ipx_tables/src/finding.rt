@@ -1,0 +1,103 @@
+//! The best offer of a key, and how many offers are read to find it.
+
+ghost use Rattle.std.specs.Prelude.{◌≡◌, ◌≤◌, ◌<◌, ◌+◌, ◌^◌, ℕ, true, false, None, length, slice_index_or, count_by};
+ghost use Rattle.std.specs.Ordering.{is_eq, is_lt};
+ghost use Rattle.ipx_tables.specs.Best.{rank_cmp};
+ghost use Rattle.ipx_tables.specs.Scan.{best_from, better_of, is_candidate, offer_beats};
+
+use crate::metric::Metric;
+use crate::moments::counts;
+use crate::offer::Offer;
+use crate::shelf::Shelf;
+use crate::source::Source;
+use std::cmp::Ordering;
+
+/// The better one first: by metric, then by the lower port and the lower neighbour.
+pub fn rank<M: Metric + Copy>(a: (Source, M), b: (Source, M)) -> Ordering
+    ensures { result ≡ rank_cmp M.before a b }
+{
+    if a.1.before(&b.1) {
+        Ordering::Less
+    } else if b.1.before(&a.1) {
+        Ordering::Greater
+    } else {
+        a.0.cmp(&b.0)
+    }
+}
+
+/// Whether the first is the better one.
+pub fn better<K: Copy, M: Metric + Copy>(a: &Offer<K, M>, b: &Offer<K, M>) -> bool
+    ensures { result ≡ offer_beats M.before a.now b.now }
+{
+    rank((a.source, a.metric), (b.source, b.metric)).is_lt()
+}
+
+/// The better of an offer and the one that is held, if there is one.
+pub fn better_one<K: Copy, M: Metric + Copy>(
+    held: Option<Offer<K, M>>,
+    offer: Offer<K, M>,
+) -> Offer<K, M>
+    ensures { result ≡ better_of (offer_beats M.before) held offer }
+{
+    match held {
+        None => offer,
+        Some(held) => {
+            if better(&offer, &held) {
+                return offer;
+            }
+            held
+        }
+    }
+}
+
+/// The first place whose key is not below this one. Each offer that is read halves what is left.
+fn first_of<K: Ord + Copy, M: Copy>(shelf: &Shelf<K, M>, key: K, steps: &mut usize) -> usize
+    requires { steps.old + 65 < 2 ^ 64 }
+    ensures within { result ≤ length shelf.now }
+    ensures below { (j : ℕ) (o : Offer K M) → j < result
+        → is_lt (K.cmp (slice_index_or shelf.now j o).key key) ≡ true }
+    ensures above { (j : ℕ) (o : Offer K M) → result ≤ j → j < length shelf.now
+        → is_lt (K.cmp (slice_index_or shelf.now j o).key key) ≡ false }
+    ensures cost { (digits : ℕ) → length shelf.now < 2 ^ digits → steps.new ≤ steps.old + digits }
+{
+    let mut low = 0;
+    let mut high = shelf.len();
+    while low < high {
+        let mid = low + (high - low) / 2;
+        let offer = shelf.read(mid, steps);
+        if offer.key.cmp(&key).is_lt() {
+            low = mid + 1;
+        } else {
+            high = mid;
+        }
+    }
+    low
+}
+
+/// The best of the offers of a key that count, and how many offers were read.
+pub fn best_in<K: Ord + Copy, M: Metric + Copy>(
+    shelf: &Shelf<K, M>,
+    key: K,
+    now: u64,
+) -> (Option<Offer<K, M>>, usize)
+    ensures best { result.0
+        ≡ best_from (is_candidate K.cmp key now) (offer_beats M.before) None shelf.now }
+    ensures cost { (digits : ℕ) → length shelf.now < 2 ^ digits
+        → result.1 ≤ count_by (λ o. is_eq (K.cmp o.key key)) shelf.now + 1 + digits }
+{
+    let mut steps = 0;
+    let mut at = first_of(shelf, key, &mut steps);
+    let mut best: Option<Offer<K, M>> = None;
+    let end = shelf.len();
+    while at < end {
+        let offer = shelf.read(at, &mut steps);
+        if !offer.key.cmp(&key).is_eq() {
+            return (best, steps);
+        }
+        if counts(now, offer.heard) {
+            best = Some(better_one(best, offer));
+        }
+        at += 1;
+    }
+    (best, steps)
+}

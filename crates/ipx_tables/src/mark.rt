@@ -1,0 +1,27 @@
+//! When an offer was heard.
+
+ghost use Rattle.std.specs.Prelude.{◌≡◌};
+ghost use Rattle.ipx_tables.specs.Marks.{mark_of};
+
+use crate::offer::Offer;
+use crate::source::Source;
+
+/// The moment at which an offer was heard, and whose offer it is. The earlier one comes first, and
+/// of one moment the lower key and source.
+#[derive(Clone, Copy, Debug, PartialEq, Eq, PartialOrd, Ord)]
+pub struct Mark<K> {
+    pub moment: u64,
+    pub key: K,
+    pub source: Source,
+}
+
+/// The mark of an offer.
+pub fn mark_by<K: Copy, M: Copy>(offer: Offer<K, M>) -> Mark<K>
+    ensures { result ≡ mark_of offer }
+{
+    Mark {
+        moment: offer.heard,
+        key: offer.key,
+        source: offer.source,
+    }
+}

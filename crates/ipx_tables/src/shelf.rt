@@ -1,0 +1,149 @@
+//! Offers in two sorted sequences: by key and source, and by the moment heard.
+
+ghost use Rattle.std.specs.Prelude.{◌≡◌, ◌+◌, ◌^◌, ◌<◌, [], List, length, IfNone, IfSome, IfOk, IfErr, OnOk, OnErr, insert, remove, slice_index_or, slice_set};
+ghost use Rattle.ipx_tables.specs.Content.{pair_cmp, pair_of};
+ghost use Rattle.ipx_tables.specs.Expiry.{IsOldest};
+ghost use Rattle.ipx_tables.specs.Sorted.{IsAtKey, IsGapFor, IsRising};
+
+use crate::mark::{Mark, mark_by};
+use crate::marks::{put_mark, unmark};
+use crate::offer::Offer;
+use crate::source::Source;
+use std::alloc::{AllocError, Global};
+use std::collections::VecDeque;
+use std::marker::Model;
+
+/// Offers by key and source, no two of one key and source.
+#[derive(Drop)]
+pub struct Shelf<K: Ord + Copy, M: Copy> {
+    offers: Vec<Offer<K, M>>,
+    /// A mark of each offer.
+    marks: VecDeque<Mark<K>>,
+    /// The place behind the offer that was heard last, where the next one is sought first.
+    next: usize,
+}
+
+impl<K: Ord + Copy, M: Copy> Model for Shelf<K, M> {
+    ghost use Rattle.std.specs.Prelude.{List};
+    ghost use Rattle.ipx_tables.specs.declared.offer.Offer.{Offer};
+    ghost use Rattle.ipx_tables.specs.Marks.{IsPaired};
+
+    ghost Value = { List (Offer K M) };
+
+    ghost view = { λ s. s.offers.items };
+
+    ghost invariant = { λ s. IsPaired K.cmp s.offers.items s.marks.items };
+}
+
+impl<K: Ord + Copy, M: Copy> Shelf<K, M> {
+    /// No offers, and no memory yet.
+    pub fn new(alloc: Global) -> Self
+        ensures { result ≡ [] }
+    {
+        Shelf {
+            offers: Vec::new(alloc),
+            marks: VecDeque::new(alloc),
+            next: 0,
+        }
+    }
+
+    /// How many offers there are.
+    pub fn len(&self) -> usize
+        ensures len { result ≡ length self.now }
+        ensures few { result < 2 ^ 63 }
+        ensures rising { IsRising (pair_cmp K.cmp) pair_of self.now }
+    {
+        self.offers.len()
+    }
+
+    /// Reads an offer, and counts that it was read.
+    #[inline]
+    pub fn read(&self, at: usize, steps: &mut usize) -> Offer<K, M>
+        requires within { at < length self.now }
+        requires few { steps.old + 1 < 2 ^ 64 }
+        ensures offer { result ≡ slice_index_or self.now at result }
+        ensures steps { steps.new ≡ steps.old + 1 }
+    {
+        *steps += 1;
+        self.offers[at]
+    }
+
+    /// Where the offer of a key and a source is, or where it would go.
+    pub fn place_of(&self, key: K, source: Source) -> Result<usize, usize>
+        ensures found { IfOk result (IsAtKey (pair_cmp K.cmp) pair_of self.now (key, source)) }
+        ensures absent { IfErr result (IsGapFor (pair_cmp K.cmp) pair_of self.now (key, source)) }
+    {
+        place_in(&self.offers, self.next, key, source)
+    }
+
+    /// An offer that was heard first, and when that was.
+    pub fn oldest(&self) -> Option<(usize, u64)>
+        ensures oldest { IfSome result (λ o. IsOldest self.now o.0 o.1) }
+        ensures none { IfNone result (self.now ≡ []) }
+    {
+        let mark = self.marks.front()?;
+        let at = self.place_of(mark.key, mark.source).ok()?;
+        Some((at, mark.moment))
+    }
+
+    /// Takes an offer out.
+    pub fn take_out(&mut self, at: usize)
+        requires { at < length self.old }
+        ensures items { self.new ≡ remove self.old at }
+        ensures rising { IsRising (pair_cmp K.cmp) pair_of self.new }
+    {
+        let gone = self.offers.remove(at);
+        unmark(&mut self.marks, mark_by(gone));
+    }
+
+    /// Puts an offer over the one of its key and source.
+    pub fn replace(&mut self, at: usize, offer: Offer<K, M>)
+        requires { IsAtKey (pair_cmp K.cmp) pair_of self.old (pair_of offer) at }
+        ensures items { self.new ≡ slice_set self.old at offer }
+        ensures rising { IsRising (pair_cmp K.cmp) pair_of self.new }
+    {
+        let before = self.offers[at];
+        self.offers[at] = offer;
+        self.next = at + 1;
+        if before.heard != offer.heard {
+            unmark(&mut self.marks, mark_by(before));
+            put_mark(&mut self.marks, mark_by(offer));
+        }
+    }
+
+    /// Adds the offer of a new key and source. Room is taken in both sequences before either is
+    /// changed.
+    pub fn add(&mut self, at: usize, offer: Offer<K, M>) -> Result<(), AllocError>
+        requires { IsGapFor (pair_cmp K.cmp) pair_of self.old (pair_of offer) at }
+        ensures added { OnOk result (self.new ≡ insert self.old at offer) }
+        ensures refused { OnErr result (self.new ≡ self.old) }
+        ensures rising { IsRising (pair_cmp K.cmp) pair_of self.new }
+    {
+        self.offers.reserve(1)?;
+        self.marks.reserve(1)?;
+        let _put = self.offers.insert(at, offer);
+        put_mark(&mut self.marks, mark_by(offer));
+        self.next = at + 1;
+        Ok(())
+    }
+}
+
+/// Where the offer of a key and a source is, or where it would go. One place is tried first.
+fn place_in<K: Ord + Copy, M: Copy>(
+    offers: &[Offer<K, M>],
+    first: usize,
+    key: K,
+    source: Source,
+) -> Result<usize, usize>
+    requires { IsRising (pair_cmp K.cmp) pair_of offers.now }
+    ensures found { IfOk result (IsAtKey (pair_cmp K.cmp) pair_of offers.now (key, source)) }
+    ensures absent { IfErr result (IsGapFor (pair_cmp K.cmp) pair_of offers.now (key, source)) }
+{
+    if first < offers.len() {
+        let offer = offers[first];
+        if offer.key.cmp(&key).then(offer.source.cmp(&source)).is_eq() {
+            return Ok(first);
+        }
+    }
+    offers.binary_search_by(|offer| offer.key.cmp(&key).then(offer.source.cmp(&source)))
+}

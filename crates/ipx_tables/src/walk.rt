@@ -1,0 +1,102 @@
+//! The best of each key, one after another.
+
+ghost use Rattle.std.specs.Prelude.{◌≡◌, ◌<◌, ◌∷◌, [], false, not, length, slice_index_or, drop, IfSome, IfNone, MatchOption};
+ghost use Rattle.std.specs.Ordering.{is_eq};
+ghost use Rattle.ipx_tables.specs.Walk.{bests_of, item_of};
+
+use crate::finding::better_one;
+use crate::metric::Metric;
+use crate::moments::counts;
+use crate::offer::Offer;
+use crate::shelf::Shelf;
+use crate::source::Source;
+use std::marker::Model;
+
+/// Each key that has a best, with its best, by key. It takes no memory.
+#[derive(Drop)]
+pub struct Bests<'a, K: Ord + Copy, M: Metric + Copy> {
+    shelf: &'a Shelf<K, M>,
+    at: usize,
+    now: u64,
+}
+
+impl<'a, K: Ord + Copy, M: Metric + Copy> Model for Bests<'a, K, M> {
+    ghost use Rattle.std.specs.Prelude.{List, drop};
+    ghost use Rattle.ipx_tables.specs.declared.source.Source.{Source};
+    ghost use Rattle.ipx_tables.specs.Walk.{bests_of};
+
+    ghost Value = { List (K × Source × M) };
+
+    ghost view = { λ b. bests_of K.cmp M.before b.now (drop b.at b.shelf.now) };
+}
+
+/// The best of each key of the shelf.
+pub fn bests_on<K: Ord + Copy, M: Metric + Copy>(shelf: &Shelf<K, M>, now: u64) -> Bests<'_, K, M>
+    ensures { result ≡ bests_of K.cmp M.before now shelf.now }
+{
+    Bests { shelf, at: 0, now }
+}
+
+impl<'a, K: Ord + Copy, M: Metric + Copy> Iterator for Bests<'a, K, M> {
+    ghost use Rattle.std.specs.Iterator.{YieldsFirst, item_count};
+
+    type Item = (K, Source, M);
+
+    ghost next_gives = { YieldsFirst (λ items. items) };
+
+    ghost remaining = { item_count (λ items. items) };
+
+    fn next(&mut self) -> Option<(K, Source, M)> {
+        let (best, at) = next_best(self.shelf, self.at, self.now);
+        self.at = at;
+        let best = best?;
+        Some((best.key, best.source, best.metric))
+    }
+}
+
+/// An offer, read for a walk: what a walk reads is not counted.
+fn offer_at<K: Ord + Copy, M: Copy>(shelf: &Shelf<K, M>, at: usize) -> Offer<K, M>
+    requires { at < length shelf.now }
+    ensures { result ≡ slice_index_or shelf.now at result }
+{
+    let mut steps = 0;
+    shelf.read(at, &mut steps)
+}
+
+/// Whether an offer is held, and this key is another than its.
+fn is_past<K: Ord + Copy, M: Copy>(held: Option<Offer<K, M>>, key: K) -> bool
+    ensures { MatchOption held (result ≡ false) (λ h. is_eq (K.cmp h.key key) ≡ not result) }
+{
+    match held {
+        None => false,
+        Some(held) => !held.key.cmp(&key).is_eq(),
+    }
+}
+
+/// The best offer of the first key that has one, from a place on, and a place behind the offers of
+/// that key.
+fn next_best<K: Ord + Copy, M: Metric + Copy>(
+    shelf: &Shelf<K, M>,
+    from: usize,
+    now: u64,
+) -> (Option<Offer<K, M>>, usize)
+    ensures found { IfSome result.0 (λ o. bests_of K.cmp M.before now (drop from shelf.now)
+        ≡ item_of o ∷ bests_of K.cmp M.before now (drop result.1 shelf.now)) }
+    ensures none { IfNone result.0 ((bests_of K.cmp M.before now (drop from shelf.now) ≡ [])
+        × (bests_of K.cmp M.before now (drop result.1 shelf.now) ≡ [])) }
+{
+    let mut held: Option<Offer<K, M>> = None;
+    let mut at = from;
+    let end = shelf.len();
+    while at < end {
+        let offer = offer_at(shelf, at);
+        if is_past(held, offer.key) {
+            return (held, at);
+        }
+        if counts(now, offer.heard) {
+            held = Some(better_one(held, offer));
+        }
+        at += 1;
+    }
+    (held, at)
+}

@@ -1,0 +1,118 @@
+//! What the program says of itself.
+
+use clap::{Arg, Command, Error};
+use std::alloc::Global;
+
+/// The version of the program.
+pub const VERSION: &str = "0.1.0";
+
+const ABOUT: &str = "Packets of a Novell internetwork: IPX, SPX, RIP and SAP";
+
+const STATUSES: &str = "\
+A packet is written in hex, two digits a byte, from its checksum ffff on.
+
+Status 0: done. 1: a packet was dropped or refused, a vector failed, reading or writing
+failed, or memory ran out. 2: a line or the words of the command line cannot be read.
+Lines go to standard output, this text and what is wrong with words to standard error.
+
+Example:
+  $ echo ffff001e00000000002200007f00000540000000001100007f0000035000 | ipx hop
+  forward 2 00007f000005 ffff001e01000000002200007f00000540000000001100007f0000035000";
+
+const HOP: &str = "\
+What a router with two ports does with one packet that comes in on port 1
+
+Reads one packet in hex from standard input: at most 4096 bytes of text, one line end among them.
+
+  port 1: network 00000011, node 00007f000001, cost 1 tick
+  port 2: network 00000022, node 00007f000002, cost 1 tick
+
+The router knows no other network and no service. It prints one of
+  forward PORT NODE HEX   the packet one hop further, and the node that is next
+  reply PORT NODE HEX     a packet that answers a request (a line each, maybe none)
+  heard N                 N routes or services of a response are known now
+  dropped (n) TEXT        the packet goes nowhere, for reason n";
+
+const HOP_STATUSES: &str = "\
+Status 0: forwarded, answered or heard. 1: dropped; reading or writing failed, or memory ran out.
+2: the text is no hex or too long (line 1 bad).
+
+Example:
+  $ echo ffff001e00000000002200007f00000540000000001100007f0000035000 | ipx hop
+  forward 2 00007f000005 ffff001e01000000002200007f00000540000000001100007f0000035000";
+
+const SHOW: &str = "\
+The fields of one packet
+
+Reads no input: the packet is the word HEX. It prints the IPX header, and then what the body
+holds: an SPX packet (type 5), RIP (destination socket 0453) or SAP (0452).
+A packet that is refused prints refused (n) TEXT, with the number and name of the fault.";
+
+const SHOW_STATUSES: &str = "\
+Status 0: printed. 1: the packet is refused; writing failed, or memory ran out.
+2: HEX is no hex (line 1 bad).
+
+Example:
+  $ ipx show ffff001e00000000002200007f00000540000000001100007f0000035000
+  ipx hops 0 kind 0 body 0
+  to 00000022 00007f000005 4000
+  from 00000011 00007f000003 5000";
+
+const CHECK: &str = "\
+Whether packets have the outcomes that they are to have
+
+Reads lines from standard input, at most 1000000 bytes:
+  ok HEX      a packet that is to be read
+  bad N HEX   bytes that are to be refused by the fault of number N, from 1 to 39
+Blank lines and lines that begin with # are skipped. It prints
+  line K               the vector on line K has another outcome
+  checked A failed B   at the end: of A vectors B failed
+  line K bad           line K has another form: nothing is read behind it";
+
+const CHECK_STATUSES: &str = "\
+Status 0: none failed. 1: one failed; reading or writing failed, or memory ran out.
+2: a line of another form, or too long an input (line 0 bad).
+
+Example:
+  $ echo bad 3 ffff001d00000000002200007f00000540000000001100007f0000035000 | ipx check
+  checked 1 failed 0";
+
+fn hop_command<'a>(alloc: Global) -> Command<'a> {
+    Command::new(alloc, "hop")
+        .about("What a router with two ports does with one packet")
+        .long_about(HOP)
+        .after_help(HOP_STATUSES)
+}
+
+fn show_command<'a>(alloc: Global) -> Result<Command<'a>, Error> {
+    let packet = Arg::new(alloc, "HEX")
+        .required(true)
+        .help("The packet, two hex digits a byte");
+    let command = Command::new(alloc, "show")
+        .about("The fields of one packet")
+        .long_about(SHOW)
+        .after_help(SHOW_STATUSES)
+        .arg(packet)?;
+    Ok(command)
+}
+
+fn check_command<'a>(alloc: Global) -> Command<'a> {
+    Command::new(alloc, "check")
+        .about("Whether packets have the outcomes that they are to have")
+        .long_about(CHECK)
+        .after_help(CHECK_STATUSES)
+}
+
+/// The program's commands, with what is said of them.
+pub fn whole_command<'a>(alloc: Global) -> Result<Command<'a>, Error> {
+    let command = Command::new(alloc, "ipx")
+        .bin_name("ipx")?
+        .version(VERSION)
+        .about(ABOUT)
+        .after_help(STATUSES)
+        .subcommand_required(true)
+        .subcommand(hop_command(alloc))?
+        .subcommand(show_command(alloc)?)?
+        .subcommand(check_command(alloc))?;
+    Ok(command)
+}
