@@ -2,7 +2,7 @@
 use Rattle.std.specs.Prelude.{ℕ, ◌≡◌, ◌≢◌, ◌<◌, ◌≤◌, ◌⊎◌, List, Some, None}
 use Rattle.ipx_wire.specs.Ipx.{PacketView, BeginsWith, ipx_fault}
 use Rattle.ipx_wire.specs.Spx.{spx_fault}
-use Rattle.ipx_wire.specs.declared.spx.SpxHeader.{SpxHeader}
+use Rattle.ipx_wire.specs.declared.spx.packet.SpxHeader.{SpxHeader}
 use Rattle.ipx_wire.specs.declared.spx.fault.SpxFault.{SpxFault}
 use Rattle.spx_link.specs.declared.received.Received.{Received}
 use Rattle.spx_link.specs.Limits.{most_links}
