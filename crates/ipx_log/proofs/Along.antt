@@ -5,7 +5,8 @@ use Rattle.std.proofs.lemmas.List.{append-nil}
 use Rattle.spx_link.specs.Limits.{most_units}
 use Rattle.ipx_log.specs.Note.{Note}
 use Rattle.ipx_log.specs.Scan.{Scan, Role, scan}
-use Rattle.ipx_log.specs.Peers.{AreJoined, PairPremises}
+use Rattle.ipx_log.specs.Peers.{AreJoined}
+use Rattle.ipx_log.proofs.OfTwo.{PairPremises}
 use Rattle.ipx_log.specs.PairLog.{Pair, pair_of}
 use Rattle.ipx_log.specs.Scene.{Scene}
 use Rattle.ipx_log.specs.Deeds.{Deed, Does, Dials, Accepts, Reads, OwesReply, Gives, Rests, Sends, Takes, Overruns, Closes, Releases, Carries, Tells, Injects, IsBegun, Reached, begun, happened}

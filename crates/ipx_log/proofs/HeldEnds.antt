@@ -20,7 +20,8 @@ use Rattle.ipx_log.proofs.Stepping.{swapped}
 use Rattle.ipx_wire.specs.Connection.{IsConnectionPacket}
 use Rattle.ipx_log.specs.Note.{Opened, Accepted, Got}
 use Rattle.ipx_log.specs.Scan.{Scan, Role, seen, seen_all, mark_of, asker}
-use Rattle.ipx_log.specs.Peers.{end_of, AreRoles}
+use Rattle.ipx_log.specs.Peers.{end_of}
+use Rattle.ipx_log.proofs.OfTwo.{AreRoles}
 use Rattle.ipx_log.specs.PairLog.{Half, Pair, half_after, pair_from, got_mail, mail_of}
 use Rattle.ipx_pairs.specs.Tracks.{Formed, Follows}
 use Rattle.ipx_pairs.specs.Spelling.{Carries}

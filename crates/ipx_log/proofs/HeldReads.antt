@@ -12,7 +12,8 @@ use Rattle.spx_link.specs.Receive.{receive_link}
 use Rattle.ipx_wire.specs.Connection.{IsConnectionPacket}
 use Rattle.ipx_log.specs.Note.{Note, Joined, Got}
 use Rattle.ipx_log.specs.Scan.{Scan, Maker, Role, Reading, Each, times, seen_all, mark_of, role_of, joined_by, asker, ByUnit, BySystem, ByRouter, FromOutside, no_role, is_now}
-use Rattle.ipx_log.specs.Peers.{end_of, AreRoles, ReadsOf}
+use Rattle.ipx_log.specs.Peers.{end_of}
+use Rattle.ipx_log.proofs.OfTwo.{AreRoles, ReadsOf}
 use Rattle.ipx_log.specs.PairLog.{Half, Pair, half_after, got_mail, mail_of, pair_from}
 use Rattle.ipx_log.specs.Scene.{Stand, linked}
 use Rattle.ipx_log.specs.Packets.{notes_of}
@@ -22,8 +23,8 @@ use Rattle.ipx_log.proofs.Reading.{reads_whole}
 use Rattle.ipx_log.proofs.Speaking.{eqb_same}
 use Rattle.ipx_log.proofs.Facts.{Facts}
 use Rattle.ipx_log.proofs.Held.{Held, IsNew, set_here}
-use Rattle.spx_link.specs.declared.received.Received.TheVariants as Rs
 use Rattle.ipx_log.specs.Below.{LawsBelow}
+use Rattle.spx_link.specs.declared.received.Received.TheVariants as Rs
 
 pub asker_end : (m : Maker) (d : ℕ) → asker m ≡ Some d → end_of m ≡ Some d
 asker_end (ByUnit who) d is = absurd (cc is)

@@ -11,7 +11,7 @@ use Rattle.spx_link.specs.Receive.{receive_link}
 use Rattle.ipx_wire.specs.Connection.{IsConnectionPacket}
 use Rattle.ipx_log.specs.Note.{Note, Got}
 use Rattle.ipx_log.specs.Scan.{Scan, Role, Reading, seen_all, mark_of, role_of, joined_by, no_role, is_now}
-use Rattle.ipx_log.specs.Peers.{AreRoles, ReadsOf}
+use Rattle.ipx_log.proofs.OfTwo.{AreRoles, ReadsOf}
 use Rattle.ipx_log.specs.PairLog.{Half, Pair, half_after, got_mail, mail_of, pair_from}
 use Rattle.ipx_log.specs.Scene.{Stand, linked}
 use Rattle.ipx_log.specs.Packets.{notes_of}
@@ -21,8 +21,8 @@ use Rattle.ipx_log.proofs.Others.{elsewhere}
 use Rattle.ipx_log.proofs.Facts.{Facts}
 use Rattle.ipx_log.proofs.HeldReads.{notes_cases, reading_now, got_whole, Premised}
 use Rattle.ipx_log.proofs.Held.{Held, IsNew, turned, set_other}
-use Rattle.spx_link.specs.declared.received.Received.TheVariants as Rs
 use Rattle.ipx_log.specs.Below.{LawsBelow}
+use Rattle.spx_link.specs.declared.received.Received.TheVariants as Rs
 
 module _ (c d a b : ℕ) (differ : c ≢ d) (laws : LawsBelow) (ends : List Stand) (parcels : List (List ℕ)) (s : Scan) (p : Pair) where
   pub callee_reads : (log : List Note) → Facts ends parcels s log → AreRoles c d a b s → Held c d a b ends parcels s p

@@ -52,3 +52,5 @@ pub mod Tied
 pub mod WholeUnits
 pub mod WithPeers
 pub mod WithoutPeers
+pub mod UnitsOfEnds
+pub mod OfTwo

@@ -15,7 +15,7 @@ use Rattle.spx_units.specs.Cut.{cut_of, pieces}
 use Rattle.ipx_wire.specs.Connection.{IsConnectionPacket}
 use Rattle.ipx_log.specs.Note.{Note, Opened, Accepted, Got, HandsIn, AsksEnd, TakesUnit, Released, Told, Carried, Injected}
 use Rattle.ipx_log.specs.Scan.{Each, Scan, seen_all, scan, unread, ByRouter, FromOutside}
-use Rattle.ipx_log.specs.Peers.{AreRoles, ReadsOf, PairPremises}
+use Rattle.ipx_log.proofs.OfTwo.{AreRoles, ReadsOf, PairPremises}
 use Rattle.ipx_log.specs.PairLog.{Half, Pair, pair_after, pair_from, pair_of}
 use Rattle.ipx_pairs.specs.Tracks.{Formed, core, Follows, may_end}
 use Rattle.ipx_pairs.specs.Spelling.{PolledTo}
@@ -37,8 +37,8 @@ use Rattle.ipx_log.proofs.HeldReads.{Premised, caller_reads}
 use Rattle.ipx_log.proofs.HeldReadsOf.{callee_reads, other_reads}
 use Rattle.ipx_log.proofs.HeldCalls.{IsLeft, other_held, rests_held, takes_held, gains_held}
 use Rattle.ipx_log.proofs.HeldEnds.{dials_held, accepts_held}
-use Rattle.spx_link.specs.declared.received.Received.TheVariants as Rs
 use Rattle.ipx_log.specs.Below.{LawsBelow}
+use Rattle.spx_link.specs.declared.received.Received.TheVariants as Rs
 
 pub live_may : (s : State) → refusal s ≡ None → may_end s ≡ true
 live_may Opening is = absurd (cc is)

@@ -5,11 +5,11 @@ use Rattle.std.proofs.lemmas.List.{append-nil, append_assoc, take-append-le}
 use Rattle.std.proofs.lemmas.Bool.{cases_eq, cond-true, cond_both}
 use Rattle.ipx_log.specs.Note.{Note, Opened, Accepted, Joined, HandsIn, HandsOut, TakesUnit, AsksEnd, Got, Released, SendsUnit, SendsAgain, SendsSystem, Told, Carried, Injected}
 use Rattle.ipx_log.specs.Scan.{Each, times, Scan, Reading, Role, Maker, seen, seen_all, scan, unread, role_of, mark_of, joined_by, asker, no_role}
-use Rattle.ipx_log.specs.Peers.{AreJoined, ArePeersIn, IsFromPeer, IsRecent, Premises, ReadsOf, PairPremises, units_between}
-use Rattle.ipx_log.proofs.Lists.{get_last, get_before, get_set, read_there}
+use Rattle.ipx_log.specs.Peers.{AreJoined, ArePeersIn, IsFromPeer, IsRecent, Premises, units_between}
+use Rattle.ipx_log.proofs.OfTwo.{ReadsOf, PairPremises}
+use Rattle.ipx_log.proofs.Lists.{get_last, get_before, get_set, read_there, same_element}
 use Rattle.ipx_log.proofs.Folding.{seen_all-append}
 use Rattle.ipx_log.proofs.Held.{set_other, set_here}
-use Rattle.ipx_log.proofs.Lists.{same_element}
 
 -- a role only settles
 pub record RoleLater (old new : Role) : Type 0 where

@@ -4,7 +4,8 @@ use Rattle.spx_link.specs.LinkView.{LinkView}
 use Rattle.spx_link.specs.Poll.{poll_link}
 use Rattle.ipx_log.specs.Note.{Note}
 use Rattle.ipx_log.specs.Scan.{scan, role_of}
-use Rattle.ipx_log.specs.Peers.{AreJoined, Premises, PairPremises}
+use Rattle.ipx_log.specs.Peers.{AreJoined, Premises}
+use Rattle.ipx_log.proofs.OfTwo.{PairPremises}
 use Rattle.ipx_log.specs.PairLog.{Half, pair_of}
 use Rattle.ipx_pairs.specs.Spelling.{Spoke, PolledTo}
 use Rattle.ipx_pairs.specs.Tracks.{core}
@@ -20,8 +21,8 @@ use Rattle.ipx_log.proofs.Growing.{IsAllowing}
 use Rattle.ipx_log.proofs.Placing.{log_numbered}
 use Rattle.ipx_log.proofs.Allowing.{Allows, LimitsAllowed, allows_log}
 use Rattle.ipx_log.proofs.GivenUnits.{GaveUnit}
-use Rattle.spx_link.specs.declared.outgoing.Sent.TheVariants as Sents
 use Rattle.ipx_log.specs.Below.{LawsBelow}
+use Rattle.spx_link.specs.declared.outgoing.Sent.TheVariants as Sents
 
 -- the half of an end that gives a unit
 gives_within : (laws : LawsBelow) (c d b : ℕ) (log before : List Note) (g : GaveUnit log before c) (x y : Half)

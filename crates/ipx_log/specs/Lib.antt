@@ -16,3 +16,4 @@ pub mod Peers
 pub mod Scan
 pub mod Scene
 pub mod SentUnits
+pub mod UnitsOfEnds

@@ -6,6 +6,7 @@ ghost use Rattle.ipx_log.specs.EndsTold.{EndsAreTold, EndsStay, GoneSendsNothing
 ghost use Rattle.ipx_log.specs.Numbered.{NumbersAreInOrder};
 ghost use Rattle.ipx_log.specs.Scan.{Scan};
 ghost use Rattle.ipx_log.specs.Scene.{Scene};
+ghost use Rattle.ipx_log.specs.UnitsOfEnds.{UnitsAreCuts};
 
 use crate::below::laws_below;
 
@@ -36,6 +37,14 @@ pub fn peer_is_found()
 /// ends and parcels that are there.
 pub fn numbers_are_in_order()
     ensures { (s : Scene) → Reached s → NumbersAreInOrder s }
+{
+    laws_below();
+}
+
+/// The units of an end are those of its messages, cut, one after another, and then one end of the
+/// connection where it was asked for.
+pub fn units_are_cuts()
+    ensures { (s : Scene) → Reached s → UnitsAreCuts s }
 {
     laws_below();
 }

@@ -1,5 +1,5 @@
 -- What a call leaves of a link: of what it received, of what it may send, and what its packets allow.
-use Rattle.std.proofs.Common.{ℕ, zero, suc, ◌+◌, ◌<◌, ◌≤◌, ◌≡◌, ◌≢◌, ◌==◌, ◌&&◌, ◌||◌, max, Bool, true, false, cond, nat_le, nat_lt, List, [], ◌∷◌, ◌++◌, length, Option, Some, None, slice_get, refl, sym, ap, ◌∙◌, arith, ltb-true, length-append, length-drop}
+use Rattle.std.proofs.Common.{ℕ, zero, suc, ◌+◌, ◌<◌, ◌≤◌, ◌≡◌, ◌≢◌, ◌==◌, ◌&&◌, ◌||◌, max, Bool, true, false, cond, nat_le, nat_lt, List, [], ◌∷◌, ◌++◌, length, Option, Some, None, slice_get, refl, ap, ◌∙◌, arith, ltb-true, length-append, length-drop}
 use Rattle.std.proofs.lemmas.Bool.{cond_both, and_parts}
 use Rattle.ipx_wire.specs.declared.spx.packet.SpxHeader.{SpxHeader}
 use Rattle.spx_link.specs.declared.unit.Unit.{Unit}
@@ -7,7 +7,6 @@ use Rattle.spx_link.specs.declared.queue.Queued.{Queued}
 use Rattle.spx_link.specs.declared.received.Received.{Received}
 use Rattle.spx_link.specs.declared.state.State.{State}
 use Rattle.spx_link.specs.Limits.{most_sends, end_stream}
-use Rattle.spx_link.specs.Marks.{mark}
 use Rattle.spx_link.specs.LinkView.{LinkView, due, free, is_end}
 use Rattle.spx_link.specs.Units.{unit_in}
 use Rattle.spx_link.specs.Offer.{take_held}
@@ -107,13 +106,6 @@ lost_reads l h body is = lost_reads_at l.state l h body is
 
 -- ---- what was received: as many were taken
 
-pub same_kept : (taken : ℕ) (l k : LinkView) → SameReceived l k → HasTaken taken l → HasTaken taken k
-same_kept taken l k same t =
-    record {
-      expected = same.expected ∙ t.expected ∙ ap (λ (us : List Unit). mark (taken + length us)) (sym same.held);
-      fits = omega (arith, t.fits, ap length same.held, ap length same.ahead, same.buffers);
-    }
-
 leading_le : (xs : List (Option Unit)) → length (leading xs) ≤ length xs
 leading_le [] = omega arith
 leading_le (None ∷ xs) = omega arith
@@ -127,9 +119,6 @@ put_le (suc k) u (x ∷ xs) = omega (arith, put_le k u xs)
 
 abbrev Keeps : LinkView → Received × LinkView → Type 0
 Keeps l r = ((taken : ℕ) → HasTaken taken l → HasTaken taken r.1) × (r.1.buffers ≡ l.buffers)
-
-keeps_same : (l k : LinkView) (r : Received) → SameReceived l k → Keeps l (r, k)
-keeps_same l k r same = (λ taken t. same_kept taken l k same t, same.buffers)
 
 keeps_settle : (l : LinkView) (xs : List (Option Unit)) → ((taken : ℕ) → HasTaken taken l → length l.held + length xs ≤ l.buffers) → Keeps l (settle l xs)
 keeps_settle l xs fits =

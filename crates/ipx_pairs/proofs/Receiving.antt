@@ -256,10 +256,6 @@ reads_all l h body q c d r t =
     reads_rest (read_numbers l h) h body q.position q.sender_sent (learned q c) d r.formed.0 now r.formed.1 chain within peer r.small t.counts.small
     r.carries r.was.sender_sent r.fresh.sender r.was.position r.was.outstanding
 
--- a link that is read of another state is the same to the machine
-same_core : (l : LinkView) (s : State) (id : ℕ) (c d : End) → Tracks (core l) c d → Tracks (core (record l { state = s; peer = id })) c d
-same_core l s id c d t = t
-
 pub joins_all : (l : LinkView) (h : SpxHeader) (body : List ℕ) (q : Packet) (c d : End) → IsRead l h body q c d → is_reply l h ≡ true → Tracks (core (read_numbers (joined l h) h)) (got q c) d
 joins_all l h body q c d r j =
     let t : Tracks (core (joined l h)) c d = r.follows.tracks in

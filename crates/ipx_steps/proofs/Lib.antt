@@ -1,0 +1,15 @@
+pub mod Places
+pub mod Doing
+pub mod Standing
+pub mod Finding
+pub mod Delivering
+pub mod Polling
+pub mod Taking
+pub mod Keeping
+pub mod KeptBy
+pub mod Calling
+pub mod Releasing
+pub mod Routing
+pub mod Stepping
+pub mod Beginning
+pub mod Lists

@@ -1,0 +1,99 @@
+-- What the calls on ends do to a world, exactly, where they are not refused.
+use Rattle.std.specs.Prelude.{ℕ, ◌≡◌, ◌≢◌, ◌<◌, ◌≤◌, true, false, List, [], ◌∷◌, ◌++◌, length, set, Some, None, slice_get}
+use Rattle.ipx_wire.specs.declared.address.Network.{Network}
+use Rattle.ipx_wire.specs.declared.address.Node.{Node}
+use Rattle.ipx_wire.specs.declared.address.Socket.{Socket}
+use Rattle.ipx_wire.specs.declared.address.Address.{Address}
+use Rattle.spx_link.specs.Limits.{end_stream, most_units, most_links}
+use Rattle.spx_link.specs.LinkView.{LinkView}
+use Rattle.spx_link.specs.Links.{count_of, IsNextFree}
+use Rattle.spx_link.specs.Offer.{refusal, offer_link, end_link, dialed}
+use Rattle.spx_units.specs.Message.{MessageView}
+use Rattle.spx_units.specs.Cut.{cut_of}
+use Rattle.ipx_log.specs.Note.{Note}
+use Rattle.ipx_steps.specs.Endpoint.{Held, held_at, AddsEnd, ChangesEnd, ReleasesEnd}
+use Rattle.ipx_steps.specs.World.{World, Station, EndNow, end_at}
+use Rattle.ipx_log.specs.Note as Notes
+
+pub record DialsFrom (old : World) (host : ℕ) (socket : Socket) (to : Address) (buffers id : ℕ)
+    (new : World) : Type 0 where
+  -- owed by the caller
+  pub range : (0 < buffers) × (buffers ≤ most_units)
+  pub before : Station
+  pub there : slice_get old.hosts host ≡ Some before
+  pub after : Station
+  pub room : count_of before.endpoint.links < most_links
+  pub free : IsNextFree before.endpoint.links id
+  pub adds : AddsEnd before.endpoint after.endpoint id (dialed id socket to buffers old.moment)
+  pub here : after.here ≡ before.here ++ (id, length old.ends) ∷ []
+  pub hosts : new.hosts ≡ set old.hosts host after
+  pub ends : new.ends
+      ≡ old.ends ++ record { host = host; id = id; released = false; overlong = false } ∷ []
+  pub parcels : new.parcels ≡ old.parcels
+  pub log : new.log ≡ old.log ++ Notes.Opened (length old.ends) host buffers ∷ []
+  pub moment : new.moment ≡ old.moment
+
+-- the link of an end becomes another one, and this is noted
+pub record ChangesLink (old : World) (who : ℕ) (f : LinkView → LinkView) (note : Note)
+    (new : World) : Type 0 where
+  pub end' : EndNow
+  pub at : slice_get old.ends who ≡ Some end'
+  pub stands : end'.released ≡ false
+  pub before : Station
+  pub there : slice_get old.hosts end'.host ≡ Some before
+  pub after : Station
+  pub held : Held
+  pub holds : held_at before.endpoint end'.id ≡ Some held
+  pub live : refusal held.link.state ≡ None
+  pub changes : ChangesEnd before.endpoint after.endpoint end'.id
+      (record held { link = f held.link })
+  pub here : after.here ≡ before.here
+  pub hosts : new.hosts ≡ set old.hosts end'.host after
+  pub ends : new.ends ≡ old.ends
+  pub parcels : new.parcels ≡ old.parcels
+  pub log : new.log ≡ old.log ++ note ∷ []
+  pub moment : new.moment ≡ old.moment
+
+pub record SendsTo (old : World) (who : ℕ) (m : MessageView) (new : World) : Type 0 where
+  pub stream : m.stream < end_stream
+  pub short : length m.body ≤ 65535
+  pub changes : ChangesLink old who (λ l. offer_link l (cut_of m)) (Notes.HandsIn who m) new
+
+abbrev pub Closes : World → ℕ → World → Type 0
+Closes old who new = ChangesLink old who end_link (Notes.AsksEnd who) new
+
+pub record ReleasesOf (old : World) (who : ℕ) (new : World) : Type 0 where
+  pub end' : EndNow
+  pub at : slice_get old.ends who ≡ Some end'
+  pub stands : end'.released ≡ false
+  pub before : Station
+  pub there : slice_get old.hosts end'.host ≡ Some before
+  pub after : Station
+  pub releases : ReleasesEnd before.endpoint after.endpoint end'.id
+  pub forgotten : end_at after.here end'.id ≡ None
+  pub known : (q : ℕ) → q ≢ end'.id → end_at after.here q ≡ end_at before.here q
+  pub hosts : new.hosts ≡ set old.hosts end'.host after
+  pub ends : new.ends ≡ set old.ends who (record end' { released = true })
+  pub parcels : new.parcels ≡ old.parcels
+  pub log : new.log ≡ old.log ++ Notes.Released who ∷ []
+  pub moment : new.moment ≡ old.moment
+
+pub record InjectsInto (old : World) (segment : Network) (next : Node) (bytes : List ℕ)
+    (new : World) : Type 0 where
+  pub hosts : new.hosts ≡ old.hosts
+  pub ends : new.ends ≡ old.ends
+  pub parcels : new.parcels ≡ old.parcels ++ record {
+    segment = segment;
+    next = next;
+    bytes = bytes;
+    sent_by = None;
+  } ∷ []
+  pub log : new.log ≡ old.log ++ Notes.Injected (length old.parcels) ∷ []
+  pub moment : new.moment ≡ old.moment
+
+pub record Ticks (old : World) (now : ℕ) (new : World) : Type 0 where
+  pub hosts : new.hosts ≡ old.hosts
+  pub ends : new.ends ≡ old.ends
+  pub parcels : new.parcels ≡ old.parcels
+  pub log : new.log ≡ old.log
+  pub moment : new.moment ≡ now

@@ -1,0 +1,25 @@
+-- Worlds that steps come to, from one in which nothing happened yet.
+use Rattle.std.specs.Prelude.{ℕ, ◌≡◌, ◌≢◌, ◌<◌, ◌≤◌, [], Some, None, slice_get}
+use Rattle.ipx_wire.specs.declared.address.Socket.{Socket}
+use Rattle.spx_link.specs.Limits.{most_units}
+use Rattle.ipx_steps.specs.Endpoint.{held_at, buffers_at}
+use Rattle.ipx_steps.specs.World.{World, Station}
+use Rattle.ipx_steps.specs.Step.{Step}
+
+-- a host with no link; its network is not 0, and what listens has buffers in range
+pub record IsFresh (s : Station) : Type 0 where
+  pub network : s.endpoint.network.0 ≢ 0
+  pub none : (q : ℕ) → held_at s.endpoint q ≡ None
+  pub here : s.here ≡ []
+  pub range : (socket : Socket) (buffers : ℕ) → buffers_at s.endpoint socket ≡ Some buffers
+      → (0 < buffers) × (buffers ≤ most_units)
+
+pub record IsNew (w : World) : Type 0 where
+  pub hosts : (k : ℕ) (s : Station) → slice_get w.hosts k ≡ Some s → IsFresh s
+  pub ends : w.ends ≡ []
+  pub parcels : w.parcels ≡ []
+  pub log : w.log ≡ []
+
+pub data CameTo : World → Type 0 where
+  new : {w : World} → IsNew w → CameTo w
+  stepped : {w : World} (old : World) → CameTo old → Step old w → CameTo w

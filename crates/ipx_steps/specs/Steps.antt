@@ -1,0 +1,163 @@
+-- What three events do to a world, exactly.
+use Rattle.std.specs.Prelude.{ℕ, ◌≡◌, true, false, List, [], ◌∷◌, ◌++◌, length, take, set, Option, Some, None, slice_get}
+use Rattle.ipx_wire.specs.declared.address.Node.{Node}
+use Rattle.spx_link.specs.declared.unit.Unit.{Unit}
+use Rattle.spx_link.specs.declared.outgoing.Sent.{Sent}
+use Rattle.spx_link.specs.declared.received.Received.{Received}
+use Rattle.spx_link.specs.Offer.{first_of}
+use Rattle.ipx_log.specs.Note.{Note}
+use Rattle.ipx_log.specs.Packets.{note_of, notes_of}
+use Rattle.ipx_steps.specs.Endpoint.{Held, held_at, ChangesEnd}
+use Rattle.ipx_steps.specs.Arrived.{Arrived}
+use Rattle.ipx_steps.specs.Arrives.{Arrives}
+use Rattle.ipx_steps.specs.Polls.{Polls}
+use Rattle.ipx_steps.specs.TakeEnd.{TakenView, take_end, Nothing, Part, Whole, PeerEnd, Overlong}
+use Rattle.ipx_steps.specs.World.{World, Station, EndNow, ParcelView, AtHost, end_at}
+use Rattle.ipx_log.specs.Note as Notes
+use Rattle.ipx_steps.specs.Arrived as Arriveds
+
+-- ---- a parcel is delivered to a host
+
+abbrev pub buffers_of : Option Held → ℕ
+buffers_of None = 0
+buffers_of (Some h) = h.link.buffers
+
+abbrev pub read_notes : Option ℕ → Received → ℕ → List Note
+read_notes None r parcel = []
+read_notes (Some who) r parcel = notes_of r who parcel
+
+-- only what a link read is noted, not a request that came again
+abbrev pub heard_notes : List (ℕ × ℕ) → Option ℕ → Received → ℕ → List Note
+heard_notes here None r parcel = []
+heard_notes here (Some id) r parcel = read_notes (end_at here id) r parcel
+
+-- an answer, the host after it, and how many ends there were
+abbrev pub arrival_notes : Arrived → Station → ℕ → ℕ → List Note
+arrival_notes (Arriveds.Bad f) s count parcel = []
+arrival_notes Arriveds.NotOurs s count parcel = []
+arrival_notes (Arriveds.BadSpx f) s count parcel = []
+arrival_notes Arriveds.NoListener s count parcel = []
+arrival_notes Arriveds.NoRoom s count parcel = []
+arrival_notes Arriveds.Stranger s count parcel = []
+arrival_notes (Arriveds.Accepted id) s count parcel =
+    Notes.Accepted count parcel (buffers_of (held_at s.endpoint id)) ∷ Notes.Got count parcel ∷ []
+arrival_notes (Arriveds.Link id r) s count parcel = heard_notes s.here s.endpoint.heard r parcel
+
+-- the ends after it, and how the host knows them
+abbrev pub ends_after : Arrived → ℕ → List EndNow → List EndNow
+ends_after (Arriveds.Bad f) host ends = ends
+ends_after Arriveds.NotOurs host ends = ends
+ends_after (Arriveds.BadSpx f) host ends = ends
+ends_after Arriveds.NoListener host ends = ends
+ends_after Arriveds.NoRoom host ends = ends
+ends_after Arriveds.Stranger host ends = ends
+ends_after (Arriveds.Accepted id) host ends =
+    ends ++ record { host = host; id = id; released = false; overlong = false } ∷ []
+ends_after (Arriveds.Link id r) host ends = ends
+
+abbrev pub here_after : Arrived → ℕ → List (ℕ × ℕ) → List (ℕ × ℕ)
+here_after (Arriveds.Bad f) count here = here
+here_after Arriveds.NotOurs count here = here
+here_after (Arriveds.BadSpx f) count here = here
+here_after Arriveds.NoListener count here = here
+here_after Arriveds.NoRoom count here = here
+here_after Arriveds.Stranger count here = here
+here_after (Arriveds.Accepted id) count here = here ++ (id, count) ∷ []
+here_after (Arriveds.Link id r) count here = here
+
+pub record Delivers (old : World) (parcel host : ℕ) (answer : Arrived) (new : World) : Type 0 where
+  pub letter : ParcelView
+  pub comes : slice_get old.parcels parcel ≡ Some letter
+  pub before : Station
+  pub there : slice_get old.hosts host ≡ Some before
+  pub segment : letter.segment ≡ before.endpoint.network
+  pub after : Station
+  pub arrives : Arrives before.endpoint letter.bytes old.moment answer after.endpoint
+  pub here : after.here ≡ here_after answer (length old.ends) before.here
+  pub hosts : new.hosts ≡ set old.hosts host after
+  pub ends : new.ends ≡ ends_after answer host old.ends
+  pub parcels : new.parcels ≡ old.parcels
+  pub log : new.log ≡ old.log ++ arrival_notes answer after (length old.ends) parcel
+  pub moment : new.moment ≡ old.moment
+
+-- ---- a host is polled
+
+abbrev pub given_notes : Option ℕ → Sent → ℕ → List Note
+given_notes None what parcel = []
+given_notes (Some who) what parcel = note_of what who parcel ∷ []
+
+abbrev pub said_notes : List (ℕ × ℕ) → Option (ℕ × Sent) → ℕ → List Note
+said_notes here None parcel = []
+said_notes here (Some s) parcel = given_notes (end_at here s.0) s.1 parcel
+
+abbrev pub sent_letters : Option (Node × ℕ) → Station → ℕ → List ℕ → List ParcelView
+sent_letters None s host written = []
+sent_letters (Some r) s host written =
+    record {
+      segment = s.endpoint.network;
+      next = r.0;
+      bytes = take r.1 written;
+      sent_by = Some (AtHost host);
+    } ∷ []
+
+pub record PollsHost (old : World) (host : ℕ) (result : Option (Node × ℕ))
+    (new : World) : Type 0 where
+  pub before : Station
+  pub there : slice_get old.hosts host ≡ Some before
+  pub after : Station
+  pub room : List ℕ
+  pub written : List ℕ
+  pub polls : Polls before.endpoint old.moment result room written after.endpoint
+  pub here : after.here ≡ before.here
+  pub hosts : new.hosts ≡ set old.hosts host after
+  pub ends : new.ends ≡ old.ends
+  pub parcels : new.parcels ≡ old.parcels ++ sent_letters result before host written
+  pub log : new.log ≡ old.log ++ said_notes before.here after.endpoint.said (length old.parcels)
+  pub moment : new.moment ≡ old.moment
+
+-- ---- an end is taken from
+
+abbrev pub whole_notes : TakenView → ℕ → List Note
+whole_notes Nothing who = []
+whole_notes Part who = []
+whole_notes (Whole m) who = Notes.HandsOut who m ∷ []
+whole_notes PeerEnd who = []
+whole_notes Overlong who = []
+
+-- a take that answers Overlong leaves none
+abbrev pub unit_notes : TakenView → Option Unit → ℕ → List Note
+unit_notes Overlong u who = []
+unit_notes Nothing None who = []
+unit_notes Part None who = []
+unit_notes (Whole m) None who = []
+unit_notes PeerEnd None who = []
+unit_notes Nothing (Some u) who = Notes.TakesUnit who u ∷ []
+unit_notes Part (Some u) who = Notes.TakesUnit who u ∷ []
+unit_notes (Whole m) (Some u) who = Notes.TakesUnit who u ∷ []
+unit_notes PeerEnd (Some u) who = Notes.TakesUnit who u ∷ []
+
+abbrev pub marked_over : TakenView → EndNow → EndNow
+marked_over Nothing e = e
+marked_over Part e = e
+marked_over (Whole m) e = e
+marked_over PeerEnd e = e
+marked_over Overlong e = record e { overlong = true }
+
+pub record TakesOf (old : World) (who : ℕ) (answer : TakenView) (new : World) : Type 0 where
+  pub end' : EndNow
+  pub at : slice_get old.ends who ≡ Some end'
+  pub stands : end'.released ≡ false
+  pub before : Station
+  pub there : slice_get old.hosts end'.host ≡ Some before
+  pub after : Station
+  pub held : Held
+  pub holds : held_at before.endpoint end'.id ≡ Some held
+  pub answers : answer ≡ (take_end held).0
+  pub changes : ChangesEnd before.endpoint after.endpoint end'.id (take_end held).1
+  pub here : after.here ≡ before.here
+  pub hosts : new.hosts ≡ set old.hosts end'.host after
+  pub ends : new.ends ≡ set old.ends who (marked_over answer end')
+  pub parcels : new.parcels ≡ old.parcels
+  pub log : new.log
+      ≡ old.log ++ unit_notes answer (first_of held.link.held) who ++ whole_notes answer who
+  pub moment : new.moment ≡ old.moment

@@ -1,0 +1,113 @@
+-- What a network in memory holds, the scene that it is, and what is always so of it.
+use Rattle.std.specs.Prelude.{ℕ, ◌≡◌, ◌<◌, ◌≤◌, ◌==◌, Bool, false, List, [], ◌∷◌, map, Option, Some, None, slice_get, if◌then◌else◌}
+use Rattle.ipx_wire.specs.declared.address.Network.{Network}
+use Rattle.ipx_wire.specs.declared.address.Node.{Node}
+use Rattle.ipx_wire.specs.declared.address.Socket.{Socket}
+use Rattle.spx_link.specs.Limits.{most_units}
+use Rattle.ipx_log.specs.Note.{Note}
+use Rattle.ipx_log.specs.Scene.{Scene, Stand, Home}
+use Rattle.ipx_steps.specs.Endpoint.{Held, EndpointView, held_at, buffers_at}
+use Rattle.ipx_steps.specs.Polls.{home_of}
+
+-- a host: what it holds, and which end each of its ids is
+pub record Station : Type 0 where
+  pub endpoint : EndpointView
+  pub here : List (ℕ × ℕ)
+
+-- an end by its host and id. An id is given again once its end is released
+pub record EndNow : Type 0 where
+  pub host : ℕ
+  pub id : ℕ
+  pub released : Bool
+  pub overlong : Bool
+
+-- where a packet was sent: a host, or a router's port
+pub data Place : Type 0 where
+  AtHost : (host : ℕ) → Place
+  AtPort : (router port : ℕ) → Place
+
+-- a parcel without where its bytes lie in memory: the network on which it lies, and the node that it goes to next
+pub record ParcelView : Type 0 where
+  pub segment : Network
+  pub next : Node
+  pub bytes : List ℕ
+  pub sent_by : Option Place
+
+pub record World : Type 0 where
+  pub hosts : List Station
+  pub ends : List EndNow
+  pub parcels : List ParcelView
+  pub log : List Note
+  pub moment : ℕ
+
+abbrev pub end_at : List (ℕ × ℕ) → ℕ → Option ℕ
+end_at [] id = None
+end_at (x ∷ xs) id = if x.0 == id then Some x.1 else end_at xs id
+
+-- ---- the scene
+
+abbrev pub held_in : Option Station → ℕ → Option Held
+held_in None id = None
+held_in (Some s) id = held_at s.endpoint id
+
+-- what an end has: nothing once it is released
+abbrev pub held_of : List Station → EndNow → Option Held
+held_of hosts e = if e.released then None else held_in (slice_get hosts e.host) e.id
+
+abbrev pub stand_with : EndNow → Option Held → Stand
+stand_with e None = record { host = e.host; link = None; rest = None; overlong = e.overlong }
+stand_with e (Some h) =
+    record { host = e.host; link = Some h.link; rest = h.rest; overlong = e.overlong }
+
+abbrev pub stand_of : List Station → EndNow → Stand
+stand_of hosts e = stand_with e (held_of hosts e)
+
+abbrev pub home_at : Station → Home
+home_at s = home_of s.endpoint
+
+abbrev pub bytes_of : ParcelView → List ℕ
+bytes_of p = p.bytes
+
+abbrev pub segment_of : ParcelView → Network
+segment_of p = p.segment
+
+abbrev pub scene_of : World → Scene
+scene_of w =
+    record {
+      homes = map home_at w.hosts;
+      ends = map (stand_of w.hosts) w.ends;
+      parcels = map bytes_of w.parcels;
+      segments = map segment_of w.parcels;
+      log = w.log;
+    }
+
+-- ---- what is always so
+
+-- an end that is not released: its host knows it by its id, and holds a link of that id
+pub record StandsAt (hosts : List Station) (who : ℕ) (e : EndNow) : Type 0 where
+  pub station : Station
+  pub there : slice_get hosts e.host ≡ Some station
+  pub known : end_at station.here e.id ≡ Some who
+  pub held : Held
+  pub live : held_at station.endpoint e.id ≡ Some held
+
+-- the end that a host has under an id
+pub record IsEndOf (ends : List EndNow) (host id who : ℕ) : Type 0 where
+  pub end' : EndNow
+  pub at : slice_get ends who ≡ Some end'
+  pub host_is : end'.host ≡ host
+  pub id_is : end'.id ≡ id
+  pub stands : end'.released ≡ false
+
+-- of one host: what it knows by an id is an end of its own, and each of its links has an end
+pub record IsHostInOrder (ends : List EndNow) (host : ℕ) (s : Station) : Type 0 where
+  pub names : (id who : ℕ) → end_at s.here id ≡ Some who → IsEndOf ends host id who
+  pub named : (id : ℕ) (h : Held) → held_at s.endpoint id ≡ Some h
+      → (who : ℕ) × (end_at s.here id ≡ Some who)
+  pub range : (socket : Socket) (buffers : ℕ) → buffers_at s.endpoint socket ≡ Some buffers
+      → (0 < buffers) × (buffers ≤ most_units)
+
+pub record InOrder (w : World) : Type 0 where
+  pub ends : (who : ℕ) (e : EndNow) → slice_get w.ends who ≡ Some e → e.released ≡ false
+      → StandsAt w.hosts who e
+  pub hosts : (k : ℕ) (s : Station) → slice_get w.hosts k ≡ Some s → IsHostInOrder w.ends k s
