@@ -1,6 +1,8 @@
 -- Room in a table: what it can say, which offers make it grow, and which find it full.
 use Rattle.std.specs.Prelude.{◌≡◌, ◌<◌, ◌≤◌, ℕ, Bool, false, None, length}
 use Rattle.std.specs.declared.cmp.Ordering.{Ordering}
+use Rattle.ipx_tables.specs.declared.fault.TableFault.{TableFault}
+use Rattle.ipx_tables.specs.declared.fault.TableFault.TheVariants as TableFaults
 use Rattle.ipx_tables.specs.declared.source.Source.{Source}
 use Rattle.ipx_tables.specs.Content.{Content, IsTable, Table, content}
 
@@ -23,3 +25,8 @@ module _ {K M : Type 0} (cmp : K → K → Ordering) (dead : M → Bool) where
     pub alive : dead metric ≡ false
     pub unknown : content cmp t.offers p ≡ None
     pub room : length t.offers < t.most
+
+-- the numbers of a table's faults
+abbrev pub table_fault_number : TableFault → ℕ
+table_fault_number TableFaults.Full = 13
+table_fault_number TableFaults.OutOfMemory = 14

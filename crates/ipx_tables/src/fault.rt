@@ -1,6 +1,7 @@
 //! Why a table refused a call.
 
 ghost use Rattle.std.specs.Prelude.{◌≡◌};
+ghost use Rattle.ipx_tables.specs.Room.{table_fault_number};
 ghost use Rattle.ipx_tables.specs.declared.fault.TableFault.TheVariants.{OutOfMemory};
 
 use std::alloc::{AllocError, AllocFailed};
@@ -15,6 +16,18 @@ pub enum TableFault {
     /// Memory ran out, which only a new key and source can find, or a listing.
     #[error("out of memory")]
     OutOfMemory,
+}
+
+impl TableFault {
+    /// The fault's number, 13 or 14: what programs print and compare.
+    pub fn number(&self) -> u8
+        ensures { result ≡ table_fault_number self.now }
+    {
+        match self {
+            TableFault::Full => 13,
+            TableFault::OutOfMemory => 14,
+        }
+    }
 }
 
 impl<T: Drop> From<AllocFailed<T>> for TableFault {

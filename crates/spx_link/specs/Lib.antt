@@ -20,3 +20,4 @@ pub mod Receive
 pub mod Sound
 pub mod Turns
 pub mod Units
+pub mod Faults
