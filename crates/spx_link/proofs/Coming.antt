@@ -1,5 +1,5 @@
 -- What the states of a link say, and that each call keeps it.
-use Rattle.std.proofs.Common.{◌≡◌, ℕ, ◌+◌, ◌-◌, ◌%◌, ◌⊎◌, inl, inr, Bool, true, false, refl, ap, sym, subst, ◌∙◌, List, [], ◌∷◌, map, drop, length, suc, Option, None, Some, arith}
+use Rattle.std.proofs.Common.{◌≡◌, ℕ, ◌+◌, ◌%◌, ◌⊎◌, inl, inr, true, false, refl, ap, sym, subst, ◌∙◌, List, [], ◌∷◌, map, drop, length, suc, Option, None, Some, arith}
 use Rattle.std.proofs.Math.Seq.{drop-nil}
 use Rattle.ipx_wire.specs.declared.spx.packet.SpxHeader.{SpxHeader}
 use Rattle.spx_link.specs.declared.numbers.Numbers.{Numbers}
@@ -17,9 +17,9 @@ use Rattle.spx_link.specs.LinkView.{LinkView, numbers_of}
 use Rattle.spx_link.specs.Marks.{mark, acknowledged}
 use Rattle.spx_link.specs.Offer.{take_link, take_held, refusal}
 use Rattle.spx_link.specs.Poll.{OutgoingView, poll_link}
-use Rattle.spx_link.specs.Receive.{receive_link, after_end}
+use Rattle.spx_link.specs.Receive.{receive_link}
 use Rattle.spx_link.specs.Turns.{is_joined, state_after, newly_held}
-use Rattle.spx_link.specs.Units.{unit_of, queued_units}
+use Rattle.spx_link.specs.Units.{unit_of}
 use Rattle.spx_link.proofs.Carrying.{poll_says}
 use Rattle.spx_link.proofs.Keeping.{poll_keeps, receive_keeps, opening_requests, lost_alone}
 use Rattle.spx_link.proofs.Reading.{receive_says, take_says}

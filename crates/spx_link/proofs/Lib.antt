@@ -17,6 +17,7 @@ pub mod Pigeons
 pub mod Reading
 pub mod Rounds
 pub mod Samples
+pub mod Searching
 pub mod Sooner
 pub mod Stands
 pub mod Waiting

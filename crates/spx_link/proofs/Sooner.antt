@@ -1,10 +1,10 @@
 -- Before the first of some links is due every poll of each is quiet, and from then on one acts.
-use Rattle.std.proofs.Common.{◌≡◌, ℕ, zero, suc, ◌+◌, ◌^◌, ◌<◌, ◌≤◌, min, Bool, true, false, if◌then◌else◌, ◌==◌, ◌&&◌, nat_lt, refl, ap, sym, subst, ◌∙◌, List, [], ◌∷◌, ◌++◌, length, take, Option, None, Some, get_or, slice_index_or, arith}
+use Rattle.std.proofs.Common.{◌≡◌, ℕ, zero, suc, ◌+◌, ◌^◌, ◌<◌, ◌≤◌, min, Bool, true, false, ◌==◌, ◌&&◌, nat_lt, refl, ap, sym, subst, ◌∙◌, List, [], ◌∷◌, ◌++◌, length, take, Option, None, Some, get_or, slice_index_or, arith}
 use Rattle.std.proofs.lemmas.Bool.Decides.{nat_tests}
 use Rattle.std.proofs.lemmas.List.{take_more}
 use Rattle.spx_link.specs.declared.state.State.{State}
 use Rattle.spx_link.specs.declared.state.State.TheVariants as States
-use Rattle.spx_link.specs.Due.{IsQuiet, IsNextDue, IsNextDueOfAll, earlier, earliest, again_at, owes_now, probe_due, sent_due, working_due, joined_due, request_due, due_at, due_link, sooner, soonest}
+use Rattle.spx_link.specs.Due.{IsQuiet, IsNextDue, IsNextDueOfAll, earliest, again_at, owes_now, probe_due, sent_due, working_due, joined_due, due_at, due_link, sooner, soonest}
 use Rattle.spx_link.specs.LinkView.{LinkView, is_working}
 use Rattle.spx_link.specs.Links.{LinksView, link_at}
 use Rattle.spx_link.specs.Poll as P

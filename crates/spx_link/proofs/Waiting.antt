@@ -1,5 +1,5 @@
 -- Before a link is due every poll is quiet, and from then on none is.
-use Rattle.std.proofs.Common.{◌≡◌, ℕ, zero, suc, ◌+◌, ◌^◌, ◌<◌, ◌≤◌, min, ◌⊎◌, inl, inr, Bool, true, false, cond, if◌then◌else◌, ◌==◌, ◌&&◌, ◌||◌, not, nat_le, nat_lt, refl, ap, sym, subst, ◌∙◌, List, [], ◌∷◌, ◌++◌, length, take, Option, None, Some, slice_get, get_or, position, length-take, arith}
+use Rattle.std.proofs.Common.{◌≡◌, ℕ, zero, suc, ◌+◌, ◌^◌, ◌<◌, ◌≤◌, Bool, true, false, cond, if◌then◌else◌, ◌==◌, ◌&&◌, ◌||◌, not, nat_le, nat_lt, refl, ap, sym, subst, ◌∙◌, List, [], ◌∷◌, ◌++◌, length, take, Option, None, Some, slice_get, get_or, position, length-take, arith}
 use Rattle.std.specs.List.{prefix_len, position_or_len}
 use Rattle.std.proofs.lemmas.Bool.{and_parts}
 use Rattle.std.proofs.lemmas.Bool.Decides.{nat_tests}
@@ -13,17 +13,13 @@ use Rattle.spx_link.specs.LinkView.{LinkView, due, is_working}
 use Rattle.spx_link.specs.Marks.{mark}
 use Rattle.spx_link.specs.Poll as P
 use Rattle.spx_link.specs.Poll.{OutgoingView, poll_link, poll_at}
-use Rattle.spx_link.specs.Due.{IsQuiet, IsNextDue, earlier, earliest, again_at, owes_now, probe_due, sent_due, working_due, joined_due, request_due, due_at, due_link}
+use Rattle.spx_link.specs.Due.{IsNextDue, earlier, earliest, again_at, owes_now, probe_due, sent_due, working_due, joined_due, request_due, due_at, due_link}
+use Rattle.spx_link.specs.Queues.{IsSince}
 use Rattle.spx_link.proofs.Carrying.{by_test}
 
 -- ---- moments of sent units
 
--- each was sent at this moment or later
-abbrev AtLeast : ℕ → List Queued → Type 0
-AtLeast n [] = Unit {0}
-AtLeast n (q ∷ qs) = (n ≤ q.at) × AtLeast n qs
-
-at_least_less : (m n : ℕ) (qs : List Queued) → m ≤ n → AtLeast n qs → AtLeast m qs
+pub at_least_less : (m n : ℕ) (qs : List Queued) → m ≤ n → IsSince n qs → IsSince m qs
 at_least_less m n [] le a = tt
 at_least_less m n (q ∷ qs) le a =
     let here : n ≤ q.at = a.0 in
@@ -36,18 +32,18 @@ none_of (q ∷ qs) e = cc
 some_is : {A : Type 0} (x y : A) → Some x ≡ Some y → x ≡ y
 some_is x y e = cc
 
-earliest_least_at : (q : Queued) (qs : List Queued) (t : ℕ) (r : Option ℕ) → ((n : ℕ) → earliest qs ≡ Some n → AtLeast n qs) → earliest qs ≡ r → earlier q.at r ≡ t → AtLeast t (q ∷ qs)
-earliest_least_at q qs t None rest none is = (omega arith, subst (AtLeast t) (sym (none_of qs none)) tt)
+earliest_least_at : (q : Queued) (qs : List Queued) (t : ℕ) (r : Option ℕ) → ((n : ℕ) → earliest qs ≡ Some n → IsSince n qs) → earliest qs ≡ r → earlier q.at r ≡ t → IsSince t (q ∷ qs)
+earliest_least_at q qs t None rest none is = (omega arith, subst (IsSince t) (sym (none_of qs none)) tt)
 earliest_least_at q qs t (Some n) rest some is = (omega arith, at_least_less t n qs (omega arith) (rest n some))
 
-earliest_least : (qs : List Queued) (t : ℕ) → earliest qs ≡ Some t → AtLeast t qs
+earliest_least : (qs : List Queued) (t : ℕ) → earliest qs ≡ Some t → IsSince t qs
 earliest_least [] t e = absurd (cc)
 earliest_least (q ∷ qs) t e = earliest_least_at q qs t (earliest qs) (λ n some. earliest_least qs n some) refl (some_is (earlier q.at (earliest qs)) t e)
 
-abbrev waits : ℕ → Queued → Bool
+abbrev pub waits : ℕ → Queued → Bool
 waits now q = not (due q.at now)
 
-all_wait : (now n : ℕ) (qs : List Queued) → now < n + 500 → AtLeast n qs → prefix_len (waits now) qs ≡ length qs
+pub all_wait : (now n : ℕ) (qs : List Queued) → now < n + 500 → IsSince n qs → prefix_len (waits now) qs ≡ length qs
 all_wait now n [] less a = refl
 all_wait now n (q ∷ qs) less a =
     let here : n ≤ q.at = a.0 in

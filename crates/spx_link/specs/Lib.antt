@@ -16,6 +16,7 @@ pub mod Marks
 pub mod Offer
 pub mod Picked
 pub mod Poll
+pub mod Queues
 pub mod Receive
 pub mod Sound
 pub mod Turns

@@ -6,7 +6,7 @@ ghost use Rattle.spx_link.specs.Due.{IsNextDue};
 
 use crate::limits::RESEND_AFTER;
 use crate::link::Link;
-use crate::queue::{earlier, earliest};
+use crate::queue::earlier;
 use crate::state::State;
 
 impl Link {
@@ -55,7 +55,7 @@ impl Link {
         if !self.is_working() {
             return None;
         }
-        match earliest(&self.queue, usize::from(self.out)) {
+        match self.queue.first_sent(usize::from(self.out)) {
             Some(at) => again_at(at),
             None => self.probe_due(),
         }

@@ -6,10 +6,10 @@ ghost use Rattle.spx_link.specs.Offer as spec;
 use crate::buffers::Buffers;
 use crate::limits::NO_ID;
 use crate::link::Link;
+use crate::queue::Queue;
 use crate::state::State;
 use ipx_wire::{Address, Socket, SpxHeader};
 use std::alloc::{AllocError, Global};
-use std::collections::VecDeque;
 
 impl Link {
     /// A link that asks for a connection from a socket here to an address, with its buffers taken
@@ -34,7 +34,7 @@ impl Link {
             peer: NO_ID,
             local,
             remote,
-            queue: VecDeque::new(alloc),
+            queue: Queue::new(alloc),
             out: 0,
             next: 0,
             room: 0,

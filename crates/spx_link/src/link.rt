@@ -6,10 +6,9 @@ ghost use Rattle.spx_link.specs.LinkView.{LinkView, numbers_of};
 
 use crate::buffers::Buffers;
 use crate::numbers::Numbers;
-use crate::queue::Queued;
+use crate::queue::Queue;
 use crate::state::State;
 use ipx_wire::{Address, Socket};
-use std::collections::VecDeque;
 use std::marker::Model;
 
 /// One end of a connection.
@@ -23,7 +22,7 @@ pub struct Link {
     pub(crate) peer: u16,
     pub(crate) local: Socket,
     pub(crate) remote: Address,
-    pub(crate) queue: VecDeque<Queued>,
+    pub(crate) queue: Queue,
     pub(crate) out: u16,
     pub(crate) next: u16,
     pub(crate) room: u16,
@@ -50,7 +49,7 @@ impl Model for Link {
       peer = l.peer;
       local = l.local;
       remote = l.remote;
-      queue = l.queue.items;
+      queue = l.queue;
       out = l.out;
       next = l.next;
       room = l.room;

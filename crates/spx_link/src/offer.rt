@@ -9,7 +9,6 @@ ghost use Rattle.spx_link.specs.declared.fault.OfferFault.TheVariants as OfferFa
 use crate::fault::OfferFault;
 use crate::limits::END_STREAM;
 use crate::link::Link;
-use crate::queue::{Queued, queue_all};
 use crate::state::State;
 use crate::unit::Unit;
 use ipx_wire::Fragment;
@@ -26,18 +25,14 @@ fn refusal(state: State) -> Option<OfferFault>
     }
 }
 
-/// The end of a connection, which was not sent yet.
-fn queued_end() -> Queued
-    ensures { result ≡ spec.queued spec.the_end }
+/// The end of a connection.
+fn the_end() -> Unit
+    ensures { result ≡ spec.the_end }
 {
-    Queued {
-        unit: Unit {
-            stream: END_STREAM,
-            last: false,
-            body: Fragment::new(),
-        },
-        at: 0,
-        count: 0,
+    Unit {
+        stream: END_STREAM,
+        last: false,
+        body: Fragment::new(),
     }
 }
 
@@ -46,7 +41,7 @@ impl Link {
     ///
     /// It is refused as `NotLive` while the link is opening, as `Ended` in any other state but
     /// Live, and where memory is.
-    pub fn offer(&mut self, alloc: Global, units: Vec<Unit>) -> Result<(), OfferFault>
+    pub fn offer(&mut self, _alloc: Global, units: Vec<Unit>) -> Result<(), OfferFault>
         requires { All (λ u. u.stream < end_stream) units.items }
         ensures ok { OnOk result (self.new ≡ spec.offer_link self.old units.items) }
         ensures refused { (f : OfferFault) → spec.refusal self.old.state ≡ Some f → result ≡ Err f }
@@ -57,7 +52,7 @@ impl Link {
         if let Some(fault) = refusal(self.state) {
             return Err(fault);
         }
-        queue_all(alloc, &mut self.queue, units)?;
+        self.queue.push_all(units)?;
         Ok(())
     }
 
@@ -71,7 +66,7 @@ impl Link {
         if let Some(fault) = refusal(self.state) {
             return Err(fault);
         }
-        self.queue.push_back(queued_end())?;
+        self.queue.push(the_end())?;
         self.end_queued = true;
         self.state = State::Ending;
         Ok(())

@@ -10,7 +10,7 @@ ghost use Rattle.spx_link.specs.Chosen.{carried};
 use crate::limits::{CONFIRM_STREAM, END_STREAM, MOST_SENDS, MOST_UNITS, NO_ID};
 use crate::link::Link;
 use crate::outgoing::{Chosen, Outgoing, Sent};
-use crate::queue::{Queued, due, first_due, stamp};
+use crate::queue::{Queued, due};
 use crate::state::State;
 use ipx_wire::SpxHeader;
 
@@ -33,7 +33,9 @@ impl Link {
         ensures fits { length result.body.now ≤ 534 }
     {
         let body = match chosen.place {
-            Some(place) if place < self.queue.len() => self.queue[place].unit.body.as_slice(),
+            Some(place) if place < self.queue.len() => {
+                self.queue.at_place(place).unit.body.as_slice()
+            }
             _ => &[],
         };
         Outgoing {
@@ -112,7 +114,7 @@ impl Link {
         let place = usize::from(self.out);
         let queued = self.queued_at(place);
         let unit = self.with_unit(Sent::Unit, queued, place, self.next);
-        stamp(&mut self.queue, place, now, 1);
+        self.queue.mark_sent(place, now, 1);
         self.out += 1;
         self.next = self.next.wrapping_add(1);
         self.room -= 1;
@@ -147,7 +149,7 @@ impl Link {
         }
         let seq = self.base().wrapping_add(place);
         let unit = self.with_unit(Sent::Again, queued, at, seq);
-        stamp(&mut self.queue, at, now, count + 1);
+        self.queue.mark_sent(at, now, count + 1);
         self.owes_ack = false;
         self.spoke = now;
         Some(unit)
@@ -205,15 +207,16 @@ impl Link {
             && due(self.spoke, now)
     }
 
-    fn late(&self, now: u64) -> Option<u16>
-        ensures value { result ≡ spec.late_if_working self.now now }
-        ensures sent { IfSome result (λ place. place < self.now.out) }
-        ensures queued { IfSome result (λ place. place < length self.now.queue) }
+    fn late(&mut self, now: u64) -> Option<u16>
+        ensures value { result ≡ spec.late_if_working self.old now }
+        ensures sent { IfSome result (λ place. place < self.old.out) }
+        ensures queued { IfSome result (λ place. place < length self.old.queue) }
+        ensures same { self.new ≡ self.old }
     {
         if !self.is_working() {
             return None;
         }
-        let place = first_due(&self.queue, usize::from(self.out), now)?;
+        let place = self.queue.first_due(usize::from(self.out), now)?;
         Some(place as u16)
     }
 
@@ -256,7 +259,7 @@ impl Link {
         requires { place < length self.now.queue }
         ensures { slice_get self.now.queue place ≡ Some result.now }
     {
-        &self.queue[place]
+        self.queue.at_place(place)
     }
 
     fn with_unit(&self, what: Sent, queued: &Queued, place: usize, seq: u16) -> Chosen

@@ -1,14 +1,17 @@
 //! The units that a link has to send.
 
-ghost use Rattle.std.specs.Prelude.{◌≡◌, ◌++◌, ◌≤◌, ◌<◌, drop, take, map, set, position, slice_get, length, OnOk, OnErr, IsOk, IfSome, []};
+ghost use Rattle.std.specs.Prelude.{◌≡◌, ◌+◌, ◌++◌, ◌≤◌, ◌<◌, ◌==◌, [], ◌∷◌, drop, take, map, set, position, slice_get, length, true, List, OnOk, OnErr, IsOk, IfSome, Some};
 ghost use Rattle.spx_link.specs.Due as D;
 ghost use Rattle.spx_link.specs.LinkView as view;
 ghost use Rattle.spx_link.specs.Offer as spec;
+ghost use Rattle.spx_link.specs.Queues.{IsFound, IsSearched};
+ghost use Rattle.spx_link.specs.declared.queue.Queued.{Queued};
 
 use crate::limits::RESEND_AFTER;
 use crate::unit::Unit;
 use std::alloc::{AllocError, Global};
 use std::collections::VecDeque;
+use std::marker::Model;
 
 /// A unit to send. Where it was sent, `at` is the moment of the last time and `count` says how often.
 #[derive(Drop)]
@@ -25,15 +28,163 @@ pub fn due(at: u64, now: u64) -> bool
     now >= at && now - at >= RESEND_AFTER
 }
 
-/// The place of the first of the sent units that is to be sent again.
-pub fn first_due(queue: &VecDeque<Queued>, sent: usize, now: u64) -> Option<usize>
-    ensures { result ≡ position (λ q. view.due q.at now) (take sent queue.now.items) }
+/// Units to send, in order.
+///
+/// The first `searched` of them were each sent at `since` or later, so none of those is due before
+/// `since` is: the search for what is due goes on behind them.
+#[derive(Drop)]
+pub struct Queue {
+    units: VecDeque<Queued>,
+    searched: usize,
+    since: u64,
+}
+
+impl Model for Queue {
+    ghost Value = { List Queued };
+
+    ghost view = { λ q. q.units.items };
+
+    ghost invariant = { λ q. IsSearched q.units.items q.searched q.since };
+}
+
+impl Queue {
+    /// No units.
+    pub fn new(alloc: Global) -> Queue
+        ensures { result ≡ [] }
+    {
+        Queue {
+            units: VecDeque::new(alloc),
+            searched: 0,
+            since: u64::MAX,
+        }
+    }
+
+    /// How many there are.
+    pub fn len(&self) -> usize
+        ensures { result ≡ length self.now }
+    {
+        self.units.len()
+    }
+
+    /// Whether there are none.
+    pub fn is_empty(&self) -> bool
+        ensures { result ≡ (length self.now == 0) }
+    {
+        self.units.is_empty()
+    }
+
+    /// The unit at a place.
+    pub fn at_place(&self, place: usize) -> &Queued
+        requires { place < length self.now }
+        ensures { slice_get self.now place ≡ Some result.now }
+    {
+        &self.units[place]
+    }
+
+    /// The place of the first of the sent units that is to be sent again.
+    pub fn first_due(&mut self, sent: usize, now: u64) -> Option<usize>
+        ensures place { result ≡ position (λ q. view.due q.at now) (take sent self.old) }
+        ensures same { self.new ≡ self.old }
+    {
+        let end = sent.min(self.units.len());
+        let from = go_on(&self.units, self.searched, self.since, end, now);
+        let found = search(&self.units, from, end, now);
+        self.searched = found.place;
+        self.since = found.since;
+        if found.place < end {
+            Some(found.place)
+        } else {
+            None
+        }
+    }
+
+    /// The least moment at which one of the sent units was last sent.
+    pub fn first_sent(&self, sent: usize) -> Option<u64>
+        ensures { result ≡ D.earliest (take sent self.now) }
+    {
+        earliest(&self.units, sent)
+    }
+
+    /// The first `count` units leave the queue.
+    pub fn drop_first(&mut self, count: u16)
+        ensures { self.new ≡ drop count self.old }
+    {
+        drop_front(&mut self.units, count);
+        self.searched = self.searched.saturating_sub(usize::from(count));
+    }
+
+    /// The unit at a place was sent at a moment, so often by then.
+    pub fn mark_sent(&mut self, place: usize, now: u64, count: u8)
+        requires { place < length self.old }
+        ensures { IfSome (slice_get self.old place) (λ q. self.new ≡ set self.old place (record { unit = q.unit; at = now; count = count })) }
+    {
+        stamp(&mut self.units, place, now, count);
+        self.since = self.since.min(now);
+    }
+
+    /// Queues a unit that was not sent yet.
+    pub fn push(&mut self, unit: Unit) -> Result<(), AllocError>
+        ensures ok { OnOk result (self.new ≡ self.old ++ spec.queued unit ∷ []) }
+        ensures err { OnErr result (self.new ≡ self.old) }
+    {
+        queue_one(&mut self.units, unit)
+    }
+
+    /// Queues units that were not sent yet, in order, or none of them.
+    pub fn push_all(&mut self, units: Vec<Unit>) -> Result<(), AllocError>
+        ensures ok { OnOk result (self.new ≡ self.old ++ map spec.queued units.items) }
+        ensures err { OnErr result (self.new ≡ self.old) }
+        ensures empty { units.items ≡ [] → IsOk result }
+    {
+        queue_all(&mut self.units, units)
+    }
+}
+
+/// How far a search came: to the first unit that is due, or behind the last one. Those before were
+/// sent at `since` or later.
+#[derive(Clone, Copy)]
+struct Found {
+    place: usize,
+    since: u64,
+}
+
+/// Where a search goes on: behind what is known, or at the first unit once one of those may be due.
+fn go_on(units: &VecDeque<Queued>, searched: usize, since: u64, end: usize, now: u64) -> Found
+    requires { IsSearched units.now.items searched since }
+    ensures { IsFound units.now.items end now result.place result.since }
 {
-    queue.iter().take(sent).position(|q| due(q.at, now))
+    if due(since, now) {
+        return Found {
+            place: 0,
+            since: u64::MAX,
+        };
+    }
+    Found {
+        place: searched.min(end),
+        since,
+    }
+}
+
+/// Searches on, to the first unit that is due or to an end.
+fn search(units: &VecDeque<Queued>, from: Found, end: usize, now: u64) -> Found
+    requires within { end ≤ length units.now.items }
+    requires from { IsFound units.now.items end now from.place from.since }
+    ensures came { IsFound units.now.items end now result.place result.since }
+    ensures stops { result.place < end → IfSome (slice_get units.now.items result.place) (λ q. view.due q.at now ≡ true) }
+{
+    let mut since = from.since;
+    for place in from.place..end {
+        let at = units[place].at;
+        if due(at, now) {
+            return Found { place, since };
+        }
+        since = since.min(at);
+    }
+    Found { place: end, since }
 }
 
 /// The least moment at which one of the sent units was last sent.
-pub fn earliest(queue: &VecDeque<Queued>, sent: usize) -> Option<u64>
+fn earliest(queue: &VecDeque<Queued>, sent: usize) -> Option<u64>
     ensures { result ≡ D.earliest (take sent queue.now.items) }
 {
     let mut least = None;
@@ -54,7 +205,7 @@ pub fn earlier(at: u64, least: Option<u64>) -> u64
 }
 
 /// The first `count` units leave the queue.
-pub fn drop_front(queue: &mut VecDeque<Queued>, count: u16)
+fn drop_front(queue: &mut VecDeque<Queued>, count: u16)
     ensures { queue.new.items ≡ drop count queue.old.items }
 {
     for _ in 0..count {
@@ -63,7 +214,7 @@ pub fn drop_front(queue: &mut VecDeque<Queued>, count: u16)
 }
 
 /// The unit at a place was sent at a moment, so often by then.
-pub fn stamp(queue: &mut VecDeque<Queued>, place: usize, now: u64, count: u8)
+fn stamp(queue: &mut VecDeque<Queued>, place: usize, now: u64, count: u8)
     requires { place < length queue.old.items }
     ensures { IfSome (slice_get queue.old.items place) (λ q. queue.new.items ≡ set queue.old.items place (record { unit = q.unit; at = now; count = count })) }
 {
@@ -84,11 +235,7 @@ fn unsent(unit: Unit) -> Queued
 }
 
 /// Queues the units in order, or none of them.
-pub fn queue_all(
-    alloc: Global,
-    queue: &mut VecDeque<Queued>,
-    units: Vec<Unit>,
-) -> Result<(), AllocError>
+fn queue_all(queue: &mut VecDeque<Queued>, units: Vec<Unit>) -> Result<(), AllocError>
     ensures ok { OnOk result (queue.new.items ≡ queue.old.items ++ map spec.queued units.items) }
     ensures err { OnErr result (queue.new.items ≡ queue.old.items) }
     ensures empty { units.items ≡ [] → IsOk result }
@@ -96,6 +243,19 @@ pub fn queue_all(
     if units.is_empty() {
         return Ok(());
     }
-    let more: Vec<Queued> = units.into_iter().map(unsent).collect(alloc)?;
-    queue.append(&mut VecDeque::from_vec(more))
+    queue.reserve(units.len())?;
+    for unit in units {
+        queue.push_back_reserved(unsent(unit));
+    }
+    Ok(())
+}
+
+/// Queues a unit.
+fn queue_one(queue: &mut VecDeque<Queued>, unit: Unit) -> Result<(), AllocError>
+    ensures ok { OnOk result (queue.new.items ≡ queue.old.items ++ spec.queued unit ∷ []) }
+    ensures err { OnErr result (queue.new.items ≡ queue.old.items) }
+{
+    queue.reserve(1)?;
+    queue.push_back_reserved(unsent(unit));
+    Ok(())
 }

@@ -7,7 +7,6 @@ ghost use Rattle.spx_link.specs.Receive as spec;
 
 use crate::limits::{CONFIRM_STREAM, END_STREAM, MOST_ROOM, NO_ID};
 use crate::link::Link;
-use crate::queue::drop_front;
 use crate::received::Received;
 use crate::state::State;
 use ipx_wire::SpxHeader;
@@ -99,7 +98,7 @@ impl Link {
         ensures { self.new ≡ spec.read_ack ack self.old }
     {
         let count = self.acknowledged(ack);
-        drop_front(&mut self.queue, count);
+        self.queue.drop_first(count);
         self.out -= count;
     }
 

@@ -1,4 +1,4 @@
-use Rattle.std.proofs.Common.{ℕ, ◌≤◌, ◌<◌, List, MatchOption, length, subst, arith}
+use Rattle.std.proofs.Common.{ℕ, ◌≤◌, ◌<◌, List, MatchOption, subst, arith}
 use Rattle.std.proofs.lemmas.List.{length-map}
 use Rattle.spx_link.specs.Leasts.{IsLeastId, IsOver}
 use Rattle.spx_link.specs.LinkView.{LinkView}
