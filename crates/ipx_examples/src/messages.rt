@@ -1,6 +1,6 @@
 //! A message that is cut into units, and joined again by the other side.
 
-ghost use Rattle.std.specs.Prelude.{◌≡◌, ◌<◌, All, IfOk, length};
+ghost use Rattle.std.specs.Prelude.{◌≡◌, ◌≢◌, ◌<◌, All, IfOk, length};
 ghost use Rattle.spx_link.specs.Limits.{end_stream};
 
 use anyhow::Result;
@@ -19,7 +19,7 @@ fn message(alloc: Global) -> Result<Message, AllocError>
 /// Hands a unit to an inbox, and prints the message that it ends, if it ends one. The caller owes a
 /// stream that is not the end of a connection.
 fn hand_on(rt: &impl Print, alloc: Global, inbox: &mut Inbox, unit: &Unit) -> Result<()>
-    requires { unit.now.stream < end_stream }
+    requires { unit.now.stream ≢ end_stream }
 {
     let bytes = unit.body.len();
     println!(rt; "inbox: gets {bytes} bytes")?;

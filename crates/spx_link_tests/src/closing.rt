@@ -77,3 +77,14 @@ fn no_end_before_it_is_live(rt: HostRuntime) -> Result<(), Fail> {
     assert_eq!(rt; opening.end(), Err(OfferFault::NotLive));
     Ok(())
 }
+
+/// A unit behind the peer's end is not kept, and owes nothing.
+#[test]
+fn behind_the_end(rt: HostRuntime) -> Result<(), Fail> {
+    let mut b = joined(&rt, rt.alloc(), 7)?;
+    assert_eq!(rt; b.receive(&end_packet(), &[], 0)?, Received::PeerEnded);
+    assert_eq!(rt; b.sent(0), Some(Sent::Confirm));
+    assert_eq!(rt; b.receive(&unit(0, 1), b"a", 0)?, Received::Ahead);
+    assert_eq!(rt; b.sent(0), None);
+    Ok(())
+}

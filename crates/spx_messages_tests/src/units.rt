@@ -1,12 +1,12 @@
 //! Messages cut into units, and units joined to messages.
 
 use spx_units::{Inbox, Message, MessageFault, cut};
-use std::alloc::Global;
+use std::alloc::{AllocError, Global};
 use std::process::Abort;
 use std::test::Fail;
 
 /// A message of so many bytes, with a byte 07 at the end.
-pub fn message(alloc: Global, stream: u8, length: usize) -> Result<Message, Fail> {
+pub fn message(alloc: Global, stream: u8, length: usize) -> Result<Message, AllocError> {
     let mut body = vec![in alloc; 1u8; length]?;
     if let Some(last) = body.last_mut() {
         *last = 7;
@@ -99,23 +99,29 @@ fn join_rows(rt: HostRuntime) -> Result<(), Fail> {
 fn overlong_row(rt: HostRuntime) -> Result<(), Fail> {
     let alloc = rt.alloc();
     let mut inbox = Inbox::new(alloc);
-    fill(alloc, &mut inbox)?;
-    let two = cut(alloc, &message(alloc, 0, 535)?)?;
+    assert_eq!(rt; fill(alloc, &mut inbox)?, 65_535);
+    let one = cut(alloc, &message(alloc, 0, 1)?)?;
     assert_eq!(rt;
-        two.first().and_then(|unit| inbox.push(alloc, unit).err()),
+        one.first().and_then(|unit| inbox.push(alloc, unit).err()),
         Some(MessageFault::Overlong)
     );
     assert!(rt; joins_alone(alloc, &mut inbox)?);
     Ok(())
 }
 
-/// 122 units of 534 bytes: 65,148 bytes of a message that has not ended.
-fn fill(alloc: Global, inbox: &mut Inbox) -> Result<(), Fail> {
-    let units = cut(alloc, &message(alloc, 0, 65_535)?)?;
-    for unit in units.iter().take(122) {
-        let _part = inbox.push(alloc, unit)?;
+/// Hands on 65,535 bytes of a message that has not ended, and counts them.
+fn fill(alloc: Global, inbox: &mut Inbox) -> Result<usize, Fail> {
+    let mut units = cut(alloc, &message(alloc, 0, 65_535)?)?;
+    if let Some(last) = units.last_mut() {
+        last.last = false;
     }
-    Ok(())
+    let mut bytes: usize = 0;
+    for unit in units.iter() {
+        if unit.stream != 0xfe && inbox.push(alloc, unit)?.is_none() {
+            bytes = bytes.saturating_add(unit.body.len());
+        }
+    }
+    Ok(bytes)
 }
 
 /// A message of one unit comes out as it is.

@@ -1,6 +1,6 @@
 //! Units on their way to a message.
 
-ghost use Rattle.std.specs.Prelude.{◌≡◌, ◌<◌, ◌≤◌, ◌+◌, Err, IfOk, IsOkUnless, None, OnErr, OnOk, Some, false, true, length, option_map};
+ghost use Rattle.std.specs.Prelude.{◌≡◌, ◌≢◌, ◌≤◌, ◌+◌, Err, IfOk, IsOkUnless, None, OnErr, OnOk, Some, false, true, length, option_map};
 ghost use Rattle.spx_link.specs.Limits.{end_stream};
 ghost use Rattle.spx_units.specs.Joining.{added, is_overlong};
 ghost use Rattle.spx_units.specs.Cut.{bytes_of};
@@ -40,12 +40,13 @@ impl Inbox {
         Inbox { rest: None }
     }
 
-    /// Adds a unit, and hands out the message that it ends. The caller owes a stream under FE.
+    /// Adds a unit, and hands out the message that it ends. The caller owes
+    /// another stream than FE, which ends a connection and is of no message.
     ///
     /// The message has the stream of its first unit. Where more than 65,535 bytes came of it, it is
     /// refused as `Overlong` and the inbox is empty. Where memory is refused, the inbox is as it was.
     pub fn push(&mut self, alloc: Global, unit: &Unit) -> Result<Option<Message>, MessageFault>
-        requires { unit.now.stream < end_stream }
+        requires { unit.now.stream ≢ end_stream }
         ensures overlong { is_overlong self.old unit.now ≡ true
             → (result ≡ Err MessageFaults.Overlong) × (self.new ≡ None) }
         ensures whole { is_overlong self.old unit.now ≡ false → unit.now.last ≡ true
