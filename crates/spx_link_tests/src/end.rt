@@ -187,9 +187,17 @@ impl End {
     }
 }
 
+/// An end that asks, with 8 buffers, made again where memory is refused once.
+fn dial_again(alloc: Global) -> Result<End, LinksFault> {
+    match End::dial(alloc, 8) {
+        Ok(end) => Ok(end),
+        Err(_) => End::dial(alloc, 8),
+    }
+}
+
 /// An end that asked, with 8 buffers, and got a reply with an allocation.
 pub fn joined(rt: &impl Abort, alloc: Global, limit: u16) -> Result<End, Fail> {
-    let mut end = End::dial(alloc, 8)?;
+    let mut end = dial_again(alloc)?;
     assert_eq!(rt; end.sent(0), Some(Sent::Request));
     assert_eq!(rt; end.receive(&system(0, limit), &[], 0)?, Received::Joined);
     Ok(end)
