@@ -1,4 +1,4 @@
--- What the search for units that are due keeps.
+-- What the search for units that are due keeps: words of private functions.
 use Rattle.std.specs.Prelude.{ℕ, ◌≤◌, ◌<◌, ◌+◌, List, [], ◌∷◌, length, take}
 use Rattle.spx_link.specs.declared.queue.Queued.{Queued}
 use Rattle.spx_link.specs.Limits.{resend_after}
