@@ -1,5 +1,6 @@
-//! The proved router and links beside plain ones: the same inputs, loops and answers.
+//! The proved router, links and endpoints beside plain ones: the same inputs, loops and answers.
 
+pub mod hosts;
 pub mod inputs;
 pub mod ours;
 pub mod pairs;

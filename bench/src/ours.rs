@@ -1,4 +1,4 @@
-//! The proved router and links, by the functions that `crates/ipx_bench` exports.
+//! The proved router, links and endpoints, by the functions that `crates/ipx_bench` exports.
 
 use crate::inputs::{Pace, Records};
 
@@ -34,6 +34,24 @@ unsafe extern "C" {
         buffers: u16,
         rounds: u32,
     ) -> u64;
+
+    fn ipx_bench_deliver(
+        bytes: *const u8,
+        count: usize,
+        size: usize,
+        buffers: u16,
+        rounds: u32,
+    ) -> u64;
+
+    fn ipx_bench_talk(
+        bytes: *const u8,
+        count: usize,
+        size: usize,
+        buffers: u16,
+        altered: u8,
+        out: *mut u8,
+        room: usize,
+    ) -> usize;
 
     fn ipx_bench_play(
         script: *const u8,
@@ -94,6 +112,32 @@ pub fn answers(records: &Records) -> Vec<u8> {
 pub fn pass(bytes: &[u8], offered: usize, buffers: u16, rounds: u32) -> u64 {
     // SAFETY: the pointer and the length are one slice, which is only read.
     unsafe { ipx_bench_pass(bytes.as_ptr(), bytes.len(), offered, buffers, rounds) }
+}
+
+pub fn deliver(bytes: &[u8], size: usize, buffers: u16, rounds: u32) -> u64 {
+    // SAFETY: the pointer and the length are one slice, which is only read.
+    unsafe { ipx_bench_deliver(bytes.as_ptr(), bytes.len(), size, buffers, rounds) }
+}
+
+/// What two new hosts with so many buffers say when bytes are sent in messages of a size.
+pub fn talk(bytes: &[u8], size: usize, buffers: u16, altered: bool) -> Vec<u8> {
+    let mut out = vec![0; 1 << 24];
+    // SAFETY: each pointer and the length behind it are one slice. The first is only read, and the
+    // second is this function's own.
+    let count = unsafe {
+        ipx_bench_talk(
+            bytes.as_ptr(),
+            bytes.len(),
+            size,
+            buffers,
+            altered.into(),
+            out.as_mut_ptr(),
+            out.len(),
+        )
+    };
+    assert!(count <= out.len(), "the answers take {count} bytes");
+    out.truncate(count);
+    out
 }
 
 /// What a new pair of links with so many buffers answers to a script, as bytes.

@@ -1,12 +1,14 @@
-//! What is measured: calls of both routers and of both pairs of links on the same inputs.
+//! What is measured: calls of both routers, of both pairs of links and of both pairs of hosts on the
+//! same inputs.
 
 use crate::inputs::{
     AT_ONCE, FIRST_LEARNED, LEAD, PORT_NETWORKS, Pace, Records, asking, fifty_of, others, packets,
     refused, routes, routes_and_services, routes_and_services_by_key,
 };
+use crate::plain::endpoint::MOST_BYTES;
 use crate::plain::spx::MOST_DATA;
 use crate::scripts::{Met, Script, bytes, scripts};
-use crate::{ours, pairs, theirs};
+use crate::{hosts, ours, pairs, theirs};
 use std::hint::black_box;
 use std::rc::Rc;
 
@@ -27,7 +29,10 @@ const SERVICES: u32 = 4096;
 const KNOWN: u32 = 1000;
 const PASSED: usize = 1_000_000;
 const BUFFERS: u16 = 8;
-const OFFERED: [usize; 2] = [8, 1873];
+
+/// How many units are offered by one call of a row, and how many buffers there are: as many as pass
+/// before the other end answers.
+pub const PASSES: [(usize, u16); 3] = [(8, BUFFERS), (1873, BUFFERS), (8192, 8192)];
 
 fn decode(size: usize) -> Row {
     let records = packets(size, |k| PORT_NETWORKS[1 + k as usize % 2]);
@@ -179,20 +184,39 @@ fn tell() -> Row {
     }
 }
 
-/// Bytes that pass over a pair of links that stands. A call is a unit. Neither side's compiler
-/// knows how many are offered and how many buffers there are.
-fn pass(offered: usize) -> Row {
-    let data = Rc::new(bytes(PASSED));
-    let same = Rc::clone(&data);
+/// Bytes that pass over a pair of links that stands, at least as many as one call offers. A call is
+/// a unit. Neither side's compiler knows how many are offered and how many buffers there are.
+pub fn pass((offered, buffers): (usize, u16)) -> Row {
     let part = offered * MOST_DATA;
+    let data = Rc::new(bytes(PASSED.max(part)));
+    let same = Rc::clone(&data);
     Row {
-        name: format!("SPX units, {BUFFERS} buffers, {offered} offered"),
-        calls: PASSED.div_ceil(MOST_DATA) as u32,
+        name: format!("SPX units, {buffers} buffers, {offered} offered"),
+        calls: data.len().div_ceil(MOST_DATA) as u32,
         ours: Box::new(move |rounds| {
-            ours::pass(&data, black_box(part), black_box(BUFFERS), rounds)
+            ours::pass(&data, black_box(part), black_box(buffers), rounds)
         }),
         theirs: Box::new(move |rounds| {
-            pairs::pass(&same, black_box(part), black_box(BUFFERS), rounds)
+            pairs::pass(&same, black_box(part), black_box(buffers), rounds)
+        }),
+    }
+}
+
+/// Bytes that pass in messages from one host to another in memory. A call is a unit.
+fn deliver() -> Row {
+    let data = Rc::new(bytes(PASSED));
+    let same = Rc::clone(&data);
+    let units = data
+        .chunks(MOST_BYTES)
+        .map(|message| message.len().div_ceil(MOST_DATA));
+    Row {
+        name: format!("messages of {MOST_BYTES}, {BUFFERS} buffers"),
+        calls: units.sum::<usize>() as u32,
+        ours: Box::new(move |rounds| {
+            ours::deliver(&data, black_box(MOST_BYTES), black_box(BUFFERS), rounds)
+        }),
+        theirs: Box::new(move |rounds| {
+            hosts::deliver_rounds(&same, black_box(MOST_BYTES), black_box(BUFFERS), rounds)
         }),
     }
 }
@@ -213,7 +237,8 @@ pub fn all() -> Vec<Row> {
         .chain(hear_all())
         .chain(ask_all())
         .chain([tell()])
-        .chain(OFFERED.map(pass))
+        .chain(PASSES.map(pass))
+        .chain([deliver()])
         .collect()
 }
 
@@ -292,7 +317,7 @@ fn check_script(script: &Script) {
 pub fn check_links() {
     let (mut calls, mut count) = (0, 0);
     let mut met = Met::default();
-    for script in scripts(PASSED, OFFERED[0], BUFFERS) {
+    for script in scripts(PASSED, PASSES[0].0, BUFFERS) {
         check_script(&script);
         calls += script.events.len() / script.size;
         count += script.answers.len();
@@ -300,6 +325,32 @@ pub fn check_links() {
     }
     met.check();
     println!("same answers: links, {calls} calls, {count} bytes");
+}
+
+/// Stops the program unless both pairs of hosts say the same bytes: as datagrams come, and where each
+/// comes altered first.
+pub fn check_hosts() {
+    let data = bytes(4 * MOST_BYTES);
+    let mut count = 0;
+    for (size, most) in [
+        (1, 40),
+        (534, 16),
+        (535, 16),
+        (5000, 8),
+        (MOST_BYTES, 2),
+        (MOST_BYTES + 1, 1),
+    ] {
+        let sent = &data[..size * most];
+        for (altered, buffers) in [(false, 8), (false, 1), (true, 8), (true, 1)] {
+            let ours = ours::talk(sent, size, buffers, altered);
+            assert!(
+                ours == hosts::talk(sent, size, buffers, altered),
+                "the hosts differ: messages of {size}, {buffers} buffers, altered {altered}"
+            );
+            count += ours.len();
+        }
+    }
+    println!("same answers: hosts, {count} bytes");
 }
 
 /// Stops the program unless both sides digest the same answers in the row's own loops.

@@ -131,7 +131,7 @@ fn write_reply(reply: &Reply, out: &mut Vec<u8>) {
     out.extend(&reply.bytes);
 }
 
-fn fault_number(fault: &IpxFault) -> u8 {
+pub fn fault_number(fault: &IpxFault) -> u8 {
     match fault {
         IpxFault::Short(_) => 1,
         IpxFault::Checksummed(_) => 2,

@@ -3,7 +3,7 @@
 //! The linker has each call of the C allocator go through the functions here (`--wrap`), on both
 //! sides alike. Timing is done by another program, which counts nothing.
 
-use ipx_bench::rows::{all, check_row};
+use ipx_bench::rows::{PASSES, all, check_row, pass};
 use std::ffi::{c_int, c_void};
 use std::sync::atomic::{AtomicU64, Ordering::Relaxed};
 
@@ -87,7 +87,27 @@ fn a_call(calls: &dyn Fn(u32) -> u64, a_round: u32) -> (f64, f64) {
     ((all.0 - none.0) / calls, (all.1 - none.1) / calls)
 }
 
+/// Stops the program unless the proved pair of links takes one block for each call that offers, for
+/// the list that its units are cut into. So `poll`, `receive` and `take` take none. The first two
+/// rounds do not count: in them a link takes room that it keeps.
+fn check_pass(offered: usize, buffers: u16) {
+    const ROUNDS: u32 = 2;
+    let row = pass((offered, buffers));
+    let offers = row.calls.div_ceil(offered as u32);
+    let (first, all) = (counted(&*row.ours, ROUNDS), counted(&*row.ours, 2 * ROUNDS));
+    let (blocks, wanted) = (all.0 - first.0, f64::from(ROUNDS * offers));
+    assert!(
+        blocks == wanted,
+        "{}: {blocks} blocks for {wanted} offers",
+        row.name
+    );
+}
+
 fn main() {
+    for (offered, buffers) in PASSES {
+        check_pass(offered, buffers);
+    }
+    println!("no memory: poll, receive and take of links\n");
     println!(
         "{:<36} {:>12} {:>12} {:>12} {:>12}",
         "memory a call", "ours", "plain Rust", "ours bytes", "plain bytes"

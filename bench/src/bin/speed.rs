@@ -1,6 +1,8 @@
 //! How many calls a second both sides make: the proved router and links, and the plain ones.
+//!
+//! An argument narrows the rows to those whose names have it.
 
-use ipx_bench::rows::{Row, all, check_answers, check_links, check_row};
+use ipx_bench::rows::{Row, all, check_answers, check_hosts, check_links, check_row};
 use std::time::{Duration, Instant};
 
 /// How long the calls of one repetition take at least (and no less than what comes before them), how
@@ -94,11 +96,19 @@ fn print(row: &Row, ours: &Side, theirs: &Side) {
     );
 }
 
+/// Prints every row, or those whose names have the word that is given.
 fn main() {
+    let word = std::env::args().nth(1).unwrap_or_default();
+    let mut rows = all();
+    rows.retain(|row| row.name.contains(&word));
     check_answers();
-    check_links();
+    if rows.iter().any(|row| row.name.starts_with("SPX")) {
+        check_links();
+    }
+    if rows.iter().any(|row| row.name.starts_with("messages")) {
+        check_hosts();
+    }
     println!();
-    let rows = all();
     rows.iter().for_each(check_row);
     let mut sides = rows
         .iter()

@@ -11,11 +11,11 @@ const MOST_UNITS: u16 = 8192;
 const MOST_SENDS: u8 = 10;
 const RESEND_AFTER: u64 = 500;
 const MOST_ROOM: u16 = 16383;
-const END_STREAM: u8 = 0xfe;
+pub(super) const END_STREAM: u8 = 0xfe;
 const CONFIRM_STREAM: u8 = 0xff;
-const NO_ID: u16 = 0xffff;
+pub(super) const NO_ID: u16 = 0xffff;
 
-#[derive(Clone, Debug, PartialEq, Eq)]
+#[derive(Clone, Debug)]
 pub struct Unit {
     pub stream: u8,
     pub last: bool,
@@ -128,6 +128,7 @@ pub struct Link {
     owes_ack: bool,
     end_queued: bool,
     peer_ended: bool,
+    accepted: bool,
 }
 
 impl Link {
@@ -155,6 +156,7 @@ impl Link {
             owes_ack: false,
             end_queued: false,
             peer_ended: false,
+            accepted: false,
         }
     }
 
@@ -170,6 +172,7 @@ impl Link {
             state: State::Live,
             peer: request.from_id,
             owes_reply: true,
+            accepted: true,
             ..Link::dial(own, local, remote, buffers, now)
         };
         link.read_limit(request.limit);
@@ -190,6 +193,11 @@ impl Link {
 
     pub fn remote(&self) -> Address {
         self.remote
+    }
+
+    /// Whether it was made by a request from this address and id.
+    pub fn is_accepted_from(&self, from: Address, id: u16) -> bool {
+        self.accepted && self.remote == from && self.peer == id
     }
 
     pub fn numbers(&self) -> Numbers {

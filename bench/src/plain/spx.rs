@@ -1,5 +1,8 @@
 //! SPX headers, and the data of one packet.
 
+use std::fmt;
+use std::mem::MaybeUninit;
+
 pub const HEADER: usize = 12;
 
 /// The most data that a packet carries.
@@ -31,19 +34,20 @@ pub enum SpxFault {
     OverSize(usize),
 }
 
-/// The data of one packet.
-#[derive(Clone, Debug, PartialEq, Eq)]
+/// The data of one packet, in place. What lies behind its length is neither written nor read, as in
+/// a vector of a fixed room.
+#[derive(Clone)]
 pub struct Fragment {
     len: usize,
-    bytes: [u8; MOST_DATA],
+    bytes: [MaybeUninit<u8>; MOST_DATA],
 }
 
 impl Fragment {
     /// The fragment of at most 534 bytes.
     #[inline]
     pub fn new(data: &[u8]) -> Self {
-        let mut bytes = [0; MOST_DATA];
-        bytes[..data.len()].copy_from_slice(data);
+        let mut bytes = [MaybeUninit::uninit(); MOST_DATA];
+        bytes[..data.len()].write_copy_of_slice(data);
         Fragment {
             len: data.len(),
             bytes,
@@ -52,7 +56,14 @@ impl Fragment {
 
     #[inline]
     pub fn as_slice(&self) -> &[u8] {
-        &self.bytes[..self.len]
+        // SAFETY: `new` wrote the first `len` bytes, and nothing changes a fragment.
+        unsafe { self.bytes[..self.len].assume_init_ref() }
+    }
+}
+
+impl fmt::Debug for Fragment {
+    fn fmt(&self, f: &mut fmt::Formatter<'_>) -> fmt::Result {
+        fmt::Debug::fmt(self.as_slice(), f)
     }
 }
 

@@ -6,7 +6,7 @@ pub struct Network(pub u32);
 #[derive(Clone, Copy, Debug, PartialEq, Eq, PartialOrd, Ord)]
 pub struct Node(pub [u8; 6]);
 
-#[derive(Clone, Copy, Debug, PartialEq, Eq, PartialOrd, Ord)]
+#[derive(Clone, Copy, Debug, PartialEq, Eq, PartialOrd, Ord, Hash)]
 pub struct Socket(pub u16);
 
 #[derive(Clone, Copy, Debug, PartialEq, Eq, PartialOrd, Ord)]
@@ -26,6 +26,14 @@ impl Address {
             node: Node([e, f, g, h, i, j]),
             socket: Socket(u16::from_be_bytes([k, l])),
         }
+    }
+
+    /// Writes it to 12 bytes.
+    #[inline]
+    pub fn put(&self, out: &mut [u8]) {
+        out[..4].copy_from_slice(&self.network.0.to_be_bytes());
+        out[4..10].copy_from_slice(&self.node.0);
+        out[10..12].copy_from_slice(&self.socket.0.to_be_bytes());
     }
 
     pub fn write_to(&self, out: &mut Vec<u8>) {
@@ -102,4 +110,15 @@ pub fn write_header(header: &Header, body: usize, out: &mut Vec<u8>) {
     out.extend_from_slice(&[header.hops, header.kind]);
     header.to.write_to(out);
     header.from.write_to(out);
+}
+
+/// The same to the 30 bytes in front of the body.
+#[inline]
+pub fn put_header(header: &Header, body: usize, out: &mut [u8]) {
+    let length = (HEADER + body) as u16;
+    out[..2].copy_from_slice(&[0xff, 0xff]);
+    out[2..4].copy_from_slice(&length.to_be_bytes());
+    out[4..6].copy_from_slice(&[header.hops, header.kind]);
+    header.to.put(&mut out[6..18]);
+    header.from.put(&mut out[18..30]);
 }

@@ -124,12 +124,12 @@ fn all_altered() -> impl Iterator<Item = Script> {
 
 /// An allocation over the most units that may be outstanding, and more units than that.
 fn crowded() -> Script {
-    let mut script = Script::new(ROOM, 8);
+    let mut script = Script::new(2800, 8);
     script.poll(FAR);
     let mut reply = script.wires[FAR][0].clone();
     reply[10] = 0x20;
     script.hand_over(NEAR, &reply);
-    script.offer_each(&bytes(8400), 2800, Cut::units(1));
+    script.offer_each(&bytes(8400), 525, Cut::units(1));
     script.poll_all(NEAR);
     let out = script.pair.near.link().map(|link| link.numbers().out);
     assert_eq!(out, Some(8192), "fewer units are outstanding than may be");

@@ -3,7 +3,8 @@
 use crate::faults::reason_number;
 use ipx_router::{Outcome, Reply};
 use ipx_wire::{Address, Node, Packet, SpxHeader};
-use spx_link::Unit;
+use spx_link::{Sent, Unit};
+use spx_messages::{Arrived, Message};
 
 /// The digest of what came before and of one number more.
 pub fn mixed(digest: u64, number: u64) -> u64 {
@@ -82,4 +83,35 @@ pub fn spx_digest(header: &SpxHeader, body: &[u8]) -> u64 {
 pub fn unit_digest(unit: &Unit) -> u64 {
     let kind = mixed(u64::from(unit.stream), u64::from(unit.last));
     mixed(kind, ends_digest(unit.body.as_slice()))
+}
+
+/// The digest of a datagram that a host gave: the node that it goes to next, whose it is and what,
+/// and its bytes at some places.
+pub fn given_digest(next: Node, sent: Option<(u16, Sent)>, datagram: &[u8]) -> u64 {
+    let what = match sent {
+        Some((id, what)) => mixed(u64::from(id), what as u64),
+        None => 0,
+    };
+    let sequence = mixed(byte_at(datagram, 36), byte_at(datagram, 37));
+    let place = mixed(node_number(next), what);
+    mixed(place ^ sequence, ends_digest(datagram))
+}
+
+/// The digest of what became of a datagram at a host.
+pub fn arrived_digest(arrived: &Arrived) -> u64 {
+    match arrived {
+        Arrived::Bad(fault) => u64::from(fault.number()),
+        Arrived::NotOurs => 20,
+        Arrived::BadSpx(fault) => u64::from(fault.number()),
+        Arrived::NoListener => 21,
+        Arrived::NoRoom => 22,
+        Arrived::Stranger => 23,
+        Arrived::Accepted(id) => mixed(24, u64::from(*id)),
+        Arrived::Link(id, received) => mixed(u64::from(*id), *received as u64),
+    }
+}
+
+/// The digest of a message.
+pub fn message_digest(message: &Message) -> u64 {
+    mixed(u64::from(message.stream), ends_digest(&message.body))
 }

@@ -1,13 +1,17 @@
-//! The calls of the router and of the links in loops, exported for the benchmark beside plain Rust.
+//! The calls of the router, of links and of endpoints in loops, exported for the benchmark beside
+//! plain Rust.
 #![tactic(auto)]
 
 mod answering;
 mod decoding;
+mod delivering;
 mod digest;
 mod faults;
 mod feeding;
+mod hosts;
 mod pair;
 mod passing;
 mod playing;
 mod receiving;
+mod talking;
 mod telling;

@@ -12,4 +12,4 @@ pub use laws::{
 pub(crate) use packet::RIP_ENTRY_SIZE;
 pub use packet::{RIP_MAX_ENTRIES, Rip, RipEntry};
 pub use reading::decode_rip;
-pub use writing::encode_rip_into;
+pub use writing::{encode_rip_into, encode_routes_into};

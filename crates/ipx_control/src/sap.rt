@@ -12,4 +12,4 @@ pub use laws::{
 pub(crate) use packet::SERVICE_SIZE;
 pub use packet::{SAP_MAX_SERVICES, Sap, ServiceEntry};
 pub use reading::decode_sap;
-pub use writing::encode_sap_into;
+pub use writing::{encode_sap_into, encode_services_into};

@@ -1,6 +1,6 @@
 -- What stays tied when a parcel is made.
 use Rattle.std.proofs.Common.{◌≡◌, ◌<◌, ℕ, List, [], ◌∷◌, ◌++◌, length, take, Option, Some, sym, ◌∙◌, inl, inr, ap, subst, arith, length-append}
-use Rattle.std.specs.Prelude.{slice_get}
+use Rattle.std.specs.Prelude.{Contains, slice_get}
 use Rattle.std.proofs.lemmas.List.{take-append-le}
 use Rattle.std.proofs.lemmas.Option.{slice_get_within, slice_get-get_or}
 use Rattle.std.proofs.lemmas.Bool.{cases_lt}
@@ -30,6 +30,7 @@ pub record Adds (c d : ℕ) (ends : List Stand) (parcels : List (List ℕ)) (byt
   pub later : Later x.end y.end x'.end y'.end
   pub units : x'.end.units ≡ x.end.units
   pub buffers : x'.end.buffers ≡ x.end.buffers
+  pub bag : (p : Packet) → Contains x.end.bag p → Contains x'.end.bag p
   pub mine : Option Packet
   pub mail : x'.mail ≡ x.mail ++ mine ∷ []
   pub count : x'.end.sent ≡ times c (sent ++ more)
@@ -38,13 +39,14 @@ pub record Adds (c d : ℕ) (ends : List Stand) (parcels : List (List ℕ)) (byt
   pub link : (e : Stand) (l : LinkView) → slice_get ends c ≡ Some e → e.link ≡ Some l → Follows l x'.end y'.end
 
 pub letter_stays : (c d : ℕ) (parcels : List (List ℕ)) (bytes : List ℕ) (marks : List Mark) (m : Mark) (sent more : List ℕ) (x y x' y' : Half)
-    → length marks ≡ length parcels → Later x.end y.end x'.end y'.end → x'.end.units ≡ x.end.units
+    → length marks ≡ length parcels → Later x.end y.end x'.end y'.end → x'.end.units ≡ x.end.units → ((p : Packet) → Contains x.end.bag p → Contains x'.end.bag p)
     → (k : ℕ) (q : Packet) → k < length marks → Letter c d parcels marks sent x y k q → Letter c d (parcels ++ bytes ∷ []) (marks ++ m ∷ []) (sent ++ more) x' y' k q
-letter_stays c d parcels bytes marks m sent more x y x' y' same later units k q within letter =
+letter_stays c d parcels bytes marks m sent more x y x' y' same later units bag k q within letter =
     let at : mark_at (marks ++ m ∷ []) k ≡ mark_at marks k = mark_before marks m k within in
     let front : take (mark_at marks k).units (sent ++ more) ≡ take (mark_at marks k).units sent = take-append-le (mark_at marks k).units sent more letter.within in
     record {
       was = was_later x.end y.end x'.end y'.end later q letter.was;
+      posted = bag q letter.posted;
       maker = ap (λ (n : Mark). end_of n.maker) at ∙ letter.maker;
       own = letter.own ∙ sym (ap (λ (n : Mark). times c (take n.units (sent ++ more))) at ∙ ap (times c) front);
       other = letter.other ∙ sym (ap (λ (n : Mark). times d (take n.units (sent ++ more))) at ∙ ap (times d) front);
@@ -62,7 +64,7 @@ adds c d ends ends' parcels bytes marks m sent more x y x' y' same a t =
     record {
       link = a.link;
       letters = λ k q at. elim (get_last x.mail a.mine (Some q) k (ap (λ ms. slice_get ms k) (sym a.mail) ∙ at)) [
-        | inl before ↦ letter_stays c d parcels bytes marks m sent more x y x' y' same a.later a.units k q
+        | inl before ↦ letter_stays c d parcels bytes marks m sent more x y x' y' same a.later a.units a.bag k q
             (omega (arith, slice_get_within x.mail k (Some q) before, t.mail)) (t.letters k q before)
         | inr here ↦ subst (λ i. Letter c d (parcels ++ bytes ∷ []) (marks ++ m ∷ []) (sent ++ more) x' y' i q) (sym (here.0 ∙ t.mail)) (a.letter q here.1)
       ];

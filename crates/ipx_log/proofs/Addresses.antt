@@ -6,7 +6,8 @@ use Rattle.ipx_log.specs.Note.{Note, Released}
 use Rattle.ipx_log.specs.Scan.{Scan, Reading, seen_all, scan, unread}
 use Rattle.ipx_log.specs.Peers.{ArePeersIn, NothingInjected}
 use Rattle.ipx_log.specs.Addresses.{NothingReleased, AddressesTellPeers}
-use Rattle.ipx_log.specs.Scene.{Scene, Home}
+use Rattle.ipx_log.specs.Scene.{Scene}
+use Rattle.spx_units.specs.Packets.{Home}
 use Rattle.ipx_log.specs.Deeds.{Deed, Does, Dials, Accepts, Reads, OwesReply, Gives, Rests, Sends, Takes, Overruns, Closes, Releases, Carries, Tells, Injects, IsBegun, Reached, begun, happened}
 use Rattle.ipx_log.proofs.Lists.{get_before}
 use Rattle.ipx_log.proofs.Folding.{seen_all-append}

@@ -64,6 +64,7 @@ held_begun laws c d a b s small small' is =
     (record {
       whole = record {
         sound = laws.start a b;
+        run = record { one = a; two = b; steps = []; run = refl };
         count = refl;
         one = record { link = λ e l at. absurd (cc at); letters = λ k q at. absurd (cc at); all = λ k within. absurd (omega (arith, within)); mail = refl; count = refl; formed = (false, formed_none); small = small };
         two = record { link = λ e l at. absurd (cc at); letters = λ k q at. absurd (cc at); all = λ k within. absurd (omega (arith, within)); mail = refl; count = refl; formed = (false, formed_none); small = small' };

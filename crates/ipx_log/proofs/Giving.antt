@@ -6,6 +6,8 @@ use Rattle.std.proofs.lemmas.Option.{slice_get_within}
 use Rattle.spx_link.specs.LinkView.{LinkView}
 use Rattle.spx_link.specs.Poll.{OutgoingView}
 use Rattle.spx_link.specs.Machine.{End, Packet, WasSent, packet_now, mailed, AreSound}
+use Rattle.std.specs.Prelude.{Contains}
+use Rattle.ipx_log.proofs.Running.{Runs, behind_one, in_front}
 use Rattle.ipx_log.proofs.Stepping.{Later}
 use Rattle.ipx_log.specs.SentUnits.{SaysOnly}
 use Rattle.ipx_wire.specs.Connection.{IsConnectionPacket}
@@ -46,6 +48,8 @@ module _ (c d : ℕ) (differ : c ≢ d) (ends : List Stand) (parcels : List (Lis
   -- the end e of c, which stands just before the packet is mailed
   pub record Gave (position : Option ℕ) (e : End) (w : Stand) (l : LinkView) (g : OutgoingView) (bytes : List ℕ) (m : Mark) : Type 0 where
     pub sound : AreSound (mailed position e y.end) y.end
+    pub run : Runs (mailed position e y.end) y.end
+    pub bag : e.bag ≡ x.end.bag
     pub later : Later x.end y.end (mailed position e y.end) y.end
     pub back : Later y.end x.end y.end (mailed position e y.end)
     pub units : e.units ≡ x.end.units
@@ -72,11 +76,13 @@ module _ (c d : ℕ) (differ : c ≢ d) (ends : List Stand) (parcels : List (Lis
       let follows : Follows l e y.end = record { tracks = a.says.tracks; open' = a.open' } in
       record {
         sound = a.sound;
+        run = a.run;
         one = adds c d ends ends' parcels bytes marks m sent more x y x' y' whole.count
             (record {
               later = a.later;
               units = a.units;
               buffers = a.buffers;
+              bag = λ p there. behind_one q p e.bag (subst (λ ps. Contains ps p) (sym a.bag) there);
               mine = Some q;
               mail = refl;
               count = a.count;
@@ -86,6 +92,7 @@ module _ (c d : ℕ) (differ : c ≢ d) (ends : List Stand) (parcels : List (Lis
                   subst (λ r. Letter c d (parcels ++ bytes ∷ []) (marks ++ m ∷ []) (sent ++ more) x' y' (length marks) r) same
                   (record {
                     was = All-head (WasSent (mailed position e y.end) y.end) q e.bag a.sound.bag;
+                    posted = in_front q e.bag;
                     maker = ap (λ (n : Mark). end_of n.maker) here ∙ a.by;
                     own = a.count ∙ sym (ap (times c) upto);
                     other = a.peer_count ∙ sym (ap (times d) upto);
@@ -107,6 +114,7 @@ module _ (c d : ℕ) (differ : c ≢ d) (ends : List Stand) (parcels : List (Lis
               later = a.back;
               units = refl;
               buffers = refl;
+              bag = λ p there. there;
               mine = None;
               mail = refl;
               count = a.peer_count;

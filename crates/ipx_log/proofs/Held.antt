@@ -3,6 +3,7 @@ use Rattle.std.proofs.Common.{◌≡◌, ◌≢◌, ◌≤◌, ℕ, zero, suc, t
 use Rattle.std.specs.Prelude.{slice_get}
 use Rattle.spx_link.specs.LinkView.{LinkView}
 use Rattle.spx_link.specs.Machine.{End}
+use Rattle.ipx_log.proofs.Running.{runs_over}
 use Rattle.ipx_log.proofs.Stepping.{swapped}
 use Rattle.spx_units.specs.Message.{MessageView}
 use Rattle.ipx_log.specs.Note.{Note}
@@ -40,7 +41,7 @@ pub record Held (c d a b : ℕ) (ends : List Stand) (parcels : List (List ℕ)) 
   pub unmade : length ends ≤ d → IsNew b p.two.end
 
 pub turned : (c d : ℕ) (ends : List Stand) (parcels : List (List ℕ)) (marks : List Mark) (sent : List ℕ) (x y : Half) → Whole c d ends parcels marks sent x y → Whole d c ends parcels marks sent y x
-turned c d ends parcels marks sent x y w = record { sound = swapped x.end y.end w.sound; one = w.two; two = w.one; count = w.count }
+turned c d ends parcels marks sent x y w = record { sound = swapped x.end y.end w.sound; run = runs_over x.end y.end w.run; one = w.two; two = w.one; count = w.count }
 
 module _ (c d a b : ℕ) where
   abbrev pub HeldAt : Scene → Type 0

@@ -16,6 +16,8 @@ use Rattle.spx_link.specs.Marks.{mark, room_after}
 use Rattle.spx_link.specs.Receive.{is_system}
 use Rattle.spx_link.specs.Offer.{dialed, accepted_from}
 use Rattle.spx_link.specs.Machine.{End, Packet, got, learned, read_unit}
+use Rattle.std.specs.Prelude.{Contains}
+use Rattle.ipx_log.proofs.Running.{got_runs, runs_over}
 use Rattle.ipx_log.proofs.Stepping.{swapped}
 use Rattle.ipx_wire.specs.Connection.{IsConnectionPacket}
 use Rattle.ipx_log.specs.Note.{Opened, Accepted, Got}
@@ -27,7 +29,7 @@ use Rattle.ipx_pairs.specs.Tracks.{Formed, Follows}
 use Rattle.ipx_pairs.specs.Spelling.{Carries}
 use Rattle.ipx_pairs.specs.States.{is_quiet}
 use Rattle.ipx_log.specs.Scene.{Stand}
-use Rattle.ipx_log.specs.Packets.{IsRequestFor}
+use Rattle.spx_units.specs.Packets.{IsRequestFor}
 use Rattle.ipx_log.proofs.Lists.{get_last, get_before, get_here, read_there}
 use Rattle.ipx_log.proofs.Tied.{mark_at, Letter}
 use Rattle.ipx_log.proofs.Moving.{moves, sees_same}
@@ -138,6 +140,7 @@ module _ (c d a b : ℕ) (differ : c ≢ d) (ends : List Stand) (parcels : List 
             record {
               whole = record {
                 sound = h.whole.sound;
+                run = h.whole.run;
                 count = h.whole.count;
                 one = moves c d ends (ends ++ e ∷ []) parcels s.marks s.sent p.one p.two p.one p.two
                     (record {
@@ -147,6 +150,7 @@ module _ (c d a b : ℕ) (differ : c ≢ d) (ends : List Stand) (parcels : List 
                       mail = refl;
                       sent = refl;
                       buffers = refl;
+                      bag = λ g there. there;
                       formed = h.whole.one.formed;
                       link = λ f m at is. elim (get_last ends e f c at) [
                         | inl was ↦ absurd (omega (arith, slice_get_within ends c f was, one))
@@ -164,6 +168,7 @@ module _ (c d a b : ℕ) (differ : c ≢ d) (ends : List Stand) (parcels : List 
                       mail = refl;
                       sent = refl;
                       buffers = refl;
+                      bag = λ g there. there;
                       formed = h.whole.two.formed;
                       link = λ f m at is. elim (get_last ends e f d at) [ inl was ↦ h.whole.two.link f m was is | inr here ↦ absurd (differ (sym one ∙ sym here.0)) ];
                     }) h.whole.two;
@@ -228,6 +233,7 @@ module _ (c d a b : ℕ) (differ : c ≢ d) (ends : List Stand) (parcels : List 
               (subst (λ y. Held c d a b ends' parcels t (record { one = p.one; two = y })) (sym is_d)
               (record {
                 whole = record {
+                  run = runs_over y'.end p.one.end (got_runs p.two.end p.one.end (runs_over p.one.end p.two.end held.whole.run) q letter.posted);
                   sound = swapped y'.end p.one.end (laws.gets p.two.end p.one.end q (swapped p.one.end p.two.end held.whole.sound) letter.was);
                   count = held.whole.count;
                   one = moves c d ends ends' parcels s.marks s.sent p.one p.two p.one y'
@@ -238,6 +244,7 @@ module _ (c d a b : ℕ) (differ : c ≢ d) (ends : List Stand) (parcels : List 
                         mail = refl;
                         sent = refl;
                         buffers = refl;
+                        bag = λ g there. there;
                         formed = held.whole.one.formed;
                         link = λ f m at is. elim (get_last ends e f c at) [
                           | inl was ↦ sees_same m p.one.end p.two.end y'.end units (held.whole.one.link f m was is)
@@ -252,6 +259,7 @@ module _ (c d a b : ℕ) (differ : c ≢ d) (ends : List Stand) (parcels : List 
                         mail = refl;
                         sent = got_same (λ (x : End). x.sent) q p.two.end (λ i j x. refl) (λ i j x. refl);
                         buffers = got_same (λ (x : End). x.buffers) q p.two.end (λ i j x. refl) (λ i j x. refl);
+                        bag = λ g there. subst (λ gs. Contains gs g) (sym (got_same (λ (x : End). x.bag) q p.two.end (λ i j x. refl) (λ i j x. refl))) there;
                         formed = (held.whole.two.formed.0, subst (λ us. Formed us held.whole.two.formed.0) (sym units) held.whole.two.formed.1);
                         link = λ f m at is. elim (get_last ends e f d at) [
                           | inl was ↦ absurd (omega (arith, slice_get_within ends d f was, two))

@@ -41,6 +41,8 @@ pub mod PeerFinding
 pub mod Placing
 pub mod Ranges
 pub mod Reading
+pub mod Running
+pub mod RunOfPair
 pub mod SenderLogs
 pub mod SenderScenes
 pub mod Speaking

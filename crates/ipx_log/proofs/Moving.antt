@@ -1,6 +1,6 @@
 -- What stays tied when one end of a machine moves.
 use Rattle.std.proofs.Common.{◌≡◌, ◌≢◌, ◌+◌, ℕ, Bool, true, List, ◌++◌, length, take, drop, set, Option, Some, None, refl, sym, ◌∙◌, inl, inr, ap, subst, arith}
-use Rattle.std.specs.Prelude.{slice_get}
+use Rattle.std.specs.Prelude.{Contains, slice_get}
 use Rattle.ipx_wire.specs.declared.spx.packet.SpxHeader.{SpxHeader}
 use Rattle.spx_link.specs.declared.unit.Unit.{Unit}
 use Rattle.spx_link.specs.LinkView.{LinkView}
@@ -38,11 +38,12 @@ carries_more (Some n) units more h body has = (has.0, has.1, get_before units mo
 
 -- a letter stands while both ends move on
 pub letter_later : (c d : ℕ) (parcels : List (List ℕ)) (marks : List Mark) (sent : List ℕ) (x y x' y' : Half) (more : List Unit)
-    → Later x.end y.end x'.end y'.end → x'.end.units ≡ x.end.units ++ more
+    → Later x.end y.end x'.end y'.end → x'.end.units ≡ x.end.units ++ more → ((p : Packet) → Contains x.end.bag p → Contains x'.end.bag p)
     → (k : ℕ) (q : Packet) → Letter c d parcels marks sent x y k q → Letter c d parcels marks sent x' y' k q
-letter_later c d parcels marks sent x y x' y' more later units k q letter =
+letter_later c d parcels marks sent x y x' y' more later units bag k q letter =
     record {
       was = was_later x.end y.end x'.end y'.end later q letter.was;
+      posted = bag q letter.posted;
       maker = letter.maker;
       own = letter.own;
       other = letter.other;
@@ -58,6 +59,7 @@ pub record Moved (c d : ℕ) (ends : List Stand) (x y x' y' : Half) : Type 0 whe
   pub more : List Unit
   pub units : x'.end.units ≡ x.end.units ++ more
   pub mail : x'.mail ≡ x.mail
+  pub bag : (p : Packet) → Contains x.end.bag p → Contains x'.end.bag p
   pub sent : x'.end.sent ≡ x.end.sent
   pub buffers : x'.end.buffers ≡ x.end.buffers
   pub formed : (closed : Bool) × Formed x'.end.units closed
@@ -68,7 +70,7 @@ pub moves : (c d : ℕ) (ends ends' : List Stand) (parcels : List (List ℕ)) (m
 moves c d ends ends' parcels marks sent x y x' y' m t =
     record {
       link = m.link;
-      letters = λ k q at. letter_later c d parcels marks sent x y x' y' m.more m.later m.units k q (t.letters k q (ap (λ ms. slice_get ms k) (sym m.mail) ∙ at));
+      letters = λ k q at. letter_later c d parcels marks sent x y x' y' m.more m.later m.units m.bag k q (t.letters k q (ap (λ ms. slice_get ms k) (sym m.mail) ∙ at));
       all = λ k within by. let found = t.all k within by in (found.0, ap (λ ms. slice_get ms k) m.mail ∙ found.1);
       mail = ap length m.mail ∙ t.mail;
       count = m.sent ∙ t.count;

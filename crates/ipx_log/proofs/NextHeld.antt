@@ -20,8 +20,9 @@ use Rattle.ipx_log.specs.PairLog.{Half, Pair, pair_after, pair_from, pair_of}
 use Rattle.ipx_pairs.specs.Tracks.{Formed, core, Follows, may_end}
 use Rattle.ipx_pairs.specs.Spelling.{PolledTo}
 use Rattle.ipx_pairs.specs.States.{is_quiet}
-use Rattle.ipx_log.specs.Scene.{Scene, Stand, Home, linked}
-use Rattle.ipx_log.specs.Packets.{IsWritten, note_of, notes_of, out_notes}
+use Rattle.ipx_log.specs.Scene.{Scene, Stand, linked}
+use Rattle.ipx_log.specs.Packets.{note_of, notes_of, out_notes}
+use Rattle.spx_units.specs.Packets.{Home, IsWritten}
 use Rattle.ipx_log.specs.Deeds.{Deed, Does, DoesOverrun, Dials, Accepts, Reads, OwesReply, Gives, Rests, Sends, Takes, Overruns, Closes, Releases, Carries, Tells, Injects}
 use Rattle.ipx_log.proofs.Tied.{Whole}
 use Rattle.ipx_log.proofs.Bytes.{written_says}

@@ -31,6 +31,7 @@ pub elsewhere : (c d : ℕ) (ends ends' : List Stand) (parcels : List (List ℕ)
 elsewhere c d ends ends' parcels marks sent x y one two w =
     record {
       sound = w.sound;
+      run = w.run;
       count = w.count;
       one = retied c d ends ends' parcels marks sent x y one w.one;
       two = retied d c ends ends' parcels marks sent y x two w.two;
@@ -46,6 +47,7 @@ foreign_half c d ends parcels bytes marks m sent more x y same other none t =
       later = omega arith;
       units = refl;
       buffers = refl;
+      bag = λ q there. there;
       mine = None;
       mail = refl;
       count = omega (arith, t.count, times-append c sent more, none);
@@ -60,6 +62,7 @@ pub foreign_whole : (c d : ℕ) (ends : List Stand) (parcels : List (List ℕ)) 
 foreign_whole c d ends parcels bytes marks m sent more x y not_c not_d none none' w =
     record {
       sound = w.sound;
+      run = w.run;
       one = foreign_half c d ends parcels bytes marks m sent more x y w.count not_c none w.one;
       two = foreign_half d c ends parcels bytes marks m sent more y x w.count not_d none' w.two;
       count = omega (arith, w.count, length-append marks (m ∷ []), length-append parcels (bytes ∷ []));
@@ -96,6 +99,7 @@ carried_half laws c d ends parcels marks sent x y from network old bytes same co
       later = omega arith;
       units = refl;
       buffers = refl;
+      bag = λ q there. there;
       mine = mail_of x from;
       mail = refl;
       count = t.count ∙ ap (times c) (sym none);
@@ -104,6 +108,7 @@ carried_half laws c d ends parcels marks sent x y from network old bytes same co
           let letter = t.letters from q (mail_there x from q is) in
           record {
             was = letter.was;
+            posted = letter.posted;
             maker = ap (λ (n : Mark). end_of n.maker) here ∙ letter.maker;
             own = letter.own ∙ sym (ap (times c) upto);
             other = letter.other ∙ sym (ap (times d) upto);
@@ -129,6 +134,7 @@ carried_whole laws c d ends parcels s x y from network old bytes comes on w =
     let done : Whole c d ends (parcels ++ bytes ∷ []) (s.marks ++ m ∷ []) (s.sent ++ []) (copied x from) (copied y from) =
     record {
       sound = w.sound;
+      run = w.run;
       one = carried_half laws c d ends parcels s.marks s.sent x y from network old bytes w.count comes on w.one;
       two = carried_half laws d c ends parcels s.marks s.sent y x from network old bytes w.count comes on w.two;
       count = omega (arith, w.count, length-append s.marks (m ∷ []), length-append parcels (bytes ∷ []));

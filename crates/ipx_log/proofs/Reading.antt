@@ -10,6 +10,8 @@ use Rattle.spx_link.specs.LinkView.{LinkView}
 use Rattle.spx_link.specs.Receive.{receive_link}
 use Rattle.spx_link.specs.Fresh.{IsFresh}
 use Rattle.spx_link.specs.Machine.{End, Packet, got, learned, read_unit, is_wanted, risen, put_mark}
+use Rattle.std.specs.Prelude.{Contains}
+use Rattle.ipx_log.proofs.Running.{got_runs}
 use Rattle.ipx_log.proofs.Stepping.{Later}
 use Rattle.ipx_wire.specs.Connection.{IsConnectionPacket}
 use Rattle.ipx_log.specs.Scan.{Mark, times}
@@ -88,6 +90,7 @@ module _ (laws : LawsBelow) (c d : ℕ) (differ : c ≢ d) (ends : List Stand) (
       let ends' : List Stand = set ends c e' in
       let done : Whole c d ends' parcels marks sent x' y = record {
         sound = laws.gets x.end y.end q w.sound letter.was;
+        run = got_runs x.end y.end w.run q letter.posted;
         one = moves c d ends ends' parcels marks sent x y x' y
             (record {
               later = got_later x.end y.end q;
@@ -96,6 +99,7 @@ module _ (laws : LawsBelow) (c d : ℕ) (differ : c ≢ d) (ends : List Stand) (
               mail = refl;
               sent = got_same (λ (e : End). e.sent) q x.end (λ b l e. refl) (λ r ks e. refl);
               buffers = got_same (λ (e : End). e.buffers) q x.end (λ b l e. refl) (λ r ks e. refl);
+              bag = λ p there. subst (λ ps. Contains ps p) (sym (got_same (λ (e : End). e.bag) q x.end (λ b l e. refl) (λ r ks e. refl))) there;
               formed = (w.one.formed.0, subst (λ us. Formed us w.one.formed.0) (sym units) w.one.formed.1);
               link = λ f m at' is'. subst (λ n. Follows n (got q x.end) y.end) (sym (this_link ends c e (receive_link l h body).1 f m at' is')) follows;
             }) w.one;
@@ -107,6 +111,7 @@ module _ (laws : LawsBelow) (c d : ℕ) (differ : c ≢ d) (ends : List Stand) (
               mail = refl;
               sent = refl;
               buffers = refl;
+              bag = λ p there. there;
               formed = w.two.formed;
               link = λ f m at' is'. sees_same m y.end x.end (got q x.end) units (w.two.link f m (other_end ends c d e' f differ at') is');
             }) w.two;

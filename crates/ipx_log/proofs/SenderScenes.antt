@@ -19,9 +19,10 @@ use Rattle.ipx_log.specs.Note.{Note, Opened, Accepted, Got, HandsIn, AsksEnd, Ta
 use Rattle.ipx_log.specs.Scan.{times, scan, unread}
 use Rattle.ipx_log.specs.Handed.{units_of}
 use Rattle.ipx_log.specs.PairLog.{position_of}
-use Rattle.ipx_log.specs.Scene.{Scene, Stand, Home, linked}
+use Rattle.ipx_log.specs.Scene.{Scene, Stand, linked}
 use Rattle.ipx_log.specs.Deeds.{Deed, Does, Dials, Accepts, Reads, OwesReply, Gives, Rests, Sends, Takes, Overruns, Closes, Releases, Carries, Tells, Injects, DoesGive, IsBegun, Reached, begun, happened}
-use Rattle.ipx_log.specs.Packets.{IsWritten, note_of, notes_of, out_notes}
+use Rattle.ipx_log.specs.Packets.{note_of, notes_of, out_notes}
+use Rattle.spx_units.specs.Packets.{Home, IsWritten}
 use Rattle.ipx_log.specs.SentUnits.{sent_by, IsUnitPacket, CarriesUnit, UnitsAreSentInOrder, LinksSendInOrder, PositionsAreGreatest}
 use Rattle.ipx_pairs.specs.Queues.{SendsFrom, Queues, GivesUnit, Given, PolledFrom}
 use Rattle.ipx_log.proofs.Lists.{get_last, get_set, get_here, read_there, times-append}

@@ -9,6 +9,7 @@ use Rattle.spx_link.specs.Marks.{mark, distance}
 use Rattle.spx_link.specs.LinkView.{LinkView}
 use Rattle.spx_link.specs.Poll.{OutgoingView}
 use Rattle.spx_link.specs.Machine.{one_more_sent}
+use Rattle.ipx_log.proofs.Running.{mailed_runs, sent_again_runs, sent_next_runs}
 use Rattle.ipx_log.proofs.Stepping.{sent_again_sound, mailed_sound, sent_next_sound}
 use Rattle.ipx_log.specs.SentUnits.{SaysOnly}
 use Rattle.ipx_wire.specs.Connection.{sequence_in}
@@ -53,6 +54,8 @@ module _ (laws : LawsBelow) (c d : ℕ) (differ : c ≢ d) (ends : List Stand) (
       let done = gives_whole c d differ ends parcels s.marks s.sent [] x y whole None x.end w l g bytes m
       (record {
         sound = mailed_sound laws x.end y.end whole.sound;
+        run = mailed_runs x.end y.end whole.run;
+        bag = refl;
         later = omega arith;
         back = omega arith;
         units = refl;
@@ -80,6 +83,8 @@ module _ (laws : LawsBelow) (c d : ℕ) (differ : c ≢ d) (ends : List Stand) (
       let done = gives_whole c d differ ends parcels s.marks s.sent (c ∷ []) x y whole (Some x.end.sent) (one_more_sent x.end) w l g bytes m
       (record {
         sound = sent_next_sound laws x.end y.end whole.sound room within;
+        run = sent_next_runs x.end y.end whole.run room within;
+        bag = refl;
         later = omega arith;
         back = omega arith;
         units = refl;
@@ -111,6 +116,8 @@ module _ (laws : LawsBelow) (c d : ℕ) (differ : c ≢ d) (ends : List Stand) (
       let done = gives_whole c d differ ends parcels s.marks s.sent [] x y whole (Some n) x.end w l g bytes m
       (record {
         sound = sent_again_sound laws x.end y.end whole.sound n low high;
+        run = sent_again_runs x.end y.end whole.run n low high;
+        bag = refl;
         later = omega arith;
         back = omega arith;
         units = refl;

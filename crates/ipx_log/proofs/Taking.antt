@@ -5,6 +5,7 @@ use Rattle.spx_link.specs.declared.unit.Unit.{Unit}
 use Rattle.spx_link.specs.LinkView.{LinkView}
 use Rattle.spx_link.specs.Offer.{the_end}
 use Rattle.spx_link.specs.Machine.{End}
+use Rattle.ipx_log.proofs.Running.{gained_runs, taken_runs}
 use Rattle.ipx_log.proofs.Stepping.{taken_sound, gained_sound}
 use Rattle.ipx_log.specs.Scan.{Mark}
 use Rattle.ipx_log.specs.PairLog.{Half, one_taken, gained}
@@ -44,6 +45,7 @@ module _ (c d : ℕ) (differ : c ≢ d) (ends : List Stand) (parcels : List (Lis
   takes_whole laws whole w l is some follows =
       record {
         sound = taken_sound laws x.end y.end whole.sound some;
+        run = taken_runs x.end y.end whole.run some;
         one = moves c d ends (set ends c w) parcels marks sent x y (one_taken x) y
             (record {
               later = omega arith;
@@ -52,6 +54,7 @@ module _ (c d : ℕ) (differ : c ≢ d) (ends : List Stand) (parcels : List (Lis
               mail = refl;
               sent = refl;
               buffers = refl;
+              bag = λ p there. there;
               formed = whole.one.formed;
               link = λ e m at has.
                   let same : m ≡ l = is m (ap (λ (v : Stand). v.link) (sym (this_end ends c w e at)) ∙ has) in
@@ -65,6 +68,7 @@ module _ (c d : ℕ) (differ : c ≢ d) (ends : List Stand) (parcels : List (Lis
               mail = refl;
               sent = refl;
               buffers = refl;
+              bag = λ p there. there;
               formed = whole.two.formed;
               link = λ e m at has. sees_same m y.end x.end (one_taken x).end refl (whole.two.link e m (other_end ends c d w e differ at) has);
             }) whole.two;
@@ -78,6 +82,7 @@ module _ (c d : ℕ) (differ : c ≢ d) (ends : List Stand) (parcels : List (Lis
       let read : y.end.read ≤ length x.end.units = omega (arith, whole.sound.there) in
       record {
         sound = gained_sound laws x.end y.end whole.sound us;
+        run = gained_runs x.end y.end whole.run us;
         one = moves c d ends (set ends c w) parcels marks sent x y (gained us x) y
             (record {
               later = omega arith;
@@ -86,6 +91,7 @@ module _ (c d : ℕ) (differ : c ≢ d) (ends : List Stand) (parcels : List (Lis
               mail = refl;
               sent = refl;
               buffers = refl;
+              bag = λ p there. there;
               formed = (_, follows.tracks.formed);
               link = λ e m at has.
                   let same : m ≡ l = is m (ap (λ (v : Stand). v.link) (sym (this_end ends c w e at)) ∙ has) in
@@ -99,6 +105,7 @@ module _ (c d : ℕ) (differ : c ≢ d) (ends : List Stand) (parcels : List (Lis
               mail = refl;
               sent = refl;
               buffers = refl;
+              bag = λ p there. there;
               formed = whole.two.formed;
               link = λ e m at has. sees_more m y.end x.end us read shut (whole.two.link e m (other_end ends c d w e differ at) has);
             }) whole.two;
@@ -111,6 +118,7 @@ module _ (c d : ℕ) (differ : c ≢ d) (ends : List Stand) (parcels : List (Lis
   rests_whole whole w l is follows =
       record {
         sound = whole.sound;
+        run = whole.run;
         one = moves c d ends (set ends c w) parcels marks sent x y x y
             (record {
               later = omega arith;
@@ -119,6 +127,7 @@ module _ (c d : ℕ) (differ : c ≢ d) (ends : List Stand) (parcels : List (Lis
               mail = refl;
               sent = refl;
               buffers = refl;
+              bag = λ p there. there;
               formed = whole.one.formed;
               link = λ e m at has.
                   let same : m ≡ l = is m (ap (λ (v : Stand). v.link) (sym (this_end ends c w e at)) ∙ has) in
@@ -132,6 +141,7 @@ module _ (c d : ℕ) (differ : c ≢ d) (ends : List Stand) (parcels : List (Lis
               mail = refl;
               sent = refl;
               buffers = refl;
+              bag = λ p there. there;
               formed = whole.two.formed;
               link = λ e m at has. whole.two.link e m (other_end ends c d w e differ at) has;
             }) whole.two;

@@ -4,7 +4,9 @@ use Rattle.ipx_wire.specs.declared.spx.packet.SpxHeader.{SpxHeader}
 use Rattle.ipx_wire.specs.Ipx.{PacketView}
 use Rattle.spx_link.specs.LinkView.{LinkView}
 use Rattle.spx_link.specs.Limits.{most_units}
+use Rattle.std.specs.Prelude.{Contains}
 use Rattle.spx_link.specs.Machine.{AreSound, Packet, WasSent}
+use Rattle.ipx_log.proofs.Running.{Runs}
 use Rattle.ipx_wire.specs.Connection.{IsConnectionPacket}
 use Rattle.ipx_log.specs.Scan.{Mark, times, nowhere}
 use Rattle.ipx_log.specs.Peers.{end_of}
@@ -19,6 +21,7 @@ mark_at marks k = slice_index_or marks k nowhere
 -- the parcel k, whose origin the end c sent as the packet q
 pub record Letter (c d : ℕ) (parcels : List (List ℕ)) (marks : List Mark) (sent : List ℕ) (x y : Half) (k : ℕ) (q : Packet) : Type 0 where
   pub was : WasSent x.end y.end q
+  pub posted : Contains x.end.bag q
   pub maker : end_of (mark_at marks k).maker ≡ Some c
   pub own : q.sender_sent ≡ times c (take (mark_at marks k).units sent)
   pub other : q.receiver_sent ≡ times d (take (mark_at marks k).units sent)
@@ -39,6 +42,7 @@ pub record Tied (c d : ℕ) (ends : List Stand) (parcels : List (List ℕ)) (mar
 -- the pair: its machine's numbers are in line, and both halves are tied
 pub record Whole (c d : ℕ) (ends : List Stand) (parcels : List (List ℕ)) (marks : List Mark) (sent : List ℕ) (x y : Half) : Type 0 where
   pub sound : AreSound x.end y.end
+  pub run : Runs x.end y.end
   pub one : Tied c d ends parcels marks sent x y
   pub two : Tied d c ends parcels marks sent y x
   pub count : length marks ≡ length parcels

@@ -1,8 +1,10 @@
--- Where no two hosts share network and node, and no end was released, addresses and ids tell peers (Novell IPX and SPX).
+-- Where no two hosts share network and node, and no end was released, addresses and ids tell peers
+-- (Novell IPX and SPX).
 use Rattle.std.specs.Prelude.{ℕ, ◌≡◌, ◌≢◌, List, Some, slice_get, Contains}
 use Rattle.ipx_log.specs.Note.{Note, Released}
 use Rattle.ipx_log.specs.Peers.{NothingInjected, FromOwnPeer}
-use Rattle.ipx_log.specs.Scene.{Scene, Home}
+use Rattle.ipx_log.specs.Scene.{Scene}
+use Rattle.spx_units.specs.Packets.{Home}
 
 abbrev pub AddressesDiffer : Scene → Type 0
 AddressesDiffer s =

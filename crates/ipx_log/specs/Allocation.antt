@@ -1,4 +1,5 @@
--- No unit exceeds an allocation (Novell SPX: the allocation number), and an end without a peer reads no unit.
+-- No unit exceeds an allocation (Novell SPX: the allocation number), and an end without a peer
+-- reads no unit.
 use Rattle.std.specs.Prelude.{ℕ, ◌≡◌, ◌<◌, ◌+◌, ◌⊎◌, List, [], ◌∷◌, ◌++◌, length}
 use Rattle.ipx_log.specs.Note.{Note, Got, SendsUnit, SendsAgain, SendsSystem}
 use Rattle.ipx_log.specs.Scan.{scan, mark_of, role_of}
@@ -13,7 +14,8 @@ abbrev pub IsMadeBy : Note → ℕ → ℕ → Type 0
 IsMadeBy n f parcel =
     (n ≡ SendsUnit f parcel) ⊎ (n ≡ SendsAgain f parcel) ⊎ (n ≡ SendsSystem f parcel)
 
--- before this the end read a packet whose sender had, before its origin's entry, taken so many units that with its
+-- before this the end read a packet whose sender had, before its origin's entry, taken so many
+-- units that with its
 -- buffers they are more than n
 pub record IsAllowed (before : List Note) (who n : ℕ) : Type 0 where
   pub parcel : ℕ

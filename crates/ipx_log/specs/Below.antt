@@ -1,11 +1,12 @@
--- What is proved below of bytes, of the machine and of one link, as the proofs here are given it: each field is a clause of
+-- What is proved below of bytes, of the machine and of one link, as the proofs here are given it:
+-- each field is a clause of
 -- a public function of `ipx_wire`, `spx_link` or `ipx_pairs`.
 use Rattle.std.specs.Prelude.{ℕ, ◌≡◌, List}
 use Rattle.ipx_wire.specs.Connection.{IsConnectionPacket, sequence_in}
 use Rattle.ipx_wire.specs.Ipx.{PacketView, IsIpx}
 use Rattle.ipx_wire.specs.Spx.{IsSpx}
 use Rattle.ipx_wire.specs.declared.spx.packet.SpxHeader.{SpxHeader}
-use Rattle.spx_link.specs.Machine.{End, Machine, Packet, Step, IsStep, WasSent, AreSound, new_end, got}
+use Rattle.spx_link.specs.Machine.{End, Machine, Packet, Step, Grows, IsRun, IsStep, WasSent, AreSound, new_end, got}
 use Rattle.ipx_pairs.specs.Allowances.{AllowanceLaws}
 use Rattle.ipx_pairs.specs.Confirmed.{CloseLaws}
 use Rattle.ipx_pairs.specs.Lasting.{LastingLaws}
@@ -27,6 +28,8 @@ pub record LawsBelow : Type 0 where
   pub step : (s : Step) (m n : Machine)
       → IsStep s m n → AreSound m.one m.two → AreSound n.one n.two
   pub gets : (c d : End) (p : Packet) → AreSound c d → WasSent d c p → AreSound (got p c) d
+  pub grows_one : (steps : List Step) (m n : Machine) → IsRun steps m n → Grows m.one n.one
+  pub grows_two : (steps : List Step) (m n : Machine) → IsRun steps m n → Grows m.two n.two
   -- a link
   pub steps : StepLaws
   pub states : StateLaws

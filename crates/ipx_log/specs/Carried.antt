@@ -1,4 +1,5 @@
--- Routers alter the hop count alone (Novell IPX: transport control), and the source network where a packet has none.
+-- Routers alter the hop count alone (Novell IPX: transport control), and the source network where a
+-- packet has none.
 use Rattle.std.specs.Prelude.{ℕ, ◌≡◌, ◌<◌, ◌≤◌, ◌+◌, ◌⊎◌, List, [], Some, slice_get}
 use Rattle.ipx_wire.specs.declared.address.Network.{Network}
 use Rattle.ipx_wire.specs.Ipx.{PacketView, IsIpx}
@@ -12,7 +13,8 @@ raised passed network p =
     let once : PacketView = one_on network p in
     record once { header = record once.header { hops = p.header.hops + passed } }
 
--- the bytes are the packet of the origin behind so many routers, without what followed it; the hop count is at most 15
+-- the bytes are the packet of the origin behind so many routers, without what followed it; the hop
+-- count is at most 15
 pub record IsCarried (network : Network) (passed : ℕ) (origin bytes : List ℕ) : Type 0 where
   pub packet : PacketView
   pub tail : List ℕ

@@ -1,4 +1,5 @@
--- Everything that can happen to ends and parcels, one thing at a time, and the scenes that it leads to.
+-- Everything that can happen to ends and parcels, one thing at a time, and the scenes that it leads
+-- to.
 use Rattle.std.specs.Prelude.{ℕ, ◌≡◌, ◌≢◌, ◌<◌, ◌≤◌, true, false, List, [], ◌∷◌, ◌++◌, length, Some, None, slice_get}
 use Rattle.ipx_wire.specs.declared.address.Network.{Network}
 use Rattle.ipx_wire.specs.declared.address.Socket.{Socket}
@@ -17,8 +18,9 @@ use Rattle.spx_units.specs.Cut.{cut_of}
 use Rattle.ipx_wire.specs.Connection.{IsConnectionPacket}
 use Rattle.ipx_log.specs.Note.{Opened, Accepted, HandsIn, TakesUnit, AsksEnd, Got, Released, Told, Carried, Injected}
 use Rattle.spx_link.specs.declared.received.Received.TheVariants as Receiveds
-use Rattle.ipx_log.specs.Packets.{IsFor, IsOneOn, IsRequestFor, IsWritten, note_of, notes_of, out_notes}
-use Rattle.ipx_log.specs.Scene.{Home, IsFreeId, Scene, Stand, Stands, linked, noted, put, sent_off}
+use Rattle.ipx_log.specs.Packets.{IsFor, IsOneOn, note_of, notes_of, out_notes}
+use Rattle.ipx_log.specs.Scene.{IsFreeId, Scene, Stand, Stands, linked, noted, put, sent_off}
+use Rattle.spx_units.specs.Packets.{Home, IsRequestFor, IsWritten}
 
 pub data Deed : Type 0 where
   -- an end is opened, or made by a request
@@ -165,7 +167,8 @@ pub record DoesTake (who : ℕ) (u : Unit) (s s' : Scene) : Type 0 where
       (put s who (record (linked stand (take_link link).1) { rest = joins.rest }))
       (TakesUnit who u ∷ out_notes who joins.messages)
 
--- more than 65,535 bytes came: the unit is gone, the message too, and so is the link. Nothing is noted
+-- more than 65,535 bytes came: the unit is gone, the message too, and so is the link. Nothing is
+-- noted
 pub record DoesOverrun (who : ℕ) (u : Unit) (s s' : Scene) : Type 0 where
   pub stand : Stand
   pub link : LinkView

@@ -1,4 +1,5 @@
--- What is told of the ends of a network while it goes on: how many there are, their next numbers, and their peers.
+-- What is told of the ends of a network while it goes on: how many there are, their next numbers,
+-- and their peers.
 use Rattle.std.specs.Prelude.{ℕ, ◌≡◌, ◌≤◌, Bool, true, false, not, ◌&&◌, List, length, Option, Some, None, slice_get, if◌then◌else◌}
 use Rattle.spx_link.specs.LinkView.{LinkView}
 use Rattle.spx_link.specs.Marks.{mark}
@@ -9,7 +10,8 @@ use Rattle.ipx_log.specs.Scene.{Scene, Stand, Stands}
 use Rattle.ipx_log.specs.Deeds.{Deed, Does}
 use Rattle.ipx_log.specs.SentUnits.{sent_by}
 
--- ends are numbered as their roles are, the next number of each is that of the unit after those that it sent, and it has
+-- ends are numbered as their roles are, the next number of each is that of the unit after those
+-- that it sent, and it has
 -- the buffers that it was made with
 pub record EndsAreTold (s : Scene) : Type 0 where
   pub count : length (scan s.log).roles ≡ length s.ends

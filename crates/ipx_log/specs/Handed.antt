@@ -1,4 +1,5 @@
--- What ends hand in and out, and the units of an end: those of its messages, cut, and the end of the connection where it was
+-- What ends hand in and out, and the units of an end: those of its messages, cut, and the end of
+-- the connection where it was
 -- asked for.
 use Rattle.std.specs.Prelude.{ℕ, ◌≡◌, ◌==◌, List, [], ◌∷◌, ◌++◌, if◌then◌else◌}
 use Rattle.spx_link.specs.declared.unit.Unit.{Unit}
@@ -7,7 +8,8 @@ use Rattle.spx_units.specs.Message.{MessageView}
 use Rattle.spx_units.specs.Cut.{cut_of}
 use Rattle.ipx_log.specs.Note.{Note, HandsIn, HandsOut, TakesUnit, AsksEnd}
 
--- what a note adds to the messages that an end handed in, to those handed out, to its units, and to the units that it took
+-- what a note adds to the messages that an end handed in, to those handed out, to its units, and to
+-- the units that it took
 abbrev pub in_by : ℕ → Note → List MessageView
 in_by e (HandsIn who m) = if who == e then m ∷ [] else []
 in_by e n = []

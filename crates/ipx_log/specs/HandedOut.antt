@@ -4,7 +4,8 @@ use Rattle.spx_units.specs.Joining.{joined}
 use Rattle.ipx_log.specs.Handed.{handed_out, taken_of}
 use Rattle.ipx_log.specs.Scene.{Scene, Stand}
 
--- unless a take of it answered that a message grew too long; and what it has in part is what is left behind them
+-- unless a take of it answered that a message grew too long; and what it has in part is what is
+-- left behind them
 abbrev pub HandsOutWhatItTook : Scene → Type 0
 HandsOutWhatItTook s = (who : ℕ) (e : Stand) → slice_get s.ends who ≡ Some e → e.overlong ≡ false
     → (handed_out who s.log ≡ (joined (taken_of who s.log)).messages)

@@ -1,4 +1,5 @@
--- The links of two peers are the machine of the log, in 16 bits, and what each handed out begins what the other handed in
+-- The links of two peers are the machine of the log, in 16 bits, and what each handed out begins
+-- what the other handed in
 -- (Novell SPX: sequence, acknowledge and allocation numbers).
 use Rattle.std.specs.Prelude.{ℕ, ◌≡◌, ◌≤◌, ◌+◌, ◌++◌, false, length, take, Some, slice_get}
 use Rattle.spx_link.specs.LinkView.{LinkView}
@@ -10,7 +11,8 @@ use Rattle.ipx_log.specs.Handed.{handed_in, handed_out, units_of, taken_of, IsBe
 use Rattle.ipx_log.specs.PairLog.{Pair, pair_of}
 use Rattle.ipx_log.specs.Scene.{Scene, Stand, Stands}
 
--- the machine of the ends c, which called, and d, which was called, with the buffers that they were made with
+-- the machine of the ends c, which called, and d, which was called, with the buffers that they were
+-- made with
 abbrev pub pair_in : Scene → ℕ → ℕ → Pair
 pair_in s c d =
     let t : Scan = scan s.log in
@@ -28,8 +30,10 @@ pub record Mirrors (l : LinkView) (c : End) : Type 0 where
 abbrev pub IfStands : Scene → ℕ → (LinkView → Type 0) → Type 0
 IfStands s who P = (e : Stand) (l : LinkView) → Stands s who e l → P l
 
--- of an end c, whose peer is d, and their ends of the machine: while c has a link it is its end; the units that c took
--- are the first ones of d, and with those that it holds they are as many as it read; what c handed out begins what d handed in; no take of c answered that a message grew too long;
+-- of an end c, whose peer is d, and their ends of the machine: while c has a link it is its end;
+-- the units that c took
+-- are the first ones of d, and with those that it holds they are as many as it read; what c handed
+-- out begins what d handed in; no take of c answered that a message grew too long;
 -- and only what d read counts as acknowledged
 pub record IsInStep (s : Scene) (c d : ℕ) (one two : End) : Type 0 where
   pub machine : IfStands s c (λ l. Mirrors l one)

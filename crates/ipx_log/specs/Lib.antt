@@ -17,3 +17,4 @@ pub mod Scan
 pub mod Scene
 pub mod SentUnits
 pub mod UnitsOfEnds
+pub mod InSteps

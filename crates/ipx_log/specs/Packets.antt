@@ -1,48 +1,26 @@
--- Packets of connections on their way (Novell IPX and SPX): which are for a host, what an end writes, what a router makes
+-- Packets of connections on their way (Novell IPX and SPX): which are for a host, what an end
+-- writes, what a router makes
 -- of one; and the entries that tell of them.
-use Rattle.std.specs.Prelude.{ℕ, ◌≡◌, ◌≢◌, ◌+◌, ◌<◌, ◌==◌, ◌⊎◌, true, List, [], ◌∷◌, if◌then◌else◌}
+use Rattle.std.specs.Prelude.{ℕ, ◌≡◌, ◌≢◌, ◌+◌, ◌<◌, ◌==◌, ◌⊎◌, List, [], ◌∷◌, if◌then◌else◌}
 use Rattle.ipx_wire.specs.declared.address.Network.{Network}
 use Rattle.ipx_wire.specs.declared.address.Socket.{Socket}
 use Rattle.ipx_wire.specs.declared.address.Address.{Address}
-use Rattle.ipx_wire.specs.declared.spx.packet.SpxHeader.{SpxHeader}
 use Rattle.ipx_wire.specs.Ipx.{PacketView, IsIpx}
-use Rattle.ipx_wire.specs.Spx.{IsSpx}
 use Rattle.spx_link.specs.declared.outgoing.Sent.{Sent}
 use Rattle.spx_link.specs.declared.received.Received.{Received}
-use Rattle.spx_link.specs.Limits.{end_stream, no_id}
-use Rattle.spx_link.specs.LinkView.{LinkView}
-use Rattle.spx_link.specs.Poll.{OutgoingView}
 use Rattle.spx_units.specs.Message.{MessageView}
+use Rattle.spx_units.specs.Packets.{Home}
 use Rattle.ipx_log.specs.Note.{Note, Joined, HandsOut, Got, SendsUnit, SendsAgain, SendsSystem}
 use Rattle.spx_link.specs.declared.outgoing.Sent.TheVariants as Sents
 use Rattle.spx_link.specs.declared.received.Received.TheVariants as Receiveds
-use Rattle.ipx_log.specs.Scene.{Home}
 
--- a packet for this host and this socket of it, from this address; network 0 is the segment on which it is delivered
+-- a packet for this host and this socket of it, from this address; network 0 is the segment on
+-- which it is delivered
 pub record IsFor (home : Home) (local : Socket) (remote : Address) (p : PacketView) : Type 0 where
   pub to_network : (p.header.to.network ≡ home.network) ⊎ (p.header.to.network.0 ≡ 0)
   pub to_node : p.header.to.node ≡ home.node
   pub to_socket : p.header.to.socket ≡ local
   pub from_address : p.header.from ≡ remote
-
--- a packet that asks for a connection
-pub record IsRequestFor (h : SpxHeader) : Type 0 where
-  pub system : h.system ≡ true
-  pub to : h.to_id ≡ no_id
-  pub stream : h.stream < end_stream
-  pub above : 0 < h.from_id
-  pub below : h.from_id < no_id
-
--- the bytes are what a link gave, as an IPX packet from its host and socket to the far address
-pub record IsWritten (home : Home) (l : LinkView) (g : OutgoingView) (bytes : List ℕ) : Type 0 where
-  pub packet : PacketView
-  pub is : IsIpx packet bytes []
-  pub kind : packet.header.kind ≡ 5
-  pub hops : packet.header.hops ≡ 0
-  pub to : packet.header.to ≡ l.remote
-  pub from : packet.header.from
-      ≡ record { network = home.network; node = home.node; socket = l.local }
-  pub spx : IsSpx g.header g.body packet.body
 
 -- the entry of a packet that an end gives: whether it carries a unit, for the first time or again
 abbrev pub note_of : Sent → ℕ → ℕ → Note
@@ -77,7 +55,8 @@ one_on network p = record p {
   };
 }
 
--- a router that got the old bytes on this network sends the new ones, without what followed the packet
+-- a router that got the old bytes on this network sends the new ones, without what followed the
+-- packet
 pub record IsOneOn (network : Network) (old new : List ℕ) : Type 0 where
   pub packet : PacketView
   pub tail : List ℕ

@@ -1,4 +1,5 @@
--- The machine of a log: two ends whose numbers never wrap, which take a step at each entry of theirs. It is a fold over
+-- The machine of a log: two ends whose numbers never wrap, which take a step at each entry of
+-- theirs. It is a fold over
 -- the entries, written for one end beside the other.
 use Rattle.std.specs.Prelude.{ℕ, ◌+◌, ◌-◌, ◌==◌, List, [], ◌∷◌, ◌++◌, Option, Some, None, slice_index_or, if◌then◌else◌}
 use Rattle.spx_link.specs.Marks.{mark, distance}

@@ -1,4 +1,5 @@
--- What is read off a log from its beginning: where each parcel comes from, who sent units, what was read, and the ends.
+-- What is read off a log from its beginning: where each parcel comes from, who sent units, what was
+-- read, and the ends.
 use Rattle.std.specs.Prelude.{ℕ, ◌≡◌, ◌+◌, ◌==◌, Bool, true, false, List, [], ◌∷◌, ◌++◌, length, Option, Some, None, set, slice_get, slice_index_or, if◌then◌else◌}
 use Rattle.ipx_log.specs.Note.{Note, Opened, Accepted, Joined, HandsIn, HandsOut, TakesUnit, AsksEnd, Got, Released, SendsUnit, SendsAgain, SendsSystem, Told, Carried, Injected}
 
@@ -11,14 +12,16 @@ abbrev pub times : ℕ → List ℕ → ℕ
 times e [] = 0
 times e (n ∷ ns) = (if n == e then 1 else 0) + times e ns
 
--- who made a parcel that no router carried: an end by a packet with a unit or without, a router, or nobody
+-- who made a parcel that no router carried: an end by a packet with a unit or without, a router, or
+-- nobody
 pub data Maker : Type 0 where
   ByUnit : (who : ℕ) → Maker
   BySystem : (who : ℕ) → Maker
   ByRouter : (router : ℕ) → Maker
   FromOutside : Maker
 
--- of a parcel: its origin, who made that, how many routers it passed, and how many units all ends had sent for the first
+-- of a parcel: its origin, who made that, how many routers it passed, and how many units all ends
+-- had sent for the first
 -- time when its origin was made, it among them
 pub record Mark : Type 0 where
   pub origin : ℕ
@@ -26,7 +29,8 @@ pub record Mark : Type 0 where
   pub passed : ℕ
   pub units : ℕ
 
--- of a packet that an end read: who made its origin, and the units that all ends sent since then, as a range of `sent`.
+-- of a packet that an end read: who made its origin, and the units that all ends sent since then,
+-- as a range of `sent`.
 -- `first` says that it made or joined the end: its entry follows the one that says so at once
 pub record Reading : Type 0 where
   pub who : ℕ
@@ -35,7 +39,8 @@ pub record Reading : Type 0 where
   pub to : ℕ
   pub first : Bool
 
--- of an end: its buffers, whether it called, whether it was made by a request or joined, and the end whose packet without
+-- of an end: its buffers, whether it called, whether it was made by a request or joined, and the
+-- end whose packet without
 -- a unit did that
 pub record Role : Type 0 where
   pub buffers : ℕ
@@ -43,7 +48,8 @@ pub record Role : Type 0 where
   pub joined : Bool
   pub partner : Option ℕ
 
--- of each parcel, of each unit in order (the end that sent it for the first time), of each packet read, and of each end
+-- of each parcel, of each unit in order (the end that sent it for the first time), of each packet
+-- read, and of each end
 pub record Scan : Type 0 where
   pub marks : List Mark
   pub sent : List ℕ

@@ -1,23 +1,19 @@
 -- The ends of a network of hosts, and what lies between them, as the theorems over its log see it.
 use Rattle.std.specs.Prelude.{ℕ, ◌≡◌, ◌≢◌, Bool, List, [], ◌∷◌, ◌++◌, set, Option, Some, slice_get}
 use Rattle.ipx_wire.specs.declared.address.Network.{Network}
-use Rattle.ipx_wire.specs.declared.address.Node.{Node}
 use Rattle.spx_link.specs.LinkView.{LinkView}
 use Rattle.spx_units.specs.Message.{MessageView}
+use Rattle.spx_units.specs.Packets.{Home}
 use Rattle.ipx_log.specs.Note.{Note}
 
--- an end: its host, its link until it is released, the message that it has in part, and whether a take of it answered
+-- an end: its host, its link until it is released, the message that it has in part, and whether a
+-- take of it answered
 -- that the message grew too long
 pub record Stand : Type 0 where
   pub host : ℕ
   pub link : Option LinkView
   pub rest : Option MessageView
   pub overlong : Bool
-
--- the address of a host, without a socket
-pub record Home : Type 0 where
-  pub network : Network
-  pub node : Node
 
 -- hosts, ends and parcels by their numbers
 pub record Scene : Type 0 where

@@ -1,4 +1,5 @@
--- The packets of units: each carries the unit of its position under the mark of that (Novell SPX: the sequence number).
+-- The packets of units: each carries the unit of its position under the mark of that (Novell SPX:
+-- the sequence number).
 use Rattle.std.specs.Prelude.{ℕ, ◌≡◌, ◌<◌, ◌≤◌, false, List, [], ◌∷◌, ◌++◌, Some, slice_get, slice_index_or}
 use Rattle.ipx_wire.specs.declared.spx.packet.SpxHeader.{SpxHeader}
 use Rattle.ipx_wire.specs.Ipx.{PacketView}
@@ -49,14 +50,16 @@ pub record UnitsAreSentInOrder (s : Scene) : Type 0 where
   pub first : (before after : List Note) (who parcel : ℕ)
       → s.log ≡ before ++ SendsUnit who parcel ∷ after
       → CarriesUnit s who (sent_by who before) parcel
-  -- again the unit at the greatest position of those sent whose mark is the sequence number of the bytes
+  -- again the unit at the greatest position of those sent whose mark is the sequence number of the
+  -- bytes
   pub again : (before after : List Note) (who parcel : ℕ)
       → s.log ≡ before ++ SendsAgain who parcel ∷ after
       → let n : ℕ = position_of (sent_by who before)
       (sequence_in (slice_index_or s.parcels parcel [])) in
       (n < sent_by who before) × CarriesUnit s who n parcel
 
--- the next number of every end is that of the first unit that it did not send, and its queue is the rest of its units
+-- the next number of every end is that of the first unit that it did not send, and its queue is the
+-- rest of its units
 abbrev pub LinksSendInOrder : Scene → Type 0
 LinksSendInOrder s =
     (who : ℕ) (e : Stand) (l : LinkView) → Stands s who e l

@@ -1,4 +1,5 @@
--- The units of an end are those of its messages, cut, one after another, and then one end of the connection (Novell SPX:
+-- The units of an end are those of its messages, cut, one after another, and then one end of the
+-- connection (Novell SPX:
 -- end of connection) where it was asked for.
 use Rattle.std.specs.Prelude.{ℕ, ◌≡◌, ◌==◌, ◌⊎◌, List, [], ◌∷◌, ◌++◌, if◌then◌else◌}
 use Rattle.std.specs.List.{flat_map}

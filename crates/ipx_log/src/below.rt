@@ -9,7 +9,7 @@ use ipx_pairs::{
 use ipx_wire::{
     bytes_are_one_packet, bytes_are_one_spx_packet, connection_packet_has_its_sequence,
 };
-use spx_link::soundness;
+use spx_link::{growth, soundness};
 
 /// The laws of bytes, of the machine and of one link, on which the theorems stand.
 pub fn laws_below()
@@ -19,6 +19,7 @@ pub fn laws_below()
     bytes_are_one_spx_packet();
     connection_packet_has_its_sequence();
     soundness();
+    growth();
     calls_are_steps();
     states_go_on();
     links_send_their_queue();

@@ -7,6 +7,7 @@ ghost use Rattle.ipx_log.specs.Close.{ConfirmedIsRead, EndTakenIsWhole};
 ghost use Rattle.ipx_log.specs.Deeds.{Reached};
 ghost use Rattle.ipx_log.specs.HandedOut.{HandsOutWhatItTook};
 ghost use Rattle.ipx_log.specs.InStep.{PeersAreInStep};
+ghost use Rattle.ipx_log.specs.InSteps.{PairsTakeSteps};
 ghost use Rattle.ipx_log.specs.Scene.{Scene};
 ghost use Rattle.ipx_log.specs.SentUnits.{LinksSendInOrder, PositionsAreGreatest, UnitsAreSentInOrder};
 
@@ -16,6 +17,14 @@ use crate::below::laws_below;
 /// peers are the machine of the log, and what each handed out begins what the other handed in.
 pub fn peers_are_in_step()
     ensures { (s : Scene) → Reached s → PeersAreInStep s }
+{
+    laws_below();
+}
+
+/// Under the same premises the machine of the log of two peers came by steps of `spx_link`'s machine
+/// from two new ends with their buffers: so that all its laws speak of it.
+pub fn pairs_take_steps()
+    ensures { (s : Scene) → Reached s → PairsTakeSteps s }
 {
     laws_below();
 }

@@ -15,6 +15,6 @@ mod laws;
 pub use ends::{ends_are_told, ends_stay, gone_sends_nothing, numbers_are_in_order, peer_is_found};
 pub use laws::{
     addresses_tell_peers, alone_reads_nothing, confirmed_is_read, end_taken_is_whole,
-    hands_out_what_it_took, links_send_in_order, peers_are_in_step, positions_are_greatest,
-    routers_alter_hops_alone, units_are_sent_in_order, within_allocation,
+    hands_out_what_it_took, links_send_in_order, pairs_take_steps, peers_are_in_step,
+    positions_are_greatest, routers_alter_hops_alone, units_are_sent_in_order, within_allocation,
 };

@@ -1,4 +1,5 @@
--- What the calls of a link leave of what it received, of what it may send, and what its packets allow (Novell SPX: the
+-- What the calls of a link leave of what it received, of what it may send, and what its packets
+-- allow (Novell SPX: the
 -- allocation number).
 use Rattle.std.specs.Prelude.{ℕ, ◌+◌, ◌≤◌, ◌≡◌, ◌≢◌, List, ◌∷◌, length, Option, Some, None}
 use Rattle.ipx_wire.specs.declared.spx.packet.SpxHeader.{SpxHeader}

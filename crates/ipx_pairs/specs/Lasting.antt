@@ -1,4 +1,5 @@
--- What no call changes of a link, and what polls make of its next number (Novell SPX: the sequence number).
+-- What no call changes of a link, and what polls make of its next number (Novell SPX: the sequence
+-- number).
 use Rattle.std.specs.Prelude.{ℕ, ◌≡◌, ◌+◌, Bool, List, Option, Some, None}
 use Rattle.ipx_wire.specs.declared.address.Socket.{Socket}
 use Rattle.ipx_wire.specs.declared.address.Address.{Address}

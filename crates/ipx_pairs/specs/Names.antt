@@ -1,4 +1,5 @@
--- What a link is called by (ids of Novell SPX, socket, far address): its calls keep it, and its packets say it.
+-- What a link is called by (ids of Novell SPX, socket, far address): its calls keep it, and its
+-- packets say it.
 use Rattle.std.specs.Prelude.{ℕ, ◌≡◌, ◌≢◌, ◌⊎◌, ◌<◌, Bool, true, false, List, Option, Some}
 use Rattle.ipx_wire.specs.declared.address.Socket.{Socket}
 use Rattle.ipx_wire.specs.declared.address.Address.{Address}

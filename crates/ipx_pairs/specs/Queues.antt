@@ -1,4 +1,5 @@
--- What the calls of a link do to the units that it has to send, beside how many of them it sent. (No premise: whatever
+-- What the calls of a link do to the units that it has to send, beside how many of them it sent.
+-- (No premise: whatever
 -- was read.)
 use Rattle.std.specs.Prelude.{ℕ, ◌≡◌, ◌<◌, ◌≤◌, ◌+◌, ◌++◌, false, List, [], ◌∷◌, length, drop, Option, None, Some, slice_get}
 use Rattle.ipx_wire.specs.declared.address.Socket.{Socket}
@@ -16,7 +17,8 @@ use Rattle.spx_link.specs.Receive.{is_system, receive_link}
 use Rattle.spx_link.specs.Offer.{refusal, offer_link, end_link, take_link, owe_reply_link, lose_link, dialed, accepted_from, the_end}
 use Rattle.ipx_pairs.specs.Tracks.{Formed, IsOpen}
 
--- the first n of these units were sent, and the queue holds those from `base` on, of which the first `out` were sent
+-- the first n of these units were sent, and the queue holds those from `base` on, of which the
+-- first `out` were sent
 pub record SendsFrom (l : LinkView) (units : List Unit) (n : ℕ) : Type 0 where
   pub base : ℕ
   pub next : l.next ≡ mark n

@@ -1,4 +1,5 @@
--- What the fields of an SPX packet say, as positions of the machine: those of a packet that is read, and those of a
+-- What the fields of an SPX packet say, as positions of the machine: those of a packet that is
+-- read, and those of a
 -- packet that a link gives.
 use Rattle.std.specs.Prelude.{ℕ, ◌+◌, ◌<◌, ◌≤◌, ◌≡◌, true, false, List, length, Option, None, Some, slice_get}
 use Rattle.ipx_wire.specs.declared.spx.packet.SpxHeader.{SpxHeader}
@@ -21,7 +22,8 @@ abbrev pub Carries : Option ℕ → List Unit → SpxHeader → List ℕ → Typ
 Carries None units h body = is_system h ≡ true
 Carries (Some n) units h body =
     (is_system h ≡ false) × (h.seq ≡ mark n)
-    × (slice_get units n ≡ Some (record { stream = h.stream; last = h.last; body = record { items = body } }))
+    × (slice_get units n
+    ≡ Some (record { stream = h.stream; last = h.last; body = record { items = body } }))
 
 -- what was given is the packet of this position, and the link is the end as it is then
 pub record Says (l : Core) (g : OutgoingView) (position : Option ℕ) (c d : End) : Type 0 where

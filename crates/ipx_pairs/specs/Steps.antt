@@ -1,4 +1,5 @@
--- Each call of a link is a step of the machine: receive of a fresh packet, poll, take, offer and end.
+-- Each call of a link is a step of the machine: receive of a fresh packet, poll, take, offer and
+-- end.
 use Rattle.std.specs.Prelude.{ℕ, ◌≡◌, ◌≢◌, ◌<◌, ◌≤◌, ◌+◌, ◌++◌, Bool, List, [], ◌∷◌, None, Some, slice_get}
 use Rattle.ipx_wire.specs.declared.spx.packet.SpxHeader.{SpxHeader}
 use Rattle.spx_link.specs.declared.unit.Unit.{Unit}
@@ -14,7 +15,8 @@ use Rattle.ipx_pairs.specs.Tracks.{Formed, Follows, IsOpen, core}
 use Rattle.ipx_pairs.specs.Spelling.{Spells, Carries, PolledTo}
 
 -- the packet q of d, which c reads now: it is fresh, and the header and body say what it says
-pub record IsRead (l : LinkView) (h : SpxHeader) (body : List ℕ) (q : Packet) (c d : End) : Type 0 where
+pub record IsRead (l : LinkView) (h : SpxHeader) (body : List ℕ) (q : Packet)
+    (c d : End) : Type 0 where
   pub follows : Follows l c d
   pub line : AreSound c d
   pub was : WasSent d c q

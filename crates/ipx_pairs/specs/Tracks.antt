@@ -1,4 +1,5 @@
--- What ties a link of 16-bit numbers (Novell SPX) to its end of the machine, whose numbers never wrap.
+-- What ties a link of 16-bit numbers (Novell SPX) to its end of the machine, whose numbers never
+-- wrap.
 use Rattle.std.specs.Prelude.{ℕ, ◌+◌, ◌≤◌, ◌≡◌, Bool, true, false, List, length, take, drop, map, Option, Some, slice_get, is_some}
 use Rattle.spx_link.specs.declared.unit.Unit.{Unit}
 use Rattle.spx_link.specs.declared.state.State.{State}
@@ -49,7 +50,8 @@ pub record Counts (l : Core) (c : End) : Type 0 where
   pub window : l.out ≤ most_units
   pub small : c.buffers ≤ most_units
 
--- the units of an end: none of stream FF; one of stream FE stands last, is the end of the connection that was asked
+-- the units of an end: none of stream FF; one of stream FE stands last, is the end of the
+-- connection that was asked
 -- for, and is there where `closed`
 pub record Formed (units : List Unit) (closed : Bool) : Type 0 where
   pub stream : (k : ℕ) (u : Unit) → slice_get units k ≡ Some u → u.stream ≤ end_stream
@@ -57,7 +59,8 @@ pub record Formed (units : List Unit) (closed : Bool) : Type 0 where
       → (closed ≡ true) × (length units ≡ k + 1) × (u ≡ the_end)
   pub there : closed ≡ true → (k : ℕ) × (slice_get units k ≡ Some the_end)
 
--- the link is the end c, whose peer is d: it queues c's units from the base on, holds those of d that are read and not
+-- the link is the end c, whose peer is d: it queues c's units from the base on, holds those of d
+-- that are read and not
 -- taken, and keeps those of d that the machine keeps
 pub record Tracks (l : Core) (c d : End) : Type 0 where
   pub counts : Counts l c

@@ -1,5 +1,5 @@
 -- The nearest told service, by a walk over the best offers.
-use Rattle.std.proofs.Common.{◌≡◌, ℕ, Bool, true, false, cond, not, List, [], ◌∷◌, ◌++◌, Option, Some, None, map, refl, sym, ap, ◌∙◌, subst}
+use Rattle.std.proofs.Common.{◌≡◌, ℕ, Bool, true, false, cond, not, List, [], ◌∷◌, ◌++◌, Option, Some, None, map, refl, sym, ap, subst}
 use Rattle.std.specs.Prelude.{Contains, IfNone, IfSome, MatchOption, ◌==◌, ◌&&◌}
 use Rattle.std.specs.List.{filter}
 use Rattle.ipx_control.specs.declared.sap.packet.ServiceEntry.{ServiceEntry}

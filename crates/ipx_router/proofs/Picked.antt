@@ -1,6 +1,6 @@
 -- From what is picked of the list of what is told to what was asked for.
 use Rattle.std.proofs.Common.{◌≡◌, ◌≢◌, ◌⊎◌, ℕ, zero, suc, ◌<◌, Bool, true, false, cond, List, [], ◌∷◌, length, get_or, Option, Some, None, Result, Ok, Err, refl, sym, subst, ap, ◌∙◌, inl, inr, arith}
-use Rattle.std.specs.Prelude.{Contains, IfOk, MatchBool, MatchOption, find, ◌==◌, ◌↔◌}
+use Rattle.std.specs.Prelude.{Contains, IfOk, MatchBool, MatchOption, find, ◌==◌, ◌||◌, ◌↔◌}
 use Rattle.std.specs.List.{cons_option, filter, filter_map}
 use Rattle.std.specs.declared.cmp.Ordering.{Ordering}
 use Rattle.std.specs.declared.cmp.Ordering.TheVariants.{Less}
@@ -87,3 +87,10 @@ module _ (services : Services) (at : PortNow) (told : List ServiceEntry) (are : 
   pub services_ok : {V X : Type 0} (items : V → List ServiceEntry) (o : Result V X) → IfOk o (λ v. items v ≡ filter (is_of_kind kind) told) → IfOk o (λ v. AreServicesAsked services at false kind (items v))
   services_ok items (Ok v) e = subst (AreServicesAsked services at false kind) (sym e) services_picked
   services_ok items (Err e) n = tt
+
+-- every service is of kind FFFF
+pub all_of_kind : (kind : ℕ) → kind ≡ 65535 → (es : List ServiceEntry) → filter (is_of_kind kind) es ≡ es
+all_of_kind kind every [] = refl
+all_of_kind kind every (e ∷ es) =
+    ap (λ (b : Bool). cond (b || (e.kind == kind)) (e ∷ filter (is_of_kind kind) es) (filter (is_of_kind kind) es)) (ap (λ k. k == 65535) every)
+    ∙ ap (λ l. e ∷ l) (all_of_kind kind every es)

@@ -2,14 +2,17 @@
 
 ghost use Rattle.std.specs.Prelude.{◌≡◌, ◌≤◌, ◌+◌, ◌++◌, ℕ, Bool, List, [], ◌∷◌, length, OnOk, IfOk, map};
 ghost use Rattle.ipx_wire.specs.Ipx.{IsBytes, IsIpx};
-ghost use Rattle.ipx_control.specs.Rip.{rip_entries, rip_view};
-ghost use Rattle.ipx_control.specs.Sap.{IsSapWithinLimit, sap_view};
+ghost use Rattle.ipx_control.specs.Rip.{Response as routes_response, rip_entries, rip_view};
+ghost use Rattle.ipx_control.specs.Sap.{IsSapWithinLimit, Response as services_response, sap_view};
 ghost use Rattle.ipx_router.specs.Packets.{AreBytesOf, AreRoutePackets, AreServicePackets, IsRipPacket, IsSapPacket, all_nodes, asker, own_header, sending_of, sendings};
 ghost use Rattle.ipx_router.specs.Adding.{AddsPackets};
 
 use crate::outcome::Reply;
 use crate::port::{Port, PortNow};
-use ipx_control::{Rip, RipEntry, Sap, ServiceEntry, encode_rip_into, encode_sap_into};
+use ipx_control::{
+    Rip, RipEntry, Sap, ServiceEntry, encode_rip_into, encode_routes_into, encode_sap_into,
+    encode_services_into,
+};
 use ipx_wire::{Address, IpxHeader, Node, OutOfMemory, Packet, Socket, encode_into, packet_type};
 use std::alloc::Global;
 
@@ -133,6 +136,44 @@ pub fn sap_packet(alloc: Global, to: Recipient, message: &Sap) -> Result<Reply, 
     })
 }
 
+/// A response of routes that stand in a longer list.
+fn routes_packet(alloc: Global, to: Recipient, routes: &[RipEntry]) -> Result<Reply, OutOfMemory>
+    requires { length routes.now ≤ 50 }
+    ensures { IfOk result (λ r. IsRipPacket to (routes_response routes.now) (sending_of r)) }
+{
+    let mut body = [0u8; 402];
+    let count = encode_routes_into(routes, &mut body);
+    let header = header_to(to, packet_type::RIP, Socket::RIP);
+    let bytes = packet_bytes(alloc, header, &body[..count])?;
+    Ok(Reply {
+        port: to.number,
+        next: to.node,
+        bytes,
+    })
+}
+
+/// A response of services that stand in a longer list.
+fn services_packet(
+    alloc: Global,
+    to: Recipient,
+    nearest: bool,
+    services: &[ServiceEntry],
+) -> Result<Reply, OutOfMemory>
+    requires { length services.now ≤ 7 }
+    ensures { IfOk result (λ r.
+        IsSapPacket to (services_response nearest services.now) (sending_of r)) }
+{
+    let mut body = [0u8; 450];
+    let count = encode_services_into(nearest, services, &mut body);
+    let header = header_to(to, packet_type::PACKET_EXCHANGE, Socket::SAP);
+    let bytes = packet_bytes(alloc, header, &body[..count])?;
+    Ok(Reply {
+        port: to.number,
+        next: to.node,
+        bytes,
+    })
+}
+
 /// Adds the packets of a list of routes.
 pub fn add_route_packets(
     alloc: Global,
@@ -146,8 +187,7 @@ pub fn add_route_packets(
     let mut rest = entries;
     while !rest.is_empty() {
         let (part, later) = rest.split_at(rest.len().min(MOST_ROUTES_A_PACKET));
-        let message = Rip::Response(Vec::from_slice(alloc, part)?);
-        replies.push(rip_packet(alloc, to, &message)?)?;
+        replies.push(routes_packet(alloc, to, part)?)?;
         rest = later;
     }
     Ok(())
@@ -168,11 +208,7 @@ pub fn add_service_packets(
     let mut rest = entries;
     while !rest.is_empty() {
         let (part, later) = rest.split_at(rest.len().min(MOST_SERVICES_A_PACKET));
-        let message = Sap::Response {
-            nearest,
-            services: Vec::from_slice(alloc, part)?,
-        };
-        replies.push(sap_packet(alloc, to, &message)?)?;
+        replies.push(services_packet(alloc, to, nearest, part)?)?;
         rest = later;
     }
     Ok(())

@@ -135,11 +135,14 @@ fn nearest_alone(
 /// The told services of a kind.
 fn services_of_kind(
     alloc: Global,
-    told: &[ServiceEntry],
+    told: Vec<ServiceEntry>,
     kind: u16,
 ) -> Result<Vec<ServiceEntry>, OutOfMemory>
-    ensures { IfOk result (λ v. v.items ≡ filter (is_of_kind kind) told.now) }
+    ensures { IfOk result (λ v. v.items ≡ filter (is_of_kind kind) told.items) }
 {
+    if kind == 0xffff {
+        return Ok(told);
+    }
     let found = told
         .iter()
         .copied()
@@ -163,7 +166,7 @@ fn asked_services(
         return nearest_alone(alloc, services, at, kind);
     }
     let told = told_services(alloc, services, at)?;
-    services_of_kind(alloc, &told, kind)
+    services_of_kind(alloc, told, kind)
 }
 
 /// The packets that answer a request for routes. A request of no entries takes no memory.

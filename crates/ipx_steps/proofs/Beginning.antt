@@ -1,7 +1,7 @@
 -- A world in which nothing happened yet, and all that come of it.
 use Rattle.std.proofs.Common.{◌≡◌, ◌≢◌, ℕ, [], map, Some, sym, ◌∙◌, ap, subst}
 use Rattle.std.specs.Prelude.{slice_get}
-use Rattle.ipx_log.specs.Scene.{Home}
+use Rattle.spx_units.specs.Packets.{Home}
 use Rattle.ipx_log.specs.Deeds.{IsBegun, Reached, begun}
 use Rattle.ipx_steps.specs.World.{World, EndNow, end_at, stand_of, home_at, bytes_of, segment_of, scene_of, InOrder}
 use Rattle.ipx_steps.specs.Reach.{IsFresh, IsNew, CameTo, new, stepped}

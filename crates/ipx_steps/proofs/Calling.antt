@@ -12,7 +12,7 @@ use Rattle.spx_units.specs.Cut.{cut_of}
 use Rattle.ipx_log.specs.Note.{Note}
 use Rattle.ipx_log.specs.Scene.{Stands, linked, noted, put}
 use Rattle.ipx_log.specs.Deeds.{Deed, Does}
-use Rattle.ipx_steps.specs.Endpoint.{Held, held_at}
+use Rattle.spx_messages.specs.EndpointView.{Held, held_at}
 use Rattle.ipx_steps.specs.World.{World, Station, EndNow, ParcelView, stand_with, stand_of, home_at, bytes_of, segment_of, scene_of, InOrder, StandsAt, IsHostInOrder}
 use Rattle.ipx_steps.specs.Calls.{DialsFrom, ChangesLink, SendsTo, Closes, InjectsInto, Ticks}
 use Rattle.ipx_steps.specs.Deeds.{Deeds}

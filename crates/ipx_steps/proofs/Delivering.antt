@@ -10,12 +10,13 @@ use Rattle.spx_link.specs.LinkView.{LinkView}
 use Rattle.spx_link.specs.Receive.{receive_link}
 use Rattle.spx_link.specs.Offer.{owe_reply_link, accepted_from}
 use Rattle.ipx_log.specs.Note.{Note}
-use Rattle.ipx_log.specs.Scene.{Home}
+use Rattle.spx_units.specs.Packets.{Home}
 use Rattle.ipx_log.specs.Deeds.{Accepts, Reads, OwesReply}
 use Rattle.ipx_log.specs.Packets.{IsFor, notes_of}
-use Rattle.ipx_steps.specs.Endpoint.{Held, EndpointView, held_at, SameBut}
-use Rattle.ipx_steps.specs.Arrived.{Arrived}
-use Rattle.ipx_steps.specs.Arrives.{IsOurs, IsAccepted, IsAskedAgain, IsHeard}
+use Rattle.spx_messages.specs.Changes.{SameBut}
+use Rattle.spx_messages.specs.EndpointView.{Held, EndpointView, held_at}
+use Rattle.spx_messages.specs.declared.arrived.Arrived.{Arrived}
+use Rattle.spx_messages.specs.Arrives.{IsOurs, IsAccepted, IsAskedAgain, IsHeard}
 use Rattle.ipx_steps.specs.World.{World, Station, EndNow, stand_with, stand_of, home_at, bytes_of, segment_of, scene_of, InOrder}
 use Rattle.ipx_steps.specs.Steps.{Delivers, heard_notes, read_notes, arrival_notes, buffers_of}
 use Rattle.ipx_steps.specs.Deeds.{Deeds}
@@ -24,10 +25,10 @@ use Rattle.ipx_steps.proofs.Doing.{no_deed, one_deed}
 use Rattle.ipx_steps.proofs.Standing.{none_held, held_same, held_stands, held_there, ends_same, made, scene_after}
 use Rattle.ipx_steps.proofs.Finding.{Found, found, found_changed, home_there, free_id}
 use Rattle.ipx_log.specs.Note as Notes
-use Rattle.ipx_steps.specs.Arrived as Arriveds
+use Rattle.spx_messages.specs.declared.arrived.Arrived.TheVariants as Arriveds
 
 -- nothing changes that a scene shows
-left_alone : (old new : World) (host : ℕ) (s s' : Station) → slice_get old.hosts host ≡ Some s → new.hosts ≡ set old.hosts host s' → SameBut s.endpoint s'.endpoint
+pub left_alone : (old new : World) (host : ℕ) (s s' : Station) → slice_get old.hosts host ≡ Some s → new.hosts ≡ set old.hosts host s' → SameBut s.endpoint s'.endpoint
     → new.ends ≡ old.ends → new.parcels ≡ old.parcels → new.log ≡ old.log ++ [] → Deeds (scene_of old) (scene_of new)
 left_alone old new host s s' there hosts same ends parcels log =
     no_deed (scene_of old) (scene_of new)

@@ -3,7 +3,8 @@ use Rattle.std.proofs.Common.{◌≡◌, ◌≢◌, ◌⊎◌, ◌==◌, ℕ, Bo
 use Rattle.std.specs.Prelude.{slice_get}
 use Rattle.std.proofs.lemmas.Bool.{cases_eq, cases_Bool, cond-true, cond-false}
 use Rattle.std.proofs.lemmas.Bool.Decides.{Decides-eqb}
-use Rattle.ipx_steps.specs.Endpoint.{Held, EndpointView, held_at, SameSelf}
+use Rattle.spx_messages.specs.Changes.{SameSelf}
+use Rattle.spx_messages.specs.EndpointView.{Held, EndpointView, held_at}
 use Rattle.ipx_steps.specs.World.{World, Station, EndNow, end_at, StandsAt, IsEndOf, IsHostInOrder, InOrder}
 use Rattle.ipx_steps.proofs.Places.{one_of_it, same_some, get_set_here, get_set_other, get_past}
 use Rattle.ipx_steps.proofs.Lists.{get_set, get_last, get_before}

@@ -1,22 +1,24 @@
 -- A delivery to a host, a poll of a host and a take leave a world in order.
 use Rattle.std.proofs.Common.{◌≡◌, ℕ, false, List, set, Option, Some, None, refl, sym, ◌∙◌, inl, inr, ap, subst, arith}
-use Rattle.std.specs.Prelude.{slice_get}
+use Rattle.std.specs.Prelude.{Result, slice_get}
 use Rattle.std.proofs.lemmas.Bool.{cases_eq, cases_lt}
 use Rattle.ipx_wire.specs.declared.address.Node.{Node}
 use Rattle.spx_link.specs.declared.received.Received.{Received}
 use Rattle.spx_link.specs.Offer.{accepted_from}
-use Rattle.ipx_steps.specs.Endpoint.{Held, EndpointView, held_at, SameBut, ChangesEnd}
-use Rattle.ipx_steps.specs.Arrived.{Arrived}
-use Rattle.ipx_steps.specs.Arrives.{IsAccepted}
-use Rattle.ipx_steps.specs.Polls.{RestsAt, polled_held, GivesNothing, Polls}
-use Rattle.ipx_steps.specs.TakeEnd.{TakenView, take_end}
+use Rattle.spx_messages.specs.Changes.{SameBut, ChangesEnd}
+use Rattle.spx_messages.specs.EndpointView.{Held, EndpointView, held_at}
+use Rattle.spx_messages.specs.declared.arrived.Arrived.{Arrived}
+use Rattle.spx_messages.specs.Arrives.{IsAccepted}
+use Rattle.spx_messages.specs.Polls.{RestsAt, polled_held, GivesNothing, Polls}
+use Rattle.spx_messages.specs.declared.fault.EndFault.{EndFault}
+use Rattle.spx_messages.specs.Taking.{TakenView, take_end}
 use Rattle.ipx_steps.specs.World.{World, Station, InOrder}
 use Rattle.ipx_steps.specs.Steps.{Delivers, PollsHost, TakesOf, marked_over}
 use Rattle.ipx_steps.proofs.Standing.{none_held}
 use Rattle.ipx_steps.proofs.Keeping.{SameIds, SameEnds, same_ends, set_ends, ids_kept, id_comes, cases_option}
 use Rattle.ipx_steps.proofs.Taking.{marked_host, marked_id, marked_stands}
-use Rattle.ipx_steps.specs.Arrived as Arriveds
-use Rattle.ipx_steps.specs.Polls as Polled
+use Rattle.spx_messages.specs.declared.arrived.Arrived.TheVariants as Arriveds
+use Rattle.spx_messages.specs.Polls as Polled
 
 pub ids_changed : (old new : EndpointView) (id : ℕ) (h after : Held) → held_at old id ≡ Some h → ChangesEnd old new id after → SameIds old new
 ids_changed old new id h after was c =
@@ -30,7 +32,7 @@ ids_same old new same = record { on = λ q x is. (x, same.held q ∙ is); back =
 
 -- ---- a delivery
 
-left_kept : (old new : World) (host : ℕ) (s s' : Station) → InOrder old → slice_get old.hosts host ≡ Some s → new.hosts ≡ set old.hosts host s' → SameBut s.endpoint s'.endpoint
+pub left_kept : (old new : World) (host : ℕ) (s s' : Station) → InOrder old → slice_get old.hosts host ≡ Some s → new.hosts ≡ set old.hosts host s' → SameBut s.endpoint s'.endpoint
     → s'.here ≡ s.here → new.ends ≡ old.ends → InOrder new
 left_kept old new host s s' o there hosts same here ends = ids_kept old new o host s s' there hosts same.self here (ids_same s.endpoint s'.endpoint same) (same_ends old.ends new.ends ends)
 
@@ -98,7 +100,7 @@ polls_kept old new host result o d =
 
 -- ---- a take
 
-pub takes_kept : (old new : World) (who : ℕ) (answer : TakenView) → InOrder old → TakesOf old who answer new → InOrder new
+pub takes_kept : (old new : World) (who : ℕ) (answer : Result TakenView EndFault) → InOrder old → TakesOf old who answer new → InOrder new
 takes_kept old new who answer o t =
     ids_kept old new o t.end'.host t.before t.after t.there t.hosts t.changes.self t.here
     (ids_changed t.before.endpoint t.after.endpoint t.end'.id t.held (take_end t.held).1 t.holds t.changes)

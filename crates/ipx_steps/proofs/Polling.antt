@@ -8,8 +8,8 @@ use Rattle.spx_link.specs.Poll.{poll_link}
 use Rattle.ipx_log.specs.Scene.{Stand, linked, sent_off, put}
 use Rattle.ipx_log.specs.Deeds.{Gives}
 use Rattle.ipx_log.specs.Packets.{note_of}
-use Rattle.ipx_steps.specs.Endpoint.{Held, held_at}
-use Rattle.ipx_steps.specs.Polls.{RestsAt, polled_held, GivesNothing, Polls, home_of}
+use Rattle.spx_messages.specs.EndpointView.{Held, held_at}
+use Rattle.spx_messages.specs.Polls.{RestsAt, polled_held, GivesNothing, Polls, home_of}
 use Rattle.ipx_steps.specs.World.{World, Station, EndNow, stand_with, stand_of, home_at, bytes_of, segment_of, scene_of, InOrder}
 use Rattle.ipx_steps.specs.Steps.{PollsHost, said_notes, given_notes, sent_letters}
 use Rattle.ipx_steps.specs.Deeds.{Deeds}
@@ -18,7 +18,7 @@ use Rattle.ipx_steps.proofs.Doing.{one_deed, then, RestsOr, with_ends, all_rest}
 use Rattle.ipx_steps.proofs.Standing.{held_same, held_stands, held_there, stands_there, the_only, made, made_same, scene_after, homes_same}
 use Rattle.ipx_steps.proofs.Finding.{Found, found}
 use Rattle.ipx_steps.proofs.Lists.{get_set}
-use Rattle.ipx_steps.specs.Polls as Polled
+use Rattle.spx_messages.specs.Polls as Polled
 
 -- the end rests if its id did, where it is of this host; and stays as it is elsewhere
 rests_or : (w : World) → InOrder w → (k : ℕ) (s s' : Station) → slice_get w.hosts k ≡ Some s → (j : ℕ) (x : EndNow) → slice_get w.ends j ≡ Some x

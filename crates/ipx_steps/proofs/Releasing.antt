@@ -4,7 +4,7 @@ use Rattle.std.specs.Prelude.{slice_get}
 use Rattle.std.proofs.lemmas.List.{map-set}
 use Rattle.std.proofs.lemmas.Bool.{cases_eq}
 use Rattle.ipx_steps.proofs.Lists.{get_set}
-use Rattle.ipx_steps.specs.Endpoint.{Held, held_at}
+use Rattle.spx_messages.specs.EndpointView.{Held, held_at}
 use Rattle.ipx_steps.specs.World.{World, Station, EndNow, end_at, stand_with, stand_of, scene_of, InOrder, StandsAt, IsEndOf, IsHostInOrder}
 use Rattle.ipx_steps.specs.Calls.{ReleasesOf}
 use Rattle.ipx_steps.specs.Deeds.{Deeds}

@@ -7,9 +7,11 @@ use Rattle.spx_link.specs.LinkView.{LinkView}
 use Rattle.spx_link.specs.Links.{link_at}
 use Rattle.spx_units.specs.Message.{MessageView}
 use Rattle.ipx_log.specs.Note.{Note}
-use Rattle.ipx_log.specs.Scene.{Scene, Stand, Home}
-use Rattle.ipx_steps.specs.Endpoint.{Held, EndpointView, rest_in, held_with, held_at, SameSelf}
-use Rattle.ipx_steps.specs.Polls.{home_of}
+use Rattle.ipx_log.specs.Scene.{Scene, Stand}
+use Rattle.spx_units.specs.Packets.{Home}
+use Rattle.spx_messages.specs.Changes.{SameSelf}
+use Rattle.spx_messages.specs.EndpointView.{Held, EndpointView, rest_in, held_with, held_at}
+use Rattle.spx_messages.specs.Polls.{home_of}
 use Rattle.ipx_steps.specs.World.{World, Station, EndNow, end_at, held_in, held_of, stand_with, stand_of, home_at, bytes_of, segment_of, scene_of, StandsAt, InOrder}
 use Rattle.ipx_steps.proofs.Places.{one_of_it, same_some, get_map, get_set_here, get_set_other, map_to_set, map_same, map_set_same}
 
@@ -20,10 +22,10 @@ linked_with None rest h is = cc
 linked_with (Some l) rest h is = ap (λ (x : Held). Some x.link) (same_some (record { link = l; rest = rest }) h is)
 
 pub link_of_held : (e : EndpointView) (id : ℕ) (h : Held) → held_at e id ≡ Some h → link_at e.links id ≡ Some h.link
-link_of_held e id h is = linked_with (link_at e.links id) (rest_in e.rests id) h is
+link_of_held e id h is = linked_with (link_at e.links id) (rest_in e.parts id) h is
 
 pub none_held : (e : EndpointView) (id : ℕ) → link_at e.links id ≡ None → held_at e id ≡ None
-none_held e id none = ap (λ o. held_with o (rest_in e.rests id)) none
+none_held e id none = ap (λ o. held_with o (rest_in e.parts id)) none
 
 -- ---- what an end has
 

@@ -11,7 +11,8 @@ use Rattle.spx_link.specs.Offer.{refusal, offer_link, end_link, dialed}
 use Rattle.spx_units.specs.Message.{MessageView}
 use Rattle.spx_units.specs.Cut.{cut_of}
 use Rattle.ipx_log.specs.Note.{Note}
-use Rattle.ipx_steps.specs.Endpoint.{Held, held_at, AddsEnd, ChangesEnd, ReleasesEnd}
+use Rattle.spx_messages.specs.Changes.{AddsEnd, ChangesEnd, ReleasesEnd, SameBut}
+use Rattle.spx_messages.specs.EndpointView.{Held, held_at}
 use Rattle.ipx_steps.specs.World.{World, Station, EndNow, end_at}
 use Rattle.ipx_log.specs.Note as Notes
 
@@ -22,7 +23,7 @@ pub record DialsFrom (old : World) (host : ℕ) (socket : Socket) (to : Address)
   pub before : Station
   pub there : slice_get old.hosts host ≡ Some before
   pub after : Station
-  pub room : count_of before.endpoint.links < most_links
+  pub room : count_of before.endpoint.links ≢ most_links
   pub free : IsNextFree before.endpoint.links id
   pub adds : AddsEnd before.endpoint after.endpoint id (dialed id socket to buffers old.moment)
   pub here : after.here ≡ before.here ++ (id, length old.ends) ∷ []
@@ -76,6 +77,19 @@ pub record ReleasesOf (old : World) (who : ℕ) (new : World) : Type 0 where
   pub ends : new.ends ≡ set old.ends who (record end' { released = true })
   pub parcels : new.parcels ≡ old.parcels
   pub log : new.log ≡ old.log ++ Notes.Released who ∷ []
+  pub moment : new.moment ≡ old.moment
+
+-- a call on an end of a host is refused: nothing changes but what its endpoint said and heard last
+pub record RefusesAt (old : World) (host : ℕ) (new : World) : Type 0 where
+  pub before : Station
+  pub there : slice_get old.hosts host ≡ Some before
+  pub after : Station
+  pub same : SameBut before.endpoint after.endpoint
+  pub here : after.here ≡ before.here
+  pub hosts : new.hosts ≡ set old.hosts host after
+  pub ends : new.ends ≡ old.ends
+  pub parcels : new.parcels ≡ old.parcels
+  pub log : new.log ≡ old.log
   pub moment : new.moment ≡ old.moment
 
 pub record InjectsInto (old : World) (segment : Network) (next : Node) (bytes : List ℕ)

@@ -2,7 +2,7 @@
 use Rattle.std.specs.Prelude.{ℕ, ◌≡◌, ◌≢◌, ◌<◌, ◌≤◌, [], Some, None, slice_get}
 use Rattle.ipx_wire.specs.declared.address.Socket.{Socket}
 use Rattle.spx_link.specs.Limits.{most_units}
-use Rattle.ipx_steps.specs.Endpoint.{held_at, buffers_at}
+use Rattle.spx_messages.specs.EndpointView.{held_at, buffers_at}
 use Rattle.ipx_steps.specs.World.{World, Station}
 use Rattle.ipx_steps.specs.Step.{Step}
 

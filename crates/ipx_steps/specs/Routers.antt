@@ -1,4 +1,5 @@
--- What a router does to a world: it carries a parcel on, or tells (Novell router specification). What it holds itself is
+-- What a router does to a world: it carries a parcel on, or tells (Novell router specification).
+-- What it holds itself is
 -- no part of a world here.
 use Rattle.std.specs.Prelude.{ℕ, ◌≡◌, ◌≢◌, ◌+◌, List, [], ◌∷◌, ◌++◌, length, Some, slice_get}
 use Rattle.ipx_wire.specs.declared.address.Network.{Network}
@@ -21,7 +22,8 @@ told_notes router count [] = []
 told_notes router count (l ∷ ls) = Notes.Told router count ∷ told_notes router (count + 1) ls
 
 -- it gives packets of its own: replies to a parcel, or what it tells when it is polled
-pub record TellsOf (old : World) (router : ℕ) (letters : List ParcelView) (new : World) : Type 0 where
+pub record TellsOf (old : World) (router : ℕ) (letters : List ParcelView)
+    (new : World) : Type 0 where
   pub own : Each IsOwnLetter letters
   pub hosts : new.hosts ≡ old.hosts
   pub ends : new.ends ≡ old.ends

@@ -1,5 +1,5 @@
 -- What three events do to a world, exactly.
-use Rattle.std.specs.Prelude.{ℕ, ◌≡◌, true, false, List, [], ◌∷◌, ◌++◌, length, take, set, Option, Some, None, slice_get}
+use Rattle.std.specs.Prelude.{ℕ, ◌≡◌, true, false, List, [], ◌∷◌, ◌++◌, length, take, set, Option, Some, None, Result, Ok, Err, slice_get}
 use Rattle.ipx_wire.specs.declared.address.Node.{Node}
 use Rattle.spx_link.specs.declared.unit.Unit.{Unit}
 use Rattle.spx_link.specs.declared.outgoing.Sent.{Sent}
@@ -7,14 +7,16 @@ use Rattle.spx_link.specs.declared.received.Received.{Received}
 use Rattle.spx_link.specs.Offer.{first_of}
 use Rattle.ipx_log.specs.Note.{Note}
 use Rattle.ipx_log.specs.Packets.{note_of, notes_of}
-use Rattle.ipx_steps.specs.Endpoint.{Held, held_at, ChangesEnd}
-use Rattle.ipx_steps.specs.Arrived.{Arrived}
-use Rattle.ipx_steps.specs.Arrives.{Arrives}
-use Rattle.ipx_steps.specs.Polls.{Polls}
-use Rattle.ipx_steps.specs.TakeEnd.{TakenView, take_end, Nothing, Part, Whole, PeerEnd, Overlong}
+use Rattle.spx_messages.specs.Changes.{ChangesEnd}
+use Rattle.spx_messages.specs.EndpointView.{Held, held_at}
+use Rattle.spx_messages.specs.declared.arrived.Arrived.{Arrived}
+use Rattle.spx_messages.specs.Arrives.{Arrives}
+use Rattle.spx_messages.specs.Polls.{Polls}
+use Rattle.spx_messages.specs.declared.fault.EndFault.{EndFault}
+use Rattle.spx_messages.specs.Taking.{TakenView, take_end, Nothing, Part, Whole, PeerEnd}
 use Rattle.ipx_steps.specs.World.{World, Station, EndNow, ParcelView, AtHost, end_at}
 use Rattle.ipx_log.specs.Note as Notes
-use Rattle.ipx_steps.specs.Arrived as Arriveds
+use Rattle.spx_messages.specs.declared.arrived.Arrived.TheVariants as Arriveds
 
 -- ---- a parcel is delivered to a host
 
@@ -117,33 +119,26 @@ pub record PollsHost (old : World) (host : ℕ) (result : Option (Node × ℕ))
 
 -- ---- an end is taken from
 
-abbrev pub whole_notes : TakenView → ℕ → List Note
-whole_notes Nothing who = []
-whole_notes Part who = []
-whole_notes (Whole m) who = Notes.HandsOut who m ∷ []
-whole_notes PeerEnd who = []
-whole_notes Overlong who = []
+abbrev pub whole_notes : Result TakenView EndFault → ℕ → List Note
+whole_notes (Ok Nothing) who = []
+whole_notes (Ok Part) who = []
+whole_notes (Ok (Whole m)) who = Notes.HandsOut who m ∷ []
+whole_notes (Ok PeerEnd) who = []
+whole_notes (Err f) who = []
 
--- a take that answers Overlong leaves none
-abbrev pub unit_notes : TakenView → Option Unit → ℕ → List Note
-unit_notes Overlong u who = []
-unit_notes Nothing None who = []
-unit_notes Part None who = []
-unit_notes (Whole m) None who = []
-unit_notes PeerEnd None who = []
-unit_notes Nothing (Some u) who = Notes.TakesUnit who u ∷ []
-unit_notes Part (Some u) who = Notes.TakesUnit who u ∷ []
-unit_notes (Whole m) (Some u) who = Notes.TakesUnit who u ∷ []
-unit_notes PeerEnd (Some u) who = Notes.TakesUnit who u ∷ []
+-- a take that is refused leaves none: that the message grew too long is no entry
+abbrev pub unit_notes : Result TakenView EndFault → Option Unit → ℕ → List Note
+unit_notes (Ok t) None who = []
+unit_notes (Ok t) (Some u) who = Notes.TakesUnit who u ∷ []
+unit_notes (Err f) u who = []
 
-abbrev pub marked_over : TakenView → EndNow → EndNow
-marked_over Nothing e = e
-marked_over Part e = e
-marked_over (Whole m) e = e
-marked_over PeerEnd e = e
-marked_over Overlong e = record e { overlong = true }
+-- where memory suffices, a take is refused for this alone
+abbrev pub marked_over : Result TakenView EndFault → EndNow → EndNow
+marked_over (Ok t) e = e
+marked_over (Err f) e = record e { overlong = true }
 
-pub record TakesOf (old : World) (who : ℕ) (answer : TakenView) (new : World) : Type 0 where
+pub record TakesOf (old : World) (who : ℕ) (answer : Result TakenView EndFault)
+    (new : World) : Type 0 where
   pub end' : EndNow
   pub at : slice_get old.ends who ≡ Some end'
   pub stands : end'.released ≡ false

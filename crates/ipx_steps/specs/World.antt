@@ -5,9 +5,10 @@ use Rattle.ipx_wire.specs.declared.address.Node.{Node}
 use Rattle.ipx_wire.specs.declared.address.Socket.{Socket}
 use Rattle.spx_link.specs.Limits.{most_units}
 use Rattle.ipx_log.specs.Note.{Note}
-use Rattle.ipx_log.specs.Scene.{Scene, Stand, Home}
-use Rattle.ipx_steps.specs.Endpoint.{Held, EndpointView, held_at, buffers_at}
-use Rattle.ipx_steps.specs.Polls.{home_of}
+use Rattle.ipx_log.specs.Scene.{Scene, Stand}
+use Rattle.spx_units.specs.Packets.{Home}
+use Rattle.spx_messages.specs.EndpointView.{Held, EndpointView, held_at, buffers_at}
+use Rattle.spx_messages.specs.Polls.{home_of}
 
 -- a host: what it holds, and which end each of its ids is
 pub record Station : Type 0 where
@@ -26,7 +27,8 @@ pub data Place : Type 0 where
   AtHost : (host : ℕ) → Place
   AtPort : (router port : ℕ) → Place
 
--- a parcel without where its bytes lie in memory: the network on which it lies, and the node that it goes to next
+-- a parcel without where its bytes lie in memory: the network on which it lies, and the node that
+-- it goes to next
 pub record ParcelView : Type 0 where
   pub segment : Network
   pub next : Node

@@ -1,5 +1,5 @@
 -- A search by halves in offers that rise.
-use Rattle.std.proofs.Common.{◌≡◌, ℕ, zero, suc, ◌+◌, ◌-◌, ◌/◌, ◌^◌, ◌<◌, ◌≤◌, Bool, true, false, List, [], ◌∷◌, length, get_or, drop, cond, Option, Some, ◌⊎◌, inl, inr, refl, sym, ap, ◌∙◌, arith}
+use Rattle.std.proofs.Common.{◌≡◌, ℕ, zero, suc, ◌+◌, ◌-◌, ◌*◌, ◌/◌, ◌^◌, ◌<◌, ◌≤◌, Bool, true, false, List, [], ◌∷◌, length, get_or, take, drop, cond, Option, Some, ◌⊎◌, inl, inr, refl, sym, ap, ◌∙◌, arith}
 use mathlib.Core.Bool.{◌&&◌}
 use Rattle.std.specs.Cmp.{IsTotalOrder}
 use Rattle.std.specs.Ordering.{is_lt, is_eq, ordering_then}
@@ -7,6 +7,9 @@ use Rattle.std.specs.declared.cmp.Ordering.{Ordering}
 use Rattle.std.specs.declared.cmp.Ordering.TheVariants.{Less, Equal, Greater}
 use Rattle.std.proofs.lemmas.Bool.{cases_lt}
 use Rattle.std.proofs.lemmas.Cmp.{alike_right}
+use Rattle.std.specs.List.{All, count_by}
+use Rattle.std.proofs.lemmas.List.{get_or-take}
+use Rattle.std.proofs.lemmas.List.Sums.{sum_by-le, sum_by-take-drop}
 use Rattle.std.proofs.lemmas.Grind.{common_steps}
 use Rattle.ipx_tables.specs.declared.offer.Offer.{Offer}
 use Rattle.ipx_tables.specs.Content.{pair_of, pair_cmp, is_young}
@@ -99,3 +102,23 @@ module _ {K M : Type 0} (cmp : K → K → Ordering) (key : K) (now : ℕ) where
   -- another key is no candidate
   pub no_candidate : (x : Offer K M) → is_eq (cmp x.key key) ≡ false → is_candidate cmp key now x ≡ false
   no_candidate x h = ap (λ b. b && is_young now x.heard) h
+
+module _ {X : Type 0} (p : X → Bool) where
+  -- where none passes none is counted
+  pub count_none : (xs : List X) → ((j : ℕ) (d : X) → j < length xs → p (get_or xs j d) ≡ false) → count_by p xs ≡ 0
+  count_none xs none =
+      let each : All (λ x. cond (p x) 1 0 ≤ 0) xs = λ j d lt. rw (none j d lt) (omega arith) in
+      let few : count_by p xs ≤ length xs * 0 = sum_by-le (λ x. cond (p x) 1 0) 0 xs each in
+      omega (arith, few)
+
+  -- where none passes from a place on, those before it are counted
+  pub count_front : (xs : List X) (i : ℕ) → ((j : ℕ) (d : X) → j < length (drop i xs) → p (get_or (drop i xs) j d) ≡ false) → count_by p xs ≡ count_by p (take i xs)
+  count_front xs i none =
+      let parts : count_by p (take i xs) + count_by p (drop i xs) ≡ count_by p xs = sum_by-take-drop (λ x. cond (p x) 1 0) xs i in
+      omega (arith, parts, count_none (drop i xs) none)
+
+  -- where none passes up to a place, none is counted there
+  pub count_back : (xs : List X) (i : ℕ) → ((j : ℕ) (d : X) → j < i → j < length xs → p (get_or xs j d) ≡ false) → count_by p (take i xs) ≡ 0
+  count_back xs i none = count_none (take i xs) (λ j d lt.
+      let short : (j < i) × (j < length xs) = grind (arith, common_steps, lt) in
+      rw (get_or-take i xs j d short.0) (none j d short.0 short.1))

@@ -10,5 +10,6 @@ pub mod Best
 pub mod Listed
 pub mod LastWord
 pub mod Expiry
+pub mod Racks
 pub mod Unique
 pub mod Counting

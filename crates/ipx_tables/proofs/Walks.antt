@@ -20,7 +20,7 @@ use Rattle.ipx_tables.specs.Best.{is_better, NoneCounts}
 use Rattle.ipx_tables.specs.Scan.{better_of, offer_beats}
 use Rattle.ipx_tables.specs.Sorted.{IsRising, IsAtKey}
 use Rattle.ipx_tables.specs.Listing.{listed_key, IsListing}
-use Rattle.ipx_tables.specs.Walk.{item_of, item_beats, put_first, bests_of}
+use Rattle.ipx_tables.specs.Walk.{IsLone, item_of, item_beats, put_first, bests_of}
 use Rattle.ipx_tables.proofs.Lists.{same_equiv}
 use Rattle.ipx_tables.proofs.Best.{as_good, rank_total}
 use Rattle.ipx_tables.proofs.Listed.{member_found, found_member}
@@ -214,6 +214,20 @@ module _ {K M : Type 0} {cmp : K → K → Ordering} (o : IsTotalOrder cmp) {bef
     -- at the end what is held is the last
     pub walk_end : (os : List (Offer K M)) (at : ℕ) → length os ≤ at → bests (drop at os) ≡ []
     walk_end os at past = ap bests (drop_all at os past)
+
+    -- the one offer of its key that counts is the best of it
+    pub lone_walk : (os : List (Offer K M)) → IsRising (pair_cmp cmp) pair_of os → (at : ℕ) (x : Offer K M) → x ≡ get_or os at x → IsLone cmp now os at → bests (drop at os) ≡ item_of x ∷ bests (drop (at + 1) os)
+    lone_walk os rising at x read lone =
+        let within = lone.in_range in
+        let young : is_young now x.heard ≡ true = ap (λ (v : Offer K M). is_young now v.heard) read ∙ lone.young x in
+        young_step os rising at x within read young ∙ elim (cases_lt (at + 1) (length os)) [
+          | inl more ↦
+              let y = get_or os (at + 1) x in
+              let read_y : y ≡ get_or os (at + 1) y = get_or_default os (at + 1) x y more in
+              let other : is_eq (cmp x.key y.key) ≡ false = ap (λ (v : Offer K M). is_eq (cmp v.key y.key)) read ∙ lone.last x more in
+              walk_past os rising (at + 1) y more read_y x (low_better os rising at x within read None tt) other
+          | inr end ↦ rw (walk_end os (at + 1) end) refl
+        ]
 
     -- keys that rise, by recursion
     abbrev Rises : List (K × Source × M) → Type 0

@@ -1,4 +1,5 @@
--- The best offer of a key: by metric; where metrics are equal the lower port decides, and then the lower neighbour, which is our own choice.
+-- The best offer of a key: by metric; where metrics are equal the lower port decides, and then the
+-- lower neighbour, which is our own choice.
 use Rattle.std.specs.Prelude.{◌≡◌, ℕ, Bool, true, false, cond, Some}
 use Rattle.std.specs.declared.cmp.Ordering.{Ordering}
 use Rattle.std.specs.declared.cmp.Ordering.TheVariants.{Less, Equal, Greater}
@@ -20,12 +21,15 @@ module _ {M : Type 0} (before : M → M → Bool) where
   is_better a b = is_lt (rank_cmp a b)
 
   -- of the offers of a key that count at a moment, this is the least
-  pub record IsBest {K : Type 0} (c : Content K M) (key : K) (now : ℕ) (best : Source × M) : Type 0 where
+  pub record IsBest {K : Type 0} (c : Content K M) (key : K) (now : ℕ)
+      (best : Source × M) : Type 0 where
     pub moment : ℕ
     pub stands : c (key, best.0) ≡ Some (best.1, moment)
     pub counts : is_young now moment ≡ true
-    pub least : (s : Source) (m : M) (t : ℕ) → c (key, s) ≡ Some (m, t) → is_young now t ≡ true → is_better (s, m) best ≡ false
+    pub least : (s : Source) (m : M) (t : ℕ) → c (key, s) ≡ Some (m, t) → is_young now t ≡ true
+        → is_better (s, m) best ≡ false
 
 -- no offer of the key counts at the moment
 abbrev pub NoneCounts : {K M : Type 0} → Content K M → K → ℕ → Type 0
-NoneCounts {K} {M} c key now = (s : Source) (m : M) (t : ℕ) → c (key, s) ≡ Some (m, t) → is_young now t ≡ false
+NoneCounts {K} {M} c key now = (s : Source) (m : M) (t : ℕ) → c (key, s) ≡ Some (m, t)
+    → is_young now t ≡ false

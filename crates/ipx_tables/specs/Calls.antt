@@ -26,8 +26,10 @@ abbrev pub Spares : {K M : Type 0} → (K → K → Ordering) → K × Source �
 Spares cmp p moment (Hear q metric now) = is_same cmp q p ≡ false
 Spares cmp p moment (Age now) = is_young now moment ≡ true
 
--- the last that was heard of the key and source is this metric, which is not dead, at this moment, and no later call found it old
-pub record IsLastWord {K M : Type 0} (cmp : K → K → Ordering) (dead : M → Bool) (calls : List (Call K M)) (p : K × Source) (metric : M) (moment : ℕ) : Type 0 where
+-- the last that was heard of the key and source is this metric, which is not dead, at this moment,
+-- and no later call found it old
+pub record IsLastWord {K M : Type 0} (cmp : K → K → Ordering) (dead : M → Bool)
+    (calls : List (Call K M)) (p : K × Source) (metric : M) (moment : ℕ) : Type 0 where
   pub earlier : List (Call K M)
   pub said_of : K × Source
   pub later : List (Call K M)

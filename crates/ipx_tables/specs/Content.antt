@@ -1,5 +1,6 @@
 -- What a table of offers says, and what hearing and ageing make of it.
--- A router keeps what each neighbour told last, and forgets it after some time without a word (Novell IPX Router Specification, RIP and SAP);
+-- A router keeps what each neighbour told last, and forgets it after some time without a word
+-- (Novell IPX Router Specification, RIP and SAP);
 -- that this time is three minutes is our own choice.
 use Rattle.std.specs.Prelude.{◌≡◌, ℕ, ◌-◌, ◌≤◌, Bool, cond, nat_lt, List, [], ◌∷◌, Option, Some, None, length}
 use Rattle.std.specs.declared.cmp.Ordering.{Ordering}
@@ -39,7 +40,8 @@ abbrev pub said_of : {K M : Type 0} → Offer K M → M × ℕ
 said_of o = (o.metric, o.heard)
 
 -- what is told of the offer of a key and a source, where a test tells which are the same
-abbrev pub found : {K M B : Type 0} → (K × Source → K × Source → Bool) → (Offer K M → B) → List (Offer K M) → K × Source → Option B
+abbrev pub found : {K M B : Type 0} → (K × Source → K × Source → Bool) → (Offer K M → B)
+    → List (Offer K M) → K × Source → Option B
 found same told [] p = None
 found same told (o ∷ os) p = cond (same (pair_of o) p) (Some (told o)) (found same told os p)
 
@@ -67,11 +69,14 @@ module _ {K : Type 0} (cmp : K → K → Ordering) where
 
   -- what is left after an offer was heard
   abbrev pub after_hear : {M : Type 0} → (M → Bool) → Content K M → K × Source → M → ℕ → Content K M
-  after_hear dead c p metric now q = cond (is_same p q) (cond (dead metric) None (Some (metric, now))) (c q)
+  after_hear dead c p metric now q =
+      cond (is_same p q) (cond (dead metric) None (Some (metric, now))) (c q)
 
   -- the keys that are left after an offer was heard
-  abbrev pub keys_after_hear : {M : Type 0} → (M → Bool) → (K × Source → Option K) → K × Source → M → K × Source → Option K
-  keys_after_hear dead keys p metric q = cond (is_same p q) (cond (dead metric) None (Some p.0)) (keys q)
+  abbrev pub keys_after_hear : {M : Type 0} → (M → Bool) → (K × Source → Option K) → K × Source → M
+      → K × Source → Option K
+  keys_after_hear dead keys p metric q =
+      cond (is_same p q) (cond (dead metric) None (Some p.0)) (keys q)
 
   -- no key and source stands twice, and there are no more offers than there may be
   pub record IsTable {M : Type 0} (t : Table K M) : Type 0 where

@@ -11,3 +11,4 @@ pub mod Scan
 pub mod Walk
 pub mod Marks
 pub mod Expiry
+pub mod Late

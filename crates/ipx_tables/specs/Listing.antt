@@ -12,7 +12,9 @@ abbrev pub listed_key : {K M : Type 0} → K × Source × M → K
 listed_key item = item.0
 
 -- each key that has a best stands once, in the order of the keys, with its best
-pub record IsListing {K M : Type 0} (cmp : K → K → Ordering) (before : M → M → Bool) (c : Content K M) (now : ℕ) (listed : List (K × Source × M)) : Type 0 where
+pub record IsListing {K M : Type 0} (cmp : K → K → Ordering) (before : M → M → Bool)
+    (c : Content K M) (now : ℕ) (listed : List (K × Source × M)) : Type 0 where
   pub in_order : IsRising cmp listed_key listed
   pub are_best : All (λ item. IsBest before c item.0 now (item.1, item.2)) listed
-  pub no_other : (key : K) (best : Source × M) → IsBest before c key now best → (i : ℕ) × IsAtKey cmp listed_key listed key i
+  pub no_other : (key : K) (best : Source × M) → IsBest before c key now best
+      → (i : ℕ) × IsAtKey cmp listed_key listed key i

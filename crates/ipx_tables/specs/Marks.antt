@@ -29,7 +29,9 @@ is_heard_at moment (Some v) = v.1 == moment
 module _ {K : Type 0} (cmp : K → K → Ordering) where
   -- by moment, and then by key and source
   abbrev pub mark_cmp : Mark K → Mark K → Ordering
-  mark_cmp x y = ordering_then (nat_cmp x.moment y.moment) (ordering_then (cmp x.key y.key) (source_cmp x.source y.source))
+  mark_cmp x y =
+      ordering_then (nat_cmp x.moment y.moment)
+      (ordering_then (cmp x.key y.key) (source_cmp x.source y.source))
 
   -- a mark ties with one of the list
   abbrev pub is_marked : List (Mark K) → Mark K → Bool
@@ -37,7 +39,8 @@ module _ {K : Type 0} (cmp : K → K → Ordering) where
 
   -- a key and source is marked with a moment just where its offer was heard then
   abbrev pub AreAlike : {M : Type 0} → List (Offer K M) → List (Mark K) → Type 0
-  AreAlike os ms = (m : Mark K) → is_marked ms m ≡ is_heard_at m.moment (content cmp os (m.key, m.source))
+  AreAlike os ms = (m : Mark K)
+      → is_marked ms m ≡ is_heard_at m.moment (content cmp os (m.key, m.source))
 
   -- both rise, and are alike
   pub record IsPaired {M : Type 0} (os : List (Offer K M)) (ms : List (Mark K)) : Type 0 where

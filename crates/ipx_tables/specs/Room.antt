@@ -14,13 +14,15 @@ pub record Fits {K M : Type 0} (cmp : K → K → Ordering) (most : ℕ) (c : Co
   pub says : (p : K × Source) → content cmp table.offers p ≡ c p
 
 module _ {K M : Type 0} (cmp : K → K → Ordering) (dead : M → Bool) where
-  -- an offer finds the table full: its metric is alive, there is none of its key and source, and there are as many as there may be
+  -- an offer finds the table full: its metric is alive, there is none of its key and source, and
+  -- there are as many as there may be
   pub record IsFull (t : Table K M) (p : K × Source) (metric : M) : Type 0 where
     pub alive : dead metric ≡ false
     pub unknown : content cmp t.offers p ≡ None
     pub full : t.most ≤ length t.offers
 
-  -- an offer makes the table grow: its metric is alive, there is none of its key and source, and there is room for one more
+  -- an offer makes the table grow: its metric is alive, there is none of its key and source, and
+  -- there is room for one more
   pub record Grows (t : Table K M) (p : K × Source) (metric : M) : Type 0 where
     pub alive : dead metric ≡ false
     pub unknown : content cmp t.offers p ≡ None

@@ -1,4 +1,5 @@
--- How far a network is, as the Novell IPX Router Specification has it for RIP: ticks first, then hops; 16 hops are unreachable.
+-- How far a network is, as the Novell IPX Router Specification has it for RIP: ticks first, then
+-- hops; 16 hops are unreachable.
 use Rattle.std.specs.Prelude.{ℕ, ◌+◌, Bool, nat_le, min}
 use Rattle.std.proofs.Common.{ap}
 use Rattle.std.specs.declared.cmp.Ordering.{Ordering}
@@ -14,7 +15,9 @@ abbrev pub network_cmp : Network → Network → Ordering
 network_cmp = on (λ n. n.0) nat_cmp
 
 pub network_exact : TellsApart network_cmp
-network_exact a b h = ap (λ (n : ℕ). let network : Network = record { 0 = n } in network) (exact_unsigned a.0 b.0 h)
+network_exact a b h =
+    ap (λ (n : ℕ). let network : Network = record { 0 = n } in network)
+    (exact_unsigned a.0 b.0 h)
 
 -- by ticks, and then by hops
 abbrev pub route_cmp : RouteMetric → RouteMetric → Ordering
@@ -33,7 +36,13 @@ abbrev pub route_one_more : RouteMetric → RouteMetric
 route_one_more m = record { ticks = m.ticks; hops = min (m.hops + 1) 16 }
 
 route_exact : TellsApart route_cmp
-route_exact a b h = ap (λ (p : ℕ × ℕ). let m : RouteMetric = record { ticks = p.0; hops = p.1 } in m) (exact_pairs nat_cmp nat_cmp exact_unsigned exact_unsigned (a.ticks, a.hops) (b.ticks, b.hops) h)
+route_exact a b h =
+    ap (λ (p : ℕ × ℕ). let m : RouteMetric = record { ticks = p.0; hops = p.1 } in m)
+    (exact_pairs nat_cmp nat_cmp exact_unsigned exact_unsigned
+    (a.ticks, a.hops) (b.ticks, b.hops) h)
 
 pub route_strict : IsStrictTotal route_before
-route_strict = strict_from_cmp (then_total (on_total (λ m. m.ticks) nat_cmp_total) (on_total (λ m. m.hops) nat_cmp_total)) route_exact
+route_strict =
+    strict_from_cmp
+    (then_total (on_total (λ m. m.ticks) nat_cmp_total) (on_total (λ m. m.hops) nat_cmp_total))
+    route_exact

@@ -8,7 +8,8 @@ use Rattle.ipx_tables.specs.Content.{is_young, pair_of}
 use Rattle.ipx_tables.specs.Best.{is_better}
 
 -- the offer at place i is of this key and source
-pub record IsAt {K M : Type 0} (same : K × Source → K × Source → Bool) (os : List (Offer K M)) (p : K × Source) (i : ℕ) : Type 0 where
+pub record IsAt {K M : Type 0} (same : K × Source → K × Source → Bool)
+    (os : List (Offer K M)) (p : K × Source) (i : ℕ) : Type 0 where
   pub in_range : i < length os
   pub here : (d : Offer K M) → same (pair_of (slice_index_or os i d)) p ≡ true
 

@@ -1,4 +1,5 @@
--- How far a service is, by hops: 16 mean down (Novell IPX Router Specification, SAP). Where hops are equal its address decides, which is our own choice.
+-- How far a service is, by hops: 16 mean down (Novell IPX Router Specification, SAP). Where hops
+-- are equal its address decides, which is our own choice.
 use Rattle.std.specs.Prelude.{ℕ, ◌+◌, Bool, List, nat_le, min}
 use Rattle.std.proofs.Common.{ap}
 use Rattle.std.specs.declared.cmp.Ordering.{Ordering}
@@ -16,11 +17,17 @@ abbrev pub service_key_cmp : ServiceKey → ServiceKey → Ordering
 service_key_cmp a b = ordering_then (nat_cmp a.kind b.kind) (slice_cmp nat_cmp a.name b.name)
 
 pub service_key_exact : TellsApart service_key_cmp
-service_key_exact a b h = ap (λ (p : ℕ × List ℕ). let key : ServiceKey = record { kind = p.0; name = p.1 } in key) (exact_pairs nat_cmp (slice_cmp nat_cmp) exact_unsigned exact_bytes (a.kind, a.name) (b.kind, b.name) h)
+service_key_exact a b h =
+    ap (λ (p : ℕ × List ℕ).
+    let key : ServiceKey = record { kind = p.0; name = p.1 } in key)
+    (exact_pairs nat_cmp (slice_cmp nat_cmp) exact_unsigned exact_bytes
+    (a.kind, a.name) (b.kind, b.name) h)
 
 -- by network, node and socket
 abbrev pub address_cmp : Address → Address → Ordering
-address_cmp a b = ordering_then (nat_cmp a.network.0 b.network.0) (ordering_then (slice_cmp nat_cmp a.node.0 b.node.0) (nat_cmp a.socket.0 b.socket.0))
+address_cmp a b =
+    ordering_then (nat_cmp a.network.0 b.network.0)
+    (ordering_then (slice_cmp nat_cmp a.node.0 b.node.0) (nat_cmp a.socket.0 b.socket.0))
 
 -- by hops, and then by address
 abbrev pub service_cmp : ServiceMetric → ServiceMetric → Ordering
@@ -40,10 +47,30 @@ service_one_more m = record { hops = min (m.hops + 1) 16; at = m.at }
 
 -- a metric from its numbers and bytes
 abbrev whole : ℕ × (ℕ × (List ℕ × ℕ)) → ServiceMetric
-whole p = record { hops = p.0; at = record { network = record { 0 = p.1.0 }; node = record { 0 = p.1.1.0 }; socket = record { 0 = p.1.1.1 } } }
+whole p =
+    record {
+      hops = p.0;
+      at = record {
+        network = record { 0 = p.1.0 };
+        node = record { 0 = p.1.1.0 };
+        socket = record { 0 = p.1.1.1 };
+      };
+    }
 
 service_exact : TellsApart service_cmp
-service_exact a b h = ap whole (exact_pairs nat_cmp _ exact_unsigned (exact_pairs nat_cmp _ exact_unsigned (exact_pairs (slice_cmp nat_cmp) nat_cmp exact_bytes exact_unsigned)) (a.hops, (a.at.network.0, (a.at.node.0, a.at.socket.0))) (b.hops, (b.at.network.0, (b.at.node.0, b.at.socket.0))) h)
+service_exact a b h =
+    ap whole
+    (exact_pairs nat_cmp _ exact_unsigned
+    (exact_pairs nat_cmp _ exact_unsigned
+    (exact_pairs (slice_cmp nat_cmp) nat_cmp exact_bytes exact_unsigned))
+    (a.hops, (a.at.network.0, (a.at.node.0, a.at.socket.0)))
+    (b.hops, (b.at.network.0, (b.at.node.0, b.at.socket.0))) h)
 
 pub service_strict : IsStrictTotal service_before
-service_strict = strict_from_cmp (then_total (on_total (λ (m : ServiceMetric). m.hops) nat_cmp_total) (then_total (on_total (λ (m : ServiceMetric). m.at.network.0) nat_cmp_total) (then_total (on_total (λ (m : ServiceMetric). m.at.node.0) nat_list_cmp_total) (on_total (λ (m : ServiceMetric). m.at.socket.0) nat_cmp_total)))) service_exact
+service_strict =
+    strict_from_cmp
+    (then_total (on_total (λ (m : ServiceMetric). m.hops) nat_cmp_total)
+    (then_total (on_total (λ (m : ServiceMetric). m.at.network.0) nat_cmp_total)
+    (then_total (on_total (λ (m : ServiceMetric). m.at.node.0) nat_list_cmp_total)
+    (on_total (λ (m : ServiceMetric). m.at.socket.0) nat_cmp_total))))
+    service_exact

@@ -1,5 +1,5 @@
 -- Words of the walk over the best of each key.
-use Rattle.std.specs.Prelude.{ℕ, Bool, cond, List, [], ◌∷◌}
+use Rattle.std.specs.Prelude.{◌≡◌, ℕ, ◌+◌, ◌<◌, Bool, true, false, cond, List, [], ◌∷◌, length, slice_index_or}
 use Rattle.std.specs.declared.cmp.Ordering.{Ordering}
 use Rattle.std.specs.Ordering.{is_eq}
 use Rattle.ipx_tables.specs.declared.source.Source.{Source}
@@ -19,9 +19,19 @@ module _ {K M : Type 0} (cmp : K → K → Ordering) (before : M → M → Bool)
   -- an item goes before those of higher keys; of its own key only the better one stays
   abbrev pub put_first : K × Source × M → List (K × Source × M) → List (K × Source × M)
   put_first a [] = a ∷ []
-  put_first a (b ∷ bs) = cond (is_eq (cmp a.0 b.0)) (cond (item_beats b a) (b ∷ bs) (a ∷ bs)) (a ∷ b ∷ bs)
+  put_first a (b ∷ bs) = cond (is_eq (cmp a.0 b.0)) (cond (item_beats b a) (b ∷ bs) (a ∷ bs))
+      (a ∷ b ∷ bs)
 
   -- the best of each key that has one, where the keys do not fall
   abbrev pub bests_of : ℕ → List (Offer K M) → List (K × Source × M)
   bests_of now [] = []
-  bests_of now (o ∷ os) = cond (is_young now o.heard) (put_first (item_of o) (bests_of now os)) (bests_of now os)
+  bests_of now (o ∷ os) = cond (is_young now o.heard) (put_first (item_of o) (bests_of now os))
+      (bests_of now os)
+
+-- the offer at a place counts, and the next one is of another key
+pub record IsLone {K M : Type 0} (cmp : K → K → Ordering) (now : ℕ) (os : List (Offer K M))
+    (at : ℕ) : Type 0 where
+  pub in_range : at < length os
+  pub young : (d : Offer K M) → is_young now (slice_index_or os at d).heard ≡ true
+  pub last : (d : Offer K M) → at + 1 < length os
+      → is_eq (cmp (slice_index_or os at d).key (slice_index_or os (at + 1) d).key) ≡ false

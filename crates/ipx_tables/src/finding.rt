@@ -8,7 +8,7 @@ ghost use Rattle.ipx_tables.specs.Scan.{best_from, better_of, is_candidate, offe
 use crate::metric::Metric;
 use crate::moments::counts;
 use crate::offer::Offer;
-use crate::shelf::Shelf;
+use crate::rack::Rack;
 use crate::source::Source;
 use std::cmp::Ordering;
 
@@ -51,7 +51,7 @@ pub fn better_one<K: Copy, M: Metric + Copy>(
 }
 
 /// The first place whose key is not below this one. Each offer that is read halves what is left.
-fn first_of<K: Ord + Copy, M: Copy>(shelf: &Shelf<K, M>, key: K, steps: &mut usize) -> usize
+fn first_of<K: Ord + Copy, M: Copy>(shelf: &Rack<K, M>, key: K, steps: &mut usize) -> usize
     requires { steps.old + 65 < 2 ^ 64 }
     ensures within { result ≤ length shelf.now }
     ensures below { (j : ℕ) (o : Offer K M) → j < result
@@ -76,7 +76,7 @@ fn first_of<K: Ord + Copy, M: Copy>(shelf: &Shelf<K, M>, key: K, steps: &mut usi
 
 /// The best of the offers of a key that count, and how many offers were read.
 pub fn best_in<K: Ord + Copy, M: Metric + Copy>(
-    shelf: &Shelf<K, M>,
+    shelf: &Rack<K, M>,
     key: K,
     now: u64,
 ) -> (Option<Offer<K, M>>, usize)
@@ -84,6 +84,7 @@ pub fn best_in<K: Ord + Copy, M: Metric + Copy>(
         ≡ best_from (is_candidate K.cmp key now) (offer_beats M.before) None shelf.now }
     ensures cost { (digits : ℕ) → length shelf.now < 2 ^ digits
         → result.1 ≤ count_by (λ o. is_eq (K.cmp o.key key)) shelf.now + 1 + digits }
+    ensures all_read { count_by (λ o. is_eq (K.cmp o.key key)) shelf.now ≤ result.1 }
 {
     let mut steps = 0;
     let mut at = first_of(shelf, key, &mut steps);

@@ -38,7 +38,8 @@ pub fn one_listing<K: Ord + Copy, M: Metric + Copy>()
 
 /// What a table says of routes has one listing.
 pub fn route_listing_is_one()
-    ensures { (c : Content Network RouteMetric) (now : ℕ) (a b : List (Network × Source × RouteMetric))
+    ensures { (c : Content Network RouteMetric) (now : ℕ)
+        (a b : List (Network × Source × RouteMetric))
         → IsListing network_cmp route_before c now a
         → IsListing network_cmp route_before c now b
         → a ≡ b }

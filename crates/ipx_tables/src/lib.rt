@@ -10,6 +10,7 @@ mod metric;
 mod moments;
 mod offer;
 mod offers;
+mod rack;
 mod route;
 mod service;
 mod shelf;

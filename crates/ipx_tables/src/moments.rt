@@ -5,7 +5,7 @@ ghost use Rattle.std.specs.List.{filter};
 ghost use Rattle.ipx_tables.specs.Content.{is_young};
 ghost use Rattle.ipx_tables.specs.Expiry.{NoneOldBefore};
 
-use crate::shelf::Shelf;
+use crate::rack::Rack;
 
 /// How long an offer counts after it was heard, in milliseconds.
 const LIFE: u64 = 180_000;
@@ -27,7 +27,7 @@ pub fn expiry(moment: u64) -> u64
 /// Takes out each offer that counts no more, from the one that was heard first on. The result is
 /// the moment until which all others do.
 #[inline(never)] // so that whoever ages a table has only the comparison in line
-pub fn keep_young<K: Ord + Copy, M: Copy>(shelf: &mut Shelf<K, M>, now: u64) -> u64
+pub fn keep_young<K: Ord + Copy, M: Copy>(shelf: &mut Rack<K, M>, now: u64) -> u64
     ensures young { shelf.new ≡ filter (λ o. is_young now o.heard) shelf.old }
     ensures until { NoneOldBefore result shelf.new }
     ensures no_later { (moment : ℕ) → moment < 2 ^ 64 → NoneOldBefore moment shelf.new

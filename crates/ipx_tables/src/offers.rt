@@ -12,7 +12,7 @@ use crate::finding::best_in;
 use crate::metric::Metric;
 use crate::moments::{expiry, keep_young};
 use crate::offer::Offer;
-use crate::shelf::Shelf;
+use crate::rack::Rack;
 use crate::source::Source;
 use crate::walk::{Bests, bests_on};
 use std::alloc::Global;
@@ -26,7 +26,7 @@ pub struct Offers<K: Ord + Copy, M: Metric + Copy> {
     most: usize,
     /// No offer is old before this moment. It may be too early, which costs one look at the oldest.
     none_old_before: u64,
-    shelf: Shelf<K, M>,
+    shelf: Rack<K, M>,
 }
 
 impl<K: Ord + Copy, M: Metric + Copy> Model for Offers<K, M> {
@@ -50,7 +50,7 @@ impl<K: Ord + Copy, M: Metric + Copy> Offers<K, M> {
         Offers {
             most,
             none_old_before: u64::MAX,
-            shelf: Shelf::new(alloc),
+            shelf: Rack::new(alloc),
         }
     }
 
@@ -72,7 +72,8 @@ impl<K: Ord + Copy, M: Metric + Copy> Offers<K, M> {
             ≡ after_hear K.cmp M.dead (content K.cmp self.old.offers) (key, source) metric now p) }
         ensures keys { OnOk result
             ((p : K × Source) → heard_key K.cmp self.new.offers p
-            ≡ keys_after_hear K.cmp M.dead (heard_key K.cmp self.old.offers) (key, source) metric p) }
+            ≡ keys_after_hear K.cmp M.dead (heard_key K.cmp self.old.offers)
+            (key, source) metric p) }
         ensures refused { OnErr result (self.new ≡ self.old) }
         ensures most { self.new.most ≡ self.old.most }
         ensures valid { IsTable K.cmp self.new }
@@ -83,7 +84,8 @@ impl<K: Ord + Copy, M: Metric + Copy> Offers<K, M> {
         ensures out_of_memory { result ≡ Err TableFault.OutOfMemory
             → Grows K.cmp M.dead self.old (key, source) metric }
         ensures no_memory_if_dead { M.dead metric ≡ true → IsOk result }
-        ensures no_memory_if_there { IsSome (content K.cmp self.old.offers (key, source)) → IsOk result }
+        ensures no_memory_if_there { IsSome (content K.cmp self.old.offers (key, source))
+            → IsOk result }
 
         // How many offers there are then.
         ensures many { OnOk result
@@ -150,14 +152,16 @@ impl<K: Ord + Copy, M: Metric + Copy> Offers<K, M> {
         self.best_steps(key, now).0
     }
 
-    /// The best, and how many offers were read to find it: those of the key, one more, and one for
-    /// each binary digit of how many offers there are.
+    /// The best, and how many offers were read to find it: those of the key, at most one more, and at
+    /// most one for each binary digit of how many offers there are.
     pub fn best_steps(&self, key: &K, now: u64) -> (Option<(Source, M)>, usize)
         ensures least { IfSome result.0
             (IsBest M.before (content K.cmp self.now.offers) key.now now) }
         ensures none { IfNone result.0 (NoneCounts (content K.cmp self.now.offers) key.now now) }
         ensures steps { (digits : ℕ) → length self.now.offers < 2 ^ digits
             → result.1 ≤ count_by (λ o. is_eq (K.cmp o.key key.now)) self.now.offers + 1 + digits }
+        // No offer of the key is passed over.
+        ensures all_read { count_by (λ o. is_eq (K.cmp o.key key.now)) self.now.offers ≤ result.1 }
         ensures valid { IsTable K.cmp self.now }
     {
         let (best, steps) = best_in(&self.shelf, *key, now);
@@ -189,7 +193,8 @@ impl<K: Ord + Copy, M: Metric + Copy> Offers<K, M> {
             (λ item. heard_key K.cmp self.now.offers (item.0, item.1) ≡ Some item.0)
             v.items) }
         ensures fault { IfErr result (λ e. e ≡ TableFault.OutOfMemory) }
-        ensures no_memory_if_none { ((key : K) → NoneCounts (content K.cmp self.now.offers) key now) → IsOk result }
+        ensures no_memory_if_none { ((key : K)
+            → NoneCounts (content K.cmp self.now.offers) key now) → IsOk result }
         ensures valid { IsTable K.cmp self.now }
     {
         let mut listed = Vec::new(alloc);

@@ -1,6 +1,7 @@
 //! Offers in two sorted sequences: by key and source, and by the moment heard.
 
 ghost use Rattle.std.specs.Prelude.{◌≡◌, ◌+◌, ◌^◌, ◌<◌, [], List, length, IfNone, IfSome, IfOk, IfErr, OnOk, OnErr, insert, remove, slice_index_or, slice_set};
+ghost use Rattle.std.specs.Ordering.{is_eq};
 ghost use Rattle.ipx_tables.specs.Content.{pair_cmp, pair_of};
 ghost use Rattle.ipx_tables.specs.Expiry.{IsOldest};
 ghost use Rattle.ipx_tables.specs.Sorted.{IsAtKey, IsGapFor, IsRising};
@@ -67,6 +68,26 @@ impl<K: Ord + Copy, M: Copy> Shelf<K, M> {
     {
         *steps += 1;
         self.offers[at]
+    }
+
+    /// An offer, for who looks at no key: what is read so is not counted.
+    #[inline]
+    pub fn get(&self, at: usize) -> Offer<K, M>
+        requires { at < length self.now }
+        ensures { result ≡ slice_index_or self.now at result }
+    {
+        self.offers[at]
+    }
+
+    /// Whether the offers at two places tie by key.
+    #[inline]
+    pub fn tie(&self, a: usize, b: usize) -> bool
+        requires first { a < length self.now }
+        requires second { b < length self.now }
+        ensures { (d : Offer K M) → result ≡ is_eq
+            (K.cmp (slice_index_or self.now a d).key (slice_index_or self.now b d).key) }
+    {
+        self.offers[a].key.cmp(&self.offers[b].key).is_eq()
     }
 
     /// Where the offer of a key and a source is, or where it would go.

@@ -1,21 +1,21 @@
 //! The best of each key, one after another.
 
-ghost use Rattle.std.specs.Prelude.{◌≡◌, ◌<◌, ◌∷◌, [], false, not, length, slice_index_or, drop, IfSome, IfNone, MatchOption};
+ghost use Rattle.std.specs.Prelude.{◌≡◌, ◌+◌, ◌^◌, ◌<◌, ◌∷◌, [], true, false, not, OnSome, length, slice_index_or, drop, IfSome, IfNone, MatchOption};
 ghost use Rattle.std.specs.Ordering.{is_eq};
-ghost use Rattle.ipx_tables.specs.Walk.{bests_of, item_of};
+ghost use Rattle.ipx_tables.specs.Walk.{IsLone, bests_of, item_of};
 
 use crate::finding::better_one;
 use crate::metric::Metric;
 use crate::moments::counts;
 use crate::offer::Offer;
-use crate::shelf::Shelf;
+use crate::rack::Rack;
 use crate::source::Source;
 use std::marker::Model;
 
 /// Each key that has a best, with its best, by key. It takes no memory.
 #[derive(Drop)]
 pub struct Bests<'a, K: Ord + Copy, M: Metric + Copy> {
-    shelf: &'a Shelf<K, M>,
+    shelf: &'a Rack<K, M>,
     at: usize,
     now: u64,
 }
@@ -31,7 +31,7 @@ impl<'a, K: Ord + Copy, M: Metric + Copy> Model for Bests<'a, K, M> {
 }
 
 /// The best of each key of the shelf.
-pub fn bests_on<K: Ord + Copy, M: Metric + Copy>(shelf: &Shelf<K, M>, now: u64) -> Bests<'_, K, M>
+pub fn bests_on<K: Ord + Copy, M: Metric + Copy>(shelf: &Rack<K, M>, now: u64) -> Bests<'_, K, M>
     ensures { result ≡ bests_of K.cmp M.before now shelf.now }
 {
     Bests { shelf, at: 0, now }
@@ -47,6 +47,10 @@ impl<'a, K: Ord + Copy, M: Metric + Copy> Iterator for Bests<'a, K, M> {
     ghost remaining = { item_count (λ items. items) };
 
     fn next(&mut self) -> Option<(K, Source, M)> {
+        if let Some(lone) = lone_at(self.shelf, self.at, self.now) {
+            self.at += 1;
+            return Some((lone.key, lone.source, lone.metric));
+        }
         let (best, at) = next_best(self.shelf, self.at, self.now);
         self.at = at;
         let best = best?;
@@ -55,12 +59,43 @@ impl<'a, K: Ord + Copy, M: Metric + Copy> Iterator for Bests<'a, K, M> {
 }
 
 /// An offer, read for a walk: what a walk reads is not counted.
-fn offer_at<K: Ord + Copy, M: Copy>(shelf: &Shelf<K, M>, at: usize) -> Offer<K, M>
+fn offer_at<K: Ord + Copy, M: Copy>(shelf: &Rack<K, M>, at: usize) -> Offer<K, M>
     requires { at < length shelf.now }
     ensures { result ≡ slice_index_or shelf.now at result }
 {
     let mut steps = 0;
     shelf.read(at, &mut steps)
+}
+
+/// Whether the offer at a place counts, and the next one is of another key.
+#[inline]
+fn is_lone<K: Ord + Copy, M: Copy>(shelf: &Rack<K, M>, at: usize, now: u64) -> bool
+    ensures { result ≡ true → IsLone K.cmp now shelf.now at }
+{
+    let end = shelf.len();
+    if at >= end || !counts(now, shelf.moment_at(at)) {
+        return false;
+    }
+    at + 1 == end || !shelf.tie(at, at + 1)
+}
+
+/// The offer at a place, if it counts and the next one is of another key: mostly a key has one
+/// offer, and then nothing else is looked at.
+#[inline]
+fn lone_at<K: Ord + Copy, M: Metric + Copy>(
+    shelf: &Rack<K, M>,
+    at: usize,
+    now: u64,
+) -> Option<Offer<K, M>>
+    ensures within { OnSome result (at < 2 ^ 63) }
+    ensures found { IfSome result (λ o. bests_of K.cmp M.before now (drop at shelf.now)
+        ≡ item_of o ∷ bests_of K.cmp M.before now (drop (at + 1) shelf.now)) }
+{
+    let _offers = shelf.len();
+    if is_lone(shelf, at, now) {
+        return Some(offer_at(shelf, at));
+    }
+    None
 }
 
 /// Whether an offer is held, and this key is another than its.
@@ -75,8 +110,9 @@ fn is_past<K: Ord + Copy, M: Copy>(held: Option<Offer<K, M>>, key: K) -> bool
 
 /// The best offer of the first key that has one, from a place on, and a place behind the offers of
 /// that key.
+#[inline(never)] // so that a walk over lone offers has only these in line
 fn next_best<K: Ord + Copy, M: Metric + Copy>(
-    shelf: &Shelf<K, M>,
+    shelf: &Rack<K, M>,
     from: usize,
     now: u64,
 ) -> (Option<Offer<K, M>>, usize)

@@ -2,6 +2,7 @@ pub mod Apart
 pub mod Calls
 pub mod Carrying
 pub mod Coming
+pub mod Counting
 pub mod Distances
 pub mod Ended
 pub mod Found
@@ -13,6 +14,7 @@ pub mod MachineAllowed
 pub mod MachineFresh
 pub mod MachineGrowth
 pub mod MachineSound
+pub mod Pairing
 pub mod Pigeons
 pub mod Reading
 pub mod Rounds

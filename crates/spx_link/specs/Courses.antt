@@ -1,7 +1,8 @@
 -- How far a connection comes: what is true of a link in its states, and kept by each of its calls.
 use Rattle.std.specs.Prelude.{◌≡◌, ℕ, ◌+◌, Bool, true, false, [], length}
 use Rattle.spx_link.specs.declared.state.State.{State}
-use Rattle.spx_link.specs.declared.state.State.TheVariants.{Opening, Live, Ending, PeerEnded, Confirmed, Lost}
+use Rattle.spx_link.specs.declared.state.State.TheVariants.{Opening, Live, Ending, PeerEnded}
+use Rattle.spx_link.specs.declared.state.State.TheVariants.{Confirmed, Lost}
 use Rattle.spx_link.specs.LinkView.{LinkView}
 use Rattle.spx_link.specs.Marks.{mark}
 

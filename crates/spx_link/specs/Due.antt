@@ -1,8 +1,10 @@
 -- When a link acts by itself, and till when it waits for a packet or a call.
-use Rattle.std.specs.Prelude.{◌≡◌, ℕ, ◌+◌, ◌^◌, ◌<◌, ◌≤◌, ◌==◌, ◌&&◌, ◌||◌, min, nat_lt, Bool, List, [], ◌∷◌, take, Option, None, Some, if◌then◌else◌}
+use Rattle.std.specs.Prelude.{◌≡◌, ℕ, ◌+◌, ◌^◌, ◌<◌, ◌≤◌, ◌==◌, ◌&&◌, ◌||◌, min, nat_lt, Bool, List}
+use Rattle.std.specs.Prelude.{[], ◌∷◌, take, Option, None, Some, if◌then◌else◌}
 use Rattle.spx_link.specs.declared.queue.Queued.{Queued}
 use Rattle.spx_link.specs.declared.state.State.{State}
-use Rattle.spx_link.specs.declared.state.State.TheVariants.{Opening, Live, Ending, PeerEnded, Confirmed, Lost}
+use Rattle.spx_link.specs.declared.state.State.TheVariants.{Opening, Live, Ending, PeerEnded}
+use Rattle.spx_link.specs.declared.state.State.TheVariants.{Confirmed, Lost}
 use Rattle.spx_link.specs.Limits.{resend_after}
 use Rattle.spx_link.specs.LinkView.{LinkView, is_working}
 use Rattle.spx_link.specs.Links.{LinksView, link_at}
@@ -12,18 +14,21 @@ use Rattle.spx_link.specs.Poll.{is_waiting, may_send, poll_link}
 abbrev pub IsQuiet : LinkView → ℕ → Type 0
 IsQuiet l now = poll_link l now ≡ (None, l)
 
--- before this moment every poll is quiet, and from it on none is. Where there is none, every poll is quiet at every
--- moment that a clock can show
+-- before this moment every poll is quiet, and from it on none is. Where there is none, every poll
+-- is quiet at every moment that a clock can show
 abbrev pub IsNextDue : LinkView → Option ℕ → Type 0
 IsNextDue l None = (now : ℕ) → now < 2 ^ 64 → IsQuiet l now
-IsNextDue l (Some t) = ((now : ℕ) → now < t → IsQuiet l now) × ((now : ℕ) → t ≤ now → IsQuiet l now → ⊥)
+IsNextDue l (Some t) =
+    ((now : ℕ) → now < t → IsQuiet l now) × ((now : ℕ) → t ≤ now → IsQuiet l now → ⊥)
 
 -- before this moment every poll of every link is quiet, and from it on that of some link is not
 abbrev pub IsNextDueOfAll : LinksView → Option ℕ → Type 0
-IsNextDueOfAll s None = (id now : ℕ) (l : LinkView) → link_at s id ≡ Some l → now < 2 ^ 64 → IsQuiet l now
+IsNextDueOfAll s None =
+    (id now : ℕ) (l : LinkView) → link_at s id ≡ Some l → now < 2 ^ 64 → IsQuiet l now
 IsNextDueOfAll s (Some t) =
     ((id now : ℕ) (l : LinkView) → link_at s id ≡ Some l → now < t → IsQuiet l now)
-    × ((id : ℕ) × (l : LinkView) × (link_at s id ≡ Some l) × ((now : ℕ) → t ≤ now → IsQuiet l now → ⊥))
+    × ((id : ℕ) × (l : LinkView) × (link_at s id ≡ Some l)
+    × ((now : ℕ) → t ≤ now → IsQuiet l now → ⊥))
 
 -- ---- words of the private functions
 

@@ -1,4 +1,5 @@
--- What the calls of a link do to its numbers and to the ends of its connection, apart from moments and marks.
+-- What the calls of a link do to its numbers and to the ends of its connection, apart from moments
+-- and marks.
 use Rattle.std.specs.Prelude.{◌≡◌, ⊤, ℕ, Bool, true, ◌+◌, ◌-◌, ◌<◌, [], Option, Some, None}
 use Rattle.ipx_wire.specs.declared.spx.packet.SpxHeader.{SpxHeader}
 use Rattle.ipx_wire.specs.declared.address.Socket.{Socket}
@@ -7,7 +8,9 @@ use Rattle.spx_link.specs.declared.numbers.Numbers.{Numbers}
 use Rattle.spx_link.specs.declared.outgoing.Sent.{Sent}
 use Rattle.spx_link.specs.declared.outgoing.Sent.TheVariants as Sents
 use Rattle.spx_link.specs.declared.received.Received.{Received}
-use Rattle.spx_link.specs.declared.received.Received.TheVariants.{Joined, Kept, Repeat, Ahead, OverAllocation, System, PeerEnded, Confirmed, Stranger}
+use Rattle.spx_link.specs.declared.received.Received.TheVariants.{Joined, Kept, Repeat, Ahead}
+use Rattle.spx_link.specs.declared.received.Received.TheVariants.{OverAllocation, System, PeerEnded}
+use Rattle.spx_link.specs.declared.received.Received.TheVariants.{Confirmed, Stranger}
 use Rattle.spx_link.specs.declared.state.State.TheVariants.{Opening, Live}
 use Rattle.spx_link.specs.Limits.{no_id}
 use Rattle.spx_link.specs.LinkView.{LinkView}
@@ -17,12 +20,14 @@ use Rattle.spx_link.specs.Receive.{is_system}
 
 -- ---- a poll
 
--- a unit that is sent for the first time takes a number and its room, and is outstanding from then on
+-- a unit that is sent for the first time takes a number and its room, and is outstanding from then
+-- on
 abbrev pub numbers_after_sent : Sent → Numbers → Numbers
 numbers_after_sent Sents.Request n = n
 numbers_after_sent Sents.Reply n = n
 numbers_after_sent Sents.Confirm n = n
-numbers_after_sent Sents.Unit n = record n { next = mark (n.next + 1); out = n.out + 1; room = n.room - 1 }
+numbers_after_sent Sents.Unit n =
+    record n { next = mark (n.next + 1); out = n.out + 1; room = n.room - 1 }
 numbers_after_sent Sents.Again n = n
 numbers_after_sent Sents.Ack n = n
 numbers_after_sent Sents.Probe n = n
@@ -74,15 +79,16 @@ pub record SamePeer (old new : LinkView) : Type 0 where
   pub peer : new.peer ≡ old.peer
 
 -- the ends of a new link, and whether the other side asked for it
-pub record HasEnds (l : LinkView) (id : ℕ) (socket : Socket) (address : Address) (peer_id : ℕ) (was_asked : Bool) : Type 0 where
+pub record HasEnds (l : LinkView) (id : ℕ) (socket : Socket) (address : Address) (peer_id : ℕ)
+    (was_asked : Bool) : Type 0 where
   pub own : l.own ≡ id
   pub local : l.local ≡ socket
   pub remote : l.remote ≡ address
   pub peer : l.peer ≡ peer_id
   pub accepted : l.accepted ≡ was_asked
 
--- a link that joined was opening before, and is live with the id that the reply came from. The reply was to its own
--- id, and carries no unit
+-- a link that joined was opening before, and is live with the id that the reply came from. The
+-- reply was to its own id, and carries no unit
 pub record Joins (old new : LinkView) (h : SpxHeader) : Type 0 where
   pub before : old.state ≡ Opening
   pub after : new.state ≡ Live

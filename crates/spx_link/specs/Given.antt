@@ -26,7 +26,8 @@ pub record Carries (l : LinkView) (u : Unit) (o : OutgoingView) : Type 0 where
   pub body : o.body ≡ u.body.items
   pub system : is_system o.header ≡ (u.stream == confirm_stream)
 
--- the next unit of the queue, under the next number, where the peer allows one more and fewer than may be are outstanding
+-- the next unit of the queue, under the next number, where the peer allows one more and fewer than
+-- may be are outstanding
 pub record IsNextUnit (l : LinkView) (o : OutgoingView) : Type 0 where
   pub unit : Unit
   pub queued : slice_get (queued_units l) l.out ≡ Some unit
@@ -56,7 +57,8 @@ IsOfKind Sents.Again l o = IsOutstandingUnit l o
 IsOfKind Sents.Ack l o = IsWithoutUnit l l.peer o
 IsOfKind Sents.Probe l o = IsWithoutUnit l l.peer o
 
--- whatever it is sent for, it is from the link's own id, and has the number that the link expects and what it allows
+-- whatever it is sent for, it is from the link's own id, and has the number that the link expects
+-- and what it allows
 pub record IsGiven (l : LinkView) (o : OutgoingView) : Type 0 where
   pub from : o.header.from_id ≡ l.own
   pub read : o.header.ack ≡ l.expected

@@ -1,5 +1,6 @@
 -- The least id of the links of which a fact holds.
-use Rattle.std.specs.Prelude.{◌≡◌, ℕ, ◌<◌, ◌≤◌, min, Bool, true, false, List, Option, Some, None, All, Any}
+use Rattle.std.specs.Prelude.{◌≡◌, ℕ, ◌<◌, ◌≤◌, min, Bool, true, false, List, Option, Some, None}
+use Rattle.std.specs.Prelude.{All, Any}
 use Rattle.ipx_wire.specs.declared.address.Address.{Address}
 use Rattle.spx_link.specs.LinkView.{LinkView}
 

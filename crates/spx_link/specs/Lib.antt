@@ -18,6 +18,7 @@ pub mod Picked
 pub mod Poll
 pub mod Queues
 pub mod Receive
+pub mod Sequences
 pub mod Sound
 pub mod Turns
 pub mod Units

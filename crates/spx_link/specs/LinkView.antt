@@ -1,16 +1,19 @@
 -- What a link holds, as its contracts see it (one end of a connection of Novell SPX).
-use Rattle.std.specs.Prelude.{ℕ, ◌+◌, ◌-◌, ◌==◌, Bool, true, false, List, [], length, nat_le, Option}
+use Rattle.std.specs.Prelude.{ℕ, ◌+◌, ◌-◌, ◌==◌, Bool, true, false, List, [], length, nat_le}
+use Rattle.std.specs.Prelude.{Option}
 use Rattle.ipx_wire.specs.declared.address.Socket.{Socket}
 use Rattle.ipx_wire.specs.declared.address.Address.{Address}
 use Rattle.spx_link.specs.declared.unit.Unit.{Unit}
 use Rattle.spx_link.specs.declared.queue.Queued.{Queued}
 use Rattle.spx_link.specs.declared.state.State.{State}
-use Rattle.spx_link.specs.declared.state.State.TheVariants.{Opening, Live, Ending, PeerEnded, Confirmed, Lost}
+use Rattle.spx_link.specs.declared.state.State.TheVariants.{Opening, Live, Ending, PeerEnded}
+use Rattle.spx_link.specs.declared.state.State.TheVariants.{Confirmed, Lost}
 use Rattle.spx_link.specs.declared.numbers.Numbers.{Numbers}
 use Rattle.spx_link.specs.Limits.{resend_after, end_stream}
 
--- the first `out` units of the queue are sent and not acknowledged. Held units are received in order and not taken.
--- Those ahead came before one that is missing: they stand from `expected` on, None at a gap
+-- the first `out` units of the queue are sent and not acknowledged. Held units are received in
+-- order and not taken. Those ahead came before one that is missing: they stand from `expected` on,
+-- None at a gap
 pub record LinkView : Type 0 where
   pub state : State
   pub own : ℕ

@@ -1,10 +1,14 @@
 -- A connection whose numbers never wrap: its two ends, and every packet that either ever sent.
--- Where the 16 bits of Novell SPX stand for one position only, they stand for those of this machine.
-use Rattle.std.specs.Prelude.{ℕ, zero, suc, ◌+◌, ◌-◌, ◌<◌, ◌≤◌, ◌≡◌, ◌&&◌, not, Bool, true, false, drop, nat_lt, nat_le, max, List, [], ◌∷◌, ◌++◌, length, Option, None, Some, Contains, All, if◌then◌else◌}
+-- Where the 16 bits of Novell SPX stand for one position only, they stand for those of this
+-- machine.
+use Rattle.std.specs.Prelude.{ℕ, zero, suc, ◌+◌, ◌-◌, ◌<◌, ◌≤◌, ◌≡◌, ◌&&◌, not, Bool, true, false}
+use Rattle.std.specs.Prelude.{drop, nat_lt, nat_le, max, List, [], ◌∷◌, ◌++◌, length, Option, None}
+use Rattle.std.specs.Prelude.{Some, Contains, All, if◌then◌else◌}
 use Rattle.spx_link.specs.declared.unit.Unit.{Unit}
 
--- a packet that was sent: the position of its unit or none, and what its sender had read and allowed as it was sent.
--- Beside them, which no step reads: how many units its sender and its receiver had sent then, its own among them.
+-- a packet that was sent: the position of its unit or none, and what its sender had read and
+-- allowed as it was sent. Beside them, which no step reads: how many units its sender and its
+-- receiver had sent then, its own among them.
 pub record Packet : Type 0 where
   pub position : Option ℕ
   pub read : ℕ
@@ -12,10 +16,10 @@ pub record Packet : Type 0 where
   pub sender_sent : ℕ
   pub receiver_sent : ℕ
 
--- an end: the positions below `base` are acknowledged, those below `sent` sent, those below `limit` may be sent;
--- of its peer's, those below `read` are read and those below `taken` taken, and `kept` says of the positions from `read`
--- on which are kept ahead of those that are missing. Its units, from position 0 on, and its bag: every packet that it
--- ever sent
+-- an end: the positions below `base` are acknowledged, those below `sent` sent, those below `limit`
+-- may be sent; of its peer's, those below `read` are read and those below `taken` taken, and `kept`
+-- says of the positions from `read` on which are kept ahead of those that are missing. Its units,
+-- from position 0 on, and its bag: every packet that it ever sent
 pub record End : Type 0 where
   pub base : ℕ
   pub sent : ℕ
@@ -97,7 +101,8 @@ lead (true ∷ xs) = suc (lead xs)
 
 -- a position from `read` to `taken + buffers - 1` that is not kept yet
 abbrev pub is_wanted : End → ℕ → Bool
-is_wanted c n = nat_le c.read n && (nat_lt n (c.taken + c.buffers) && not (is_marked (n - c.read) c.kept))
+is_wanted c n =
+    nat_le c.read n && (nat_lt n (c.taken + c.buffers) && not (is_marked (n - c.read) c.kept))
 
 -- with these positions kept from `read` on, `read` becomes the least position that is not kept
 abbrev pub risen : List Bool → End → End
@@ -114,8 +119,8 @@ got p c = read_unit p.position (learned p c)
 
 -- ---- steps
 
--- an end sends its next unit, sends one again, sends a packet without a unit, gets a packet of its peer (which stays
--- in the bag), takes a unit that it read, or gains units to send
+-- an end sends its next unit, sends one again, sends a packet without a unit, gets a packet of its
+-- peer (which stays in the bag), takes a unit that it read, or gains units to send
 pub data Act : Type 0 where
   Sends : Act
   SendsAgain : ℕ → Act
@@ -156,8 +161,9 @@ pub record IsChain (c d : End) : Type 0 where
   pub sent : c.sent ≤ c.limit
   pub limit : c.limit ≤ d.taken + d.buffers
 
--- what c has outstanding and may still send fits the buffers of its peer d, and what it holds fits its own; it sent
--- no more units than it has, read no more than its peer has, and kept no position that its peer did not send
+-- what c has outstanding and may still send fits the buffers of its peer d, and what it holds fits
+-- its own; it sent no more units than it has, read no more than its peer has, and kept no position
+-- that its peer did not send
 pub record IsWithin (c d : End) : Type 0 where
   pub limit : c.limit ≤ c.base + d.buffers
   pub taken : c.taken ≤ c.read
@@ -190,7 +196,8 @@ pub record AreSound (c d : End) : Type 0 where
   pub bag : All (WasSent c d) c.bag
   pub peer_bag : All (WasSent d c) d.bag
 
--- an end after more steps: its numbers only grow, its units only gain, and its bag keeps every packet
+-- an end after more steps: its numbers only grow, its units only gain, and its bag keeps every
+-- packet
 pub record Grows (old new : End) : Type 0 where
   pub base : old.base ≤ new.base
   pub sent : old.sent ≤ new.sent

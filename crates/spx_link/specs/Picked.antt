@@ -12,4 +12,5 @@ body_in (Some l) place = body_at l.queue place
 
 -- the packet of the link at a place of the list, with the body that it carries
 abbrev pub carried_in : LinksView → ℕ → Chosen → OutgoingView
-carried_in s at c = record { what = c.what; header = c.header; body = body_in (slice_get s.links at) c.place }
+carried_in s at c =
+    record { what = c.what; header = c.header; body = body_in (slice_get s.links at) c.place }

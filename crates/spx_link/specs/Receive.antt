@@ -1,11 +1,15 @@
--- What a link answers to a packet and what it becomes (Novell SPX, and this project's profile): one function
--- for each rule.
-use Rattle.std.specs.Prelude.{ℕ, ◌+◌, ◌==◌, nat_lt, nat_le, Bool, true, false, ◌&&◌, ◌||◌, not, List, [], ◌∷◌, ◌++◌, length, drop, zero, suc, Option, Some, None, is_some, if◌then◌else◌}
+-- What a link answers to a packet and what it becomes (Novell SPX, and this project's profile): one
+-- function for each rule.
+use Rattle.std.specs.Prelude.{ℕ, ◌+◌, ◌==◌, nat_lt, nat_le, Bool, true, false, ◌&&◌, ◌||◌, not}
+use Rattle.std.specs.Prelude.{List, [], ◌∷◌, ◌++◌, length, drop, zero, suc, Option, Some, None}
+use Rattle.std.specs.Prelude.{is_some, if◌then◌else◌}
 use Rattle.ipx_wire.specs.declared.spx.packet.SpxHeader.{SpxHeader}
 use Rattle.spx_link.specs.declared.state.State.{State}
 use Rattle.spx_link.specs.declared.state.State.TheVariants as States
 use Rattle.spx_link.specs.declared.received.Received.{Received}
-use Rattle.spx_link.specs.declared.received.Received.TheVariants.{Joined, Kept, Repeat, Ahead, OverAllocation, System, PeerEnded, Confirmed, Stranger}
+use Rattle.spx_link.specs.declared.received.Received.TheVariants.{Joined, Kept, Repeat, Ahead}
+use Rattle.spx_link.specs.declared.received.Received.TheVariants.{OverAllocation, System, PeerEnded}
+use Rattle.spx_link.specs.declared.received.Received.TheVariants.{Confirmed, Stranger}
 use Rattle.spx_link.specs.declared.unit.Unit.{Unit}
 use Rattle.spx_link.specs.Limits.{end_stream, confirm_stream, no_id}
 use Rattle.spx_link.specs.LinkView.{LinkView, free, is_confirmed, is_end}
@@ -47,7 +51,8 @@ is_system h = (h.system && not (h.stream == end_stream)) || (h.stream == confirm
 -- its end was asked for, all that it sent is acknowledged, and it was not confirmed before
 abbrev pub may_confirm : LinkView → SpxHeader → Bool
 may_confirm l h =
-    (h.stream == confirm_stream) && (l.end_queued && ((length l.queue == 0) && not (is_confirmed l.state)))
+    (h.stream == confirm_stream)
+    && (l.end_queued && ((length l.queue == 0) && not (is_confirmed l.state)))
 
 abbrev pub with_ack_owed : LinkView → Bool → LinkView
 with_ack_owed l owed = record l { owes_ack = l.owes_ack || owed }
@@ -64,7 +69,8 @@ read_system l h =
 abbrev pub beyond_expected : LinkView → SpxHeader → ℕ
 beyond_expected l h = distance h.seq l.expected
 
--- it stands behind: an acknowledgement is owed, or for the end of a peer that has ended a confirmation in its place
+-- it stands behind: an acknowledgement is owed, or for the end of a peer that has ended a
+-- confirmation in its place
 abbrev pub repeated : LinkView → SpxHeader → LinkView
 repeated l h =
     if (h.stream == end_stream) && l.peer_ended
@@ -102,7 +108,8 @@ abbrev pub any_end : List Unit → Bool
 any_end [] = false
 any_end (u ∷ us) = is_end u || any_end us
 
--- these units stand in order now, and the last of them is the peer's end: what is kept behind it is dropped
+-- these units stand in order now, and the last of them is the peer's end: what is kept behind it is
+-- dropped
 abbrev pub keep_end : LinkView → List Unit → LinkView
 keep_end l us =
     record l {
@@ -127,7 +134,8 @@ keep_units l us ahead =
 -- of what is kept from `expected` on, the units that stand in order are held
 abbrev pub settle : LinkView → List (Option Unit) → Received × LinkView
 settle l ahead =
-    if any_end (leading ahead) then (PeerEnded, keep_end l (leading ahead)) else (Kept, keep_units l (leading ahead) ahead)
+    if any_end (leading ahead) then (PeerEnded, keep_end l (leading ahead))
+    else (Kept, keep_units l (leading ahead) ahead)
 
 -- there is a buffer for the unit: it is kept at its place, once
 abbrev pub keep : LinkView → SpxHeader → List ℕ → Received × LinkView
@@ -139,7 +147,8 @@ keep l h body =
 -- a unit past the free buffers is not kept
 abbrev pub in_turn : LinkView → SpxHeader → List ℕ → Received × LinkView
 in_turn l h body =
-    if nat_lt (beyond_expected l h) (free l) then keep l h body else (OverAllocation, record l { owes_ack = true })
+    if nat_lt (beyond_expected l h) (free l) then keep l h body
+    else (OverAllocation, record l { owes_ack = true })
 
 abbrev pub not_behind : LinkView → SpxHeader → List ℕ → Received × LinkView
 not_behind l h body = if l.peer_ended then (Ahead, l) else in_turn l h body
@@ -164,7 +173,10 @@ receive_joined l h body = if is_own l h then read_packet l h body else (Stranger
 -- a reply to the request, which joins
 abbrev pub is_reply : LinkView → SpxHeader → Bool
 is_reply l h =
-    h.system && ((h.stream == 0) && (not h.wants_ack && ((h.to_id == l.own) && (nat_lt 0 h.from_id && nat_lt h.from_id no_id))))
+    h.system
+    && ((h.stream == 0)
+    && (not h.wants_ack
+    && ((h.to_id == l.own) && (nat_lt 0 h.from_id && nat_lt h.from_id no_id))))
 
 abbrev pub joined : LinkView → SpxHeader → LinkView
 joined l h = record l { state = States.Live; peer = h.from_id }

@@ -1,5 +1,7 @@
--- What is true of the ids of the links that a host holds: they are from 0001 to FFFE, and no two are equal.
-use Rattle.std.specs.Prelude.{◌≡◌, ℕ, ◌<◌, ◌≤◌, ◌==◌, ◌&&◌, nat_lt, Bool, true, false, List, [], ◌∷◌, map, length, ⊤}
+-- What is true of the ids of the links that a host holds: they are from 0001 to FFFE, and no two
+-- are equal.
+use Rattle.std.specs.Prelude.{◌≡◌, ℕ, ◌<◌, ◌≤◌, ◌==◌, ◌&&◌, nat_lt, Bool, true, false, List, []}
+use Rattle.std.specs.Prelude.{◌∷◌, map, length, ⊤}
 use Rattle.std.specs.List.{list_all, list_any}
 use Rattle.spx_link.specs.Limits.{most_links, no_id}
 use Rattle.spx_link.specs.LinkView.{LinkView}

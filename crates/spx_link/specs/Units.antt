@@ -49,4 +49,5 @@ pub record IsEmpty (l : LinkView) (buffers room : ℕ) : Type 0 where
   pub ahead : l.ahead ≡ []
   pub end_queued : l.end_queued ≡ false
   pub peer_ended : l.peer_ended ≡ false
-  pub numbers : numbers_of l ≡ record { next = 0; out = 0; room = room; expected = 0; held = 0; buffers = buffers }
+  pub numbers : numbers_of l
+      ≡ record { next = 0; out = 0; room = room; expected = 0; held = 0; buffers = buffers }

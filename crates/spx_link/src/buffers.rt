@@ -1,6 +1,7 @@
 //! The buffers of a link: the units that came and were not taken.
 
-ghost use Rattle.std.specs.Prelude.{◌≡◌, ◌+◌, ◌≤◌, ◌<◌, [], drop, length, option_copied, slice_get, take, IfOk, Some};
+ghost use Rattle.std.specs.Prelude.{◌≡◌, ◌+◌, ◌≤◌, ◌<◌, [], drop, length, option_copied, slice_get};
+ghost use Rattle.std.specs.Prelude.{take, IfOk, Some};
 ghost use Rattle.circular_buffer.specs.Buffer.{buffer};
 ghost use Rattle.spx_link.specs.Buffers as spec;
 ghost use Rattle.spx_link.specs.Buffers.{BuffersView, IsLaid, there};
@@ -29,7 +30,11 @@ pub struct Buffers {
 impl Model for Buffers {
     ghost Value = { BuffersView };
 
-    ghost view = { λ b. record { held = there (take b.count b.ring.items); ahead = drop b.count b.ring.items; size = b.size } };
+    ghost view = { λ b. record {
+      held = there (take b.count b.ring.items);
+      ahead = drop b.count b.ring.items;
+      size = b.size;
+    } };
 
     ghost invariant = { λ b. IsLaid b.ring.items b.ring.capacity b.count b.size };
 }
@@ -76,6 +81,13 @@ impl Buffers {
         self.size - self.count
     }
 
+    /// How many units were kept ahead of one that is missing.
+    pub fn ahead(&self) -> usize
+        ensures { result ≡ length (there self.now.ahead) }
+    {
+        count_from(&self.ring, usize::from(self.count))
+    }
+
     /// Whether a unit was kept at a place of those ahead.
     pub fn is_taken(&self, place: u16) -> bool
         ensures { result ≡ R.is_taken place self.now.ahead }
@@ -88,7 +100,8 @@ impl Buffers {
     pub fn put(&mut self, place: u16, header: &SpxHeader, body: &[u8])
         requires room { place < spec.left self.old }
         requires fits { length body.now ≤ 534 }
-        ensures { self.new ≡ record self.old { ahead = R.put place (unit_in header.now body.now) self.old.ahead } }
+        ensures { self.new
+            ≡ record self.old { ahead = R.put place (unit_in header.now body.now) self.old.ahead } }
     {
         let place = usize::from(self.count) + usize::from(place);
         put_packet(&mut self.ring, place, header, body);
@@ -144,6 +157,19 @@ fn unit_at(ring: &HeapCircularBuffer<Option<Unit>>, place: usize) -> Option<&Uni
     }
 }
 
+/// How many units there are from a place on.
+fn count_from(ring: &HeapCircularBuffer<Option<Unit>>, from: usize) -> usize
+    ensures { result ≡ length (there (drop from ring.now.items)) }
+{
+    let mut count = 0;
+    for place in from..ring.len() {
+        if unit_at(ring, place).is_some() {
+            count += 1;
+        }
+    }
+    count
+}
+
 /// The units from a place on, up to the first gap or an end.
 fn leading(ring: &HeapCircularBuffer<Option<Unit>>, from: usize) -> Risen
     requires { length ring.now.items < from + 65536 }
@@ -197,7 +223,8 @@ fn put_packet(
 )
     requires place { place < ring.old.capacity }
     requires fits { length body.now ≤ 534 }
-    ensures { ring.new ≡ buffer (R.put place (unit_in header.now body.now) ring.old.items) ring.old.capacity }
+    ensures { ring.new
+        ≡ buffer (R.put place (unit_in header.now body.now) ring.old.items) ring.old.capacity }
 {
     for count in ring.len()..place + 1 {
         let _now = count;

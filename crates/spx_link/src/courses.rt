@@ -8,69 +8,97 @@ ghost use Rattle.ipx_wire.specs.declared.address.Address.{Address};
 ghost use Rattle.spx_link.specs.declared.unit.Unit as units;
 ghost use Rattle.spx_link.specs.declared.received.Received.TheVariants.{Joined, Stranger};
 ghost use Rattle.spx_link.specs.declared.state.State.TheVariants.{Opening};
-ghost use Rattle.spx_link.specs.Courses.{HasNoEndWhileOpen, HasTaken, IsWholeOnceConfirmed, is_apart};
+ghost use Rattle.spx_link.specs.Courses.{HasNoEndWhileOpen, HasTaken, IsWholeOnceConfirmed};
+ghost use Rattle.spx_link.specs.Courses.{is_apart};
 ghost use Rattle.spx_link.specs.Effects.{IfRequest};
 ghost use Rattle.spx_link.specs.LinkView.{LinkView};
-ghost use Rattle.spx_link.specs.Offer.{accepted_from, dialed, end_link, lose_link, offer_link, owe_reply_link, refusal, take_link};
+ghost use Rattle.spx_link.specs.Offer.{accepted_from, dialed, end_link, lose_link, offer_link};
+ghost use Rattle.spx_link.specs.Offer.{owe_reply_link, refusal, take_link};
 ghost use Rattle.spx_link.specs.Poll.{poll_link};
 ghost use Rattle.spx_link.specs.Receive.{receive_link};
 
 /// In Opening and Live no end is queued: so a link is made, and each call keeps it.
 pub fn open_links_queue_no_end()
-    ensures dialed { (own : ℕ) (s : Socket) (a : Address) (buffers now : ℕ) → HasNoEndWhileOpen (dialed own s a buffers now) }
-    ensures accepted { (own : ℕ) (s : Socket) (a : Address) (h : SpxHeader) (buffers now : ℕ) → HasNoEndWhileOpen (accepted_from own s a h buffers now) }
-    ensures poll { (l : LinkView) (now : ℕ) → HasNoEndWhileOpen l → HasNoEndWhileOpen (poll_link l now).1 }
-    ensures receive { (l : LinkView) (h : SpxHeader) (body : List ℕ) → HasNoEndWhileOpen l → HasNoEndWhileOpen (receive_link l h body).1 }
-    ensures offer { (l : LinkView) (us : List units.Unit) → HasNoEndWhileOpen l → HasNoEndWhileOpen (offer_link l us) }
+    ensures dialed { (own : ℕ) (s : Socket) (a : Address) (buffers now : ℕ)
+        → HasNoEndWhileOpen (dialed own s a buffers now) }
+    ensures accepted { (own : ℕ) (s : Socket) (a : Address) (h : SpxHeader) (buffers now : ℕ)
+        → HasNoEndWhileOpen (accepted_from own s a h buffers now) }
+    ensures poll { (l : LinkView) (now : ℕ) → HasNoEndWhileOpen l
+        → HasNoEndWhileOpen (poll_link l now).1 }
+    ensures receive { (l : LinkView) (h : SpxHeader) (body : List ℕ) → HasNoEndWhileOpen l
+        → HasNoEndWhileOpen (receive_link l h body).1 }
+    ensures offer { (l : LinkView) (us : List units.Unit) → HasNoEndWhileOpen l
+        → HasNoEndWhileOpen (offer_link l us) }
     ensures end { (l : LinkView) → HasNoEndWhileOpen (end_link l) }
     ensures take { (l : LinkView) → HasNoEndWhileOpen l → HasNoEndWhileOpen (take_link l).1 }
-    ensures owe_reply { (l : LinkView) → HasNoEndWhileOpen l → HasNoEndWhileOpen (owe_reply_link l) }
+    ensures owe_reply { (l : LinkView) → HasNoEndWhileOpen l
+        → HasNoEndWhileOpen (owe_reply_link l) }
     ensures lose { (l : LinkView) → HasNoEndWhileOpen (lose_link l) }
 {}
 
 /// In Confirmed the end is queued, and all that was queued is acknowledged: so a link is made, and
 /// each call keeps it.
 pub fn confirmed_links_are_whole()
-    ensures dialed { (own : ℕ) (s : Socket) (a : Address) (buffers now : ℕ) → IsWholeOnceConfirmed (dialed own s a buffers now) }
-    ensures accepted { (own : ℕ) (s : Socket) (a : Address) (h : SpxHeader) (buffers now : ℕ) → IsWholeOnceConfirmed (accepted_from own s a h buffers now) }
-    ensures poll { (l : LinkView) (now : ℕ) → IsWholeOnceConfirmed l → IsWholeOnceConfirmed (poll_link l now).1 }
-    ensures receive { (l : LinkView) (h : SpxHeader) (body : List ℕ) → IsWholeOnceConfirmed l → IsWholeOnceConfirmed (receive_link l h body).1 }
-    ensures offer { (l : LinkView) (us : List units.Unit) → refusal l.state ≡ None → IsWholeOnceConfirmed (offer_link l us) }
+    ensures dialed { (own : ℕ) (s : Socket) (a : Address) (buffers now : ℕ)
+        → IsWholeOnceConfirmed (dialed own s a buffers now) }
+    ensures accepted { (own : ℕ) (s : Socket) (a : Address) (h : SpxHeader) (buffers now : ℕ)
+        → IsWholeOnceConfirmed (accepted_from own s a h buffers now) }
+    ensures poll { (l : LinkView) (now : ℕ) → IsWholeOnceConfirmed l
+        → IsWholeOnceConfirmed (poll_link l now).1 }
+    ensures receive { (l : LinkView) (h : SpxHeader) (body : List ℕ) → IsWholeOnceConfirmed l
+        → IsWholeOnceConfirmed (receive_link l h body).1 }
+    ensures offer { (l : LinkView) (us : List units.Unit) → refusal l.state ≡ None
+        → IsWholeOnceConfirmed (offer_link l us) }
     ensures end { (l : LinkView) → IsWholeOnceConfirmed (end_link l) }
     ensures take { (l : LinkView) → IsWholeOnceConfirmed l → IsWholeOnceConfirmed (take_link l).1 }
-    ensures owe_reply { (l : LinkView) → IsWholeOnceConfirmed l → IsWholeOnceConfirmed (owe_reply_link l) }
+    ensures owe_reply { (l : LinkView) → IsWholeOnceConfirmed l
+        → IsWholeOnceConfirmed (owe_reply_link l) }
     ensures lose { (l : LinkView) → IsWholeOnceConfirmed (lose_link l) }
 {}
 
 /// The units taken and those held are the units before the one that is expected: so a link is made,
 /// and each call keeps it. A take that gives a unit makes the units taken one more.
 pub fn taken_and_held_are_expected()
-    ensures dialed { (own : ℕ) (s : Socket) (a : Address) (buffers now : ℕ) → HasTaken 0 (dialed own s a buffers now) }
-    ensures accepted { (own : ℕ) (s : Socket) (a : Address) (h : SpxHeader) (buffers now : ℕ) → HasTaken 0 (accepted_from own s a h buffers now) }
-    ensures poll { (l : LinkView) (now taken : ℕ) → HasTaken taken l → HasTaken taken (poll_link l now).1 }
-    ensures receive { (l : LinkView) (h : SpxHeader) (body : List ℕ) (taken : ℕ) → HasTaken taken l → HasTaken taken (receive_link l h body).1 }
-    ensures offer { (l : LinkView) (us : List units.Unit) (taken : ℕ) → HasTaken taken l → HasTaken taken (offer_link l us) }
+    ensures dialed { (own : ℕ) (s : Socket) (a : Address) (buffers now : ℕ)
+        → HasTaken 0 (dialed own s a buffers now) }
+    ensures accepted { (own : ℕ) (s : Socket) (a : Address) (h : SpxHeader) (buffers now : ℕ)
+        → HasTaken 0 (accepted_from own s a h buffers now) }
+    ensures poll { (l : LinkView) (now taken : ℕ) → HasTaken taken l
+        → HasTaken taken (poll_link l now).1 }
+    ensures receive { (l : LinkView) (h : SpxHeader) (body : List ℕ) (taken : ℕ) → HasTaken taken l
+        → HasTaken taken (receive_link l h body).1 }
+    ensures offer { (l : LinkView) (us : List units.Unit) (taken : ℕ) → HasTaken taken l
+        → HasTaken taken (offer_link l us) }
     ensures end { (l : LinkView) (taken : ℕ) → HasTaken taken l → HasTaken taken (end_link l) }
-    ensures take { (l : LinkView) (u : units.Unit) (taken : ℕ) → (take_link l).0 ≡ Some u → HasTaken taken l → HasTaken (taken + 1) (take_link l).1 }
+    ensures take { (l : LinkView) (u : units.Unit) (taken : ℕ) → (take_link l).0 ≡ Some u
+        → HasTaken taken l → HasTaken (taken + 1) (take_link l).1 }
     ensures no_take { (l : LinkView) → (take_link l).0 ≡ None → (take_link l).1 ≡ l }
-    ensures owe_reply { (l : LinkView) (taken : ℕ) → HasTaken taken l → HasTaken taken (owe_reply_link l) }
+    ensures owe_reply { (l : LinkView) (taken : ℕ) → HasTaken taken l
+        → HasTaken taken (owe_reply_link l) }
     ensures lose { (l : LinkView) (taken : ℕ) → HasTaken taken l → HasTaken taken (lose_link l) }
 {}
 
 /// No call makes a link Opening, and an Opening link joins or stays as it is.
 pub fn opening_links_join_or_stay()
-    ensures poll { (l : LinkView) (now : ℕ) → (poll_link l now).1.state ≡ Opening → l.state ≡ Opening }
-    ensures receive { (l : LinkView) (h : SpxHeader) (body : List ℕ) → (receive_link l h body).0 ≢ Stranger → (receive_link l h body).1.state ≢ Opening }
-    ensures joins { (l : LinkView) (h : SpxHeader) (body : List ℕ) → (receive_link l h body).0 ≡ Joined → l.state ≡ Opening }
-    ensures stays { (l : LinkView) (h : SpxHeader) (body : List ℕ) → l.state ≡ Opening → ((receive_link l h body).0 ≡ Joined) ⊎ ((receive_link l h body).1 ≡ l) }
+    ensures poll { (l : LinkView) (now : ℕ) → (poll_link l now).1.state ≡ Opening
+        → l.state ≡ Opening }
+    ensures receive { (l : LinkView) (h : SpxHeader) (body : List ℕ)
+        → (receive_link l h body).0 ≢ Stranger → (receive_link l h body).1.state ≢ Opening }
+    ensures joins { (l : LinkView) (h : SpxHeader) (body : List ℕ)
+        → (receive_link l h body).0 ≡ Joined → l.state ≡ Opening }
+    ensures stays { (l : LinkView) (h : SpxHeader) (body : List ℕ) → l.state ≡ Opening
+        → ((receive_link l h body).0 ≡ Joined) ⊎ ((receive_link l h body).1 ≡ l) }
     ensures take { (l : LinkView) → (take_link l).1.state ≡ l.state }
 {}
 
 /// A link that is Opening or Lost gives nothing but requests, stays so under `poll`, reads nothing
 /// but what joins, and is given nothing to send.
 pub fn links_apart_send_nothing()
-    ensures asks { (l : LinkView) (now : ℕ) → is_apart l.state ≡ true → IfRequest (poll_link l now).0 }
-    ensures stays { (l : LinkView) (now : ℕ) → is_apart l.state ≡ true → is_apart (poll_link l now).1.state ≡ true }
-    ensures joins { (l : LinkView) (h : SpxHeader) (body : List ℕ) → is_apart l.state ≡ true → (receive_link l h body).0 ≢ Stranger → (receive_link l h body).0 ≡ Joined }
+    ensures asks { (l : LinkView) (now : ℕ) → is_apart l.state ≡ true
+        → IfRequest (poll_link l now).0 }
+    ensures stays { (l : LinkView) (now : ℕ) → is_apart l.state ≡ true
+        → is_apart (poll_link l now).1.state ≡ true }
+    ensures joins { (l : LinkView) (h : SpxHeader) (body : List ℕ) → is_apart l.state ≡ true
+        → (receive_link l h body).0 ≢ Stranger → (receive_link l h body).0 ≡ Joined }
     ensures refuses { (l : LinkView) → is_apart l.state ≡ true → refusal l.state ≢ None }
 {}

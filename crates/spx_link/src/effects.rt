@@ -1,28 +1,36 @@
 //! What the calls of a link do to its numbers, its units, its state and the ends of its connection:
 //! laws of their functions.
 
-ghost use Rattle.std.specs.Prelude.{◌≡◌, ◌≢◌, ◌↔◌, ◌<◌, ◌+◌, ◌++◌, ℕ, [], ◌∷◌, true, false, drop, length, slice_get, IfSome, List, None, Some};
+ghost use Rattle.std.specs.Prelude.{◌≡◌, ◌≢◌, ◌↔◌, ◌<◌, ◌+◌, ◌++◌, ℕ, [], ◌∷◌, true, false, drop};
+ghost use Rattle.std.specs.Prelude.{length, slice_get, IfSome, List, None, Some};
 ghost use Rattle.ipx_wire.specs.declared.spx.packet.SpxHeader.{SpxHeader};
 ghost use Rattle.ipx_wire.specs.declared.address.Socket.{Socket};
 ghost use Rattle.ipx_wire.specs.declared.address.Address.{Address};
 ghost use Rattle.spx_link.specs.declared.unit.Unit as units;
-ghost use Rattle.spx_link.specs.declared.received.Received.TheVariants.{Confirmed, Joined, Kept, PeerEnded, Stranger};
+ghost use Rattle.spx_link.specs.declared.received.Received.TheVariants.{Confirmed, Joined, Kept};
+ghost use Rattle.spx_link.specs.declared.received.Received.TheVariants.{PeerEnded, Stranger};
 ghost use Rattle.spx_link.specs.declared.state.State.TheVariants.{Ending, Live, Lost, Opening};
-ghost use Rattle.spx_link.specs.Effects.{HasEnds, IfRequest, Joins, SameEnds, SamePeer, numbers_after_poll, numbers_after_received, numbers_after_take};
+ghost use Rattle.spx_link.specs.Effects.{HasEnds, IfRequest, Joins, SameEnds, SamePeer};
+ghost use Rattle.spx_link.specs.Effects.{numbers_after_poll, numbers_after_received};
+ghost use Rattle.spx_link.specs.Effects.{numbers_after_take};
 ghost use Rattle.spx_link.specs.Given.{IsGiven, StaysOrIsLost};
 ghost use Rattle.spx_link.specs.Limits.{end_stream, no_id};
 ghost use Rattle.spx_link.specs.LinkView.{LinkView, numbers_of};
 ghost use Rattle.spx_link.specs.Links.{LinksView, link_at};
 ghost use Rattle.spx_link.specs.Marks.{acknowledged, distance, room_after};
-ghost use Rattle.spx_link.specs.Offer.{accepted_from, dialed, end_link, first_of, lose_link, offer_link, owe_reply_link, take_link, the_end};
+ghost use Rattle.spx_link.specs.Offer.{accepted_from, dialed, end_link, first_of, lose_link};
+ghost use Rattle.spx_link.specs.Offer.{offer_link, owe_reply_link, take_link, the_end};
 ghost use Rattle.spx_link.specs.Poll.{poll_link};
 ghost use Rattle.spx_link.specs.Receive.{any_end, is_kept, is_own, receive_link};
-ghost use Rattle.spx_link.specs.Turns.{IsDone, IsInTurn, ended_after, is_joined, kept, kept_with, newly_held, state_after};
-ghost use Rattle.spx_link.specs.Units.{IsEmpty, SameEndings, SameUnits, as_sent, queued_units, unit_in};
+ghost use Rattle.spx_link.specs.Turns.{IsDone, IsInTurn, ended_after, is_joined, kept, kept_with};
+ghost use Rattle.spx_link.specs.Turns.{newly_held, state_after};
+ghost use Rattle.spx_link.specs.Units.{IsEmpty, SameEndings, SameUnits, as_sent, queued_units};
+ghost use Rattle.spx_link.specs.Units.{unit_in};
 
 /// A poll changes the numbers just where it sends a unit for the first time, and no end.
 pub fn poll_changes()
-    ensures numbers { (l : LinkView) (now : ℕ) → numbers_of (poll_link l now).1 ≡ numbers_after_poll (poll_link l now).0 (numbers_of l) }
+    ensures numbers { (l : LinkView) (now : ℕ)
+        → numbers_of (poll_link l now).1 ≡ numbers_after_poll (poll_link l now).0 (numbers_of l) }
     ensures ends { (l : LinkView) (now : ℕ) → SamePeer l (poll_link l now).1 }
 {}
 
@@ -36,7 +44,8 @@ pub fn poll_gives()
 pub fn poll_keeps_units()
     ensures units { (l : LinkView) (now : ℕ) → SameUnits l (poll_link l now).1 }
     ensures endings { (l : LinkView) (now : ℕ) → SameEndings l (poll_link l now).1 }
-    ensures state { (l : LinkView) (now : ℕ) → StaysOrIsLost l.state (poll_link l now).1.state (poll_link l now).0 }
+    ensures state { (l : LinkView) (now : ℕ)
+        → StaysOrIsLost l.state (poll_link l now).1.state (poll_link l now).0 }
 {}
 
 /// The end, and each unit that may be offered, is sent as it is.
@@ -59,48 +68,79 @@ pub fn lost_gives_nothing()
 /// the unit that is kept. The peer's id changes where a link joins alone, and it joins from Opening
 /// alone.
 pub fn receive_changes()
-    ensures numbers { (l : LinkView) (h : SpxHeader) (body : List ℕ) → numbers_of (receive_link l h body).1 ≡ numbers_after_received (receive_link l h body).0 (length (newly_held l h body)) h (numbers_of l) }
-    ensures ends { (l : LinkView) (h : SpxHeader) (body : List ℕ) → SameEnds l (receive_link l h body).1 }
-    ensures peer { (l : LinkView) (h : SpxHeader) (body : List ℕ) → (receive_link l h body).0 ≢ Joined → (receive_link l h body).1.peer ≡ l.peer }
-    ensures joins { (l : LinkView) (h : SpxHeader) (body : List ℕ) → (receive_link l h body).0 ≡ Joined → Joins l (receive_link l h body).1 h }
+    ensures numbers { (l : LinkView) (h : SpxHeader) (body : List ℕ)
+        → numbers_of (receive_link l h body).1
+        ≡ numbers_after_received (receive_link l h body).0 (length (newly_held l h body)) h
+        (numbers_of l) }
+    ensures ends { (l : LinkView) (h : SpxHeader) (body : List ℕ)
+        → SameEnds l (receive_link l h body).1 }
+    ensures peer { (l : LinkView) (h : SpxHeader) (body : List ℕ)
+        → (receive_link l h body).0 ≢ Joined → (receive_link l h body).1.peer ≡ l.peer }
+    ensures joins { (l : LinkView) (h : SpxHeader) (body : List ℕ)
+        → (receive_link l h body).0 ≡ Joined → Joins l (receive_link l h body).1 h }
 {}
 
 /// The unit of a packet is kept just where it is in turn. Kept, it stands at its place, and the
 /// units that stand in order then are held behind the others. The answer tells whether the peer's
 /// end is among them, and behind that end nothing is kept.
 pub fn receive_keeps_units()
-    ensures kept { (l : LinkView) (h : SpxHeader) (body : List ℕ) → (is_kept (receive_link l h body).0 ≡ true) ↔ IsInTurn l h }
-    ensures end { (l : LinkView) (h : SpxHeader) (body : List ℕ) → ((receive_link l h body).0 ≡ PeerEnded) ↔ (IsInTurn l h × (any_end (newly_held l h body) ≡ true)) }
-    ensures held { (l : LinkView) (h : SpxHeader) (body : List ℕ) → is_kept (receive_link l h body).0 ≡ true → (receive_link l h body).1.held ≡ l.held ++ newly_held l h body }
-    ensures ahead { (l : LinkView) (h : SpxHeader) (body : List ℕ) → (receive_link l h body).0 ≡ Kept → (receive_link l h body).1.ahead ≡ drop (length (newly_held l h body)) (kept_with l h body) }
-    ensures place { (l : LinkView) (h : SpxHeader) (body : List ℕ) → (receive_link l h body).0 ≡ Kept → slice_get (kept (receive_link l h body).1) (length l.held + distance h.seq l.expected) ≡ Some (Some (unit_in h body)) }
-    ensures none_ahead { (l : LinkView) (h : SpxHeader) (body : List ℕ) → (receive_link l h body).0 ≡ PeerEnded → (receive_link l h body).1.ahead ≡ [] }
-    ensures same { (l : LinkView) (h : SpxHeader) (body : List ℕ) → is_kept (receive_link l h body).0 ≡ false → ((receive_link l h body).1.held ≡ l.held) × ((receive_link l h body).1.ahead ≡ l.ahead) }
+    ensures kept { (l : LinkView) (h : SpxHeader) (body : List ℕ)
+        → (is_kept (receive_link l h body).0 ≡ true) ↔ IsInTurn l h }
+    ensures end { (l : LinkView) (h : SpxHeader) (body : List ℕ)
+        → ((receive_link l h body).0 ≡ PeerEnded)
+        ↔ (IsInTurn l h × (any_end (newly_held l h body) ≡ true)) }
+    ensures held { (l : LinkView) (h : SpxHeader) (body : List ℕ)
+        → is_kept (receive_link l h body).0 ≡ true
+        → (receive_link l h body).1.held ≡ l.held ++ newly_held l h body }
+    ensures ahead { (l : LinkView) (h : SpxHeader) (body : List ℕ)
+        → (receive_link l h body).0 ≡ Kept
+        → (receive_link l h body).1.ahead
+        ≡ drop (length (newly_held l h body)) (kept_with l h body) }
+    ensures place { (l : LinkView) (h : SpxHeader) (body : List ℕ)
+        → (receive_link l h body).0 ≡ Kept
+        → slice_get (kept (receive_link l h body).1) (length l.held + distance h.seq l.expected)
+        ≡ Some (Some (unit_in h body)) }
+    ensures none_ahead { (l : LinkView) (h : SpxHeader) (body : List ℕ)
+        → (receive_link l h body).0 ≡ PeerEnded → (receive_link l h body).1.ahead ≡ [] }
+    ensures same { (l : LinkView) (h : SpxHeader) (body : List ℕ)
+        → is_kept (receive_link l h body).0 ≡ false
+        → ((receive_link l h body).1.held ≡ l.held) × ((receive_link l h body).1.ahead ≡ l.ahead) }
 {}
 
 /// The units that a packet acknowledges leave the queue.
 pub fn receive_drops_units()
-    ensures { (l : LinkView) (h : SpxHeader) (body : List ℕ) → (receive_link l h body).0 ≢ Stranger → queued_units (receive_link l h body).1 ≡ drop (acknowledged l.next l.out h.ack) (queued_units l) }
+    ensures { (l : LinkView) (h : SpxHeader) (body : List ℕ) → (receive_link l h body).0 ≢ Stranger
+        → queued_units (receive_link l h body).1
+        ≡ drop (acknowledged l.next l.out h.ack) (queued_units l) }
 {}
 
 /// What is read, unless it joins, is a packet of the link's own peer. A stranger's changes nothing.
 pub fn receive_reads_its_own()
-    ensures own { (l : LinkView) (h : SpxHeader) (body : List ℕ) → (receive_link l h body).0 ≢ Stranger → (receive_link l h body).0 ≢ Joined → (is_joined l.state ≡ true) × (is_own l h ≡ true) }
-    ensures stranger { (l : LinkView) (h : SpxHeader) (body : List ℕ) → (receive_link l h body).0 ≡ Stranger → (receive_link l h body).1 ≡ l }
+    ensures own { (l : LinkView) (h : SpxHeader) (body : List ℕ)
+        → (receive_link l h body).0 ≢ Stranger → (receive_link l h body).0 ≢ Joined
+        → (is_joined l.state ≡ true) × (is_own l h ≡ true) }
+    ensures stranger { (l : LinkView) (h : SpxHeader) (body : List ℕ)
+        → (receive_link l h body).0 ≡ Stranger → (receive_link l h body).1 ≡ l }
 {}
 
 /// What a packet makes of the state, and of which ends were queued and came. A link is confirmed
 /// once its end is queued and all its units are acknowledged.
 pub fn receive_changes_states()
-    ensures state { (l : LinkView) (h : SpxHeader) (body : List ℕ) → (receive_link l h body).1.state ≡ state_after (receive_link l h body).0 l.state }
-    ensures end_queued { (l : LinkView) (h : SpxHeader) (body : List ℕ) → (receive_link l h body).1.end_queued ≡ l.end_queued }
-    ensures peer_ended { (l : LinkView) (h : SpxHeader) (body : List ℕ) → (receive_link l h body).1.peer_ended ≡ ended_after (receive_link l h body).0 l.peer_ended }
-    ensures confirmed { (l : LinkView) (h : SpxHeader) (body : List ℕ) → (receive_link l h body).0 ≡ Confirmed → IsDone l (receive_link l h body).1 }
+    ensures state { (l : LinkView) (h : SpxHeader) (body : List ℕ)
+        → (receive_link l h body).1.state ≡ state_after (receive_link l h body).0 l.state }
+    ensures end_queued { (l : LinkView) (h : SpxHeader) (body : List ℕ)
+        → (receive_link l h body).1.end_queued ≡ l.end_queued }
+    ensures peer_ended { (l : LinkView) (h : SpxHeader) (body : List ℕ)
+        → (receive_link l h body).1.peer_ended
+        ≡ ended_after (receive_link l h body).0 l.peer_ended }
+    ensures confirmed { (l : LinkView) (h : SpxHeader) (body : List ℕ)
+        → (receive_link l h body).0 ≡ Confirmed → IsDone l (receive_link l h body).1 }
 {}
 
 /// A take changes how many units are held, and no end.
 pub fn take_changes()
-    ensures numbers { (l : LinkView) → numbers_of (take_link l).1 ≡ numbers_after_take (numbers_of l) }
+    ensures numbers { (l : LinkView)
+        → numbers_of (take_link l).1 ≡ numbers_after_take (numbers_of l) }
     ensures ends { (l : LinkView) → SamePeer l (take_link l).1 }
 {}
 
@@ -116,48 +156,68 @@ pub fn take_gives_the_first()
 
 /// Units, and the end, are queued behind the others. With the end the state is Ending.
 pub fn units_queue_in_order()
-    ensures offered { (l : LinkView) (us : List units.Unit) → queued_units (offer_link l us) ≡ queued_units l ++ us }
-    ensures offers_alone { (l : LinkView) (us : List units.Unit) → ((offer_link l us).held ≡ l.held) × ((offer_link l us).ahead ≡ l.ahead) × ((offer_link l us).state ≡ l.state) × SameEndings l (offer_link l us) }
+    ensures offered { (l : LinkView) (us : List units.Unit)
+        → queued_units (offer_link l us) ≡ queued_units l ++ us }
+    ensures offers_alone { (l : LinkView) (us : List units.Unit)
+        → ((offer_link l us).held ≡ l.held) × ((offer_link l us).ahead ≡ l.ahead)
+        × ((offer_link l us).state ≡ l.state) × SameEndings l (offer_link l us) }
     ensures end { (l : LinkView) → queued_units (end_link l) ≡ queued_units l ++ the_end ∷ [] }
-    ensures ends { (l : LinkView) → ((end_link l).state ≡ Ending) × ((end_link l).end_queued ≡ true) }
-    ensures ends_alone { (l : LinkView) → ((end_link l).held ≡ l.held) × ((end_link l).ahead ≡ l.ahead) × ((end_link l).peer_ended ≡ l.peer_ended) }
+    ensures ends { (l : LinkView)
+        → ((end_link l).state ≡ Ending) × ((end_link l).end_queued ≡ true) }
+    ensures ends_alone { (l : LinkView)
+        → ((end_link l).held ≡ l.held) × ((end_link l).ahead ≡ l.ahead)
+        × ((end_link l).peer_ended ≡ l.peer_ended) }
 {}
 
 /// A reply that is owed again leaves the units and the state, and so does what gives a link up, but
 /// for the state.
 pub fn others_keep_units()
-    ensures owe_reply { (l : LinkView) → SameUnits l (owe_reply_link l) × SameEndings l (owe_reply_link l) × ((owe_reply_link l).state ≡ l.state) }
-    ensures lose { (l : LinkView) → SameUnits l (lose_link l) × SameEndings l (lose_link l) × ((lose_link l).state ≡ Lost) }
+    ensures owe_reply { (l : LinkView)
+        → SameUnits l (owe_reply_link l) × SameEndings l (owe_reply_link l)
+        × ((owe_reply_link l).state ≡ l.state) }
+    ensures lose { (l : LinkView)
+        → SameUnits l (lose_link l) × SameEndings l (lose_link l) × ((lose_link l).state ≡ Lost) }
 {}
 
 /// A link is made without units, and its numbers are 0 but for its buffers and the room that a
 /// request allows.
 pub fn new_links_are_empty()
-    ensures dialed { (own : ℕ) (s : Socket) (a : Address) (buffers now : ℕ) → IsEmpty (dialed own s a buffers now) buffers 0 }
-    ensures accepted { (own : ℕ) (s : Socket) (a : Address) (h : SpxHeader) (buffers now : ℕ) → IsEmpty (accepted_from own s a h buffers now) buffers (room_after 0 0 h.limit) }
+    ensures dialed { (own : ℕ) (s : Socket) (a : Address) (buffers now : ℕ)
+        → IsEmpty (dialed own s a buffers now) buffers 0 }
+    ensures accepted { (own : ℕ) (s : Socket) (a : Address) (h : SpxHeader) (buffers now : ℕ)
+        → IsEmpty (accepted_from own s a h buffers now) buffers (room_after 0 0 h.limit) }
 {}
 
 /// A link has the id, the socket and the address that it is given. One that asks is opening and
 /// knows no id of the peer. One that was asked has the id that the request came from, and is marked
 /// as accepted.
 pub fn new_links_have_their_ends()
-    ensures dialed { (own : ℕ) (s : Socket) (a : Address) (buffers now : ℕ) → HasEnds (dialed own s a buffers now) own s a no_id false }
-    ensures accepted { (own : ℕ) (s : Socket) (a : Address) (h : SpxHeader) (buffers now : ℕ) → HasEnds (accepted_from own s a h buffers now) own s a h.from_id true }
-    ensures asks { (own : ℕ) (s : Socket) (a : Address) (buffers now : ℕ) → (dialed own s a buffers now).state ≡ Opening }
+    ensures dialed { (own : ℕ) (s : Socket) (a : Address) (buffers now : ℕ)
+        → HasEnds (dialed own s a buffers now) own s a no_id false }
+    ensures accepted { (own : ℕ) (s : Socket) (a : Address) (h : SpxHeader) (buffers now : ℕ)
+        → HasEnds (accepted_from own s a h buffers now) own s a h.from_id true }
+    ensures asks { (own : ℕ) (s : Socket) (a : Address) (buffers now : ℕ)
+        → (dialed own s a buffers now).state ≡ Opening }
 {}
 
 /// The other calls change neither a number nor an end.
 pub fn others_change_no_number()
-    ensures offer { (l : LinkView) (us : List units.Unit) → (numbers_of (offer_link l us) ≡ numbers_of l) × SamePeer l (offer_link l us) }
-    ensures end { (l : LinkView) → (numbers_of (end_link l) ≡ numbers_of l) × SamePeer l (end_link l) }
-    ensures owe_reply { (l : LinkView) → (numbers_of (owe_reply_link l) ≡ numbers_of l) × SamePeer l (owe_reply_link l) }
-    ensures lose { (l : LinkView) → (numbers_of (lose_link l) ≡ numbers_of l) × SamePeer l (lose_link l) }
+    ensures offer { (l : LinkView) (us : List units.Unit)
+        → (numbers_of (offer_link l us) ≡ numbers_of l) × SamePeer l (offer_link l us) }
+    ensures end { (l : LinkView)
+        → (numbers_of (end_link l) ≡ numbers_of l) × SamePeer l (end_link l) }
+    ensures owe_reply { (l : LinkView)
+        → (numbers_of (owe_reply_link l) ≡ numbers_of l) × SamePeer l (owe_reply_link l) }
+    ensures lose { (l : LinkView)
+        → (numbers_of (lose_link l) ≡ numbers_of l) × SamePeer l (lose_link l) }
 {}
 
 /// An accepted link starts Live with a reply owed.
 pub fn accepted_owes_its_reply()
-    ensures state { (own : ℕ) (s : Socket) (a : Address) (h : SpxHeader) (buffers now : ℕ) → (accepted_from own s a h buffers now).state ≡ Live }
-    ensures reply { (own : ℕ) (s : Socket) (a : Address) (h : SpxHeader) (buffers now : ℕ) → (accepted_from own s a h buffers now).owes_reply ≡ true }
+    ensures state { (own : ℕ) (s : Socket) (a : Address) (h : SpxHeader) (buffers now : ℕ)
+        → (accepted_from own s a h buffers now).state ≡ Live }
+    ensures reply { (own : ℕ) (s : Socket) (a : Address) (h : SpxHeader) (buffers now : ℕ)
+        → (accepted_from own s a h buffers now).owes_reply ≡ true }
 {}
 
 /// A link stands under its own id.

@@ -65,7 +65,8 @@ impl Link {
         buffers: u16,
         now: u64,
     ) -> Result<Link, AllocError>
-        ensures { IfOk result (λ l. l ≡ spec.accepted_from own local remote request.now buffers now) }
+        ensures { IfOk result
+            (λ l. l ≡ spec.accepted_from own local remote request.now buffers now) }
     {
         let mut link = Link::dial(alloc, own, local, remote, buffers, now)?;
         link.state = State::Live;

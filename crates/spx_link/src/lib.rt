@@ -19,7 +19,9 @@ mod poll;
 mod queue;
 mod receive;
 mod received;
+mod stamped;
 mod state;
+mod text;
 mod unit;
 
 pub use courses::{

@@ -1,10 +1,12 @@
 //! The links of a host, by their ids.
 
-ghost use Rattle.std.specs.Prelude.{◌≡◌, ◌≤◌, ◌<◌, ◌↔◌, ℕ, Err, IfOk, IfSome, IsSome, IsTrue, MatchOption, None, OnErr, option_copied};
+ghost use Rattle.std.specs.Prelude.{◌≡◌, ◌≤◌, ◌<◌, ◌↔◌, ℕ, Err, IfOk, IfSome, IsSome, IsTrue};
+ghost use Rattle.std.specs.Prelude.{MatchOption, None, OnErr, option_copied};
 ghost use Rattle.std.specs.Bool.{OnFalse, OnTrue};
 ghost use Rattle.spx_link.specs.Due.{IsNextDueOfAll};
 ghost use Rattle.spx_link.specs.Limits.{most_links};
-ghost use Rattle.spx_link.specs.Links.{Adds, IsAbove, IsAcceptedFrom, IsBetween, IsLeast, IsLive, IsNextFree, LinksView, Releases, count_of, link_at};
+ghost use Rattle.spx_link.specs.Links.{Adds, IsAbove, IsAcceptedFrom, IsBetween, IsLeast, IsLive};
+ghost use Rattle.spx_link.specs.Links.{IsNextFree, LinksView, Releases, count_of, link_at};
 ghost use Rattle.spx_link.specs.Offer.{accepted_from, dialed};
 ghost use Rattle.spx_link.specs.Sound.{IsSound, ids_of};
 ghost use Rattle.spx_link.specs.declared.fault.LinksFault.TheVariants as LinksFaults;
@@ -62,7 +64,8 @@ impl Links {
         now: u64,
     ) -> Result<u16, LinksFault>
         ensures id { IfOk result (λ id. IsNextFree self.old id) }
-        ensures adds { IfOk result (λ id. Adds self.old self.new id (dialed id socket to buffers now)) }
+        ensures adds { IfOk result
+            (λ id. Adds self.old self.new id (dialed id socket to buffers now)) }
         ensures too_many { (result ≡ Err LinksFaults.TooMany) ↔ (count_of self.old ≡ most_links) }
         ensures unchanged { OnErr result (self.new ≡ self.old) }
     {
@@ -89,7 +92,9 @@ impl Links {
         now: u64,
     ) -> Result<u16, LinksFault>
         ensures id { IfOk result (λ id. IsNextFree self.old id) }
-        ensures adds { IfOk result (λ id. Adds self.old self.new id (accepted_from id socket from request.now buffers now)) }
+        ensures adds { IfOk result
+            (λ id. Adds self.old self.new id
+            (accepted_from id socket from request.now buffers now)) }
         ensures too_many { (result ≡ Err LinksFaults.TooMany) ↔ (count_of self.old ≡ most_links) }
         ensures unchanged { OnErr result (self.new ≡ self.old) }
     {
@@ -126,23 +131,25 @@ impl Links {
 
     /// The link that was accepted from an address and an id there, the least id where several were.
     pub fn accepted(&self, from: Address, peer_id: u16) -> Option<u16>
-        ensures { MatchOption result ((q : ℕ) → ¬ IsAcceptedFrom self.now from peer_id q) (IsLeast (IsAcceptedFrom self.now from peer_id)) }
+        ensures { MatchOption result ((q : ℕ) → ¬ IsAcceptedFrom self.now from peer_id q)
+            (IsLeast (IsAcceptedFrom self.now from peer_id)) }
     {
         least_accepted(&self.links, from, peer_id)
     }
 
     /// The least live id above another. Live ids are from 0001 to FFFE, and at most 16.
     pub fn after(&self, id: u16) -> Option<u16>
-        ensures next { MatchOption result ((q : ℕ) → ¬ IsAbove self.now id q) (IsLeast (IsAbove self.now id)) }
+        ensures next { MatchOption result ((q : ℕ) → ¬ IsAbove self.now id q)
+            (IsLeast (IsAbove self.now id)) }
         ensures ids { (q : ℕ) → IsLive self.now q → (0 < q) × (q < 65535) }
         ensures few { count_of self.now ≤ most_links }
     {
         least_above(&self.links, id)
     }
 
-    /// The moment, in milliseconds, before which a poll of any link gives nothing. From it on a poll
-    /// of some link sends something or gives that link up. None where that takes a packet or a call
-    /// first.
+    /// The moment, in milliseconds, before which a poll of any link gives nothing. From it on a
+    /// poll of some link sends something or gives that link up. None where that takes a packet or a
+    /// call first.
     pub fn next_due_of_all(&self) -> Option<u64>
         ensures { IsNextDueOfAll self.now result }
     {

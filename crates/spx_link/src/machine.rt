@@ -3,7 +3,8 @@
 
 ghost use Rattle.std.specs.Prelude.{ℕ, ◌<◌, ◌≤◌, List, All, Contains};
 ghost use Rattle.spx_link.specs.Limits.{most_room};
-ghost use Rattle.spx_link.specs.Machine.{AreSound, End, Grows, IsChain, IsRun, IsStep, IsWithin, Machine, Packet, Step, WasSent, got, new_end, start};
+ghost use Rattle.spx_link.specs.Machine.{AreSound, End, Grows, IsChain, IsRun, IsStep, IsWithin};
+ghost use Rattle.spx_link.specs.Machine.{Machine, Packet, Step, WasSent, got, new_end, start};
 ghost use Rattle.spx_link.specs.Machine.Act.{Gets};
 ghost use Rattle.spx_link.specs.Machine.Step.{One, Two};
 ghost use Rattle.spx_link.specs.Fresh.{IsFresh, Tells};
@@ -11,28 +12,35 @@ ghost use Rattle.spx_link.specs.Fresh.{IsFresh, Tells};
 /// What an end takes as acknowledged was read by its peer, what was read was sent, and what was
 /// sent was allowed.
 pub fn chain()
-    ensures one { (steps : List Step) (a b : ℕ) (m : Machine) → IsRun steps (start a b) m → IsChain m.one m.two }
-    ensures two { (steps : List Step) (a b : ℕ) (m : Machine) → IsRun steps (start a b) m → IsChain m.two m.one }
+    ensures one { (steps : List Step) (a b : ℕ) (m : Machine) → IsRun steps (start a b) m
+        → IsChain m.one m.two }
+    ensures two { (steps : List Step) (a b : ℕ) (m : Machine) → IsRun steps (start a b) m
+        → IsChain m.two m.one }
 {}
 
 /// What is outstanding fits the peer's buffers, what is held fits one's own, and what is sent or
 /// read are units.
 pub fn within()
-    ensures one { (steps : List Step) (a b : ℕ) (m : Machine) → IsRun steps (start a b) m → IsWithin m.one m.two }
-    ensures two { (steps : List Step) (a b : ℕ) (m : Machine) → IsRun steps (start a b) m → IsWithin m.two m.one }
+    ensures one { (steps : List Step) (a b : ℕ) (m : Machine) → IsRun steps (start a b) m
+        → IsWithin m.one m.two }
+    ensures two { (steps : List Step) (a b : ℕ) (m : Machine) → IsRun steps (start a b) m
+        → IsWithin m.two m.one }
 {}
 
 /// Every packet says what was so as it was sent.
 pub fn packets()
-    ensures one { (steps : List Step) (a b : ℕ) (m : Machine) → IsRun steps (start a b) m → All (WasSent m.one m.two) m.one.bag }
-    ensures two { (steps : List Step) (a b : ℕ) (m : Machine) → IsRun steps (start a b) m → All (WasSent m.two m.one) m.two.bag }
+    ensures one { (steps : List Step) (a b : ℕ) (m : Machine) → IsRun steps (start a b) m
+        → All (WasSent m.one m.two) m.one.bag }
+    ensures two { (steps : List Step) (a b : ℕ) (m : Machine) → IsRun steps (start a b) m
+        → All (WasSent m.two m.one) m.two.bag }
 {}
 
 /// All of this at once is so of two new ends, and each step keeps it: for those who go a step at a
 /// time, or whose machine has other entries between its steps.
 pub fn soundness()
     ensures start { (a b : ℕ) → AreSound (new_end a) (new_end b) }
-    ensures step { (s : Step) (m n : Machine) → IsStep s m n → AreSound m.one m.two → AreSound n.one n.two }
+    ensures step { (s : Step) (m n : Machine) → IsStep s m n → AreSound m.one m.two
+        → AreSound n.one n.two }
     // An end may get any packet that says what was so, whether a bag holds it or not.
     ensures gets { (c d : End) (p : Packet) → AreSound c d → WasSent d c p → AreSound (got p c) d }
 {}
@@ -45,17 +53,21 @@ pub fn growth()
 
 /// A position that an end may send was allowed by a packet of its peer that it got before.
 pub fn allowances()
-    ensures one { (steps : List Step) (a b : ℕ) (m : Machine) (n : ℕ) → IsRun steps (start a b) m → n < m.one.limit
+    ensures one { (steps : List Step) (a b : ℕ) (m : Machine) (n : ℕ) → IsRun steps (start a b) m
+        → n < m.one.limit
         → (p : Packet) × Contains steps (One (Gets p)) × Contains m.two.bag p × (n < p.allows) }
-    ensures two { (steps : List Step) (a b : ℕ) (m : Machine) (n : ℕ) → IsRun steps (start a b) m → n < m.two.limit
+    ensures two { (steps : List Step) (a b : ℕ) (m : Machine) (n : ℕ) → IsRun steps (start a b) m
+        → n < m.two.limit
         → (p : Packet) × Contains steps (Two (Gets p)) × Contains m.one.bag p × (n < p.allows) }
 {}
 
 /// The 16-bit numbers of a fresh packet say what its positions are, where neither end has more than
 /// 16,383 buffers.
 pub fn fresh_packets()
-    ensures one { (steps : List Step) (a b : ℕ) (m : Machine) (p : Packet) → a ≤ most_room → b ≤ most_room
-        → IsRun steps (start a b) m → Contains m.two.bag p → IsFresh m.one m.two p → Tells m.one p }
-    ensures two { (steps : List Step) (a b : ℕ) (m : Machine) (p : Packet) → a ≤ most_room → b ≤ most_room
-        → IsRun steps (start a b) m → Contains m.one.bag p → IsFresh m.two m.one p → Tells m.two p }
+    ensures one { (steps : List Step) (a b : ℕ) (m : Machine) (p : Packet) → a ≤ most_room
+        → b ≤ most_room → IsRun steps (start a b) m → Contains m.two.bag p → IsFresh m.one m.two p
+        → Tells m.one p }
+    ensures two { (steps : List Step) (a b : ℕ) (m : Machine) (p : Packet) → a ≤ most_room
+        → b ≤ most_room → IsRun steps (start a b) m → Contains m.one.bag p → IsFresh m.two m.one p
+        → Tells m.two p }
 {}

@@ -1,6 +1,7 @@
 //! What an application gives a link to send, and takes from it.
 
-ghost use Rattle.std.specs.Prelude.{◌≡◌, ◌<◌, [], All, Err, IsOk, IsOkUnless, None, OnErr, OnOk, Some, option_copied};
+ghost use Rattle.std.specs.Prelude.{◌≡◌, ◌<◌, [], All, Err, IsOk, IsOkUnless, None, OnErr, OnOk};
+ghost use Rattle.std.specs.Prelude.{Some, option_copied};
 ghost use Rattle.spx_link.specs.Limits.{end_stream};
 ghost use Rattle.spx_link.specs.Offer as spec;
 ghost use Rattle.spx_link.specs.declared.fault.OfferFault.{OfferFault};
@@ -45,7 +46,8 @@ impl Link {
         requires { All (λ u. u.stream < end_stream) units.items }
         ensures ok { OnOk result (self.new ≡ spec.offer_link self.old units.items) }
         ensures refused { (f : OfferFault) → spec.refusal self.old.state ≡ Some f → result ≡ Err f }
-        ensures memory { spec.refusal self.old.state ≡ None → IsOkUnless result OfferFaults.OutOfMemory }
+        ensures memory { spec.refusal self.old.state ≡ None
+            → IsOkUnless result OfferFaults.OutOfMemory }
         ensures empty { spec.refusal self.old.state ≡ None → units.items ≡ [] → IsOk result }
         ensures unchanged { OnErr result (self.new ≡ self.old) }
     {
@@ -60,7 +62,8 @@ impl Link {
     pub fn end(&mut self, _alloc: Global) -> Result<(), OfferFault>
         ensures ok { OnOk result (self.new ≡ spec.end_link self.old) }
         ensures refused { (f : OfferFault) → spec.refusal self.old.state ≡ Some f → result ≡ Err f }
-        ensures memory { spec.refusal self.old.state ≡ None → IsOkUnless result OfferFaults.OutOfMemory }
+        ensures memory { spec.refusal self.old.state ≡ None
+            → IsOkUnless result OfferFaults.OutOfMemory }
         ensures unchanged { OnErr result (self.new ≡ self.old) }
     {
         if let Some(fault) = refusal(self.state) {

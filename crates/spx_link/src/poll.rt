@@ -1,6 +1,7 @@
 //! What a link sends: the rules of `poll`, in the order in which they are tried.
 
-ghost use Rattle.std.specs.Prelude.{◌≡◌, ◌≤◌, ◌<◌, IfSome, IsTrue, length, option_map, slice_get, Some, ℕ};
+ghost use Rattle.std.specs.Prelude.{◌≡◌, ◌≤◌, ◌<◌, IfSome, IsTrue, length, option_map, slice_get};
+ghost use Rattle.std.specs.Prelude.{Some, ℕ};
 ghost use Rattle.std.specs.Borrow.{sem};
 ghost use Rattle.spx_link.specs.LinkView.{LinkView};
 ghost use Rattle.spx_link.specs.Lending.{Rests};
@@ -10,8 +11,9 @@ ghost use Rattle.spx_link.specs.Chosen.{carried};
 use crate::limits::{CONFIRM_STREAM, END_STREAM, MOST_SENDS, MOST_UNITS, NO_ID};
 use crate::link::Link;
 use crate::outgoing::{Chosen, Outgoing, Sent};
-use crate::queue::{Queued, due};
+use crate::queue::due;
 use crate::state::State;
+use crate::unit::Unit;
 use ipx_wire::SpxHeader;
 
 impl Link {
@@ -34,7 +36,7 @@ impl Link {
     {
         let body = match chosen.place {
             Some(place) if place < self.queue.len() => {
-                self.queue.at_place(place).unit.body.as_slice()
+                self.queue.at_place(place).0.body.as_slice()
             }
             _ => &[],
         };
@@ -112,15 +114,15 @@ impl Link {
             return self.poll_again(now);
         }
         let place = usize::from(self.out);
-        let queued = self.queued_at(place);
-        let unit = self.with_unit(Sent::Unit, queued, place, self.next);
+        let (unit, _) = self.queue.at_place(place);
+        let packet = self.with_unit(Sent::Unit, unit, place, self.next);
         self.queue.mark_sent(place, now, 1);
         self.out += 1;
         self.next = self.next.wrapping_add(1);
         self.room -= 1;
         self.owes_ack = false;
         self.spoke = now;
-        Some(unit)
+        Some(packet)
     }
 
     fn poll_again(&mut self, now: u64) -> Option<Chosen>
@@ -137,22 +139,23 @@ impl Link {
     fn send_again(&mut self, place: u16, now: u64) -> Option<Chosen>
         requires sent { place < self.old.out }
         requires queued { place < length self.old.queue }
-        ensures gives { option_map (carried self.new) result ≡ (spec.poll_late self.old now (Some place)).0 }
+        ensures gives { option_map (carried self.new) result
+            ≡ (spec.poll_late self.old now (Some place)).0 }
         ensures leaves { self.new ≡ (spec.poll_late self.old now (Some place)).1 }
     {
         let at = usize::from(place);
-        let queued = self.queued_at(at);
-        let count = queued.count;
+        let (unit, stamp) = self.queue.at_place(at);
+        let count = stamp.count;
         if count >= MOST_SENDS {
             self.state = State::Lost;
             return None;
         }
         let seq = self.base().wrapping_add(place);
-        let unit = self.with_unit(Sent::Again, queued, at, seq);
+        let packet = self.with_unit(Sent::Again, unit, at, seq);
         self.queue.mark_sent(at, now, count + 1);
         self.owes_ack = false;
         self.spoke = now;
-        Some(unit)
+        Some(packet)
     }
 
     fn poll_ack(&mut self, now: u64) -> Option<Chosen>
@@ -255,20 +258,11 @@ impl Link {
         self.next.wrapping_sub(self.out)
     }
 
-    fn queued_at(&self, place: usize) -> &Queued
-        requires { place < length self.now.queue }
-        ensures { slice_get self.now.queue place ≡ Some result.now }
-    {
-        self.queue.at_place(place)
-    }
-
-    fn with_unit(&self, what: Sent, queued: &Queued, place: usize, seq: u16) -> Chosen
-        requires { slice_get self.now.queue place ≡ Some queued.now }
+    fn with_unit(&self, what: Sent, unit: &Unit, place: usize, seq: u16) -> Chosen
         ensures what { result.what ≡ what }
-        ensures header { result.header ≡ (spec.with_unit self.now what queued.now.unit seq).header }
+        ensures header { result.header ≡ (spec.with_unit self.now what unit.now seq).header }
         ensures place { result.place ≡ Some place }
     {
-        let unit = &queued.unit;
         let header = SpxHeader {
             system: false,
             wants_ack: true,

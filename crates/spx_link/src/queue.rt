@@ -1,19 +1,23 @@
 //! The units that a link has to send.
 
-ghost use Rattle.std.specs.Prelude.{◌≡◌, ◌+◌, ◌++◌, ◌≤◌, ◌<◌, ◌==◌, [], ◌∷◌, drop, take, map, set, position, slice_get, length, true, List, OnOk, OnErr, IsOk, IfSome, Some};
+ghost use Rattle.std.specs.Prelude.{◌≡◌, ◌+◌, ◌++◌, ◌≤◌, ◌<◌, ◌==◌, [], ◌∷◌, drop, take, map, set};
+ghost use Rattle.std.specs.Prelude.{position, slice_get, length, true, List, OnOk, OnErr, IsOk};
+ghost use Rattle.std.specs.Prelude.{IfSome, Some};
 ghost use Rattle.spx_link.specs.Due as D;
 ghost use Rattle.spx_link.specs.LinkView as view;
 ghost use Rattle.spx_link.specs.Offer as spec;
 ghost use Rattle.spx_link.specs.Queues.{IsFound, IsSearched};
+ghost use Rattle.spx_link.specs.Sequences.{with_stamp};
 ghost use Rattle.spx_link.specs.declared.queue.Queued.{Queued};
 
 use crate::limits::RESEND_AFTER;
+use crate::stamped::{Sequence, Stamp};
 use crate::unit::Unit;
 use std::alloc::{AllocError, Global};
-use std::collections::VecDeque;
 use std::marker::Model;
 
-/// A unit to send. Where it was sent, `at` is the moment of the last time and `count` says how often.
+/// A unit to send. Where it was sent, `at` is the moment of the last time and `count` says how
+/// often.
 #[derive(Drop)]
 pub struct Queued {
     pub unit: Unit,
@@ -34,7 +38,7 @@ pub fn due(at: u64, now: u64) -> bool
 /// `since` is: the search for what is due goes on behind them.
 #[derive(Drop)]
 pub struct Queue {
-    units: VecDeque<Queued>,
+    units: Sequence,
     searched: usize,
     since: u64,
 }
@@ -42,9 +46,9 @@ pub struct Queue {
 impl Model for Queue {
     ghost Value = { List Queued };
 
-    ghost view = { λ q. q.units.items };
+    ghost view = { λ q. q.units };
 
-    ghost invariant = { λ q. IsSearched q.units.items q.searched q.since };
+    ghost invariant = { λ q. IsSearched q.units q.searched q.since };
 }
 
 impl Queue {
@@ -53,7 +57,7 @@ impl Queue {
         ensures { result ≡ [] }
     {
         Queue {
-            units: VecDeque::new(alloc),
+            units: Sequence::new(alloc),
             searched: 0,
             since: u64::MAX,
         }
@@ -70,15 +74,15 @@ impl Queue {
     pub fn is_empty(&self) -> bool
         ensures { result ≡ (length self.now == 0) }
     {
-        self.units.is_empty()
+        self.units.len() == 0
     }
 
-    /// The unit at a place.
-    pub fn at_place(&self, place: usize) -> &Queued
+    /// The unit at a place, and its stamp.
+    pub fn at_place(&self, place: usize) -> (&Unit, Stamp)
         requires { place < length self.now }
-        ensures { slice_get self.now place ≡ Some result.now }
+        ensures { slice_get self.now place ≡ Some (with_stamp result.0.now result.1) }
     {
-        &self.units[place]
+        self.units.get(place)
     }
 
     /// The place of the first of the sent units that is to be sent again.
@@ -109,16 +113,18 @@ impl Queue {
     pub fn drop_first(&mut self, count: u16)
         ensures { self.new ≡ drop count self.old }
     {
-        drop_front(&mut self.units, count);
+        self.units.drop_first(count);
         self.searched = self.searched.saturating_sub(usize::from(count));
     }
 
     /// The unit at a place was sent at a moment, so often by then.
     pub fn mark_sent(&mut self, place: usize, now: u64, count: u8)
         requires { place < length self.old }
-        ensures { IfSome (slice_get self.old place) (λ q. self.new ≡ set self.old place (record { unit = q.unit; at = now; count = count })) }
+        ensures { IfSome (slice_get self.old place)
+            (λ q. self.new
+            ≡ set self.old place (record { unit = q.unit; at = now; count = count })) }
     {
-        stamp(&mut self.units, place, now, count);
+        self.units.stamp(place, Stamp { at: now, count });
         self.since = self.since.min(now);
     }
 
@@ -127,7 +133,7 @@ impl Queue {
         ensures ok { OnOk result (self.new ≡ self.old ++ spec.queued unit ∷ []) }
         ensures err { OnErr result (self.new ≡ self.old) }
     {
-        queue_one(&mut self.units, unit)
+        self.units.push(unsent(unit))
     }
 
     /// Queues units that were not sent yet, in order, or none of them.
@@ -136,7 +142,7 @@ impl Queue {
         ensures err { OnErr result (self.new ≡ self.old) }
         ensures empty { units.items ≡ [] → IsOk result }
     {
-        queue_all(&mut self.units, units)
+        self.units.push_all(units)
     }
 }
 
@@ -149,9 +155,9 @@ struct Found {
 }
 
 /// Where a search goes on: behind what is known, or at the first unit once one of those may be due.
-fn go_on(units: &VecDeque<Queued>, searched: usize, since: u64, end: usize, now: u64) -> Found
-    requires { IsSearched units.now.items searched since }
-    ensures { IsFound units.now.items end now result.place result.since }
+fn go_on(units: &Sequence, searched: usize, since: u64, end: usize, now: u64) -> Found
+    requires { IsSearched units.now searched since }
+    ensures { IsFound units.now end now result.place result.since }
 {
     if due(since, now) {
         return Found {
@@ -166,15 +172,16 @@ fn go_on(units: &VecDeque<Queued>, searched: usize, since: u64, end: usize, now:
 }
 
 /// Searches on, to the first unit that is due or to an end.
-fn search(units: &VecDeque<Queued>, from: Found, end: usize, now: u64) -> Found
-    requires within { end ≤ length units.now.items }
-    requires from { IsFound units.now.items end now from.place from.since }
-    ensures came { IsFound units.now.items end now result.place result.since }
-    ensures stops { result.place < end → IfSome (slice_get units.now.items result.place) (λ q. view.due q.at now ≡ true) }
+fn search(units: &Sequence, from: Found, end: usize, now: u64) -> Found
+    requires within { end ≤ length units.now }
+    requires from { IsFound units.now end now from.place from.since }
+    ensures came { IsFound units.now end now result.place result.since }
+    ensures stops { result.place < end
+        → IfSome (slice_get units.now result.place) (λ q. view.due q.at now ≡ true) }
 {
     let mut since = from.since;
     for place in from.place..end {
-        let at = units[place].at;
+        let at = units.get(place).1.at;
         if due(at, now) {
             return Found { place, since };
         }
@@ -184,12 +191,12 @@ fn search(units: &VecDeque<Queued>, from: Found, end: usize, now: u64) -> Found
 }
 
 /// The least moment at which one of the sent units was last sent.
-fn earliest(queue: &VecDeque<Queued>, sent: usize) -> Option<u64>
-    ensures { result ≡ D.earliest (take sent queue.now.items) }
+fn earliest(units: &Sequence, sent: usize) -> Option<u64>
+    ensures { result ≡ D.earliest (take sent units.now) }
 {
     let mut least = None;
-    for place in 0..sent.min(queue.len()) {
-        least = Some(earlier(queue[place].at, least));
+    for place in 0..sent.min(units.len()) {
+        least = Some(earlier(units.get(place).1.at, least));
     }
     least
 }
@@ -204,25 +211,6 @@ pub fn earlier(at: u64, least: Option<u64>) -> u64
     }
 }
 
-/// The first `count` units leave the queue.
-fn drop_front(queue: &mut VecDeque<Queued>, count: u16)
-    ensures { queue.new.items ≡ drop count queue.old.items }
-{
-    for _ in 0..count {
-        let _gone = queue.pop_front();
-    }
-}
-
-/// The unit at a place was sent at a moment, so often by then.
-fn stamp(queue: &mut VecDeque<Queued>, place: usize, now: u64, count: u8)
-    requires { place < length queue.old.items }
-    ensures { IfSome (slice_get queue.old.items place) (λ q. queue.new.items ≡ set queue.old.items place (record { unit = q.unit; at = now; count = count })) }
-{
-    let queued = &mut queue[place];
-    queued.at = now;
-    queued.count = count;
-}
-
 /// A unit that was not sent yet.
 fn unsent(unit: Unit) -> Queued
     ensures { result ≡ spec.queued unit }
@@ -232,30 +220,4 @@ fn unsent(unit: Unit) -> Queued
         at: 0,
         count: 0,
     }
-}
-
-/// Queues the units in order, or none of them.
-fn queue_all(queue: &mut VecDeque<Queued>, units: Vec<Unit>) -> Result<(), AllocError>
-    ensures ok { OnOk result (queue.new.items ≡ queue.old.items ++ map spec.queued units.items) }
-    ensures err { OnErr result (queue.new.items ≡ queue.old.items) }
-    ensures empty { units.items ≡ [] → IsOk result }
-{
-    if units.is_empty() {
-        return Ok(());
-    }
-    queue.reserve(units.len())?;
-    for unit in units {
-        queue.push_back_reserved(unsent(unit));
-    }
-    Ok(())
-}
-
-/// Queues a unit.
-fn queue_one(queue: &mut VecDeque<Queued>, unit: Unit) -> Result<(), AllocError>
-    ensures ok { OnOk result (queue.new.items ≡ queue.old.items ++ spec.queued unit ∷ []) }
-    ensures err { OnErr result (queue.new.items ≡ queue.old.items) }
-{
-    queue.reserve(1)?;
-    queue.push_back_reserved(unsent(unit));
-    Ok(())
 }

@@ -25,6 +25,8 @@ mod rows;
 #[cfg(test)]
 mod spx;
 #[cfg(test)]
+mod texts;
+#[cfg(test)]
 mod windows;
 #[cfg(test)]
 mod wire_texts;

@@ -1,8 +1,18 @@
-//! Tests of messages and units, with literal values. They call what those crates make public, and
-//! no crate stands on this one.
+//! Tests of messages, of units and of endpoints, with literal values. They call what those crates
+//! make public, and no crate stands on this one.
 #![tactic(auto)]
 
 #[cfg(test)]
+mod calls;
+#[cfg(test)]
+mod endpoint_rows;
+#[cfg(test)]
+mod hosts;
+#[cfg(test)]
+mod no_memory;
+#[cfg(test)]
 mod refused;
+#[cfg(test)]
+mod refused_calls;
 #[cfg(test)]
 mod units;

@@ -8,7 +8,7 @@ use std::process::Abort;
 use std::test::Fail;
 
 /// A message, made once more where memory was refused.
-fn message_at_last(alloc: Global, stream: u8, length: usize) -> Result<Message, AllocError> {
+pub fn message_at_last(alloc: Global, stream: u8, length: usize) -> Result<Message, AllocError> {
     match message(alloc, stream, length) {
         Ok(sent) => Ok(sent),
         Err(_) => message(alloc, stream, length),

@@ -12,7 +12,8 @@ pub record IsFull (u : Unit) : Type 0 where
   pub bytes : length (bytes_of u) ≡ most_unit
   pub last : u.last ≡ false
 
--- the units of a message: together they are its body, and each has its stream; the last one alone ends it, and is
+-- the units of a message: together they are its body, and each has its stream; the last one alone
+-- ends it, and is
 -- empty only where the body is; all others have 534 bytes
 pub record IsCut (m : MessageView) (units : List Unit) : Type 0 where
   pub before : List Unit
@@ -26,7 +27,8 @@ pub record IsCut (m : MessageView) (units : List Unit) : Type 0 where
   pub rest : 0 < length before → 0 < length (bytes_of final)
 
 abbrev pub unit_with : ℕ → Bool → List ℕ → Unit
-unit_with stream last bytes = record { stream = stream; last = last; body = record { items = bytes } }
+unit_with stream last bytes =
+    record { stream = stream; last = last; body = record { items = bytes } }
 
 -- the same units, one after another: at most so many full ones, and the last
 abbrev pub pieces : ℕ → ℕ → List ℕ → List Unit

@@ -1,4 +1,5 @@
--- How units are joined to messages: those up to one that ends a message are one, and ends of connections are left out.
+-- How units are joined to messages: those up to one that ends a message are one, and ends of
+-- connections are left out.
 use Rattle.std.specs.Prelude.{ℕ, ◌≡◌, ◌<◌, ◌≤◌, nat_lt, Bool, All, List, [], ◌∷◌, ◌++◌, length, map, Option, Some, None, fold, if◌then◌else◌}
 use Rattle.std.specs.List.{flat_map}
 use Rattle.spx_link.specs.declared.unit.Unit.{Unit}

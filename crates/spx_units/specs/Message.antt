@@ -25,7 +25,8 @@ most_bytes = 65535
 abbrev pub most_unit : ℕ
 most_unit = 534
 
--- why a message is not cut: it is too long, or its stream is the end of a connection or its confirmation
+-- why a message is not cut: it is too long, or its stream is the end of a connection or its
+-- confirmation
 abbrev pub cut_fault : MessageView → Option MessageFault
 cut_fault m =
     if nat_lt most_bytes (length m.body) then Some (TooLong (length m.body))

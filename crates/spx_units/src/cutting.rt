@@ -1,6 +1,6 @@
 //! A message, cut into units.
 
-ghost use Rattle.std.specs.Prelude.{◌≡◌, ◌≤◌, All, Err, IfOk, IsOkUnless, None, Some, length};
+ghost use Rattle.std.specs.Prelude.{◌≡◌, ◌≤◌, ◌++◌, [], ◌∷◌, All, Err, IfOk, IsOkUnless, None, OnOk, Some, length};
 ghost use Rattle.spx_units.specs.Cut.{IsCut, cut_of, unit_with};
 ghost use Rattle.spx_units.specs.Message.{cut_fault, message_view};
 ghost use Rattle.spx_units.specs.declared.fault.MessageFault.{MessageFault};
@@ -10,7 +10,7 @@ use crate::fault::MessageFault;
 use crate::message::{MOST_BYTES, Message};
 use ipx_wire::Fragment;
 use spx_link::Unit;
-use std::alloc::Global;
+use std::alloc::{AllocError, Global};
 
 /// How many bytes a unit has at most.
 const MOST_UNIT: usize = 534;
@@ -18,14 +18,21 @@ const MOST_UNIT: usize = 534;
 /// The least datastream type that no message has: that of the end of a connection.
 const END_STREAM: u8 = 0xfe;
 
-/// A unit with these bytes.
-fn unit_of(stream: u8, last: bool, bytes: &[u8]) -> Unit
+/// Adds a unit with these bytes, built where it stands: they are copied once.
+fn push_unit(units: &mut Vec<Unit>, stream: u8, last: bool, bytes: &[u8]) -> Result<(), AllocError>
     requires { length bytes.now ≤ 534 }
-    ensures { result ≡ unit_with stream last bytes.now }
+    ensures { OnOk result (units.new.items ≡ units.old.items ++ unit_with stream last bytes.now ∷ []) }
 {
-    let mut body = Fragment::new();
-    body.try_extend_from_slice(bytes).unwrap();
-    Unit { stream, last, body }
+    units.reserve(1)?;
+    units.push_reserved(Unit {
+        stream,
+        last,
+        body: Fragment::new(),
+    });
+    if let Some(unit) = units.last_mut() {
+        unit.body.try_extend_from_slice(bytes).unwrap();
+    }
+    Ok(())
 }
 
 /// Cuts a message into the units that carry it, in order.
@@ -59,9 +66,9 @@ fn cut_bytes(alloc: Global, stream: u8, bytes: &[u8]) -> Result<Vec<Unit>, Messa
     let mut rest = bytes;
     while rest.len() > MOST_UNIT {
         let (piece, later) = rest.split_at(MOST_UNIT);
-        units.push(unit_of(stream, false, piece))?;
+        push_unit(&mut units, stream, false, piece)?;
         rest = later;
     }
-    units.push(unit_of(stream, true, rest))?;
+    push_unit(&mut units, stream, true, rest)?;
     Ok(units)
 }

@@ -4,7 +4,7 @@ ghost use Rattle.std.specs.Prelude.{◌≡◌, ◌≤◌, ◌+◌, ◌*◌, ◌+
 ghost use Rattle.std.specs.List.{flat_map};
 ghost use Rattle.byteorder.specs.Endian.{big_bytes};
 ghost use Rattle.ipx_wire.specs.Ipx.{IsWritten};
-ghost use Rattle.ipx_control.specs.Rip.{IsRip, IsRipEntryInRange, rip_entries, rip_entry_bytes, rip_entry_size, rip_max_entries, rip_size, rip_view};
+ghost use Rattle.ipx_control.specs.Rip.{IsRip, IsRipEntryInRange, Response as response_of, rip_entries, rip_entry_bytes, rip_entry_size, rip_max_entries, rip_size, rip_view};
 
 use crate::rip::packet::{RIP_ENTRY_SIZE, Rip, RipEntry};
 use byteorder::{BigEndian, ByteOrder};
@@ -60,4 +60,18 @@ pub fn encode_rip_into(rip: &Rip, out: &mut [u8]) -> usize
             return 2 + RIP_ENTRY_SIZE * entries.len();
         }
     }
+}
+
+/// Writes a RIP response of these routes to the front of the buffer, and answers how many bytes it
+/// takes: 2, and 8 for each route. It is what `encode_rip_into` writes, out of routes that stand in
+/// a longer list. The caller owes at most 50 routes, and room for the packet.
+pub fn encode_routes_into(routes: &[RipEntry], out: &mut [u8]) -> usize
+    requires limit { length routes.now ≤ rip_max_entries }
+    requires room { rip_size (response_of routes.now) ≤ length out.old }
+    ensures count { result ≡ rip_size (response_of routes.now) }
+    ensures written { IsRip (response_of routes.now) (take result out.new) [] }
+    ensures rest { drop result out.new ≡ drop result out.old }
+{
+    put_rip(out, 2, routes);
+    2 + RIP_ENTRY_SIZE * routes.len()
 }

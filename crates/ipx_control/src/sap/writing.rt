@@ -4,7 +4,7 @@ ghost use Rattle.std.specs.Prelude.{◌≡◌, ◌≤◌, ◌<◌, ◌^◌, ◌+
 ghost use Rattle.std.specs.List.{flat_map};
 ghost use Rattle.byteorder.specs.Endian.{big_bytes};
 ghost use Rattle.ipx_wire.specs.Ipx.{IsWritten};
-ghost use Rattle.ipx_control.specs.Sap.{IsSap, IsSapWithinLimit, IsServiceEntryInRange, query_operation, response_operation, sap_size, sap_view, service_bytes, service_size};
+ghost use Rattle.ipx_control.specs.Sap.{IsSap, IsSapWithinLimit, IsServiceEntryInRange, Response as response_of, sap_max_services, query_operation, response_operation, sap_size, sap_view, service_bytes, service_size};
 
 use crate::sap::packet::{SERVICE_SIZE, Sap, ServiceEntry};
 use byteorder::{BigEndian, ByteOrder};
@@ -75,4 +75,20 @@ pub fn encode_sap_into(sap: &Sap, out: &mut [u8]) -> usize
             return 2 + SERVICE_SIZE * services.len();
         }
     }
+}
+
+/// Writes a SAP response of these services to the front of the buffer, and answers how many bytes
+/// it takes: 2, and 64 for each service. It is what `encode_sap_into` writes, out of services that
+/// stand in a longer list. The caller owes at most 7 services, and room for the packet.
+pub fn encode_services_into(nearest: bool, services: &[ServiceEntry], out: &mut [u8]) -> usize
+    requires limit { length services.now ≤ sap_max_services }
+    requires room { sap_size (response_of nearest services.now) ≤ length out.old }
+    ensures count { result ≡ sap_size (response_of nearest services.now) }
+    ensures written { IsSap (response_of nearest services.now) (take result out.new) [] }
+    ensures rest { drop result out.new ≡ drop result out.old }
+{
+    // Laws for the proof of `written`: they do nothing.
+    field_laws();
+    put_response(out, nearest, services);
+    2 + SERVICE_SIZE * services.len()
 }

@@ -1,6 +1,8 @@
 //! The calls of a link, by its id.
 
-ghost use Rattle.std.specs.Prelude.{◌≡◌, ◌≤◌, ◌<◌, [], All, Err, IfErr, IfOk, IfSome, IsOk, IsOkUnless, IsTrue, None, OnErr, OnOk, Some, length, option_map};
+ghost use Rattle.std.specs.Prelude.{◌≡◌, ◌≤◌, ◌<◌, [], All, Err, IfErr, IfOk, IfSome, IsOk};
+ghost use Rattle.std.specs.Prelude.{IsOkUnless, IsTrue, None, OnErr, OnOk, Some, length};
+ghost use Rattle.std.specs.Prelude.{option_map};
 ghost use Rattle.std.specs.Borrow.{sem};
 ghost use Rattle.spx_link.specs.Due.{IsNextDue};
 ghost use Rattle.spx_link.specs.Limits.{end_stream};
@@ -26,7 +28,10 @@ impl Links {
     /// What `Link::poll` does, by a live id. It takes no memory.
     pub fn poll(&mut self, id: u16, now: u64) -> Option<Outgoing<'_>>
         requires { IsLive self.old id }
-        ensures* leaves { sem 𝓛 (RestsSo self.entry (λ s. IfSome (link_at self.old id) (λ l. ChangesOnly self.old s id (P.poll_link l now).1))) }
+        ensures* leaves { sem 𝓛
+            (RestsSo self.entry
+            (λ s. IfSome (link_at self.old id)
+            (λ l. ChangesOnly self.old s id (P.poll_link l now).1))) }
         ensures gives { option_map P.outgoing_view result ≡ polled (link_at self.old id) now }
         ensures fits { IfSome result (λ o. length o.body.now ≤ 534) }
     {
@@ -39,8 +44,10 @@ impl Links {
     fn choose(&mut self, id: u16, now: u64) -> (usize, Option<Chosen>)
         requires { IsLive self.old id }
         ensures within { result.0 < length self.new.links }
-        ensures gives { option_map (carried_in self.new result.0) result.1 ≡ polled (link_at self.old id) now }
-        ensures leaves { IfSome (link_at self.old id) (λ l. ChangesOnly self.old self.new id (P.poll_link l now).1) }
+        ensures gives { option_map (carried_in self.new result.0) result.1
+            ≡ polled (link_at self.old id) now }
+        ensures leaves { IfSome (link_at self.old id)
+            (λ l. ChangesOnly self.old self.new id (P.poll_link l now).1) }
     {
         let place = place_of(&self.links, id);
         let chosen = self.links[place].choose(now);
@@ -65,12 +72,15 @@ impl Links {
         self.links[place].next_due()
     }
 
-    /// What `Link::receive` does, by a live id. It takes no memory. The caller owes a body of at most 534 bytes.
+    /// What `Link::receive` does, by a live id. It takes no memory. The caller owes a body of at
+    /// most 534 bytes.
     pub fn receive(&mut self, id: u16, header: &SpxHeader, body: &[u8], now: u64) -> Received
         requires live { IsLive self.old id }
         requires fits { length body.now ≤ 534 }
-        ensures gives { IfSome (link_at self.old id) (λ l. result ≡ (R.receive_link l header.now body.now).0) }
-        ensures leaves { IfSome (link_at self.old id) (λ l. ChangesOnly self.old self.new id (R.receive_link l header.now body.now).1) }
+        ensures gives { IfSome (link_at self.old id)
+            (λ l. result ≡ (R.receive_link l header.now body.now).0) }
+        ensures leaves { IfSome (link_at self.old id)
+            (λ l. ChangesOnly self.old self.new id (R.receive_link l header.now body.now).1) }
     {
         let place = place_of(&self.links, id);
         self.links[place].receive(header, body, now)
@@ -80,10 +90,14 @@ impl Links {
     pub fn offer(&mut self, alloc: Global, id: u16, units: Vec<Unit>) -> Result<(), OfferFault>
         requires live { IsLive self.old id }
         requires streams { All (λ u. u.stream < end_stream) units.items }
-        ensures ok { IfSome (link_at self.old id) (λ l. OnOk result (ChangesOnly self.old self.new id (O.offer_link l units.items))) }
-        ensures refused { IfSome (link_at self.old id) (λ l. (f : OfferFault) → O.refusal l.state ≡ Some f → result ≡ Err f) }
-        ensures memory { IfSome (link_at self.old id) (λ l. O.refusal l.state ≡ None → IsOkUnless result OfferFaults.OutOfMemory) }
-        ensures empty { IfSome (link_at self.old id) (λ l. O.refusal l.state ≡ None → units.items ≡ [] → IsOk result) }
+        ensures ok { IfSome (link_at self.old id)
+            (λ l. OnOk result (ChangesOnly self.old self.new id (O.offer_link l units.items))) }
+        ensures refused { IfSome (link_at self.old id)
+            (λ l. (f : OfferFault) → O.refusal l.state ≡ Some f → result ≡ Err f) }
+        ensures memory { IfSome (link_at self.old id)
+            (λ l. O.refusal l.state ≡ None → IsOkUnless result OfferFaults.OutOfMemory) }
+        ensures empty { IfSome (link_at self.old id)
+            (λ l. O.refusal l.state ≡ None → units.items ≡ [] → IsOk result) }
         ensures unchanged { OnErr result (self.new ≡ self.old) }
     {
         let place = place_of(&self.links, id);
@@ -93,9 +107,12 @@ impl Links {
     /// What `Link::end` does, by a live id.
     pub fn end(&mut self, alloc: Global, id: u16) -> Result<(), OfferFault>
         requires { IsLive self.old id }
-        ensures ok { IfSome (link_at self.old id) (λ l. OnOk result (ChangesOnly self.old self.new id (O.end_link l))) }
-        ensures refused { IfSome (link_at self.old id) (λ l. (f : OfferFault) → O.refusal l.state ≡ Some f → result ≡ Err f) }
-        ensures memory { IfSome (link_at self.old id) (λ l. O.refusal l.state ≡ None → IsOkUnless result OfferFaults.OutOfMemory) }
+        ensures ok { IfSome (link_at self.old id)
+            (λ l. OnOk result (ChangesOnly self.old self.new id (O.end_link l))) }
+        ensures refused { IfSome (link_at self.old id)
+            (λ l. (f : OfferFault) → O.refusal l.state ≡ Some f → result ≡ Err f) }
+        ensures memory { IfSome (link_at self.old id)
+            (λ l. O.refusal l.state ≡ None → IsOkUnless result OfferFaults.OutOfMemory) }
         ensures unchanged { OnErr result (self.new ≡ self.old) }
     {
         let place = place_of(&self.links, id);
@@ -106,7 +123,8 @@ impl Links {
     pub fn take(&mut self, id: u16) -> Option<Unit>
         requires { IsLive self.old id }
         ensures gives { IfSome (link_at self.old id) (λ l. result ≡ (O.take_link l).0) }
-        ensures leaves { IfSome (link_at self.old id) (λ l. ChangesOnly self.old self.new id (O.take_link l).1) }
+        ensures leaves { IfSome (link_at self.old id)
+            (λ l. ChangesOnly self.old self.new id (O.take_link l).1) }
     {
         let place = place_of(&self.links, id);
         self.links[place].take()
@@ -115,7 +133,8 @@ impl Links {
     /// What `Link::owe_reply` does, by a live id.
     pub fn owe_reply(&mut self, id: u16)
         requires { IsLive self.old id }
-        ensures { IfSome (link_at self.old id) (λ l. ChangesOnly self.old self.new id (O.owe_reply_link l)) }
+        ensures { IfSome (link_at self.old id)
+            (λ l. ChangesOnly self.old self.new id (O.owe_reply_link l)) }
     {
         let place = place_of(&self.links, id);
         self.links[place].owe_reply();
@@ -124,7 +143,8 @@ impl Links {
     /// What `Link::lose` does, by a live id.
     pub fn lose(&mut self, id: u16)
         requires { IsLive self.old id }
-        ensures { IfSome (link_at self.old id) (λ l. ChangesOnly self.old self.new id (O.lose_link l)) }
+        ensures { IfSome (link_at self.old id)
+            (λ l. ChangesOnly self.old self.new id (O.lose_link l)) }
     {
         let place = place_of(&self.links, id);
         self.links[place].lose();

@@ -1,6 +1,7 @@
 //! Links in a list, by their ids.
 
-ghost use Rattle.std.specs.Prelude.{◌≡◌, ◌<◌, ◌↔◌, ◌==◌, IsSome, IsTrue, Some, filter, is_some, length, not, option_copied, position, slice_get};
+ghost use Rattle.std.specs.Prelude.{◌≡◌, ◌<◌, ◌↔◌, ◌==◌, IsSome, IsTrue, Some, filter, is_some};
+ghost use Rattle.std.specs.Prelude.{length, not, option_copied, position, slice_get};
 ghost use Rattle.spx_link.specs.Leasts.{IsFrom, IsLeastId, IsOver, lesser_of};
 ghost use Rattle.spx_link.specs.Limits.{most_links};
 ghost use Rattle.spx_link.specs.Links as spec;

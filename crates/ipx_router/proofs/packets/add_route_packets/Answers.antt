@@ -8,9 +8,9 @@ use Rattle.ipx_router.proofs.packets.add_route_packets.Goals as goal
 pub loop-rest-preserved : goal.loop-rest-preserved
 loop-rest-preserved c =
     let rest = c.loop-rest.rest.now in
-    let reply = c.in_ok-rip_packet.field-0 in
+    let reply = c.in_ok-routes_packet.field-0 in
     let fewer = take_fewer 50 c.min.result rest c.min.ensures in
-    let part : IsRipPacket c.args.to (rip.Response (take 50 rest)) (sending_of reply) = subst (λ (part : List RipEntry). IsRipPacket c.args.to (rip.Response part) (sending_of reply)) (c.in_ok-from_slice.ensures.items ∙ c.split_at.ensures.front ∙ fewer.0) c.in_ok-rip_packet.ensures in
+    let part : IsRipPacket c.args.to (rip.Response (take 50 rest)) (sending_of reply) = subst (λ (part : List RipEntry). IsRipPacket c.args.to (rip.Response part) (sending_of reply)) (c.split_at.ensures.front ∙ fewer.0) c.in_ok-routes_packet.ensures in
     rw (c.in_ok-push.ensures.items, c.split_at.ensures.back, fewer.1)
     (cut_more 50 (λ part. IsRipPacket c.args.to (rip.Response part)) c.args.entries.now rest c.args.replies.now.items c.loop-rest.replies.items c.loop-rest.invariant reply (some_left rest (sym c.is_empty.ensures ∙ c.loop-rest-test.true)) part)
 

@@ -6,4 +6,4 @@ pub returns : goal.returns
 returns c =
     let told = c.in_ok-told.told.items in
     rw c.if-nearest.false
-    (services_ok (services_in c.args.services.now) c.args.at told c.in_ok-told.ensures c.args.kind (λ v. v.items) c.services_of_kind.result (rw c.deref.ensures.value at c.services_of_kind.ensures))
+    (services_ok (services_in c.args.services.now) c.args.at told c.in_ok-told.ensures c.args.kind (λ v. v.items) c.services_of_kind.result c.services_of_kind.ensures)

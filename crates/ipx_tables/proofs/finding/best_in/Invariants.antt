@@ -13,6 +13,7 @@ invariant-loop-at g l =
       above : (j : ℕ) (o : Offer g.row.K.Denot g.row.M.Denot) → l.at ≤ j → j < length l.shelf → is_lt (g.K.Ord.cmp (get_or l.shelf j o).key l.key) ≡ false;
       best : best l.best (drop l.at l.shelf) ≡ best None l.shelf;
       cost : (digits : ℕ) → length l.shelf < 2 ^ digits → l.steps ≤ count_by (λ o. is_eq (g.K.Ord.cmp o.key l.key)) (take l.at l.shelf) + digits;
+      all_read : count_by (λ o. is_eq (g.K.Ord.cmp o.key l.key)) (take l.at l.shelf) ≤ l.steps;
     }
 
 abbrev pub decreases-loop-at : goal.decreases-loop-at

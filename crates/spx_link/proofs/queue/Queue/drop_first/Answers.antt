@@ -6,5 +6,5 @@ use Rattle.spx_link.proofs.queue.Queue.drop_first.Goals as goal
 pub invariant_of-self : goal.invariant_of-self
 invariant_of-self c =
     let f = c.self.inside in
-    let P : ℕ → Type 0 = λ n. IsSearched c.drop_front.new.queue.items n f.since in
-    subst P (sym (c.saturating_sub-self-inside.ensures ∙ ap (λ (n : ℕ). f.searched - n) c.from.ensures)) (drop_searched f.units.items c.drop_front.new.queue.items f.searched f.since c.args.count c.self.invariant c.drop_front.ensures)
+    let P : ℕ → Type 0 = λ n. IsSearched c.drop_first.new.self n f.since in
+    subst P (sym (c.saturating_sub-self-inside.ensures ∙ ap (λ (n : ℕ). f.searched - n) c.from.ensures)) (drop_searched f.units c.drop_first.new.self f.searched f.since c.args.count c.self.invariant c.drop_first.ensures)

@@ -7,7 +7,7 @@ use Rattle.spx_link.proofs.queue.Queue.first_due.Goals.{then-found-end, else-fou
 
 pub invariant_of-self : goal.invariant_of-self
 invariant_of-self c =
-    let units = c.self.inside.units.items in
+    let units = c.self.inside.units in
     let many : c.len.result ≡ length units = omega arith in
     let at : c.min-end.result ≡ min c.args.sent (length units) = c.min-end.ensures ∙ ap (min c.args.sent) many in
     let within : c.min-end.result ≤ length units = omega (arith, at) in
@@ -15,7 +15,7 @@ invariant_of-self c =
 
 pub returns-clause-place : goal.returns-clause-place
 returns-clause-place c =
-    let units = c.self.inside.units.items in
+    let units = c.self.inside.units in
     let many : c.len.result ≡ length units = omega arith in
     let at : c.min-end.result ≡ min c.args.sent (length units) = c.min-end.ensures ∙ ap (min c.args.sent) many in
     let found = c.search-found.result in

@@ -1,0 +1,157 @@
+-- Turns, one after another.
+use Rattle.std.proofs.Common.{◌≡◌, ◌≤◌, ◌<◌, ℕ, ◌+◌, List, [], ◌∷◌, ◌++◌, length, Option, refl, sym, ap, ◌∙◌, subst, append_assoc, append-nil, arith, length-append, inl, inr, is_some, lit<}
+use Rattle.std.proofs.lemmas.Grind.{flat_map-append}
+use Rattle.std.proofs.lemmas.List.{map-append}
+use Rattle.ipx_carrier.specs.declared.report.Report.{Report}
+use Rattle.ipx_carrier.specs.declared.report.Tally.{Tally}
+use Rattle.ipx_carrier.specs.Device.{Datagram, Passes, Reception, Tells, Traffic}
+use Rattle.ipx_carrier.specs.Turns.{Given, Peers, Turn, Turns, datagrams_of, moments_of, packets_of, received_of, sent_of}
+use Rattle.ipx_carrier.specs.Counts.{heard_in, is_unmapped, plus, report_of, unmapped_in}
+use Rattle.ipx_carrier.specs.Parts.{AsksPorts, AsksSomePorts, SendsAll, SendsSome}
+use Rattle.ipx_carrier.specs.Runs.{EndsEarly, Runs}
+use Rattle.ipx_carrier.proofs.Passing.{count-append, passes_nothing, passes_on, tells_on}
+
+-- the report of one turn
+abbrev pub turn_report : ℕ → Tally → Report
+turn_report heard tally =
+    record { turns = 1; heard = heard; sent = tally.sent; unmapped = tally.unmapped }
+
+abbrev counted : ℕ → Peers → List Reception → List Given → Report
+counted turns peers rs ps = record {
+  turns = turns;
+  heard = heard_in rs;
+  sent = length (sent_of peers ps);
+  unmapped = unmapped_in ps;
+}
+
+more_sent : (peers : Peers) (ps qs : List Given) → sent_of peers (ps ++ qs) ≡ sent_of peers ps ++ sent_of peers qs
+more_sent peers ps qs = flat_map-append (datagrams_of peers) ps qs
+
+more_received : (ts us : List Turn) → received_of (ts ++ us) ≡ received_of ts ++ received_of us
+more_received ts us = flat_map-append (λ (t : Turn). t.answers) ts us
+
+more_packets : (ts us : List Turn) → packets_of (ts ++ us) ≡ packets_of ts ++ packets_of us
+more_packets ts us = flat_map-append (λ (t : Turn). t.packets) ts us
+
+all_sent : (peers : Peers) (ts us : List Turn) → sent_of peers (packets_of (ts ++ us)) ≡ sent_of peers (packets_of ts) ++ sent_of peers (packets_of us)
+all_sent peers ts us = ap (sent_of peers) (more_packets ts us) ∙ more_sent peers (packets_of ts) (packets_of us)
+
+more_moments : (ts us : List Turn) → moments_of (ts ++ us) ≡ moments_of ts ++ moments_of us
+more_moments ts us = map-append (λ (t : Turn). t.moment) ts us
+
+counted_parts : (peers : Peers) (m n : ℕ) (rs rs' : List Reception) (ps ps' : List Given) → counted (m + n) peers (rs ++ rs') (ps ++ ps') ≡ plus (counted m peers rs ps) (counted n peers rs' ps')
+counted_parts peers m n rs rs' ps ps' =
+    let h : heard_in (rs ++ rs') ≡ heard_in rs + heard_in rs' = count-append (λ (r : Reception). is_some r.bytes) rs rs' in
+    let s : length (sent_of peers (ps ++ ps')) ≡ length (sent_of peers ps) + length (sent_of peers ps') =
+    ap length (more_sent peers ps ps') ∙ length-append (sent_of peers ps) (sent_of peers ps') in
+    let u : unmapped_in (ps ++ ps') ≡ unmapped_in ps + unmapped_in ps' = count-append is_unmapped ps ps' in
+    cc
+
+more_reported : (peers : Peers) (ts us : List Turn) → report_of peers (ts ++ us) ≡ plus (report_of peers ts) (report_of peers us)
+more_reported peers ts us =
+    ap (λ n. counted n peers (received_of (ts ++ us)) (packets_of (ts ++ us))) (length-append ts us)
+    ∙ ap (λ rs. counted (length ts + length us) peers rs (packets_of (ts ++ us))) (more_received ts us)
+    ∙ ap (λ ps. counted (length ts + length us) peers (received_of ts ++ received_of us) ps) (more_packets ts us)
+    ∙ counted_parts peers (length ts) (length us) (received_of ts) (received_of us) (packets_of ts) (packets_of us)
+
+module _ {C : Type 0} (hears : C → ℕ → List ℕ → ℕ → C → Type 0)
+    (gives : C → ℕ → Option Given → C → Type 0) {K : Type 0} (tells : K → ℕ → K → Type 0) (ports : ℕ) (peers : Peers) where
+  turns_on : (ts us : List Turn) (a b c : C) → Turns hears gives ports ts a b → Turns hears gives ports us b c → Turns hears gives ports (ts ++ us) a c
+  turns_on [] us a b c h k = subst (λ a. Turns hears gives ports us a c) h k
+  turns_on (t ∷ ts) us a b c h k = (h.0, h.1, turns_on ts us h.0 b c h.2 k)
+
+  pub ran_none : (s : Option Traffic) (r : K) (a : C) (report : Report) → report ≡ counted 0 peers [] [] → Runs hears gives tells ports peers 0 s s r r a a report
+  ran_none s r a report e = ([], refl, refl, passes_nothing s s refl, refl, e)
+
+  pub ran_one : (now : ℕ) (s t u : Option Traffic) (r r' : K) (a b c : C) (heard : ℕ) (tally : Tally) → tells r now r' → AsksPorts hears now ports s t a b heard → SendsAll gives now peers t u b c tally → Runs hears gives tells ports peers 1 s u r r' a c (turn_report heard tally)
+  ran_one now s t u r r' a b c heard tally told h k =
+      let turn : Turn = record { moment = now; answers = h.0; packets = k.0 } in
+      let passed : Passes s u (h.0 ++ []) (sent_of peers k.0) = passes_on s t u h.0 [] [] (sent_of peers k.0) h.2 k.2 in (
+        turn ∷ [],
+        refl,
+        (c, (h.1, b, h.3, k.1), refl),
+        subst (λ (ps : List Given). Passes s u (h.0 ++ []) (sent_of peers ps)) (sym (append-nil k.0)) passed,
+        (r', told, refl),
+        ap (λ n. turn_report n tally) h.4 ∙ ap (λ t. turn_report (heard_in h.0) t) k.3
+            ∙ ap (λ rs. counted 1 peers rs k.0) (sym (append-nil h.0)) ∙ ap (λ ps. counted 1 peers (h.0 ++ []) ps) (sym (append-nil k.0)),
+      )
+
+  pub ran_on : (m n : ℕ) (s t u : Option Traffic) (r r' r'' : K) (a b c : C) (x y : Report) → Runs hears gives tells ports peers m s t r r' a b x → Runs hears gives tells ports peers n t u r' r'' b c y → Runs hears gives tells ports peers (m + n) s u r r'' a c (plus x y)
+  ran_on m n s t u r r' r'' a b c x y h k =
+      let ts = h.0 in
+      let us = k.0 in
+      let passed = passes_on s t u (received_of ts) (received_of us) (sent_of peers (packets_of ts)) (sent_of peers (packets_of us)) h.3 k.3 in (
+        ts ++ us,
+        length-append ts us ∙ ap (λ i. i + length us) h.1 ∙ ap (λ i. m + i) k.1,
+        turns_on ts us a b c h.2 k.2,
+        subst (λ (rs : List Reception). Passes s u rs (sent_of peers (packets_of (ts ++ us)))) (sym (more_received ts us))
+            (subst (λ (ds : List Datagram). Passes s u (received_of ts ++ received_of us) ds) (sym (all_sent peers ts us)) passed),
+        subst (λ (ms : List ℕ). Tells tells r r'' ms) (sym (more_moments ts us)) (tells_on tells r r' r'' (moments_of ts) (moments_of us) h.4 k.4),
+        ap (λ x. plus x y) h.5 ∙ ap (λ y. plus (report_of peers ts) y) k.5 ∙ sym (more_reported peers ts us),
+      )
+
+  pub ends_hearing : (now : ℕ) (s t : Option Traffic) (r r' : K) (a : C) → tells r now r' → AsksSomePorts hears now ports s t a → EndsEarly hears gives tells ports peers 1 s t r r' a
+  ends_hearing now s t r r' a told h =
+      let turn : Turn = record { moment = now; answers = h.0 ++ h.1; packets = [] } in
+      let few : length h.0 + length h.1 ≤ ports = h.3 in (
+        [],
+        turn,
+        [],
+        a,
+        lit< tt,
+        refl,
+        inl (h.0, h.1, h.2, refl, h.4, omega (arith, length-append h.0 h.1), h.6, refl, refl),
+        h.5,
+        (r', told, refl),
+      )
+
+  pub ends_sending : (now : ℕ) (s t u : Option Traffic) (r r' : K) (a b : C) (heard : ℕ) → tells r now r' → AsksPorts hears now ports s t a b heard → SendsSome gives 64 now peers t u b → EndsEarly hears gives tells ports peers 1 s u r r' a
+  ends_sending now s t u r r' a b heard told h k =
+      let turn : Turn = record { moment = now; answers = h.0; packets = k.0 } in
+      let passed : Passes s u (h.0 ++ []) k.4.0 = passes_on s t u h.0 [] [] k.4.0 h.2 k.4.2 in (
+        [],
+        turn,
+        k.4.0,
+        a,
+        lit< tt,
+        refl,
+        inr (h.1, b, k.1, h.3, k.2, k.3, k.4.1),
+        subst (λ (rs : List Reception). Passes s u rs k.4.0) (append-nil h.0) passed,
+        (r', told, refl),
+      )
+
+  pub ends_on : (m n total : ℕ) (s t u : Option Traffic) (r r' r'' : K) (a b : C) (x : Report) → m + n ≤ total → Runs hears gives tells ports peers m s t r r' a b x → EndsEarly hears gives tells ports peers n t u r' r'' b → EndsEarly hears gives tells ports peers total s u r r'' a
+  ends_on m n total s t u r r' r'' a b x few h k =
+      let ts = h.0 in
+      let us = k.0 in
+      let long : length ts ≡ m = h.1 in
+      let fewer : length us < n = k.4 in
+      let rs = received_of us ++ k.1.answers in
+      let ds = sent_of peers (packets_of us) ++ k.2 in
+      let ms = moments_of us ++ k.1.moment ∷ [] in
+      let passed = passes_on s t u (received_of ts) rs (sent_of peers (packets_of ts)) ds h.3 k.7 in
+      let received : received_of (ts ++ us) ++ k.1.answers ≡ received_of ts ++ rs = ap (λ ys. ys ++ k.1.answers) (more_received ts us) ∙ append_assoc (received_of ts) (received_of us) k.1.answers in
+      let sent : sent_of peers (packets_of (ts ++ us)) ++ k.2 ≡ sent_of peers (packets_of ts) ++ ds = ap (λ ys. ys ++ k.2) (all_sent peers ts us) ∙ append_assoc (sent_of peers (packets_of ts)) (sent_of peers (packets_of us)) k.2 in
+      let moments : moments_of (ts ++ us) ++ k.1.moment ∷ [] ≡ moments_of ts ++ ms = ap (λ ys. ys ++ k.1.moment ∷ []) (more_moments ts us) ∙ append_assoc (moments_of ts) (moments_of us) (k.1.moment ∷ []) in (
+        ts ++ us,
+        k.1,
+        k.2,
+        k.3,
+        omega (arith, length-append ts us),
+        turns_on ts us a b k.3 h.2 k.5,
+        k.6,
+        subst (λ (rs : List Reception). Passes s u rs (sent_of peers (packets_of (ts ++ us)) ++ k.2)) (sym received)
+            (subst (λ (ds : List Datagram). Passes s u (received_of ts ++ rs) ds) (sym sent) passed),
+        subst (λ (ms : List ℕ). Tells tells r r'' ms) (sym moments) (tells_on tells r r' r'' (moments_of ts) ms h.4 k.8),
+      )
+
+  -- the same where the count of ports is written otherwise
+  pub ran_more : (here m : ℕ) (s t u : Option Traffic) (r r' r'' : K) (a b c : C) (x y z : Report) → here ≡ ports → Runs hears gives tells ports peers m s t r r' a b x → Runs hears gives tells here peers 1 t u r' r'' b c y → z ≡ plus x y → Runs hears gives tells ports peers (m + 1) s u r r'' a c z
+  ran_more here m s t u r r' r'' a b c x y z e h k is =
+      let k' : Runs hears gives tells ports peers 1 t u r' r'' b c y = subst (λ n. Runs hears gives tells n peers 1 t u r' r'' b c y) e k in
+      subst (λ z. Runs hears gives tells ports peers (m + 1) s u r r'' a c z) (sym is) (ran_on m 1 s t u r r' r'' a b c x y h k')
+
+  pub ends_more : (here m total : ℕ) (s t u : Option Traffic) (r r' r'' : K) (a b : C) (x : Report) → here ≡ ports → m + 1 ≤ total → Runs hears gives tells ports peers m s t r r' a b x → EndsEarly hears gives tells here peers 1 t u r' r'' b → EndsEarly hears gives tells ports peers total s u r r'' a
+  ends_more here m total s t u r r' r'' a b x e few h k =
+      let k' : EndsEarly hears gives tells ports peers 1 t u r' r'' b = subst (λ n. EndsEarly hears gives tells n peers 1 t u r' r'' b) e k in
+      ends_on m 1 total s t u r r' r'' a b x few h k'

@@ -1,0 +1,6 @@
+pub mod Passing
+pub mod Asking
+pub mod Sends
+pub mod Courses
+pub mod Givable
+pub mod Putting

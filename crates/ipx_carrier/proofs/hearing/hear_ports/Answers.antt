@@ -1,0 +1,25 @@
+use Rattle.std.proofs.Common.{rules, ◌≡◌, ◌≤◌, ◌+◌, cond, arith}
+use Rattle.std.proofs.lemmas.Result.{err_from_is_err_and}
+use Rattle.ipx_carrier.proofs.Asking.{asked_more, asked_some}
+use Rattle.ipx_carrier.proofs.hearing.hear_ports.Goals as goal
+use Rattle.ipx_carrier.proofs.hearing.hear_ports.Goals.{then-branch, else-branch}
+
+pub returns-in_err-hear_port-clause-fault : goal.returns-in_err-hear_port-clause-fault
+returns-in_err-hear_port-clause-fault g c =
+    let p = err_from_is_err_and c.from_residual.result c.from_residual.ensures.1 in
+    rw p.1
+    (asked_some g.C.Core.hears c.args.now c.loop-port.port _ _ _ _ _ _ c.loop-port.heard c.loop-port.invariant.asked c.in_err-hear_port.ensures.fault (omega arith))
+
+pub loop-port-preserved : goal.loop-port-preserved
+loop-port-preserved g c =
+    let grows : c.if-branch.heard ≡ c.loop-port.heard + cond c.in_ok-hear_port.field-0 1 0 =
+    elim c.if-branch.branch [ then-branch w ↦ rw w.if-branch.true w.heard-is | else-branch w ↦ rw (w.if-branch.false) (omega (arith, w.heard-is)) ] in
+    let few : c.if-branch.heard ≤ c.loop-port.port + 1 =
+    elim c.if-branch.branch [ then-branch w ↦ omega (arith, w.heard-is, c.loop-port.invariant.few) | else-branch w ↦ omega (arith, w.heard-is, c.loop-port.invariant.few) ] in
+    record {
+      asked = asked_more g.C.Core.hears c.args.now c.loop-port.port _ _ _ _ _ _ c.loop-port.heard c.if-branch.heard c.in_ok-hear_port.field-0 c.loop-port.invariant.asked c.in_ok-hear_port.ensures.heard grows;
+      few = few;
+      failures = search rules;
+      core_ports = search rules;
+      device_ports = search rules;
+    }

@@ -1,0 +1,12 @@
+use Rattle.std.proofs.Common.{◌≡◌, ◌≤◌}
+use Rattle.ipx_carrier.specs.Parts.{AsksPorts}
+use Rattle.ipx_carrier.proofs.hearing.hear_ports.Given as goal
+
+abbrev pub invariant-loop-port : goal.invariant-loop-port
+invariant-loop-port g l = record {
+  asked : AsksPorts g.C.Core.hears l.now l.port (g.D.Datagrams.traffic l.fn.datagrams) (g.D.Datagrams.traffic l.datagrams) l.fn.core l.core l.heard;
+  few : l.heard ≤ l.port;
+  failures : g.D.Datagrams.failed l.datagrams ≡ g.D.Datagrams.failed l.fn.datagrams;
+  core_ports : g.C.Core.port_count l.core ≡ g.C.Core.port_count l.fn.core;
+  device_ports : g.D.Datagrams.port_count l.datagrams ≡ g.D.Datagrams.port_count l.fn.datagrams;
+}

@@ -1,0 +1,44 @@
+use Rattle.std.proofs.Common.{◌≡◌, ◌≤◌, ◌<◌, ap, arith, drop, length, length-drop, subst, sym, List}
+use Rattle.std.specs.Option.{IfSome}
+use Rattle.std.proofs.lemmas.List.Elements.{All-drop}
+use Rattle.ipx_router.specs.declared.outcome.Reply.{Reply}
+use Rattle.ipx_router.specs.Packets.{sendings}
+use Rattle.ipx_carrier.specs.RouterCore.{AreGivable, CoreView, Gives, IsGivable, most_queued}
+use Rattle.ipx_carrier.specs.Given.{given_in}
+use Rattle.ipx_carrier.proofs.Putting.{core_of, kept_next, next_gives, rest_of}
+use Rattle.ipx_carrier.proofs.router_core.RouterCoreCore.next.Goals as goal
+
+pub take_first-requires-clause-givable : goal.take_first-requires-clause-givable
+take_first-requires-clause-givable c =
+    let i = c.self.inside in
+    let kept = kept_next i.router c.put_told.new.router i.queue.items c.put_start.new.queue.items c.put_told.new.queue.items i.started i.dropped c.put_start.new.dropped c.put_told.new.dropped c.args.now (record { few = c.self.invariant.1; givable = c.self.invariant.2 }) c.in_ok-put_start.ensures.put c.in_ok-put_told.ensures.put in
+    (length i.router.ports, kept.givable)
+
+pub invariant_of-self-2 : goal.invariant_of-self-2
+invariant_of-self-2 c =
+    let i = c.self.inside in
+    let kept = kept_next i.router c.put_told.new.router i.queue.items c.put_start.new.queue.items c.put_told.new.queue.items i.started i.dropped c.put_start.new.dropped c.put_told.new.dropped c.args.now (record { few = c.self.invariant.1; givable = c.self.invariant.2 }) c.in_ok-put_start.ensures.put c.in_ok-put_told.ensures.put in
+    let same : length c.put_told.new.router.ports ≡ length i.router.ports = ap length c.in_ok-put_told.ensures.ports in
+    let rest = c.take_first.ensures.rest in
+    let few : length (drop 1 c.put_told.new.queue.items) ≤ most_queued = omega (arith, length-drop 1 c.put_told.new.queue.items, kept.few) in
+    let givable : AreGivable (length i.router.ports) (sendings (drop 1 c.put_told.new.queue.items)) =
+    subst (AreGivable (length i.router.ports)) (sym (rest_of c.put_told.new.queue.items)) (All-drop (IsGivable (length i.router.ports)) 1 (sendings c.put_told.new.queue.items) kept.givable) in (
+      omega (arith, same, c.self.invariant.0),
+      omega (arith, few, ap length rest),
+      subst (λ n. AreGivable n (sendings c.take_first.new.queue.items)) (sym same) (subst (λ (xs : List Reply). AreGivable (length i.router.ports) (sendings xs)) (sym rest) givable),
+    )
+
+pub returns-clause-given : goal.returns-clause-given
+returns-clause-given c =
+    let i = c.self.inside in
+    let given = given_in c.take_first.new.room c.take_first.result in
+    let after : CoreView = core_of c.put_told.new.router (sendings c.take_first.new.queue.items) c.put_start.new.started c.put_told.new.dropped in
+    subst (λ (v : CoreView). Gives v c.args.now given after) c.self.view_is
+    (next_gives i.router c.put_told.new.router i.queue.items c.put_start.new.queue.items c.put_told.new.queue.items c.take_first.new.queue.items i.started c.put_start.new.started i.dropped c.put_start.new.dropped c.put_told.new.dropped c.args.now given c.in_ok-put_start.ensures.put c.in_ok-put_told.ensures.put c.in_ok-put_start.ensures.started c.take_first.ensures.given c.take_first.ensures.rest)
+
+pub returns-clause-there : goal.returns-clause-there
+returns-clause-there c =
+    let i = c.self.inside in
+    let kept = kept_next i.router c.put_told.new.router i.queue.items c.put_start.new.queue.items c.put_told.new.queue.items i.started i.dropped c.put_start.new.dropped c.put_told.new.dropped c.args.now (record { few = c.self.invariant.1; givable = c.self.invariant.2 }) c.in_ok-put_start.ensures.put c.in_ok-put_told.ensures.put in
+    let there = c.take_first.ensures.there (length i.router.ports) kept.givable in
+    subst (λ (v : CoreView). IfSome c.take_first.result (λ g. g.0 < length v.router.ports)) c.self.view_is there

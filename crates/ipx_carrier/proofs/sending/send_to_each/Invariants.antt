@@ -1,0 +1,12 @@
+use Rattle.std.proofs.Common.{◌≡◌, [], List, ℕ, map, take}
+use Rattle.ipx_carrier.specs.Device.{Datagram, Passes}
+use Rattle.ipx_carrier.proofs.sending.send_to_each.Given as goal
+
+abbrev pub invariant-loop-to : goal.invariant-loop-to
+invariant-loop-to g l =
+    let f : List ℕ → Datagram = λ to. record { port = l.port; to = to; bytes = l.bytes } in
+    record {
+      sent : Passes (g.D.Datagrams.traffic l.fn.datagrams) (g.D.Datagrams.traffic l.datagrams) [] (map f (take l.to-index l.peers));
+      failures : g.D.Datagrams.failed l.datagrams ≡ g.D.Datagrams.failed l.fn.datagrams;
+      ports : g.D.Datagrams.port_count l.datagrams ≡ g.D.Datagrams.port_count l.fn.datagrams;
+    }

@@ -1,0 +1,38 @@
+-- What passes through a device that sends and receives datagrams, and the moments of a clock.
+use Rattle.std.specs.Prelude.{◌≡◌, ℕ, List, [], ◌∷◌, ◌++◌, Option, Some, None, IfSome, take}
+
+-- a datagram that was sent: by a port of the device, to an IP address
+pub record Datagram : Type 0 where
+  pub port : ℕ
+  pub to : List ℕ
+  pub bytes : List ℕ
+
+-- what a port answered when it was asked for a datagram: its bytes, or that there is none
+pub record Reception : Type 0 where
+  pub port : ℕ
+  pub bytes : Option (List ℕ)
+
+-- all that passed so far, the first one first
+pub record Traffic : Type 0 where
+  pub received : List Reception
+  pub sent : List Datagram
+
+-- what was received is in the front of the room, as long as the count says
+abbrev pub received_in : List ℕ → Option ℕ → Option (List ℕ)
+received_in room None = None
+received_in room (Some count) = Some (take count room)
+
+-- traffic with more of it
+abbrev pub with_more : Traffic → List Reception → List Datagram → Traffic
+with_more t received sent =
+    record { received = t.received ++ received; sent = t.sent ++ sent }
+
+-- a device that tells its traffic tells this besides what it told before
+abbrev pub Passes : Option Traffic → Option Traffic → List Reception → List Datagram → Type 0
+Passes old new received sent = IfSome old (λ t. new ≡ Some (with_more t received sent))
+
+-- a clock is read again and again, and tells these moments
+module _ {K : Type 0} (tells : K → ℕ → K → Type 0) where
+  abbrev pub Tells : K → K → List ℕ → Type 0
+  Tells old new [] = new ≡ old
+  Tells old new (moment ∷ moments) = (mid : K) × tells old moment mid × Tells mid new moments

@@ -1,0 +1,13 @@
+pub mod Mapping
+pub mod Fault
+pub mod Device
+pub mod Turns
+pub mod Given
+pub mod Counts
+pub mod Parts
+pub mod SendingView
+pub mod Runs
+pub mod Stepped
+pub mod RouterCore
+pub mod Queued
+pub mod Memory

@@ -1,0 +1,13 @@
+-- How nodes and IP addresses stand for one another (RFC 1234, Tunneling IPX Traffic through IP
+-- Networks): a node is two zero bytes and the four of its IP address.
+use Rattle.std.specs.Prelude.{ℕ, List, ◌∷◌, drop, slice_index, Option, Some, None, ◌&&◌, ◌==◌, if◌then◌else◌}
+use Rattle.ipx_wire.specs.declared.address.Node.{Node}
+
+-- the node of an IP address
+abbrev pub node_at : List ℕ → Node
+node_at ip = record { 0 = 0 ∷ 0 ∷ ip }
+
+-- the IP address of a node, if it has one
+abbrev pub ip_at : Node → Option (List ℕ)
+ip_at node =
+    if slice_index node.0 0 == 0 && slice_index node.0 1 == 0 then Some (drop 2 node.0) else None

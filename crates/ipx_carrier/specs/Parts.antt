@@ -1,0 +1,69 @@
+-- The parts of a turn: what asking the ports, and what sending the core's packets, leave.
+use Rattle.std.specs.Prelude.{◌≡◌, ◌≤◌, ℕ, ◌+◌, Bool, List, [], ◌∷◌, ◌++◌, length, Option, Some, None, is_some, if◌then◌else◌}
+use Rattle.ipx_carrier.specs.declared.report.Tally.{Tally}
+use Rattle.ipx_carrier.specs.Device.{Datagram, Passes, Reception, Traffic}
+use Rattle.ipx_carrier.specs.Turns.{GivesAll, GivesEach, Given, HearsAnswer, HearsEach, IsFrontOf, Peers, datagrams_of, sent_of}
+use Rattle.ipx_carrier.specs.Counts.{heard_in, is_unmapped, unmapped_in}
+
+-- what the device received, at most so much, and sent nothing
+abbrev pub ReceivesAtMost : ℕ → Option Traffic → Option Traffic → Type 0
+ReceivesAtMost most before after =
+    (rs : List Reception) × (length rs ≤ most) × Passes before after rs []
+
+-- the device sent some of these datagrams, the first ones
+abbrev pub SendsFrontOf : List Datagram → Option Traffic → Option Traffic → Type 0
+SendsFrontOf all before after =
+    (sent : List Datagram) × IsFrontOf sent all × Passes before after [] sent
+
+-- how many datagrams a packet was sent by, or that it could not be
+abbrev pub count_of : Peers → Given → Option ℕ
+count_of peers p = if is_unmapped p then None else Some (length (datagrams_of peers p))
+
+module _ {C : Type 0} (hears : C → ℕ → List ℕ → ℕ → C → Type 0) where
+  -- a port was asked, and the core heard what it answered
+  abbrev pub AsksPort : ℕ → ℕ → Option Traffic → Option Traffic → C → C → Bool → Type 0
+  AsksPort now port before after old new heard = (bytes : Option (List ℕ))
+      × Passes before after (record { port = port; bytes = bytes } ∷ []) []
+      × HearsAnswer hears now port bytes old new × (heard ≡ is_some bytes)
+
+  -- so many ports were asked in order, and the core heard what they answered
+  abbrev pub AsksPorts : ℕ → ℕ → Option Traffic → Option Traffic → C → C → ℕ → Type 0
+  AsksPorts now ports before after old new count = (rs : List Reception) × (length rs ≡ ports)
+      × Passes before after rs [] × HearsEach hears now 0 rs old new × (count ≡ heard_in rs)
+
+  -- some of the ports were asked, and the core heard what they answered, but the last one at most
+  abbrev pub AsksSomePorts : ℕ → ℕ → Option Traffic → Option Traffic → C → Type 0
+  AsksSomePorts now ports before after old = (heard last : List Reception) × (mid : C)
+      × (length heard + length last ≤ ports) × (length last ≤ 1)
+      × Passes before after (heard ++ last) [] × HearsEach hears now 0 heard old mid
+
+-- what sending a core's packets counted
+abbrev pub tally_of : Peers → List Given → Tally
+tally_of peers packets =
+    record { sent = length (sent_of peers packets); unmapped = unmapped_in packets }
+
+module _ {C : Type 0} (gives : C → ℕ → Option Given → C → Type 0) where
+  -- the core was asked once: it gave none, or a packet that was sent
+  abbrev pub SendsNext : ℕ → Peers → Option Traffic → Option Traffic → C → C
+      → Option (Option ℕ) → Type 0
+  SendsNext now peers before after old new None = gives old now None new × (after ≡ before)
+  SendsNext now peers before after old new (Some count) = (p : Given) × gives old now (Some p) new
+      × Passes before after [] (datagrams_of peers p) × (count ≡ count_of peers p)
+
+  -- the core gave so many packets, and they were sent
+  abbrev pub SendsEach : ℕ → ℕ → Peers → Option Traffic → Option Traffic → C → C → Tally → Type 0
+  SendsEach count now peers before after old new tally = (packets : List Given)
+      × (length packets ≡ count) × GivesEach gives now packets old new
+      × Passes before after [] (sent_of peers packets) × (tally ≡ tally_of peers packets)
+
+  -- the core gave all its packets, or 64 of them, and they were sent
+  abbrev pub SendsAll : ℕ → Peers → Option Traffic → Option Traffic → C → C → Tally → Type 0
+  SendsAll now peers before after old new tally = (packets : List Given)
+      × GivesAll gives now packets old new
+      × Passes before after [] (sent_of peers packets) × (tally ≡ tally_of peers packets)
+
+  -- the core gave at most so many packets, and the first of their datagrams were sent
+  abbrev pub SendsSome : ℕ → ℕ → Peers → Option Traffic → Option Traffic → C → Type 0
+  SendsSome most now peers before after old = (packets : List Given) × (last : C)
+      × GivesEach gives now packets old last × (length packets ≤ most)
+      × SendsFrontOf (sent_of peers packets) before after

@@ -1,0 +1,27 @@
+-- What putting packets into a queue leaves.
+use Rattle.std.specs.Prelude.{◌≡◌, ℕ, ◌+◌, ◌-◌, ◌^◌, Bool, List, [], ◌++◌, length, min, nat_le, MatchBool}
+use Rattle.ipx_router.specs.RouterView.{RouterView}
+use Rattle.ipx_router.specs.Packets.{SendingView}
+use Rattle.ipx_router.specs.Starting.{AreStarts}
+use Rattle.ipx_carrier.specs.RouterCore.{AreGivable, TellsNow, most_queued}
+
+-- all of them stand behind those that were there, or none does and they are counted
+abbrev pub Puts : List SendingView → List SendingView → ℕ → List SendingView → ℕ → Type 0
+Puts sent queue dropped queue_after dropped_after =
+    MatchBool (nat_le (length queue + length sent) most_queued)
+    ((queue_after ≡ queue ++ sent) × (dropped_after ≡ dropped))
+    ((queue_after ≡ queue) × (dropped_after ≡ min (dropped + length sent) (2 ^ 64 - 1)))
+
+-- the packets of a router's start were put, unless they were before
+abbrev pub PutsStart : RouterView → Bool → List SendingView → ℕ → List SendingView → ℕ → Type 0
+PutsStart router started queue dropped queue_after dropped_after = (sent : List SendingView)
+    × MatchBool started (sent ≡ []) (AreStarts 1 router.ports sent)
+    × Puts sent queue dropped queue_after dropped_after
+    × AreGivable (length router.ports) sent
+
+-- what a router tells was put
+abbrev pub PutsTold : RouterView → ℕ → RouterView → List SendingView → ℕ → List SendingView → ℕ
+    → Type 0
+PutsTold old now new queue dropped queue_after dropped_after = (sent : List SendingView)
+    × TellsNow old now sent new × Puts sent queue dropped queue_after dropped_after
+    × AreGivable (length old.ports) sent

@@ -1,0 +1,113 @@
+-- The turns of a core over a device: what each of them received, heard and sent.
+-- The entry points are `Turns`, and `BreaksOff` for the turn that a fault ends.
+use Rattle.std.specs.Prelude.{Vec, ◌≡◌, ◌<◌, ◌≤◌, ◌⊎◌, ℕ, ◌+◌, List, [], ◌∷◌, ◌++◌, length, map, flat_map, slice_get, Option, Some, None, unwrap_or, if◌then◌else◌}
+use Rattle.std.specs.Global.{Global}
+use Rattle.ipx_wire.specs.declared.address.Node.{Node}
+use Rattle.ipx_router.specs.Packets.{broadcast}
+use Rattle.ipx_router.specs.Classify.{is_node}
+use Rattle.ipx_carrier.specs.Mapping.{ip_at}
+use Rattle.ipx_carrier.specs.Device.{Datagram, Reception}
+
+-- a packet that a core gives: by a port, to a node there
+pub record Given : Type 0 where
+  pub port : ℕ
+  pub node : Node
+  pub bytes : List ℕ
+
+-- one turn: the moment that was read, what the ports answered, and the packets that the core gave
+pub record Turn : Type 0 where
+  pub moment : ℕ
+  pub answers : List Reception
+  pub packets : List Given
+
+-- the peers of each port, as IP addresses
+abbrev pub Peers : Type 0
+Peers = List (List (List ℕ))
+
+abbrev pub peers_of : List (Vec (List ℕ) Global) → Peers
+peers_of peers = map (λ v. v.items) peers
+
+abbrev pub datagram_to : Given → List ℕ → Datagram
+datagram_to p to = record { port = p.port; to = to; bytes = p.bytes }
+
+-- a packet for one node goes to its IP address, and nowhere where it has none
+abbrev pub to_node : Given → Option (List ℕ) → List Datagram
+to_node p None = []
+to_node p (Some to) = datagram_to p to ∷ []
+
+-- the datagrams that a packet is sent by: a broadcast goes to each peer of its port, in order
+abbrev pub datagrams_of : Peers → Given → List Datagram
+datagrams_of peers p =
+    if is_node p.node broadcast then map (datagram_to p) (unwrap_or (slice_get peers p.port) [])
+    else to_node p (ip_at p.node)
+
+-- what turns read, received, and sent
+abbrev pub moments_of : List Turn → List ℕ
+moments_of turns = map (λ t. t.moment) turns
+
+abbrev pub received_of : List Turn → List Reception
+received_of turns = flat_map (λ t. t.answers) turns
+
+abbrev pub packets_of : List Turn → List Given
+packets_of turns = flat_map (λ t. t.packets) turns
+
+abbrev pub sent_of : Peers → List Given → List Datagram
+sent_of peers packets = flat_map (datagrams_of peers) packets
+
+-- what comes first in a list, up to some place
+abbrev pub IsFrontOf : {A : Type 0} → List A → List A → Type 0
+IsFrontOf {A} front whole = (rest : List A) × (whole ≡ front ++ rest)
+
+module _ {C : Type 0} (hears : C → ℕ → List ℕ → ℕ → C → Type 0) where
+  -- a core hears what a port answered, if that is a datagram
+  abbrev pub HearsAnswer : ℕ → ℕ → Option (List ℕ) → C → C → Type 0
+  HearsAnswer now port None old new = new ≡ old
+  HearsAnswer now port (Some bytes) old new = hears old port bytes now new
+
+  -- one answer of each port, the ports in order from one of a number on
+  abbrev pub HearsEach : ℕ → ℕ → List Reception → C → C → Type 0
+  HearsEach now port [] old new = new ≡ old
+  HearsEach now port (r ∷ rs) old new = (mid : C) × (r.port ≡ port)
+      × HearsAnswer now port r.bytes old mid × HearsEach now (port + 1) rs mid new
+
+module _ {C : Type 0} (gives : C → ℕ → Option Given → C → Type 0) where
+  -- a core is asked for packets, and gives these
+  abbrev pub GivesEach : ℕ → List Given → C → C → Type 0
+  GivesEach now [] old new = new ≡ old
+  GivesEach now (p ∷ ps) old new = (mid : C) × gives old now (Some p) mid × GivesEach now ps mid new
+
+  -- it is asked until it gives none, or until it gave 64
+  abbrev pub GivesAll : ℕ → List Given → C → C → Type 0
+  GivesAll now packets old new =
+      (GivesEach now packets old new × (length packets ≡ 64))
+      ⊎ ((mid : C) × GivesEach now packets old mid × (length packets < 64) × gives mid now None new)
+
+module _ {C : Type 0} (hears : C → ℕ → List ℕ → ℕ → C → Type 0)
+    (gives : C → ℕ → Option Given → C → Type 0) where
+  -- a whole turn: each port answers once, and then the core is asked
+  abbrev pub IsTurn : ℕ → Turn → C → C → Type 0
+  IsTurn ports t old new = (length t.answers ≡ ports) × (mid : C)
+      × HearsEach hears t.moment 0 t.answers old mid × GivesAll gives t.moment t.packets mid new
+
+  abbrev pub Turns : ℕ → List Turn → C → C → Type 0
+  Turns ports [] old new = new ≡ old
+  Turns ports (t ∷ ts) old new = (mid : C) × IsTurn ports t old mid × Turns ports ts mid new
+
+  -- a turn that ends as its ports are asked: all answers but the last one at most were heard, and
+  -- nothing was sent
+  abbrev pub BreaksOffHearing : ℕ → Turn → List Datagram → C → Type 0
+  BreaksOffHearing ports t sent old = (heard last : List Reception) × (mid : C)
+      × (t.answers ≡ heard ++ last) × (length last ≤ 1) × (length t.answers ≤ ports)
+      × HearsEach hears t.moment 0 heard old mid × (t.packets ≡ []) × (sent ≡ [])
+
+  -- a turn that ends as its core is asked: each answer was heard, and of the packets that the core
+  -- gave the first datagrams were sent
+  abbrev pub BreaksOffSending : ℕ → Peers → Turn → List Datagram → C → Type 0
+  BreaksOffSending ports peers t sent old = (length t.answers ≡ ports) × (mid last : C)
+      × HearsEach hears t.moment 0 t.answers old mid × GivesEach gives t.moment t.packets mid last
+      × (length t.packets ≤ 64) × IsFrontOf sent (sent_of peers t.packets)
+
+  -- a turn that a fault ends, and the datagrams that it sent
+  abbrev pub BreaksOff : ℕ → Peers → Turn → List Datagram → C → Type 0
+  BreaksOff ports peers t sent old =
+      BreaksOffHearing ports t sent old ⊎ BreaksOffSending ports peers t sent old

@@ -1,0 +1,57 @@
+//! A device that carries datagrams.
+
+ghost use Rattle.std.specs.Prelude.{◌≡◌, ◌<◌, ◌≤◌, ◌+◌, ◌^◌, ℕ, [], ◌∷◌, Option, IfOk, OnOk, OnErr, IfSome, length};
+ghost use Rattle.ipx_carrier.specs.Device.{Passes, Traffic, received_in};
+ghost use Rattle.ipx_carrier.specs.Fault.{device_failures};
+
+use crate::fault::DeviceFault;
+
+/// A device with ports that send and receive datagrams. Its ports are numbered from 0.
+///
+/// It counts how often it failed, which no one else can raise. What it received and sent is known
+/// of a device that keeps it, as one in memory; a contract over datagrams speaks of what the
+/// device tells, and says nothing of it where it tells none, as one of sockets.
+pub trait Datagrams {
+    /// How many ports there are.
+    ghost port_count: { Self → ℕ };
+
+    /// How often it failed.
+    ghost failed: { Self → ℕ };
+
+    /// What it received and sent so far, if the device keeps that.
+    ghost traffic: { Self → Option Traffic };
+
+    /// How many ports it has.
+    fn ports(&self) -> usize
+        ensures { result ≡ port_count self.now };
+
+    /// How often it failed to send or to receive.
+    fn failures(&self) -> u64
+        ensures { result ≡ failed self.now };
+
+    /// Sends a datagram by a port to an IP address. A device that fails sends nothing.
+    ///
+    /// The caller owes a port that is there, and a count of failures that can rise.
+    fn send(&mut self, port: usize, to: [u8; 4], bytes: &[u8]) -> Result<(), DeviceFault>
+        requires there { port < port_count self.old }
+        requires countable { failed self.old + 1 < 2 ^ 64 }
+        ensures sent { OnOk result (Passes (traffic self.old) (traffic self.new)
+            [] (record { port = port; to = to; bytes = bytes.now } ∷ [])) }
+        ensures refused { OnErr result (traffic self.new ≡ traffic self.old) }
+        ensures failures { failed self.new ≡ device_failures result (failed self.old) }
+        ensures ports { port_count self.new ≡ port_count self.old };
+
+    /// Takes a datagram that came to a port, if there is one: its bytes go to the front of the
+    /// room, as many as are answered. What the room can't take of a longer one is lost.
+    ///
+    /// The caller owes a port that is there, and a count of failures that can rise.
+    fn receive(&mut self, port: usize, room: &mut [u8]) -> Result<Option<usize>, DeviceFault>
+        requires there { port < port_count self.old }
+        requires countable { failed self.old + 1 < 2 ^ 64 }
+        ensures received { IfOk result (λ count. Passes (traffic self.old) (traffic self.new)
+            (record { port = port; bytes = received_in room.new count } ∷ []) []) }
+        ensures within { IfOk result (λ count. IfSome count (λ n. n ≤ length room.old)) }
+        ensures refused { OnErr result (traffic self.new ≡ traffic self.old) }
+        ensures failures { failed self.new ≡ device_failures result (failed self.old) }
+        ensures ports { port_count self.new ≡ port_count self.old };
+}

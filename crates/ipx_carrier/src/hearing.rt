@@ -1,0 +1,66 @@
+//! The first part of a turn: each port is asked for a datagram, and the core hears what came.
+
+ghost use Rattle.std.specs.Prelude.{◌≡◌, ◌<◌, ◌≤◌, ◌+◌, ◌^◌, IfOk, OnErr, length};
+ghost use Rattle.ipx_carrier.specs.Fault.{failures_after};
+ghost use Rattle.ipx_carrier.specs.Parts.{AsksPort, AsksPorts, AsksSomePorts, ReceivesAtMost};
+
+use crate::cores::Core;
+use crate::datagrams::Datagrams;
+use crate::fault::RunFault;
+use std::alloc::Global;
+
+/// Asks a port for a datagram, and lets the core hear it. It answers whether there was one.
+fn hear_port<C: Core, D: Datagrams>(
+    alloc: Global,
+    core: &mut C,
+    datagrams: &mut D,
+    port: usize,
+    now: u64,
+    room: &mut [u8],
+) -> Result<bool, RunFault>
+    requires core { port < C.port_count core.old }
+    requires device { port < D.port_count datagrams.old }
+    requires countable { D.failed datagrams.old + 1 < 2 ^ 64 }
+    ensures heard { IfOk result (λ heard. AsksPort C.hears now port
+        (D.traffic datagrams.old) (D.traffic datagrams.new) core.old core.new heard) }
+    ensures fault { OnErr result
+        (ReceivesAtMost 1 (D.traffic datagrams.old) (D.traffic datagrams.new)) }
+    ensures failures { D.failed datagrams.new ≡ failures_after result (D.failed datagrams.old) }
+    ensures core_ports { C.port_count core.new ≡ C.port_count core.old }
+    ensures device_ports { D.port_count datagrams.new ≡ D.port_count datagrams.old }
+{
+    let Some(count) = datagrams.receive(port, room)? else {
+        return Ok(false);
+    };
+    core.hear(alloc, port, &room[..count], now)?;
+    Ok(true)
+}
+
+/// Asks each port once, in order, and lets the core hear what came. It answers how many datagrams
+/// there were.
+pub fn hear_ports<C: Core, D: Datagrams>(
+    alloc: Global,
+    core: &mut C,
+    datagrams: &mut D,
+    now: u64,
+    room: &mut [u8],
+) -> Result<u128, RunFault>
+    requires ports { D.port_count datagrams.old ≡ C.port_count core.old }
+    requires countable { D.failed datagrams.old + 1 < 2 ^ 64 }
+    ensures heard { IfOk result (λ count. AsksPorts C.hears now (C.port_count core.old)
+        (D.traffic datagrams.old) (D.traffic datagrams.new) core.old core.new count) }
+    ensures fault { OnErr result (AsksSomePorts C.hears now (C.port_count core.old)
+        (D.traffic datagrams.old) (D.traffic datagrams.new) core.old) }
+    ensures failures { D.failed datagrams.new ≡ failures_after result (D.failed datagrams.old) }
+    ensures few { IfOk result (λ count. count < 2 ^ 64) }
+    ensures core_ports { C.port_count core.new ≡ C.port_count core.old }
+    ensures device_ports { D.port_count datagrams.new ≡ D.port_count datagrams.old }
+{
+    let mut heard = 0;
+    for port in 0..core.ports() {
+        if hear_port(alloc, core, datagrams, port, now, room)? {
+            heard += 1;
+        }
+    }
+    Ok(heard)
+}

@@ -1,0 +1,31 @@
+//! IPX over UDP: cores, which are routers and hosts, run over devices that carry datagrams.
+//!
+//! A [`Core`] hears datagrams and gives packets; [`Datagrams`] are the ports of a device, and a
+//! [`Clock`] tells moments. [`run`] takes turns between the three. [`MemoryDatagrams`] keeps its
+//! datagrams in memory, and [`UdpDatagrams`] has a socket of UDP for each port.
+#![tactic(auto)]
+
+mod clock;
+mod cores;
+mod datagrams;
+mod fault;
+mod hearing;
+mod mapping;
+mod memory;
+mod queue;
+mod report;
+mod router_core;
+mod running;
+mod sending;
+mod udp;
+
+pub use clock::{Clock, SteppedClock};
+pub use cores::Core;
+pub use datagrams::Datagrams;
+pub use fault::{CarrierFault, DeviceFault, RunFault};
+pub use mapping::{ip_of, node_of, node_of_ip_has_that_ip, node_with_ip_is_of_it};
+pub use memory::{MemoryDatagrams, SentDatagram};
+pub use report::Report;
+pub use router_core::RouterCore;
+pub use running::run;
+pub use udp::UdpDatagrams;

@@ -1,0 +1,196 @@
+//! Datagrams in memory, for tests and for what is run without a network.
+
+ghost use Rattle.std.specs.Prelude.{◌≡◌, ◌<◌, ◌≤◌, [], ◌∷◌, ◌++◌, OnOk, OnErr, IfOk, IfSome, length, map};
+ghost use Rattle.ipx_carrier.specs.Device.{received_in};
+ghost use Rattle.ipx_carrier.specs.Memory.{memory_received, memory_sent, traffic_of};
+
+use crate::datagrams::Datagrams;
+use crate::fault::DeviceFault;
+use ipx_wire::OutOfMemory;
+use std::alloc::Global;
+use std::collections::VecDeque;
+
+/// A datagram that was sent.
+#[derive(Debug, Drop)]
+pub struct SentDatagram {
+    /// The port of the device.
+    pub port: usize,
+    /// The IP address that it went to.
+    pub to: [u8; 4],
+    pub bytes: Vec<u8>,
+}
+
+/// What a port answered when it was asked for a datagram.
+#[derive(Debug, Drop)]
+pub struct KeptAnswer {
+    port: usize,
+    bytes: Option<Vec<u8>>,
+}
+
+/// A device whose datagrams are put into it, and which keeps what it sent.
+///
+/// Datagrams of a port come in the order they were put. Want of memory in `send` and `receive` is a
+/// failure of the device, as is the call that [`MemoryDatagrams::fail_at`] names.
+#[derive(Drop)]
+pub struct MemoryDatagrams {
+    alloc: Global,
+    waiting: Vec<VecDeque<Vec<u8>>>,
+    answers: Vec<KeptAnswer>,
+    sent: Vec<SentDatagram>,
+    failures: u64,
+    fails_after: Option<u64>,
+}
+
+impl MemoryDatagrams {
+    /// A device of so many ports, to which nothing came yet.
+    pub fn new(alloc: Global, ports: usize) -> Result<MemoryDatagrams, OutOfMemory>
+        ensures ports { IfOk result (λ m. length m.waiting.items ≡ ports) }
+        ensures traffic { IfOk result (λ m. traffic_of m ≡ record { received = []; sent = [] }) }
+        ensures failures { IfOk result (λ m. m.failures ≡ 0) }
+    {
+        let mut waiting = Vec::new(alloc);
+        for _port in 0..ports {
+            waiting.push(VecDeque::new(alloc))?;
+        }
+        Ok(MemoryDatagrams {
+            alloc,
+            waiting,
+            answers: Vec::new(alloc),
+            sent: Vec::new(alloc),
+            failures: 0,
+            fails_after: None,
+        })
+    }
+
+    /// Puts a datagram behind those that wait at a port, which the caller owes to be there.
+    pub fn put(&mut self, alloc: Global, port: usize, bytes: &[u8]) -> Result<(), OutOfMemory>
+        requires { port < length self.old.waiting.items }
+    {
+        let datagram = bytes.to_vec(alloc)?;
+        self.waiting[port].push_back(datagram)?;
+        Ok(())
+    }
+
+    /// What was sent so far, the first one first.
+    pub fn sent(&self) -> &[SentDatagram]
+        ensures { map memory_sent result.now ≡ (traffic_of self.now).sent }
+    {
+        &self.sent
+    }
+
+    /// How many times `receive` answered.
+    pub fn received(&self) -> usize
+        ensures { result ≡ length (traffic_of self.now).received }
+    {
+        self.answers.len()
+    }
+
+    /// The k-th `send` or `receive` from now on, counted from 1, fails. Later ones go on.
+    pub fn fail_at(&mut self, k: u64) {
+        self.fails_after = Some(k);
+    }
+}
+
+/// Whether this is the call that is to fail, of those that are counted.
+fn fails_now(fails_after: &mut Option<u64>) -> bool {
+    match *fails_after {
+        Some(1) => {
+            *fails_after = None;
+            true
+        }
+        Some(left) => {
+            *fails_after = left.checked_sub(1);
+            false
+        }
+        None => false,
+    }
+}
+
+/// Keeps a datagram that is sent.
+fn keep_sent(
+    alloc: Global,
+    sent: &mut Vec<SentDatagram>,
+    port: usize,
+    to: [u8; 4],
+    bytes: &[u8],
+) -> Result<(), OutOfMemory>
+    ensures kept { OnOk result (map memory_sent sent.new.items ≡ map memory_sent sent.old.items
+        ++ record { port = port; to = to; bytes = bytes.now } ∷ []) }
+    ensures refused { OnErr result (sent.new.items ≡ sent.old.items) }
+{
+    let bytes = bytes.to_vec(alloc)?;
+    sent.push(SentDatagram { port, to, bytes })?;
+    Ok(())
+}
+
+/// Takes the first datagram that waits, if there is one, into the front of the room, and keeps what
+/// is answered.
+fn take_waiting(
+    alloc: Global,
+    waiting: &mut VecDeque<Vec<u8>>,
+    answers: &mut Vec<KeptAnswer>,
+    port: usize,
+    room: &mut [u8],
+) -> Result<Option<usize>, OutOfMemory>
+    ensures received { IfOk result (λ count.
+        map memory_received answers.new.items ≡ map memory_received answers.old.items
+        ++ record { port = port; bytes = received_in room.new count } ∷ []) }
+    ensures within { IfOk result (λ count. IfSome count (λ n. n ≤ length room.old)) }
+    ensures refused { OnErr result
+        ((answers.new.items ≡ answers.old.items) × (waiting.new.items ≡ waiting.old.items)) }
+{
+    let Some(datagram) = waiting.front() else {
+        answers.push(KeptAnswer { port, bytes: None })?;
+        return Ok(None);
+    };
+    let count = datagram.len().min(room.len());
+    let kept = datagram[..count].to_vec(alloc)?;
+    answers.push(KeptAnswer {
+        port,
+        bytes: Some(kept),
+    })?;
+    room[..count].copy_from_slice(&datagram[..count]);
+    waiting.pop_front();
+    Ok(Some(count))
+}
+
+impl Datagrams for MemoryDatagrams {
+    ghost use Rattle.std.specs.Prelude.{Some, length};
+    ghost use Rattle.ipx_carrier.specs.Memory.{traffic_of};
+
+    ghost port_count = { λ m. length m.waiting.items };
+
+    ghost failed = { λ m. m.failures };
+
+    ghost traffic = { λ m. Some (traffic_of m) };
+
+    fn ports(&self) -> usize {
+        self.waiting.len()
+    }
+
+    fn failures(&self) -> u64 {
+        self.failures
+    }
+
+    fn send(&mut self, port: usize, to: [u8; 4], bytes: &[u8]) -> Result<(), DeviceFault> {
+        let failed = fails_now(&mut self.fails_after);
+        if failed || keep_sent(self.alloc, &mut self.sent, port, to, bytes).is_err() {
+            self.failures += 1;
+            return Err(DeviceFault);
+        }
+        Ok(())
+    }
+
+    fn receive(&mut self, port: usize, room: &mut [u8]) -> Result<Option<usize>, DeviceFault> {
+        if fails_now(&mut self.fails_after) {
+            self.failures += 1;
+            return Err(DeviceFault);
+        }
+        let waiting = &mut self.waiting[port];
+        let Ok(count) = take_waiting(self.alloc, waiting, &mut self.answers, port, room) else {
+            self.failures += 1;
+            return Err(DeviceFault);
+        };
+        Ok(count)
+    }
+}

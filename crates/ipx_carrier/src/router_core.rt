@@ -1,0 +1,117 @@
+//! A router as a core.
+
+ghost use Rattle.std.specs.Prelude.{◌≡◌, ◌≤◌, [], false, length};
+
+use crate::cores::Core;
+use crate::queue::{put_outcome, put_start, put_told, take_first};
+use ipx_router::{Reply, Router};
+use ipx_wire::{Node, OutOfMemory};
+use std::alloc::Global;
+use std::collections::VecDeque;
+use std::marker::Model;
+
+/// A router that runs over a device. Its port of a number is the device's port of one less.
+///
+/// What it is to send waits in a queue of at most 16,384 packets. An answer, or the packets by
+/// which it starts or tells, that would pass this is dropped whole, and its packets are counted.
+#[derive(Drop)]
+pub struct RouterCore {
+    router: Router,
+    queue: VecDeque<Reply>,
+    started: bool,
+    dropped: u64,
+}
+
+impl Model for RouterCore {
+    ghost use Rattle.std.specs.Prelude.{◌≤◌, length};
+    ghost use Rattle.ipx_router.specs.Packets.{sendings};
+    ghost use Rattle.ipx_carrier.specs.RouterCore.{AreGivable, CoreView, most_queued};
+
+    ghost Value = { CoreView };
+
+    ghost view = { λ c. record {
+      router = c.router;
+      queue = sendings c.queue.items;
+      started = c.started;
+      dropped = c.dropped;
+    } };
+
+    ghost invariant = { λ c. (length c.router.ports ≤ 16)
+        × (length c.queue.items ≤ most_queued)
+        × AreGivable (length c.router.ports) (sendings c.queue.items) };
+}
+
+impl RouterCore {
+    /// A router that has sent nothing yet. What waits to be sent is kept in memory of `alloc`.
+    ///
+    /// The caller owes at most 16 ports, which each router has that `Router::new` made.
+    pub fn new(alloc: Global, router: Router) -> RouterCore
+        requires { length router.ports ≤ 16 }
+        ensures router { result.router ≡ router }
+        ensures fresh { (result.queue ≡ []) × (result.started ≡ false) × (result.dropped ≡ 0) }
+    {
+        RouterCore {
+            router,
+            queue: VecDeque::new(alloc),
+            started: false,
+            dropped: 0,
+        }
+    }
+
+    /// How many packets were dropped since the queue had no room for them. It stays at the greatest
+    /// u64.
+    pub fn dropped(&self) -> u64
+        ensures { result ≡ self.now.dropped }
+    {
+        self.dropped
+    }
+}
+
+impl Core for RouterCore {
+    ghost use Rattle.std.specs.Prelude.{length};
+    ghost use Rattle.ipx_carrier.specs.RouterCore.{Gives, Hears};
+
+    ghost port_count = { λ c. length c.router.ports };
+
+    ghost hears = { Hears };
+
+    ghost gives = { Gives };
+
+    fn ports(&self) -> usize {
+        self.router.ports().len()
+    }
+
+    fn hear(
+        &mut self,
+        alloc: Global,
+        port: usize,
+        bytes: &[u8],
+        now: u64,
+    ) -> Result<(), OutOfMemory> {
+        let outcome = self.router.receive(alloc, port as u8 + 1, bytes, now)?;
+        put_outcome(&mut self.queue, &mut self.dropped, outcome)
+    }
+
+    fn next(
+        &mut self,
+        alloc: Global,
+        now: u64,
+        room: &mut [u8],
+    ) -> Result<Option<(usize, Node, usize)>, OutOfMemory> {
+        put_start(
+            alloc,
+            &self.router,
+            &mut self.started,
+            &mut self.queue,
+            &mut self.dropped,
+        )?;
+        put_told(
+            alloc,
+            &mut self.router,
+            now,
+            &mut self.queue,
+            &mut self.dropped,
+        )?;
+        Ok(take_first(&mut self.queue, room))
+    }
+}

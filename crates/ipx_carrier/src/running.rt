@@ -1,0 +1,127 @@
+//! A run: turns of a core over a device.
+
+ghost use Rattle.std.specs.Prelude.{◌≡◌, ◌<◌, ◌≤◌, ◌+◌, ◌*◌, ◌^◌, IfOk, OnErr, length};
+ghost use Rattle.ipx_carrier.specs.Fault.{failures_after};
+ghost use Rattle.ipx_carrier.specs.Turns.{peers_of};
+ghost use Rattle.ipx_carrier.specs.Counts.{plus};
+ghost use Rattle.ipx_carrier.specs.Runs.{EndsEarly, Runs};
+
+use crate::clock::Clock;
+use crate::cores::Core;
+use crate::datagrams::Datagrams;
+use crate::fault::RunFault;
+use crate::hearing::hear_ports;
+use crate::report::Report;
+use crate::sending::send_all;
+use std::alloc::Global;
+
+/// The room that a datagram is received into, and that a packet is given in.
+const ROOM: usize = 1536;
+
+fn add(a: Report, b: Report) -> Report
+    requires turns { a.turns + b.turns < 2 ^ 128 }
+    requires heard { a.heard + b.heard < 2 ^ 128 }
+    requires sent { a.sent + b.sent < 2 ^ 128 }
+    requires unmapped { a.unmapped + b.unmapped < 2 ^ 128 }
+    ensures { result ≡ plus a b }
+{
+    Report {
+        turns: a.turns + b.turns,
+        heard: a.heard + b.heard,
+        sent: a.sent + b.sent,
+        unmapped: a.unmapped + b.unmapped,
+    }
+}
+
+/// Takes one turn: it reads the clock, asks each port for a datagram, which the core hears, and
+/// sends what the core gives.
+fn take_turn<C: Core, D: Datagrams, K: Clock>(
+    alloc: Global,
+    core: &mut C,
+    datagrams: &mut D,
+    peers: &[Vec<[u8; 4]>],
+    clock: &mut K,
+    room: &mut [u8],
+) -> Result<Report, RunFault>
+    requires ports { D.port_count datagrams.old ≡ C.port_count core.old }
+    requires peers { length peers.now ≡ C.port_count core.old }
+    requires countable { D.failed datagrams.old + 1 < 2 ^ 64 }
+    requires room { 1536 ≤ length room.old }
+    ensures turn { IfOk result (λ report.
+        Runs C.hears C.gives K.tells (C.port_count core.old) (peers_of peers.now) 1
+        (D.traffic datagrams.old) (D.traffic datagrams.new) clock.old clock.new
+        core.old core.new report) }
+    ensures one { IfOk result (λ report. report.turns ≡ 1) }
+    ensures heard { IfOk result (λ report. report.heard < 2 ^ 64) }
+    ensures sent { IfOk result (λ report. report.sent ≤ 64 * 2 ^ 64) }
+    ensures unmapped { IfOk result (λ report. report.unmapped ≤ 64) }
+    ensures fault { OnErr result
+        (EndsEarly C.hears C.gives K.tells (C.port_count core.old) (peers_of peers.now) 1
+        (D.traffic datagrams.old) (D.traffic datagrams.new) clock.old clock.new
+        core.old) }
+    ensures failures { D.failed datagrams.new ≡ failures_after result (D.failed datagrams.old) }
+    ensures core_ports { C.port_count core.new ≡ C.port_count core.old }
+    ensures device_ports { D.port_count datagrams.new ≡ D.port_count datagrams.old }
+{
+    let now = clock.now();
+    let heard = hear_ports(alloc, core, datagrams, now, room)?;
+    let tally = send_all(alloc, core, datagrams, peers, now, room)?;
+    Ok(Report {
+        turns: 1,
+        heard,
+        sent: tally.sent,
+        unmapped: tally.unmapped,
+    })
+}
+
+/// Runs a core over a device for so many turns.
+///
+/// A turn reads the clock once, asks each port for a datagram, in order, and lets the core hear
+/// what comes. Then it asks the core for packets until it gives none, or gave 64, and sends each:
+/// a broadcast to each peer of its port, in order, another packet to the IP address of its node,
+/// and nowhere where the node has none.
+///
+/// `peers` has the IP addresses of the other nodes, for each port of the core. The caller owes
+/// that, a device with as many ports as the core, at most 1,000,000 turns, and a device whose
+/// count of failures can rise. A fault ends the run, and what went before stands: `Device` where
+/// the device failed, and `OutOfMemory` where the core wanted memory.
+pub fn run<C: Core, D: Datagrams, K: Clock>(
+    alloc: Global,
+    core: &mut C,
+    datagrams: &mut D,
+    peers: &[Vec<[u8; 4]>],
+    clock: &mut K,
+    turns: u64,
+) -> Result<Report, RunFault>
+    requires turns { turns ≤ 1000000 }
+    requires ports { D.port_count datagrams.old ≡ C.port_count core.old }
+    requires peers { length peers.now ≡ C.port_count core.old }
+    requires countable { D.failed datagrams.old + 1 < 2 ^ 64 }
+    // What was received and sent, the moments and the core after are those of so many turns.
+    ensures turns { IfOk result (λ report.
+        Runs C.hears C.gives K.tells (C.port_count core.old) (peers_of peers.now) turns
+        (D.traffic datagrams.old) (D.traffic datagrams.new) clock.old clock.new
+        core.old core.new report) }
+    // At a fault they are those of fewer turns, and of a part of the next one.
+    ensures fault { OnErr result
+        (EndsEarly C.hears C.gives K.tells (C.port_count core.old) (peers_of peers.now) turns
+        (D.traffic datagrams.old) (D.traffic datagrams.new) clock.old clock.new
+        core.old) }
+    // `Device` comes just where the device failed.
+    ensures failures { D.failed datagrams.new ≡ failures_after result (D.failed datagrams.old) }
+    ensures core_ports { C.port_count core.new ≡ C.port_count core.old }
+    ensures device_ports { D.port_count datagrams.new ≡ D.port_count datagrams.old }
+{
+    let mut room = [0; ROOM];
+    let mut report = Report {
+        turns: 0,
+        heard: 0,
+        sent: 0,
+        unmapped: 0,
+    };
+    for _turn in 0..turns {
+        let turn = take_turn(alloc, core, datagrams, peers, clock, &mut room)?;
+        report = add(report, turn);
+    }
+    Ok(report)
+}

@@ -1,0 +1,102 @@
+//! Datagrams over UDP (RFC 1234, Tunneling IPX Traffic through IP Networks).
+
+ghost use Rattle.std.specs.Prelude.{◌≡◌, IfOk, length};
+
+use crate::datagrams::Datagrams;
+use crate::fault::DeviceFault;
+use std::alloc::Global;
+use std::io::ErrorKind;
+use std::net::{Ipv4Addr, Net, SocketAddrV4, UdpSocket};
+
+/// A device that has a socket of UDP for each port.
+///
+/// It tells its count of failures alone: which datagrams come and which arrive is the network's.
+#[derive(Drop)]
+pub struct UdpDatagrams {
+    sockets: Vec<UdpSocket>,
+    port: u16,
+    failures: u64,
+}
+
+/// Where an IP address is reached by UDP.
+fn place_of(ip: [u8; 4], port: u16) -> SocketAddrV4 {
+    SocketAddrV4::new(Ipv4Addr::new(ip[0], ip[1], ip[2], ip[3]), port)
+}
+
+/// A socket at an IP address, which does not wait.
+fn bound_socket<R: Net>(rt: &R, ip: [u8; 4], port: u16) -> Result<UdpSocket, DeviceFault> {
+    let Ok(socket) = UdpSocket::bind(rt, place_of(ip, port)) else {
+        return Err(DeviceFault);
+    };
+    if socket.set_nonblocking(true).is_err() {
+        return Err(DeviceFault);
+    }
+    Ok(socket)
+}
+
+impl UdpDatagrams {
+    /// A device with a port at each of these IP addresses, all of them at one port of UDP, which
+    /// datagrams are sent to as well. A socket that can't be bound is a fault, as is want of
+    /// memory.
+    pub fn bind<R: Net>(
+        rt: &R,
+        alloc: Global,
+        addresses: &[[u8; 4]],
+        port: u16,
+    ) -> Result<UdpDatagrams, DeviceFault>
+        ensures ports { IfOk result (λ d. length d.sockets.items ≡ length addresses.now) }
+        ensures failures { IfOk result (λ d. d.failures ≡ 0) }
+    {
+        let mut sockets = Vec::new(alloc);
+        for ip in addresses {
+            let socket = bound_socket(rt, *ip, port)?;
+            if sockets.push(socket).is_err() {
+                return Err(DeviceFault);
+            }
+        }
+        Ok(UdpDatagrams {
+            sockets,
+            port,
+            failures: 0,
+        })
+    }
+}
+
+impl Datagrams for UdpDatagrams {
+    ghost use Rattle.std.specs.Prelude.{None, length};
+
+    ghost port_count = { λ d. length d.sockets.items };
+
+    ghost failed = { λ d. d.failures };
+
+    ghost traffic = { λ d. None };
+
+    fn ports(&self) -> usize {
+        self.sockets.len()
+    }
+
+    fn failures(&self) -> u64 {
+        self.failures
+    }
+
+    fn send(&mut self, port: usize, to: [u8; 4], bytes: &[u8]) -> Result<(), DeviceFault> {
+        match self.sockets[port].send_to(bytes, place_of(to, self.port)) {
+            Ok(count) if count == bytes.len() => Ok(()),
+            _ => {
+                self.failures += 1;
+                Err(DeviceFault)
+            }
+        }
+    }
+
+    fn receive(&mut self, port: usize, room: &mut [u8]) -> Result<Option<usize>, DeviceFault> {
+        match self.sockets[port].recv_from(room) {
+            Ok((count, _)) => Ok(Some(count)),
+            Err(error) if error.kind() == ErrorKind::WouldBlock => Ok(None),
+            Err(_) => {
+                self.failures += 1;
+                Err(DeviceFault)
+            }
+        }
+    }
+}

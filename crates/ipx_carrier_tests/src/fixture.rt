@@ -1,0 +1,68 @@
+//! A router with ports on networks 11 and 22, over a device of two ports.
+
+ghost use Rattle.std.specs.Prelude.{◌≡◌, IfOk};
+
+use ipx_carrier::{
+    Core, Datagrams, MemoryDatagrams, Report, RouterCore, RunFault, SentDatagram, SteppedClock, run,
+};
+use ipx_router::{Port, Router};
+use ipx_wire::{Network, Node, OutOfMemory};
+use std::alloc::Global;
+use std::test::Fail;
+
+fn port(network: u32, last: u8) -> Port
+    ensures { result.network.0 ≡ network }
+{
+    Port {
+        network: Network(network),
+        node: Node([0, 0, 0x7f, 0, 0, last]),
+        cost: 1,
+    }
+}
+
+/// A core of a router with ports 11 and 22.
+pub fn two_ports(alloc: Global) -> Result<RouterCore, OutOfMemory> {
+    let ports = vec![in alloc; port(0x11, 1), port(0x22, 2)]?;
+    let Ok(router) = Router::new(alloc, ports) else {
+        return Err(OutOfMemory);
+    };
+    if router.ports().len() > 16 {
+        return Err(OutOfMemory);
+    }
+    Ok(RouterCore::new(alloc, router))
+}
+
+/// One peer on each port.
+pub fn one_peer_each(alloc: Global) -> Result<Vec<Vec<[u8; 4]>>, OutOfMemory> {
+    let first = vec![in alloc; [127, 0, 0, 9]]?;
+    let second = vec![in alloc; [127, 0, 0, 8]]?;
+    Ok(vec![in alloc; first, second]?)
+}
+
+/// No peer on either port.
+pub fn no_peers(alloc: Global) -> Result<Vec<Vec<[u8; 4]>>, OutOfMemory> {
+    Ok(vec![in alloc; Vec::new(alloc), Vec::new(alloc)]?)
+}
+
+/// Runs a core for one turn. Peers or a device of another count of ports are no memory.
+pub fn one_turn(
+    alloc: Global,
+    core: &mut RouterCore,
+    datagrams: &mut MemoryDatagrams,
+    peers: &[Vec<[u8; 4]>],
+) -> Result<Report, RunFault> {
+    let ports = core.ports();
+    if datagrams.ports() != ports || peers.len() != ports || datagrams.failures() > 1000 {
+        return Err(RunFault::OutOfMemory);
+    }
+    let mut clock = SteppedClock::new(0, 10);
+    run(alloc, core, datagrams, peers, &mut clock, 1)
+}
+
+/// A datagram as text: port, last byte of the address and bytes in hex.
+pub fn text_of(alloc: Global, datagram: &SentDatagram) -> Result<String, Fail> {
+    let number = datagram.port;
+    let last = datagram.to[3];
+    let bytes = hex::encode(alloc, datagram.bytes.as_slice())?;
+    Ok(format!(in alloc; "{number} {last} {bytes}")?)
+}

@@ -1,0 +1,12 @@
+use Rattle.std.proofs.Common.{arith}
+use Rattle.ipx_hosts.proofs.Placing.{dialled, host_there, left_so}
+use Rattle.ipx_hosts.proofs.hosts.Hosts.dial.Goals as goal
+
+pub returns-clause-ok : goal.returns-clause-ok
+returns-clause-ok c =
+    dialled c.args.self.now c.self.inside.stations.items c.self.inside.ends.items c.push.new.self.items c.args.host c.len-who.result c.index_mut.result.now c.dial.new.self c.args.socket c.args.to c.args.buffers c.args.now c.in-Ok.id
+    c.self.view_is c.index_mut.ensures.value (host_there c.args.self.now c.self.inside.stations.items c.self.inside.ends.items c.args.host c.self.view_is c.requires.there) c.requires.range (omega (arith, c.len-who.ensures, c.self.inside.ends.ok)) c.in-Ok.ensures.ok c.in_ok-push.ensures.items
+
+pub returns-in-Err-clause-refused : goal.returns-in-Err-clause-refused
+returns-in-Err-clause-refused c =
+    left_so c.in-Err.refusal c.args.self.now c.self.inside.stations.items c.self.inside.ends.items c.args.host c.index_mut.result.now c.dial.new.self c.args.now c.self.view_is c.index_mut.ensures.value (host_there c.args.self.now c.self.inside.stations.items c.self.inside.ends.items c.args.host c.self.view_is c.requires.there) c.in-Err.ensures.refused

@@ -1,0 +1,21 @@
+//! An end of a connection, where it stands.
+
+use std::marker::Model;
+
+/// An end: its host, its id there, whether it was released, and whether a message came to it that
+/// grew too long.
+#[derive(Drop)]
+pub struct EndNow {
+    pub host: usize,
+    pub id: u16,
+    pub released: bool,
+    pub overlong: bool,
+}
+
+impl Model for EndNow {
+    ghost use Rattle.ipx_steps.specs.World.{EndNow};
+
+    ghost Value = { EndNow };
+
+    ghost view = { λ e. record { host = e.host; id = e.id; released = e.released; overlong = e.overlong } };
+}

@@ -1,0 +1,259 @@
+//! The hosts of a network, and their ends.
+
+ghost use Rattle.std.specs.Prelude.{◌≡◌, ◌≢◌, ◌<◌, ◌≤◌, ◌++◌, ◌∷◌, ℕ, [], Err, IfErr, IfOk, IfSome, IsOk, OnErr, OnOk, length, option_map, slice_get, true};
+ghost use Rattle.spx_link.specs.Limits.{most_units};
+ghost use Rattle.spx_units.specs.Message.{message_view};
+ghost use Rattle.ipx_log.specs.Note.{AsksEnd, HandsIn, Opened, Released};
+ghost use Rattle.ipx_steps.specs.Calls.{Closes, DialsFrom, ReleasesOf, SendsTo};
+ghost use Rattle.ipx_steps.specs.Steps.{TakesOf, buffers_of, unit_notes, whole_notes};
+ghost use Rattle.ipx_steps.specs.World.{end_at};
+ghost use Rattle.spx_messages.specs.EndpointView.{held_at};
+ghost use Rattle.spx_messages.specs.Taking.{result_view};
+ghost use Rattle.ipx_hosts.specs.Stations.{reader_of, speaker};
+ghost use Rattle.ipx_hosts.specs.Hosts.{DeliveredAt, FitTogether, LeavesSo, LeftAs, Noting, PolledAt, Standing, is_lost, stands, want};
+
+use crate::end::EndNow;
+use crate::refusal::Refusal;
+use crate::station::Station;
+use ipx_wire::{Address, Network, Node, OutOfMemory, Socket};
+use spx_link::{Sent, Unit};
+use spx_messages::{Arrived, EndFault, Message, MessageFault, Taken};
+use std::alloc::Global;
+use std::marker::Model;
+
+/// The hosts of a network, and the ends of connections that were ever made, by their numbers.
+#[derive(Drop)]
+pub struct Hosts {
+    stations: Vec<Station>,
+    ends: Vec<EndNow>,
+}
+
+impl Model for Hosts {
+    ghost use Rattle.ipx_hosts.specs.Hosts.{HostsView};
+
+    ghost Value = { HostsView };
+
+    ghost view = { λ h. record { stations = h.stations.items; ends = h.ends.items } };
+}
+
+impl Hosts {
+    /// There is such an end, and it was not released.
+    pub fn stands(&self, who: usize) -> bool
+        ensures { result ≡ stands self.now who }
+    {
+        match self.ends.get(who) {
+            Some(end) => !end.released,
+            None => false,
+        }
+    }
+
+    /// The host of an end that stands, and its id there.
+    fn place(&self, who: usize) -> (usize, u16)
+        requires order { FitTogether self.now }
+        requires stands { stands self.now who ≡ true }
+        ensures { Standing self.now who result.0 result.1 }
+    {
+        let end = &self.ends[who];
+        (end.host, end.id)
+    }
+
+    /// A host asks for a connection, whose end gets the next number. The caller owes 1 to 8,192
+    /// buffers.
+    pub fn dial(
+        &mut self,
+        alloc: Global,
+        host: usize,
+        socket: Socket,
+        to: Address,
+        buffers: u16,
+        now: u64,
+    ) -> Result<usize, Refusal>
+        requires there { host < length self.old.stations }
+        requires range { (0 < buffers) × (buffers ≤ most_units) }
+        ensures number { IfOk result (λ who. who ≡ length self.old.ends) }
+        ensures ok { OnOk result ((id : ℕ) × Noting self.old self.new now
+            (Opened (length self.old.ends) host buffers ∷ [])
+            (λ w w'. DialsFrom w host socket to buffers id w')) }
+        ensures refused { IfErr result (λ f. LeavesSo f self.old self.new now) }
+    {
+        let who = self.ends.len();
+        let id = match self.stations[host].dial(alloc, who, socket, to, buffers, now) {
+            Ok(id) => id,
+            Err(refusal) => return Err(refusal),
+        };
+        self.ends.push(EndNow {
+            host,
+            id,
+            released: false,
+            overlong: false,
+        })?;
+        Ok(who)
+    }
+
+    /// A message is handed in at an end that stands.
+    pub fn send(
+        &mut self,
+        alloc: Global,
+        who: usize,
+        message: &Message,
+        now: u64,
+    ) -> Result<(), EndFault>
+        requires order { FitTogether self.old }
+        requires stands { stands self.old who ≡ true }
+        ensures ok { OnOk result (Noting self.old self.new now
+            (HandsIn who (message_view message.now) ∷ [])
+            (λ w w'. SendsTo w who (message_view message.now) w')) }
+        ensures refused { OnErr result (LeftAs self.old self.new now) }
+    {
+        let (host, id) = self.place(who);
+        self.stations[host].send(alloc, id, message)
+    }
+
+    /// An end that stands is asked to end its connection.
+    pub fn close(&mut self, alloc: Global, who: usize, now: u64) -> Result<(), EndFault>
+        requires order { FitTogether self.old }
+        requires stands { stands self.old who ≡ true }
+        ensures ok { OnOk result (Noting self.old self.new now (AsksEnd who ∷ [])
+            (λ w w'. Closes w who w')) }
+        ensures refused { OnErr result (LeftAs self.old self.new now) }
+    {
+        let (host, id) = self.place(who);
+        self.stations[host].close(alloc, id)
+    }
+
+    /// An end that stands goes, with its link. It is not refused.
+    pub fn release(&mut self, who: usize, now: u64) -> Result<(), EndFault>
+        requires order { FitTogether self.old }
+        requires stands { stands self.old who ≡ true }
+        ensures ok { OnOk result (Noting self.old self.new now (Released who ∷ [])
+            (λ w w'. ReleasesOf w who w')) }
+        ensures done { IsOk result }
+    {
+        let (host, id) = self.place(who);
+        if let Err(fault) = self.stations[host].release(id) {
+            return Err(fault);
+        }
+        self.ends[who].released = true;
+        Ok(())
+    }
+
+    /// A unit is taken from an end that stands, and told with what came of it.
+    pub fn take(
+        &mut self,
+        alloc: Global,
+        who: usize,
+        now: u64,
+    ) -> (Option<Unit>, Result<Taken, EndFault>)
+        requires order { FitTogether self.old }
+        requires stands { stands self.old who ≡ true }
+        ensures takes { result.1 ≢ Err want → Noting self.old self.new now
+            (unit_notes (result_view result.1) result.0 who ++ whole_notes (result_view result.1) who)
+            (λ w w'. TakesOf w who (result_view result.1) w') }
+        ensures refused { result.1 ≡ Err want → LeftAs self.old self.new now }
+    {
+        let (host, id) = self.place(who);
+        let (unit, taken) = self.stations[host].take(alloc, id);
+        if is_lost(&taken) {
+            self.ends[who].overlong = true;
+        }
+        (unit, taken)
+    }
+
+    /// A host is asked what it has to send, and writes it to the front of the room. The caller owes
+    /// room of 576 bytes.
+    pub fn poll(&mut self, host: usize, now: u64, room: &mut [u8]) -> Option<(Node, usize)>
+        requires there { host < length self.old.stations }
+        requires room { 576 ≤ length room.old }
+        ensures { PolledAt self.old host now result room.old room.new self.new }
+    {
+        self.stations[host].poll(now, room)
+    }
+
+    /// A datagram comes to a host.
+    pub fn deliver(
+        &mut self,
+        alloc: Global,
+        host: usize,
+        bytes: &[u8],
+        now: u64,
+    ) -> Result<Arrived, OutOfMemory>
+        requires there { host < length self.old.stations }
+        ensures { IfOk result (λ a. DeliveredAt self.old host bytes.now now a self.new) }
+    {
+        let who = self.ends.len();
+        let arrived = self.stations[host].deliver(alloc, bytes, now, who)?;
+        if let Arrived::Accepted(id) = arrived {
+            self.ends.push(EndNow {
+                host,
+                id,
+                released: false,
+                overlong: false,
+            })?;
+        }
+        Ok(arrived)
+    }
+
+    /// How many hosts there are.
+    pub fn count(&self) -> usize
+        ensures { result ≡ length self.now.stations }
+    {
+        self.stations.len()
+    }
+
+    /// How many ends there ever were.
+    pub fn ends(&self) -> usize
+        ensures { result ≡ length self.now.ends }
+    {
+        self.ends.len()
+    }
+
+    /// The network of a host.
+    pub fn network(&self, host: usize) -> Option<Network>
+        ensures { result ≡ option_map (λ s. s.endpoint.network) (slice_get self.now.stations host) }
+    {
+        let station = self.stations.get(host)?;
+        Some(station.network())
+    }
+
+    /// The end that gave the last packet of a host, and what that is.
+    pub fn spoke(&self, host: usize) -> Option<(usize, Sent)>
+        ensures { IfSome (slice_get self.now.stations host) (λ s. result ≡ speaker s.here s.endpoint.said) }
+    {
+        self.stations.get(host)?.spoke()
+    }
+
+    /// The end that read the last datagram of a host.
+    pub fn reader(&self, host: usize) -> Option<usize>
+        ensures { IfSome (slice_get self.now.stations host) (λ s. result ≡ reader_of s.here s.endpoint.heard) }
+    {
+        self.stations.get(host)?.reader()
+    }
+
+    /// The end that an id of a host is.
+    pub fn end(&self, host: usize, id: u16) -> Option<usize>
+        ensures { IfSome (slice_get self.now.stations host) (λ s. result ≡ end_at s.here id) }
+    {
+        self.stations.get(host)?.end(id)
+    }
+
+    /// The buffers of a link of a host; 0 where there is none.
+    pub fn buffers(&self, host: usize, id: u16) -> u16
+        ensures { IfSome (slice_get self.now.stations host) (λ s. result ≡ buffers_of (held_at s.endpoint id)) }
+    {
+        match self.stations.get(host) {
+            Some(station) => station.buffers(id),
+            None => 0,
+        }
+    }
+}
+
+/// A take was refused, and not for want of memory: the message grew too long, and the link is lost.
+fn is_lost(taken: &Result<Taken, EndFault>) -> bool
+    ensures { result ≡ is_lost (result_view taken.now) }
+{
+    match taken {
+        Err(EndFault::Message(MessageFault::OutOfMemory)) => false,
+        Err(_) => true,
+        Ok(_) => false,
+    }
+}

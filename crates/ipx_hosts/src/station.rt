@@ -1,0 +1,231 @@
+//! A host, and which end each of its links is.
+
+ghost use Rattle.std.specs.Prelude.{◌≡◌, ◌≢◌, ◌≤◌, ◌++◌, ◌∷◌, ◌==◌, ℕ, [], Err, IfErr, IfOk, IfSome, IsOk, None, OnErr, OnOk, Some, filter, find, length, not, option_map};
+ghost use Rattle.spx_link.specs.Offer.{end_link, first_of, offer_link, refusal};
+ghost use Rattle.spx_messages.specs.Arrives.{Arrives};
+ghost use Rattle.spx_messages.specs.Polls.{Polls};
+ghost use Rattle.spx_messages.specs.Taking.{result_view, take_end};
+ghost use Rattle.spx_messages.specs.declared.fault.EndFault.TheVariants as EndFaults;
+ghost use Rattle.spx_units.specs.declared.fault.MessageFault.TheVariants as MessageFaults;
+ghost use Rattle.spx_messages.specs.EndpointView.{held_at};
+ghost use Rattle.spx_units.specs.Cut.{cut_of};
+ghost use Rattle.spx_units.specs.Message.{cut_fault, message_view};
+ghost use Rattle.ipx_steps.specs.Steps.{buffers_of, here_after};
+ghost use Rattle.ipx_steps.specs.World.{end_at};
+ghost use Rattle.ipx_hosts.specs.Stations.{ChangesAt, DialsAt, ReleasesAt, Stays, StaysAt, reader_of, speaker};
+
+use crate::refusal::Refusal;
+use ipx_wire::{Address, Fragment, Network, Node, OutOfMemory, Socket};
+use spx_link::{Sent, Unit};
+use spx_messages::{Arrived, EndFault, Endpoint, Message, Taken};
+use std::alloc::Global;
+use std::marker::Model;
+
+/// A host: its endpoint, and of each of its links the number of the end.
+#[derive(Drop)]
+pub struct Station {
+    endpoint: Endpoint,
+    here: Vec<(u16, usize)>,
+}
+
+impl Model for Station {
+    ghost use Rattle.ipx_steps.specs.World.{Station};
+
+    ghost Value = { Station };
+
+    ghost view = { λ s. record { endpoint = s.endpoint; here = s.here.items } };
+}
+
+/// The number behind an id.
+fn number_of(here: &[(u16, usize)], id: u16) -> Option<usize>
+    ensures { result ≡ option_map (λ x. x.1) (find (λ x. x.0 == id) here.now) }
+{
+    let known = here.iter().find(|known| known.0 == id)?;
+    Some(known.1)
+}
+
+/// The end that an id is.
+fn end_of(here: &[(u16, usize)], id: u16) -> Option<usize>
+    ensures { result ≡ end_at here.now id }
+{
+    number_of(here, id)
+}
+
+/// A unit like this one.
+fn copy_of(unit: &Unit) -> Unit
+    ensures { result ≡ unit.now }
+{
+    let mut body = Fragment::new();
+    body.try_extend_from_slice(&unit.body).unwrap();
+    Unit {
+        stream: unit.stream,
+        last: unit.last,
+        body,
+    }
+}
+
+/// An id is no end from now on.
+fn forget(here: &mut Vec<(u16, usize)>, id: u16)
+    ensures kept { here.new.items ≡ filter (λ x. not (x.0 == id)) here.old.items }
+    ensures forgotten { end_at here.new.items id ≡ None }
+    ensures known { (q : ℕ) → q ≢ id → end_at here.new.items q ≡ end_at here.old.items q }
+{
+    here.retain(|known| known.0 != id);
+}
+
+impl Station {
+    /// A host without links.
+    pub fn new(alloc: Global, network: Network, node: Node, router: Node) -> Station
+        ensures network { result.endpoint.network ≡ network }
+        ensures here { result.here ≡ [] }
+    {
+        Station {
+            endpoint: Endpoint::new(alloc, network, node, router),
+            here: Vec::new(alloc),
+        }
+    }
+
+    /// Its network.
+    pub fn network(&self) -> Network
+        ensures { result ≡ self.now.endpoint.network }
+    {
+        self.endpoint.network()
+    }
+
+    /// A connection is asked for, whose end has that number.
+    pub fn dial(
+        &mut self,
+        alloc: Global,
+        who: usize,
+        socket: Socket,
+        to: Address,
+        buffers: u16,
+        now: u64,
+    ) -> Result<u16, Refusal>
+        ensures ok { IfOk result (λ id. DialsAt self.old who socket to buffers now id self.new) }
+        ensures refused { IfErr result (λ f. Stays f self.old self.new) }
+    {
+        let id = self.endpoint.dial(alloc, socket, to, buffers, now)?;
+        self.here.push((id, who))?;
+        Ok(id)
+    }
+
+    /// A message is handed in.
+    pub fn send(&mut self, alloc: Global, id: u16, message: &Message) -> Result<(), EndFault>
+        ensures ok { IfSome (held_at self.old.endpoint id) (λ h. OnOk result (ChangesAt self.old id
+            (record h { link = offer_link h.link (cut_of (message_view message.now)) }) self.new)) }
+        ensures open { IfSome (held_at self.old.endpoint id) (λ h. OnOk result
+            ((refusal h.link.state ≡ None) × (cut_fault (message_view message.now) ≡ None))) }
+        ensures refused { OnErr result (StaysAt self.old self.new) }
+    {
+        self.endpoint.send(alloc, id, message)
+    }
+
+    /// The end of a connection is asked for.
+    pub fn close(&mut self, alloc: Global, id: u16) -> Result<(), EndFault>
+        ensures ok { IfSome (held_at self.old.endpoint id) (λ h. OnOk result
+            (ChangesAt self.old id (record h { link = end_link h.link }) self.new)) }
+        ensures open { IfSome (held_at self.old.endpoint id) (λ h. OnOk result (refusal h.link.state ≡ None)) }
+        ensures refused { OnErr result (StaysAt self.old self.new) }
+    {
+        self.endpoint.close(alloc, id)
+    }
+
+    /// A link goes.
+    pub fn release(&mut self, id: u16) -> Result<(), EndFault>
+        ensures ok { OnOk result (ReleasesAt self.old id self.new) }
+        ensures done { IfSome (held_at self.old.endpoint id) (λ _. IsOk result) }
+        ensures refused { OnErr result (StaysAt self.old self.new) }
+    {
+        if let Err(fault) = self.endpoint.release(id) {
+            return Err(fault);
+        }
+        forget(&mut self.here, id);
+        Ok(())
+    }
+
+    /// A copy of the unit that is taken next, if one is held.
+    fn next_unit(&self, id: u16) -> Option<Unit>
+        ensures { IfSome (held_at self.now.endpoint id) (λ h. result ≡ first_of h.link.held) }
+    {
+        match self.endpoint.peek(id) {
+            Ok(Some(unit)) => Some(copy_of(unit)),
+            Ok(None) => None,
+            Err(_) => None,
+        }
+    }
+
+    /// A unit is taken, and told with what came of it.
+    pub fn take(&mut self, alloc: Global, id: u16) -> (Option<Unit>, Result<Taken, EndFault>)
+        ensures unit { IfSome (held_at self.old.endpoint id) (λ h. result.0 ≡ first_of h.link.held) }
+        ensures takes { IfSome (held_at self.old.endpoint id) (λ h.
+            result.1 ≢ Err (EndFaults.Message MessageFaults.OutOfMemory)
+            → (result_view result.1 ≡ (take_end h).0) × ChangesAt self.old id (take_end h).1 self.new) }
+        ensures refused { result.1 ≡ Err (EndFaults.Message MessageFaults.OutOfMemory)
+            → IfSome (held_at self.old.endpoint id) (λ _. StaysAt self.old self.new) }
+    {
+        let unit = self.next_unit(id);
+        (unit, self.endpoint.take(alloc, id))
+    }
+
+    /// A host is asked what it has to send.
+    pub fn poll(&mut self, now: u64, room: &mut [u8]) -> Option<(Node, usize)>
+        requires { 576 ≤ length room.old }
+        ensures polls { Polls self.old.endpoint now result room.old room.new self.new.endpoint }
+        ensures here { self.new.here ≡ self.old.here }
+    {
+        self.endpoint.poll(now, room)
+    }
+
+    /// The end that gave the last packet, and what that is.
+    pub fn spoke(&self) -> Option<(usize, Sent)>
+        ensures { result ≡ speaker self.now.here self.now.endpoint.said }
+    {
+        let (id, sent) = self.endpoint.sent()?;
+        let who = end_of(&self.here, id)?;
+        Some((who, sent))
+    }
+
+    /// A datagram comes. A link that it makes is the end of that number.
+    pub fn deliver(
+        &mut self,
+        alloc: Global,
+        bytes: &[u8],
+        now: u64,
+        who: usize,
+    ) -> Result<Arrived, OutOfMemory>
+        ensures arrives { IfOk result (λ a. Arrives self.old.endpoint bytes.now now a self.new.endpoint) }
+        ensures here { IfOk result (λ a. self.new.here ≡ here_after a who self.old.here) }
+    {
+        let arrived = self.endpoint.receive(alloc, bytes, now)?;
+        if let Arrived::Accepted(id) = arrived {
+            self.here.push((id, who))?;
+        }
+        Ok(arrived)
+    }
+
+    /// The end that an id is.
+    pub fn end(&self, id: u16) -> Option<usize>
+        ensures { result ≡ end_at self.now.here id }
+    {
+        end_of(&self.here, id)
+    }
+
+    /// The end that read the last datagram.
+    pub fn reader(&self) -> Option<usize>
+        ensures { result ≡ reader_of self.now.here self.now.endpoint.heard }
+    {
+        let id = self.endpoint.heard()?;
+        end_of(&self.here, id)
+    }
+
+    /// The buffers of a link; 0 where there is none.
+    pub fn buffers(&self, id: u16) -> u16
+        ensures { result ≡ buffers_of (held_at self.now.endpoint id) }
+    {
+        match self.endpoint.numbers(id) {
+            Ok(numbers) => numbers.buffers,
+            Err(_) => 0,
+        }
+    }
+}

@@ -1,0 +1,13 @@
+pub mod Counting
+pub mod Listing
+pub mod Passing
+pub mod Peering
+pub mod Sightings
+pub mod Walking
+pub mod RouterSteps
+pub mod NetSteps
+pub mod ParcelPlaces
+pub mod EventSteps
+pub mod Happened
+pub mod NetKept
+pub mod Holding

@@ -1,0 +1,13 @@
+use Rattle.std.proofs.Common.{◌≡◌, ◌-◌, length, drop}
+use Rattle.ipx_log.specs.Scan.{seen_all}
+use Rattle.ipx_net.specs.Entries.{entry_notes}
+use Rattle.ipx_net.specs.Sights.{HasRoom, scan_of}
+use Rattle.ipx_net.proofs.scanned.Scanned.read_all.Given as goal
+
+abbrev pub invariant-loop-entry : goal.invariant-loop-entry
+invariant-loop-entry l =
+    record {
+      room : HasRoom (length l.entries - l.entry-index) l.self;
+      rest : seen_all (scan_of l.fn.self) (entry_notes l.entries)
+          ≡ seen_all (scan_of l.self) (entry_notes (drop l.entry-index l.entries));
+    }

@@ -1,0 +1,30 @@
+-- What an event adds to the book of a network, and its answer, without where they lie in memory.
+use Rattle.std.specs.Prelude.{ℕ, ◌≡◌, List, ◌++◌, length}
+use Rattle.ipx_log.specs.Note.{Note}
+use Rattle.ipx_steps.specs.World.{ParcelView, World}
+use Rattle.ipx_hosts.specs.Hosts.{HostsView, world_of}
+use Rattle.ipx_net.specs.AnswerView.{AnswerView, answer_view}
+use Rattle.ipx_net.specs.Entries.{entry_notes}
+use Rattle.ipx_net.specs.Parcels.{parcel_views}
+use Rattle.ipx_net.specs.declared.growth.Growth.{Growth}
+
+pub record GrowthView : Type 0 where
+  pub parcels : List ParcelView
+  pub notes : List Note
+  pub answer : AnswerView
+
+abbrev pub growth_view : Growth → GrowthView
+growth_view g =
+    record {
+      parcels = parcel_views g.parcels.items;
+      notes = entry_notes g.entries.items;
+      answer = answer_view g.answer;
+    }
+
+-- with so many parcels before, whichever they are, and whatever the log is: a relation of the worlds before and after
+abbrev pub Grows : HostsView → HostsView → (first now : ℕ) → GrowthView
+    → (AnswerView → World → World → Type 0) → Type 0
+Grows old new first now g P = (parcels : List ParcelView) (log : List Note)
+    → length parcels ≡ first
+    → P g.answer (world_of old parcels log now)
+    (world_of new (parcels ++ g.parcels) (log ++ g.notes) now)

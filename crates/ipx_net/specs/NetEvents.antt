@@ -1,0 +1,66 @@
+-- What each event does to a network, and what it answers.
+use Rattle.std.specs.Prelude.{ℕ, ◌≡◌, ◌<◌, ◌≤◌, List, [], ◌∷◌, None, length}
+use Rattle.spx_link.specs.Limits.{most_units}
+use Rattle.spx_units.specs.Message.{message_view}
+use Rattle.ipx_steps.specs.Calls.{InjectsInto, Ticks}
+use Rattle.ipx_steps.specs.World.{World}
+use Rattle.ipx_net.specs.AnswerView.{AnswerView, Done, Parcels}
+use Rattle.ipx_wire.specs.declared.address.Network.{Network}
+use Rattle.ipx_wire.specs.declared.address.Node.{Node}
+use Rattle.ipx_log.specs.Note as Notes
+use Rattle.ipx_net.specs.GrowthView.{GrowthView}
+use Rattle.ipx_net.specs.HostEvents.{Closing, DeliveringToHost, Dialling, PollingHost, Releasing, Sending, TakingFrom}
+use Rattle.ipx_net.specs.NetView.{NetNow}
+use Rattle.ipx_net.specs.RouterEvents.{DeliveringToRouter, PollingRouter}
+use Rattle.ipx_net.specs.declared.event.Event.{Event}
+use Rattle.ipx_net.specs.declared.event.Event.TheVariants as Events
+use Rattle.ipx_net.specs.declared.event.Member.{Member}
+use Rattle.ipx_net.specs.declared.event.Member.TheVariants as Members
+use Rattle.ipx_net.specs.declared.place.Place.{Place}
+use Rattle.ipx_net.specs.declared.place.Place.TheVariants as Places
+
+-- the routers are as they were
+abbrev pub BesideRouters : (AnswerView → World → World → Type 0)
+    → AnswerView → NetNow → NetNow → Type 0
+BesideRouters P a old new = P a old.world new.world × (new.routers ≡ old.routers)
+
+abbrev pub PollsOf : Member → AnswerView → NetNow → NetNow → Type 0
+PollsOf (Members.Host host) = BesideRouters (PollingHost host)
+PollsOf (Members.Router router) = PollingRouter router
+
+abbrev pub DeliversTo : ℕ → Place → AnswerView → NetNow → NetNow → Type 0
+DeliversTo parcel (Places.Host host) = BesideRouters (DeliveringToHost parcel host)
+DeliversTo parcel (Places.Port router port) = DeliveringToRouter parcel router port
+
+abbrev pub Happens : Event → AnswerView → NetNow → NetNow → Type 0
+Happens (Events.Dial host socket to buffers) = BesideRouters (Dialling host socket to buffers)
+Happens (Events.Send who message) = BesideRouters (Sending who (message_view message))
+Happens (Events.Take who) = BesideRouters (TakingFrom who)
+Happens (Events.Close who) = BesideRouters (Closing who)
+Happens (Events.Release who) = BesideRouters (Releasing who)
+Happens (Events.Tick now) = BesideRouters (λ a old new. (a ≡ Done) × Ticks old now new)
+Happens (Events.Poll member) = PollsOf member
+Happens (Events.Deliver parcel place) = DeliversTo parcel place
+Happens (Events.Inject segment next bytes) = BesideRouters (λ a old new.
+    (a ≡ Parcels (length old.parcels ∷ [])) × InjectsInto old segment next bytes.items new)
+
+-- what the caller owes: buffers in range
+abbrev pub IsOwed : Event → Type 0
+IsOwed (Events.Dial host socket to buffers) = (0 < buffers) × (buffers ≤ most_units)
+IsOwed (Events.Send who message) = Unit {0}
+IsOwed (Events.Take who) = Unit {0}
+IsOwed (Events.Close who) = Unit {0}
+IsOwed (Events.Release who) = Unit {0}
+IsOwed (Events.Tick now) = Unit {0}
+IsOwed (Events.Poll member) = Unit {0}
+IsOwed (Events.Deliver parcel place) = Unit {0}
+IsOwed (Events.Inject segment next bytes) = Unit {0}
+
+-- what a packet from outside adds to the book
+abbrev pub injected : Network → Node → List ℕ → ℕ → GrowthView
+injected segment next bytes first =
+    record {
+      parcels = record { segment = segment; next = next; bytes = bytes; sent_by = None } ∷ [];
+      notes = Notes.Injected first ∷ [];
+      answer = Parcels (first ∷ []);
+    }

@@ -1,0 +1,44 @@
+-- A router as a member of a network: what it gives where it is polled, and as which parcels its packets lie
+-- (Novell IPX Router Specification).
+use Rattle.std.specs.Prelude.{ℕ, zero, suc, ◌≡◌, ◌++◌, true, List, [], MatchBool, Option, None, Some, map, slice_get}
+use Rattle.ipx_wire.specs.declared.address.Network.{Network}
+use Rattle.ipx_router.specs.declared.port.Port.{Port}
+use Rattle.ipx_router.specs.Knowledge.{HoldsKnown, KeepsRest, known_at, tables}
+use Rattle.ipx_router.specs.Packets.{SendingView}
+use Rattle.ipx_router.specs.Starting.{AreStarts}
+use Rattle.ipx_router.specs.Telling.{Tells}
+use Rattle.ipx_steps.specs.World.{AtPort, ParcelView}
+use Rattle.ipx_net.specs.declared.routers.RouterNow.{RouterNow}
+
+-- the port of a number, from 1 on
+abbrev pub port_at : List Port → ℕ → Option Port
+port_at ports zero = None
+port_at ports (suc k) = slice_get ports k
+
+abbrev pub network_of : Option Port → Network
+network_of None = record { 0 = 0 }
+network_of (Some p) = p.network
+
+-- a packet of a router lies on the network of the port by which it leaves
+abbrev pub letter_of : ℕ → List Port → SendingView → ParcelView
+letter_of router ports s =
+    record {
+      segment = network_of (port_at ports s.port);
+      next = s.next;
+      bytes = s.bytes;
+      sent_by = Some (AtPort router s.port);
+    }
+
+abbrev pub letters_of : ℕ → List Port → List SendingView → List ParcelView
+letters_of router ports sent = map (letter_of router ports) sent
+
+-- at its first poll it asks its neighbours, and at each it tells what it knows where it is time
+pub record IsPolled (old new : RouterNow) (now : ℕ) (sent : List SendingView) : Type 0 where
+  pub asked : List SendingView
+  pub told : List SendingView
+  pub are : sent ≡ asked ++ told
+  pub asks : MatchBool old.started (asked ≡ []) (AreStarts 1 old.router.ports asked)
+  pub tells : Tells (known_at old.router now) old.router.told now told new.router.told
+  pub known : HoldsKnown (known_at old.router now) (tables new.router)
+  pub rest : KeepsRest old.router new.router
+  pub started : new.started ≡ true

@@ -1,0 +1,9 @@
+-- The entries of a packet that a host gave, by the end that gave it: words of private functions.
+use Rattle.std.specs.Prelude.{ℕ, List, [], ◌∷◌, Option, Some, None}
+use Rattle.spx_link.specs.declared.outgoing.Sent.{Sent}
+use Rattle.ipx_log.specs.Note.{Note}
+use Rattle.ipx_log.specs.Packets.{note_of}
+
+abbrev pub spoken_notes : Option (ℕ × Sent) → ℕ → List Note
+spoken_notes None parcel = []
+spoken_notes (Some s) parcel = note_of s.1 s.0 parcel ∷ []

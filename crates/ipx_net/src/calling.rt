@@ -1,0 +1,157 @@
+//! What users of ends do: each call adds its entry to the book.
+
+ghost use Rattle.std.specs.Prelude.{◌≡◌, ◌<◌, ◌≤◌, ◌++◌, [], IfOk, Ok, length, true};
+ghost use Rattle.spx_link.specs.Limits.{most_units};
+ghost use Rattle.spx_messages.specs.Taking.{taken_view};
+ghost use Rattle.spx_units.specs.Message.{message_view};
+ghost use Rattle.ipx_hosts.specs.Hosts.{FitTogether, stands};
+ghost use Rattle.ipx_steps.specs.Steps.{unit_notes, whole_notes};
+ghost use Rattle.ipx_net.specs.AnswerView as views;
+ghost use Rattle.ipx_net.specs.GrowthView.{Grows, growth_view};
+ghost use Rattle.ipx_net.specs.HostEvents.{Closing, Dialling, Releasing, Sending, TakingFrom};
+
+use crate::answer::Answer;
+use crate::entry::Entry;
+use crate::growth::{Growth, noted, quiet};
+use ipx_hosts::{Hosts, Refusal};
+use ipx_wire::{Address, OutOfMemory, Socket};
+use spx_link::Unit;
+use spx_messages::{Message, Taken};
+use std::alloc::Global;
+
+/// A host asks for a connection. The caller owes 1 to 8,192 buffers.
+pub fn dial(
+    alloc: Global,
+    hosts: &mut Hosts,
+    host: usize,
+    socket: Socket,
+    to: Address,
+    buffers: u16,
+    first: usize,
+    now: u64,
+) -> Result<Growth, OutOfMemory>
+    requires there { host < length hosts.old.stations }
+    requires range { (0 < buffers) × (buffers ≤ most_units) }
+    ensures { IfOk result (λ g. Grows hosts.old hosts.new first now (growth_view g)
+        (Dialling host socket to buffers)) }
+{
+    match hosts.dial(alloc, host, socket, to, buffers, now) {
+        Ok(who) => noted(
+            alloc,
+            Entry::Opened { who, host, buffers },
+            Answer::End(who),
+        ),
+        Err(Refusal::ByEnd(fault)) => Ok(quiet(alloc, Answer::Refused(fault))),
+        Err(Refusal::OutOfMemory) => Err(OutOfMemory),
+    }
+}
+
+/// A message is handed in at an end that stands.
+pub fn send(
+    alloc: Global,
+    hosts: &mut Hosts,
+    who: usize,
+    message: Message,
+    first: usize,
+    now: u64,
+) -> Result<Growth, OutOfMemory>
+    requires order { FitTogether hosts.old }
+    requires stands { stands hosts.old who ≡ true }
+    ensures { IfOk result (λ g. Grows hosts.old hosts.new first now (growth_view g)
+        (Sending who (message_view message))) }
+{
+    match hosts.send(alloc, who, &message, now) {
+        Ok(()) => noted(alloc, Entry::HandIn { who, message }, Answer::Done),
+        Err(fault) => Ok(quiet(alloc, Answer::Refused(fault))),
+    }
+}
+
+/// An end that stands is asked to end its connection.
+pub fn close(
+    alloc: Global,
+    hosts: &mut Hosts,
+    who: usize,
+    first: usize,
+    now: u64,
+) -> Result<Growth, OutOfMemory>
+    requires order { FitTogether hosts.old }
+    requires stands { stands hosts.old who ≡ true }
+    ensures { IfOk result (λ g. Grows hosts.old hosts.new first now (growth_view g) (Closing who)) }
+{
+    match hosts.close(alloc, who, now) {
+        Ok(()) => noted(alloc, Entry::EndAsked { who }, Answer::Done),
+        Err(fault) => Ok(quiet(alloc, Answer::Refused(fault))),
+    }
+}
+
+/// An end that stands goes.
+pub fn release(
+    alloc: Global,
+    hosts: &mut Hosts,
+    who: usize,
+    first: usize,
+    now: u64,
+) -> Result<Growth, OutOfMemory>
+    requires order { FitTogether hosts.old }
+    requires stands { stands hosts.old who ≡ true }
+    ensures { IfOk result (λ g. Grows hosts.old hosts.new first now (growth_view g) (Releasing who)) }
+{
+    match hosts.release(who, now) {
+        Ok(()) => noted(alloc, Entry::Released { who }, Answer::Done),
+        Err(fault) => Ok(quiet(alloc, Answer::Refused(fault))),
+    }
+}
+
+/// A message like this one.
+fn copy_of(alloc: Global, message: &Message) -> Result<Message, OutOfMemory>
+    ensures { IfOk result (λ m. message_view m ≡ message_view message.now) }
+{
+    let body = Vec::from_slice(alloc, &message.body)?;
+    Ok(Message {
+        stream: message.stream,
+        body,
+    })
+}
+
+/// What is told of a take that was not refused: the unit that was held, and the message that it ended.
+fn taken(alloc: Global, who: usize, unit: Option<Unit>, taken: Taken) -> Result<Growth, OutOfMemory>
+    ensures { IfOk result (λ g. growth_view g ≡ record {
+      parcels = [];
+      notes = unit_notes (Ok (taken_view taken)) unit who ++ whole_notes (Ok (taken_view taken)) who;
+      answer = views.Taken (taken_view taken);
+    }) }
+{
+    let mut entries = Vec::new(alloc);
+    if let Some(unit) = unit {
+        let unit = Box::new(alloc, unit)?;
+        entries.push(Entry::UnitTaken { who, unit })?;
+    }
+    if let Taken::Whole(message) = &taken {
+        let message = copy_of(alloc, message)?;
+        entries.push(Entry::HandOut { who, message })?;
+    }
+    Ok(Growth {
+        parcels: Vec::new(alloc),
+        entries,
+        answer: Answer::Taken(taken),
+    })
+}
+
+/// A unit is taken from an end that stands.
+pub fn take(
+    alloc: Global,
+    hosts: &mut Hosts,
+    who: usize,
+    first: usize,
+    now: u64,
+) -> Result<Growth, OutOfMemory>
+    requires order { FitTogether hosts.old }
+    requires stands { stands hosts.old who ≡ true }
+    ensures { IfOk result (λ g. Grows hosts.old hosts.new first now (growth_view g) (TakingFrom who)) }
+{
+    let (unit, result) = hosts.take(alloc, who, now);
+    match result {
+        Ok(answer) => taken(alloc, who, unit, answer),
+        Err(fault) => Ok(quiet(alloc, Answer::Refused(fault))),
+    }
+}

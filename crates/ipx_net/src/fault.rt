@@ -1,0 +1,71 @@
+//! Why a step was refused.
+
+ghost use Rattle.std.specs.Prelude.{◌≡◌};
+ghost use Rattle.ipx_net.specs.Faults.{net_fault_number};
+ghost use Rattle.ipx_net.specs.declared.fault.NetFault.TheVariants as NetFaults;
+
+use ipx_wire::OutOfMemory;
+use std::alloc::{AllocError, AllocFailed};
+use thiserror::Error;
+
+/// Why a step of a network was refused.
+#[derive(Clone, Copy, Debug, PartialEq, Eq, Error)]
+pub enum NetFault {
+    #[error("no such parcel")]
+    NoSuchParcel,
+    /// The place is not on the parcel's network, or there is no such host, router or port.
+    #[error("not on that network")]
+    NotOnSegment,
+    /// There is no such end, or it was released.
+    #[error("no such end")]
+    NoSuchEnd,
+    /// The log holds 1,000,000 entries.
+    #[error("the log is full")]
+    Full,
+    /// The log stands, and no further step is taken.
+    #[error("out of memory")]
+    OutOfMemory,
+    /// Memory was refused before.
+    #[error("memory was refused before")]
+    Spent,
+}
+
+impl NetFault {
+    /// The fault's number, 32 to 37: what programs print and compare.
+    pub fn number(&self) -> u8
+        ensures { result ≡ net_fault_number self.now }
+    {
+        match self {
+            NetFault::NoSuchParcel => 32,
+            NetFault::NotOnSegment => 33,
+            NetFault::NoSuchEnd => 34,
+            NetFault::Full => 35,
+            NetFault::OutOfMemory => 36,
+            NetFault::Spent => 37,
+        }
+    }
+}
+
+impl From<OutOfMemory> for NetFault {
+    ghost from_gives = { λ _ e. e ≡ NetFaults.OutOfMemory };
+
+    fn from(_error: OutOfMemory) -> NetFault {
+        NetFault::OutOfMemory
+    }
+}
+
+impl From<AllocError> for NetFault {
+    ghost from_gives = { λ _ e. e ≡ NetFaults.OutOfMemory };
+
+    fn from(_error: AllocError) -> NetFault {
+        NetFault::OutOfMemory
+    }
+}
+
+impl<T: Drop> From<AllocFailed<T>> for NetFault {
+    ghost from_gives = { λ _ e. e ≡ NetFaults.OutOfMemory };
+
+    fn from(_error: AllocFailed<T>) -> NetFault {
+        NetFault::OutOfMemory
+    }
+}

@@ -1,0 +1,100 @@
+//! What an event meets before anything is done.
+
+ghost use Rattle.std.specs.Prelude.{◌≡◌, ◌<◌, ℕ, length, nat_lt, option_map, slice_get};
+ghost use Rattle.ipx_hosts.specs.Hosts.{stands};
+ghost use Rattle.ipx_net.specs.NetFaults.{end_fault, fault_before, member_fault, network_at, place_fault, poll_fault};
+ghost use Rattle.ipx_net.specs.BookView.{BookView};
+ghost use Rattle.ipx_net.specs.NetView.{net_of};
+ghost use Rattle.ipx_net.specs.Parcels.{parcel_views};
+
+use crate::book::Book;
+use crate::event::{Event, Member};
+use crate::fault::NetFault;
+use crate::parcel::Parcel;
+use crate::place::Place;
+use crate::routers::{RouterNow, network_at};
+use ipx_hosts::Hosts;
+use ipx_wire::Network;
+
+/// There is no such end, or it was released.
+fn end_fault(hosts: &Hosts, who: usize) -> Option<NetFault>
+    ensures { result ≡ end_fault (stands hosts.now who) }
+{
+    if hosts.stands(who) {
+        None
+    } else {
+        Some(NetFault::NoSuchEnd)
+    }
+}
+
+/// There is no such host or router.
+fn member_fault(count: usize, number: usize) -> Option<NetFault>
+    ensures { result ≡ member_fault (nat_lt number count) }
+{
+    if number < count {
+        None
+    } else {
+        Some(NetFault::NotOnSegment)
+    }
+}
+
+/// The network of a place, if that is there.
+fn network_of(hosts: &Hosts, routers: &[RouterNow], place: &Place) -> Option<Network>
+    ensures { (book : BookView) (moment : ℕ)
+        → result ≡ network_at (net_of hosts.now routers.now book.parcels book.log moment) place.now }
+{
+    match place {
+        Place::Host(host) => hosts.network(*host),
+        Place::Port(router, port) => network_at(routers.get(*router)?.router.ports(), *port),
+    }
+}
+
+/// The network of a parcel, if that is there.
+fn segment_of(parcels: &[Parcel], parcel: usize) -> Option<Network>
+    ensures { result ≡ option_map (λ p. p.segment) (slice_get parcels.now parcel) }
+{
+    let parcel = parcels.get(parcel)?;
+    Some(parcel.segment)
+}
+
+/// A parcel is not there, or not on the network of a place.
+fn place_fault(parcels: &[Parcel], parcel: usize, network: Option<Network>) -> Option<NetFault>
+    ensures { result ≡ place_fault (slice_get (parcel_views parcels.now) parcel) network }
+{
+    match (segment_of(parcels, parcel), network) {
+        (None, _) => Some(NetFault::NoSuchParcel),
+        (Some(segment), Some(network)) if network.0 == segment.0 => None,
+        (Some(_), _) => Some(NetFault::NotOnSegment),
+    }
+}
+
+/// The fault that an event meets before anything is done, if it meets one.
+pub fn fault_of(
+    hosts: &Hosts,
+    routers: &[RouterNow],
+    book: &Book,
+    event: &Event,
+) -> Option<NetFault>
+    ensures { (moment : ℕ) → result ≡ fault_before
+        (net_of hosts.now routers.now book.now.parcels book.now.log moment) event.now }
+{
+    match event {
+        Event::Dial { host, .. } => member_fault(hosts.count(), *host),
+        Event::Send { who, .. } => end_fault(hosts, *who),
+        Event::Take { who } => end_fault(hosts, *who),
+        Event::Close { who } => end_fault(hosts, *who),
+        Event::Release { who } => end_fault(hosts, *who),
+        Event::Poll {
+            member: Member::Host(host),
+        } => member_fault(hosts.count(), *host),
+        Event::Poll {
+            member: Member::Router(router),
+        } => member_fault(routers.len(), *router),
+        Event::Deliver { parcel, place } => {
+            let network = network_of(hosts, routers, place);
+            place_fault(book.parcels(), *parcel, network)
+        }
+        Event::Tick { .. } => None,
+        Event::Inject { .. } => None,
+    }
+}

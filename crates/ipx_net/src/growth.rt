@@ -1,0 +1,45 @@
+//! What an event adds to the book.
+
+ghost use Rattle.std.specs.Prelude.{◌≡◌, ◌∷◌, [], IfOk};
+ghost use Rattle.ipx_net.specs.AnswerView.{answer_view};
+ghost use Rattle.ipx_net.specs.Entries.{entry_note};
+ghost use Rattle.ipx_net.specs.GrowthView.{growth_view};
+
+use crate::answer::Answer;
+use crate::entry::Entry;
+use crate::parcel::Parcel;
+use ipx_wire::OutOfMemory;
+use std::alloc::Global;
+
+/// The parcels that an event makes, the entries that tell of it, and its answer.
+#[derive(Drop)]
+pub struct Growth {
+    pub parcels: Vec<Parcel>,
+    pub entries: Vec<Entry>,
+    pub answer: Answer,
+}
+
+/// An answer alone.
+pub fn quiet(alloc: Global, answer: Answer) -> Growth
+    ensures { growth_view result ≡ record { parcels = []; notes = []; answer = answer_view answer } }
+{
+    Growth {
+        parcels: Vec::new(alloc),
+        entries: Vec::new(alloc),
+        answer,
+    }
+}
+
+/// An answer with an entry.
+pub fn noted(alloc: Global, entry: Entry, answer: Answer) -> Result<Growth, OutOfMemory>
+    ensures { IfOk result (λ g. growth_view g
+        ≡ record { parcels = []; notes = entry_note entry ∷ []; answer = answer_view answer }) }
+{
+    let mut entries = Vec::new(alloc);
+    entries.push(entry)?;
+    Ok(Growth {
+        parcels: Vec::new(alloc),
+        entries,
+        answer,
+    })
+}

@@ -1,0 +1,157 @@
+//! What an event does, with the book as it is: what is to be added to that.
+
+ghost use Rattle.std.specs.Prelude.{◌≡◌, ◌++◌, None, IfOk, slice_get};
+ghost use Rattle.ipx_hosts.specs.Hosts.{FitTogether};
+ghost use Rattle.ipx_net.specs.GrowthView.{growth_view};
+ghost use Rattle.ipx_net.specs.NetEvents.{DeliversTo, Happens, IsOwed, PollsOf, injected};
+ghost use Rattle.ipx_net.specs.NetFaults.{fault_before, network_at, place_fault, poll_fault};
+ghost use Rattle.ipx_net.specs.NetView.{net_of};
+
+use crate::answer::Answer;
+use crate::book::Book;
+use crate::calling::{close, dial, release, send, take};
+use crate::delivering::deliver_host;
+use crate::entry::Entry;
+use crate::event::{Event, Member};
+use crate::growth::{Growth, quiet};
+use crate::parcel::Parcel;
+use crate::place::Place;
+use crate::polling::poll_host;
+use crate::routers::RouterNow;
+use crate::routing::{deliver_member, poll_member};
+use ipx_hosts::Hosts;
+use ipx_wire::{Network, Node, OutOfMemory};
+use std::alloc::Global;
+
+/// A packet comes from outside, under this number.
+fn inject(
+    alloc: Global,
+    segment: Network,
+    next: Node,
+    bytes: Vec<u8>,
+    first: usize,
+) -> Result<Growth, OutOfMemory>
+    ensures { IfOk result (λ g. growth_view g ≡ injected segment next bytes.items first) }
+{
+    let mut numbers = Vec::new(alloc);
+    numbers.push(first)?;
+    let mut entries = Vec::new(alloc);
+    entries.push(Entry::Injected { parcel: first })?;
+    let mut parcels = Vec::new(alloc);
+    parcels.push(Parcel {
+        segment,
+        next,
+        bytes,
+        sent_by: None,
+    })?;
+    Ok(Growth {
+        parcels,
+        entries,
+        answer: Answer::Parcels(numbers),
+    })
+}
+
+/// A host or a router is asked what it has to send.
+fn poll(
+    alloc: Global,
+    hosts: &mut Hosts,
+    routers: &mut [RouterNow],
+    book: &Book,
+    member: Member,
+    now: u64,
+) -> Result<Growth, OutOfMemory>
+    requires { poll_fault (net_of hosts.old routers.old book.now.parcels book.now.log now) member ≡ None }
+    ensures { IfOk result (λ g. PollsOf member (growth_view g).answer
+        (net_of hosts.old routers.old book.now.parcels book.now.log now)
+        (net_of hosts.new routers.new (book.now.parcels ++ (growth_view g).parcels)
+        (book.now.log ++ (growth_view g).notes) now)) }
+{
+    let first = book.parcels().len();
+    match member {
+        Member::Host(host) => poll_host(alloc, hosts, host, first, now),
+        Member::Router(router) => poll_member(alloc, routers, router, first, now),
+    }
+}
+
+/// A parcel comes to a place on its network.
+fn deliver(
+    alloc: Global,
+    hosts: &mut Hosts,
+    routers: &mut [RouterNow],
+    book: &Book,
+    parcel: usize,
+    place: Place,
+    now: u64,
+) -> Result<Growth, OutOfMemory>
+    requires { place_fault (slice_get book.now.parcels parcel)
+        (network_at (net_of hosts.old routers.old book.now.parcels book.now.log now) place) ≡ None }
+    ensures { IfOk result (λ g. DeliversTo parcel place (growth_view g).answer
+        (net_of hosts.old routers.old book.now.parcels book.now.log now)
+        (net_of hosts.new routers.new (book.now.parcels ++ (growth_view g).parcels)
+        (book.now.log ++ (growth_view g).notes) now)) }
+{
+    let parcels = book.parcels();
+    let bytes = &parcels[parcel].bytes;
+    match place {
+        Place::Host(host) => deliver_host(alloc, hosts, host, parcel, bytes, now),
+        Place::Port(router, port) => {
+            deliver_member(
+                alloc,
+                routers,
+                router,
+                port,
+                parcel,
+                bytes,
+                parcels.len(),
+                now,
+            )
+        }
+    }
+}
+
+/// What an event does that meets no fault before.
+pub fn happen(
+    alloc: Global,
+    hosts: &mut Hosts,
+    routers: &mut [RouterNow],
+    book: &Book,
+    moment: &mut u64,
+    event: Event,
+) -> Result<Growth, OutOfMemory>
+    requires order { FitTogether hosts.old }
+    requires owed { IsOwed event }
+    requires sound { fault_before
+        (net_of hosts.old routers.old book.now.parcels book.now.log moment.old) event ≡ None }
+    ensures { IfOk result (λ g. Happens event (growth_view g).answer
+        (net_of hosts.old routers.old book.now.parcels book.now.log moment.old)
+        (net_of hosts.new routers.new (book.now.parcels ++ (growth_view g).parcels)
+        (book.now.log ++ (growth_view g).notes) moment.new)) }
+{
+    let now = *moment;
+    let first = book.parcels().len();
+    match event {
+        Event::Dial {
+            host,
+            socket,
+            to,
+            buffers,
+        } => dial(alloc, hosts, host, socket, to, buffers, first, now),
+        Event::Send { who, message } => send(alloc, hosts, who, message, first, now),
+        Event::Take { who } => take(alloc, hosts, who, first, now),
+        Event::Close { who } => close(alloc, hosts, who, first, now),
+        Event::Release { who } => release(alloc, hosts, who, first, now),
+        Event::Tick { now } => {
+            *moment = now;
+            Ok(quiet(alloc, Answer::Done))
+        }
+        Event::Poll { member } => poll(alloc, hosts, routers, book, member, now),
+        Event::Deliver { parcel, place } => deliver(
+            alloc, hosts, routers, book, parcel, place, now,
+        ),
+        Event::Inject {
+            segment,
+            next,
+            bytes,
+        } => inject(alloc, segment, next, bytes, first),
+    }
+}

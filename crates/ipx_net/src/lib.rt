@@ -1,0 +1,43 @@
+//! A network in memory: what happened in it, in order, and the packets on their way.
+//!
+//! A `Book` holds the log and the parcels. What is read off the log, as which packets an end read and
+//! who sent them, is kept beside it as it grows.
+#![tactic(auto)]
+
+mod answer;
+mod book;
+mod calling;
+mod delivering;
+mod endinfo;
+mod entry;
+mod event;
+mod fault;
+mod faults;
+mod growth;
+mod handed;
+mod happening;
+mod host;
+mod mark;
+mod net;
+mod parcel;
+mod place;
+mod places;
+mod polling;
+mod reading;
+mod recent;
+mod role;
+mod routers;
+mod routing;
+mod scanned;
+
+pub use answer::Answer;
+pub use book::Book;
+pub use endinfo::EndInfo;
+pub use entry::Entry;
+pub use event::{Event, Member};
+pub use fault::NetFault;
+pub use host::Host;
+pub use net::Net;
+pub use parcel::Parcel;
+pub use place::Place;
+pub use routers::RouterNow;

@@ -1,0 +1,82 @@
+//! Where a parcel comes from.
+
+ghost use Rattle.std.specs.Prelude.{◌≡◌, ◌≤◌, All, ℕ, map, slice_index_or};
+ghost use Rattle.ipx_log.specs.Peers.{end_of};
+ghost use Rattle.ipx_log.specs.Scan.{asker, nowhere};
+ghost use Rattle.ipx_net.specs.Sights.{maker_view, mark_view};
+
+/// Who made a parcel that no router carried.
+#[derive(Clone, Copy, Debug, PartialEq, Eq)]
+pub enum Maker {
+    /// An end, which sent a unit by it.
+    ByUnit(usize),
+    /// An end, which sent a packet without a unit.
+    BySystem(usize),
+    /// A router.
+    ByRouter(usize),
+    /// It came from outside.
+    FromOutside,
+}
+
+impl Maker {
+    /// The end that made it, with a unit or without.
+    pub fn end(&self) -> Option<usize>
+        ensures { result ≡ end_of (maker_view self.now) }
+    {
+        match self {
+            Maker::ByUnit(who) | Maker::BySystem(who) => Some(*who),
+            Maker::ByRouter(_) | Maker::FromOutside => None,
+        }
+    }
+
+    /// The end that made it without a unit, as requests and replies are made.
+    pub fn asker(&self) -> Option<usize>
+        ensures { result ≡ asker (maker_view self.now) }
+    {
+        match self {
+            Maker::BySystem(who) => Some(*who),
+            Maker::ByUnit(_) | Maker::ByRouter(_) | Maker::FromOutside => None,
+        }
+    }
+}
+
+/// Of a parcel: its origin, which is the parcel that routers carried on and on to this one; who made
+/// that; how many routers it passed; and how many units all ends had sent for the first time when
+/// its origin was made, it among them.
+#[derive(Clone, Copy, Debug, PartialEq, Eq)]
+pub struct Mark {
+    pub origin: usize,
+    pub maker: Maker,
+    pub passed: usize,
+    pub units: usize,
+}
+
+impl Mark {
+    /// Of a parcel that no router carried, when so many units had been sent.
+    pub fn made(parcel: usize, maker: Maker, units: usize) -> Mark
+        ensures { result ≡ record { origin = parcel; maker = maker; passed = 0; units = units } }
+    {
+        Mark {
+            origin: parcel,
+            maker,
+            passed: 0,
+            units,
+        }
+    }
+}
+
+/// The mark of a parcel, by its number.
+pub fn mark_at(marks: &[Mark], parcel: usize) -> Mark
+    ensures passed { (most : ℕ) → All (λ m. m.passed ≤ most) marks.now → result.passed ≤ most }
+    ensures value { mark_view result ≡ slice_index_or (map mark_view marks.now) parcel nowhere }
+{
+    match marks.get(parcel) {
+        Some(mark) => *mark,
+        None => Mark {
+            origin: 0,
+            maker: Maker::FromOutside,
+            passed: 0,
+            units: 0,
+        },
+    }
+}

@@ -1,0 +1,102 @@
+//! A host is polled.
+
+ghost use Rattle.std.specs.Prelude.{◌≡◌, ◌<◌, ◌∷◌, [], IfOk, length};
+ghost use Rattle.ipx_log.specs.Packets.{note_of};
+ghost use Rattle.ipx_net.specs.AnswerView as views;
+ghost use Rattle.ipx_net.specs.Entries.{entry_note, entry_notes};
+ghost use Rattle.ipx_net.specs.GrowthView.{Grows, growth_view};
+ghost use Rattle.ipx_net.specs.HostEvents.{PollingHost};
+ghost use Rattle.ipx_net.specs.Parcels.{parcel_view};
+ghost use Rattle.ipx_net.specs.Speaking.{spoken_notes};
+
+use crate::answer::Answer;
+use crate::entry::Entry;
+use crate::growth::{Growth, quiet};
+use crate::parcel::Parcel;
+use crate::place::Place;
+use ipx_hosts::Hosts;
+use ipx_wire::OutOfMemory;
+use spx_link::Sent;
+use std::alloc::Global;
+
+/// The bytes that a packet of a connection has at most.
+const MOST_BYTES: usize = 576;
+
+/// The entry of a packet that an end gave.
+fn entry_of(sent: Sent, who: usize, parcel: usize) -> Entry
+    ensures { entry_note result ≡ note_of sent who parcel }
+{
+    match sent {
+        Sent::Unit => Entry::Unit { who, parcel },
+        Sent::Again => Entry::Again { who, parcel },
+        _ => Entry::System { who, parcel },
+    }
+}
+
+/// The entries of a packet: one, where an end gave it.
+fn spoken(
+    alloc: Global,
+    spoke: Option<(usize, Sent)>,
+    parcel: usize,
+) -> Result<Vec<Entry>, OutOfMemory>
+    ensures { IfOk result (λ v. entry_notes v.items ≡ spoken_notes spoke parcel) }
+{
+    let mut entries = Vec::new(alloc);
+    if let Some((who, sent)) = spoke {
+        entries.push(entry_of(sent, who, parcel))?;
+    }
+    Ok(entries)
+}
+
+/// A packet of a host as a parcel of a number, with the entries that tell of it.
+fn posted(
+    alloc: Global,
+    parcel: Parcel,
+    entries: Vec<Entry>,
+    number: usize,
+) -> Result<Growth, OutOfMemory>
+    ensures { IfOk result (λ g. growth_view g ≡ record {
+      parcels = parcel_view parcel ∷ [];
+      notes = entry_notes entries.items;
+      answer = views.Parcels (number ∷ []);
+    }) }
+{
+    let mut numbers = Vec::new(alloc);
+    numbers.push(number)?;
+    let mut parcels = Vec::new(alloc);
+    parcels.push(parcel)?;
+    Ok(Growth {
+        parcels,
+        entries,
+        answer: Answer::Parcels(numbers),
+    })
+}
+
+/// A host is asked what it has to send.
+pub fn poll_host(
+    alloc: Global,
+    hosts: &mut Hosts,
+    host: usize,
+    first: usize,
+    now: u64,
+) -> Result<Growth, OutOfMemory>
+    requires { host < length hosts.old.stations }
+    ensures { IfOk result (λ g. Grows hosts.old hosts.new first now (growth_view g)
+        (PollingHost host)) }
+{
+    let segment = hosts.network(host).unwrap();
+    let mut bytes = vec![in alloc; 0; MOST_BYTES]?;
+    let Some((next, length)) = hosts.poll(host, now, &mut bytes) else {
+        return Ok(quiet(alloc, Answer::Parcels(Vec::new(alloc))));
+    };
+    bytes.truncate(length);
+    let entries = spoken(alloc, hosts.spoke(host), first)?;
+    let sent_by = Some(Place::Host(host));
+    let parcel = Parcel {
+        segment,
+        next,
+        bytes,
+        sent_by,
+    };
+    posted(alloc, parcel, entries, first)
+}

@@ -1,0 +1,77 @@
+//! Whether what ends read of their peers was sent lately.
+
+use crate::reading::Reading;
+use crate::role::Role;
+use crate::scanned::Scanned;
+use ipx_log::peer_is_found;
+
+/// So many units an end may have sent between the sending of a packet and its reading, less one: half
+/// of all sequence numbers.
+const TOO_MANY: usize = 32_768;
+
+impl Scanned {
+    ghost use Rattle.std.specs.Prelude.{◌≡◌, ◌<◌, ◌↔◌, All, IsTrue, map, option_map, slice_get};
+    ghost use Rattle.ipx_log.specs.EndsTold.{peer_in};
+    ghost use Rattle.ipx_log.specs.Peers.{IsRecent, units_between};
+    ghost use Rattle.ipx_net.specs.Sights.{reading_view, role_view, scan_of};
+
+    /// The role of an end, by its number.
+    fn role(&self, end: usize) -> Option<Role>
+        ensures { option_map role_view result ≡ slice_get (map role_view self.now.roles.items) end }
+    {
+        self.roles.get(end).copied()
+    }
+
+    /// The peer of an end: each was made or joined by a packet of the other, and one of them called.
+    pub fn peer(&self, end: usize) -> Option<usize>
+        ensures { result ≡ peer_in (scan_of self.now) end }
+    {
+        let role = self.role(end)?;
+        let partner = role.partner?;
+        let back = self.role(partner)?;
+        if back.partner == Some(end) && back.called != role.called {
+            Some(partner)
+        } else {
+            None
+        }
+    }
+
+    /// Whether an end sent fewer than 32,768 units between the sending and the reading of a packet.
+    fn sent_few(&self, who: usize, reading: &Reading) -> bool
+        ensures { IsTrue result
+            ↔ (units_between who self.now.sent.items (reading_view reading.now) < 32768) }
+    {
+        reading.to.saturating_sub(reading.from) < TOO_MANY
+            || self
+                .places
+                .between(&self.sent, who, reading.from, reading.to)
+                < TOO_MANY
+    }
+
+    /// Whether a packet that an end read of its peer was sent fewer than 32,768 units of each ago.
+    fn is_recent(&self, reading: &Reading) -> bool
+        ensures { IsTrue result ↔ IsRecent (scan_of self.now) (reading_view reading.now) }
+    {
+        peer_is_found();
+        match reading.maker.end() {
+            Some(maker) => {
+                self.peer(reading.who) != Some(maker)
+                    || (self.sent_few(reading.who, reading) && self.sent_few(maker, reading))
+            }
+            None => true,
+        }
+    }
+
+    /// Whether that holds of all that ends read.
+    pub fn are_recent(&self) -> bool
+        ensures { IsTrue result
+            ↔ All (λ r. IsRecent (scan_of self.now) (reading_view r)) self.now.readings.items }
+    {
+        for reading in &self.readings {
+            if !self.is_recent(reading) {
+                return false;
+            }
+        }
+        true
+    }
+}

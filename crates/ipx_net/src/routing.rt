@@ -1,0 +1,139 @@
+//! Events at routers, as growths of the book.
+
+ghost use Rattle.std.specs.Prelude.{◌≡◌, ◌+◌, ◌<◌, ◌≤◌, IfOk, IfSome, length, map, slice_get};
+ghost use Rattle.std.specs.List.{range_with_len};
+ghost use Rattle.ipx_router.specs.OutcomeView.{view};
+ghost use Rattle.ipx_router.specs.declared.outcome.Outcome.TheVariants as Outcomes;
+ghost use Rattle.ipx_router.specs.Packets.{sending_of, sendings};
+ghost use Rattle.ipx_net.specs.GrowthView.{growth_view};
+ghost use Rattle.ipx_net.specs.RouterEvents.{MemberPolled, MemberReached, routed_growth, told_growth};
+
+use crate::answer::Answer;
+use crate::entry::Entry;
+use crate::growth::{Growth, quiet};
+use crate::parcel::Parcel;
+use crate::routers::{RouterNow, poll_router, post, post_all, told_entries};
+use ipx_router::{Outcome, Port, Reply};
+use ipx_wire::OutOfMemory;
+use std::alloc::Global;
+
+/// So many numbers, from the first on.
+fn numbers(alloc: Global, first: usize, count: usize) -> Result<Vec<usize>, OutOfMemory>
+    requires { first + count ≤ 18446744073709551615 }
+    ensures { IfOk result (λ v. v.items ≡ map (λ k. first + k) (range_with_len 0 count)) }
+{
+    let mut all = Vec::with_capacity(alloc, count)?;
+    for k in 0..count {
+        all.push(first + k)?;
+    }
+    Ok(all)
+}
+
+/// The packets of a router's own, the first of which gets this number.
+fn told(
+    alloc: Global,
+    router: usize,
+    ports: &[Port],
+    replies: Vec<Reply>,
+    first: usize,
+) -> Result<Growth, OutOfMemory>
+    ensures { IfOk result (λ g. growth_view g ≡ told_growth router ports.now first (sendings replies.items)) }
+{
+    let count = replies.len();
+    if count > usize::MAX - first {
+        return Err(OutOfMemory);
+    }
+    let numbers = numbers(alloc, first, count)?;
+    let parcels = post_all(alloc, router, ports, replies)?;
+    let entries = told_entries(alloc, router, first, &parcels)?;
+    Ok(Growth {
+        parcels,
+        entries,
+        answer: Answer::Parcels(numbers),
+    })
+}
+
+/// A packet that a router carried on, under this number.
+fn carried(
+    alloc: Global,
+    router: usize,
+    ports: &[Port],
+    parcel: usize,
+    reply: Reply,
+    first: usize,
+) -> Result<Growth, OutOfMemory>
+    ensures { IfOk result (λ g. growth_view g ≡ routed_growth router ports.now parcel first (view (Outcomes.Forward reply))) }
+{
+    let mut numbers = Vec::new(alloc);
+    numbers.push(first)?;
+    let mut entries = Vec::new(alloc);
+    entries.push(Entry::Carried {
+        from: parcel,
+        parcel: first,
+    })?;
+    let mut parcels = Vec::new(alloc);
+    parcels.push(post(router, ports, reply))?;
+    Ok(Growth {
+        parcels,
+        entries,
+        answer: Answer::Parcels(numbers),
+    })
+}
+
+/// A router is asked what it has to send: its questions as it starts, and what it tells where it
+/// is time.
+pub fn poll_member(
+    alloc: Global,
+    routers: &mut [RouterNow],
+    router: usize,
+    first: usize,
+    now: u64,
+) -> Result<Growth, OutOfMemory>
+    requires { router < length routers.old }
+    ensures { IfOk result (λ g. MemberPolled routers.old router first now (growth_view g) routers.new) }
+{
+    let member = &mut routers[router];
+    let replies = poll_router(alloc, member, now)?;
+    let growth = told(alloc, router, member.router.ports(), replies, first)?;
+    Ok(growth)
+}
+
+/// What becomes of an outcome.
+fn routed(
+    alloc: Global,
+    router: usize,
+    ports: &[Port],
+    parcel: usize,
+    outcome: Outcome,
+    first: usize,
+) -> Result<Growth, OutOfMemory>
+    ensures { IfOk result (λ g. growth_view g ≡ routed_growth router ports.now parcel first (view outcome)) }
+{
+    match outcome {
+        Outcome::Forward(reply) => carried(alloc, router, ports, parcel, reply, first),
+        Outcome::Replies(replies) => told(alloc, router, ports, replies, first),
+        Outcome::Heard(count) => Ok(quiet(alloc, Answer::Heard(count))),
+        Outcome::Dropped(reason) => Ok(quiet(alloc, Answer::Dropped(reason))),
+    }
+}
+
+/// Bytes of a parcel come to a port of a router.
+pub fn deliver_member(
+    alloc: Global,
+    routers: &mut [RouterNow],
+    router: usize,
+    port: u8,
+    parcel: usize,
+    bytes: &[u8],
+    first: usize,
+    now: u64,
+) -> Result<Growth, OutOfMemory>
+    requires there { router < length routers.old }
+    requires port { IfSome (slice_get routers.old router) (λ r. (1 ≤ port) × (port ≤ length r.router.ports)) }
+    ensures { IfOk result (λ g. MemberReached routers.old router port parcel bytes.now first now (growth_view g) routers.new) }
+{
+    let member = &mut routers[router];
+    let outcome = member.router.receive(alloc, port, bytes, now)?;
+    let growth = routed(alloc, router, member.router.ports(), parcel, outcome, first)?;
+    Ok(growth)
+}

@@ -1,0 +1,226 @@
+//! A book: what it tells of small logs, written by hand.
+
+use ipx_net::{Book, Entry, NetFault, Parcel};
+use ipx_wire::{Network, Node};
+use spx_units::Message;
+use std::alloc::{AllocError, Global};
+use std::test::Fail;
+
+/// One entry more.
+pub fn note(alloc: Global, book: &mut Book, entry: Entry) -> Result<(), Fail> {
+    let entries = vec![in alloc; entry]?;
+    book.append(Vec::new(alloc), entries)?;
+    Ok(())
+}
+
+/// A message of one byte.
+pub fn message(alloc: Global, byte: u8) -> Result<Message, AllocError> {
+    let body = vec![in alloc; byte]?;
+    Ok(Message { stream: 0, body })
+}
+
+/// A parcel of one byte.
+pub fn parcel(alloc: Global, byte: u8) -> Result<Parcel, AllocError> {
+    Ok(Parcel {
+        segment: Network(0x11),
+        next: Node([0, 0, 0x7f, 0, 0, 4]),
+        bytes: vec![in alloc; byte]?,
+        sent_by: None,
+    })
+}
+
+/// The entries by which the ends 0 and 1 become peers: parcel 0 is the request, 1 the reply.
+pub fn joining(alloc: Global) -> Result<Vec<Entry>, AllocError> {
+    let entries = vec![in alloc;
+        Entry::Opened {
+            who: 0,
+            host: 0,
+            buffers: 8
+        },
+        Entry::System { who: 0, parcel: 0 },
+        Entry::Accepted {
+            who: 1,
+            parcel: 0,
+            buffers: 8
+        },
+        Entry::Got { who: 1, parcel: 0 },
+        Entry::System { who: 1, parcel: 1 },
+        Entry::Joined { who: 0, parcel: 1 },
+        Entry::Got { who: 0, parcel: 1 },
+    ]?;
+    Ok(entries)
+}
+
+/// A book of two peers.
+fn joined(alloc: Global) -> Result<Book, Fail> {
+    let mut book = Book::new(alloc);
+    book.append(Vec::new(alloc), joining(alloc)?)?;
+    Ok(book)
+}
+
+#[test]
+fn peers(rt: HostRuntime) -> Result<(), Fail> {
+    let mut book = joined(rt.alloc())?;
+    note(
+        rt.alloc(),
+        &mut book,
+        Entry::Opened {
+            who: 2,
+            host: 1,
+            buffers: 8,
+        },
+    )?;
+    assert_eq!(rt; book.log().len(), 8);
+    assert_eq!(rt; book.peer(0), Some(1));
+    assert_eq!(rt; book.peer(1), Some(0));
+    assert_eq!(rt; book.peer(2), None);
+    assert_eq!(rt; book.peer(3), None);
+    Ok(())
+}
+
+/// Parcels stand in the order in which they came.
+#[test]
+fn parcels(rt: HostRuntime) -> Result<(), Fail> {
+    let alloc = rt.alloc();
+    let mut book = Book::new(alloc);
+    book.append(vec![in alloc; parcel(alloc, 7)?]?, Vec::new(alloc))?;
+    book.append(vec![in alloc; parcel(alloc, 8)?]?, Vec::new(alloc))?;
+    assert_eq!(rt; book.parcels().len(), 2);
+    let last = book
+        .parcels()
+        .last()
+        .map_or(0, |p| p.bytes.first().copied().unwrap_or(0));
+    assert_eq!(rt; last, 8);
+    Ok(())
+}
+
+/// End 0 hands in 7 and 8, end 1 hands out 7 and then another byte.
+fn handed(alloc: Global, byte: u8) -> Result<Book, Fail> {
+    let mut book = joined(alloc)?;
+    note(
+        alloc,
+        &mut book,
+        Entry::HandIn {
+            who: 0,
+            message: message(alloc, 7)?,
+        },
+    )?;
+    note(
+        alloc,
+        &mut book,
+        Entry::HandIn {
+            who: 0,
+            message: message(alloc, 8)?,
+        },
+    )?;
+    note(
+        alloc,
+        &mut book,
+        Entry::HandOut {
+            who: 1,
+            message: message(alloc, 7)?,
+        },
+    )?;
+    note(
+        alloc,
+        &mut book,
+        Entry::HandOut {
+            who: 1,
+            message: message(alloc, byte)?,
+        },
+    )?;
+    Ok(book)
+}
+
+#[test]
+fn begins_rows(rt: HostRuntime) -> Result<(), Fail> {
+    assert!(rt; handed(rt.alloc(), 8)?.begins(1));
+    assert!(rt; !handed(rt.alloc(), 9)?.begins(1));
+    assert!(rt; handed(rt.alloc(), 9)?.begins(0));
+    assert!(rt; !handed(rt.alloc(), 8)?.begins(2));
+    Ok(())
+}
+
+/// An end that has no peer hands out something.
+#[test]
+fn alone(rt: HostRuntime) -> Result<(), Fail> {
+    let mut book = joined(rt.alloc())?;
+    note(
+        rt.alloc(),
+        &mut book,
+        Entry::Opened {
+            who: 2,
+            host: 1,
+            buffers: 8,
+        },
+    )?;
+    assert!(rt; book.begins(2));
+    note(
+        rt.alloc(),
+        &mut book,
+        Entry::HandOut {
+            who: 2,
+            message: message(rt.alloc(), 7)?,
+        },
+    )?;
+    assert!(rt; !book.begins(2));
+    Ok(())
+}
+
+/// End 1 reads parcel 2 of its peer, which sent so many units after it.
+fn behind(alloc: Global, units: usize) -> Result<Book, Fail> {
+    let mut book = joined(alloc)?;
+    note(alloc, &mut book, Entry::System { who: 0, parcel: 2 })?;
+    for k in 0..units {
+        note(
+            alloc,
+            &mut book,
+            Entry::Unit {
+                who: 0,
+                parcel: k.wrapping_add(3),
+            },
+        )?;
+    }
+    note(alloc, &mut book, Entry::Got { who: 1, parcel: 2 })?;
+    Ok(book)
+}
+
+#[test]
+fn fresh_rows(rt: HostRuntime) -> Result<(), Fail> {
+    assert!(rt; behind(rt.alloc(), 0)?.fresh());
+    assert!(rt; behind(rt.alloc(), 32_767)?.fresh());
+    assert!(rt; !behind(rt.alloc(), 32_768)?.fresh());
+    Ok(())
+}
+
+/// The same where the units are of an end that was never opened: they are none of the two ends.
+#[test]
+fn units_of_no_end(rt: HostRuntime) -> Result<(), Fail> {
+    let alloc = rt.alloc();
+    let mut book = joined(alloc)?;
+    note(alloc, &mut book, Entry::System { who: 0, parcel: 2 })?;
+    for k in 0..40_000usize {
+        note(
+            alloc,
+            &mut book,
+            Entry::Unit {
+                who: 9,
+                parcel: k.wrapping_add(3),
+            },
+        )?;
+    }
+    note(alloc, &mut book, Entry::Got { who: 1, parcel: 2 })?;
+    assert!(rt; book.fresh());
+    Ok(())
+}
+
+/// The numbers of the faults.
+#[test]
+fn fault_numbers(rt: HostRuntime) {
+    assert_eq!(rt; NetFault::NoSuchParcel.number(), 32);
+    assert_eq!(rt; NetFault::NotOnSegment.number(), 33);
+    assert_eq!(rt; NetFault::NoSuchEnd.number(), 34);
+    assert_eq!(rt; NetFault::Full.number(), 35);
+    assert_eq!(rt; NetFault::OutOfMemory.number(), 36);
+    assert_eq!(rt; NetFault::Spent.number(), 37);
+}

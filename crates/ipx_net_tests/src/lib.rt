@@ -1,0 +1,8 @@
+//! Tests of the network in memory, with literal values. They call what that crate makes public, and
+//! no crate stands on this one.
+#![tactic(auto)]
+
+#[cfg(test)]
+mod book;
+#[cfg(test)]
+mod refused;

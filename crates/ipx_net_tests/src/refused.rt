@@ -1,0 +1,52 @@
+//! A book where memory is refused. Run these with each request for memory refused.
+
+use crate::book::{joining, parcel};
+use ipx_net::{Book, Entry, Parcel};
+use std::alloc::{AllocError, Global};
+use std::process::Abort;
+use std::test::Fail;
+
+/// Entries, made once more where memory was refused.
+fn entries_at_last(alloc: Global) -> Result<Vec<Entry>, AllocError> {
+    match joining(alloc) {
+        Ok(entries) => Ok(entries),
+        Err(_) => joining(alloc),
+    }
+}
+
+/// One parcel in a list.
+fn one_parcel(alloc: Global) -> Result<Vec<Parcel>, AllocError> {
+    let parcels = vec![in alloc; parcel(alloc, 7)?]?;
+    Ok(parcels)
+}
+
+/// The same, made once more where memory was refused.
+fn parcel_at_last(alloc: Global) -> Result<Vec<Parcel>, AllocError> {
+    match one_parcel(alloc) {
+        Ok(parcels) => Ok(parcels),
+        Err(_) => one_parcel(alloc),
+    }
+}
+
+/// Appends, and once more where memory was refused: the book is then as it was.
+fn append_at_last(rt: &impl Abort, alloc: Global, book: &mut Book) -> Result<(), Fail> {
+    let parcels = parcel_at_last(alloc)?;
+    let entries = entries_at_last(alloc)?;
+    if book.append(parcels, entries).is_err() {
+        assert_eq!(rt; book.log().len(), 0);
+        assert_eq!(rt; book.parcels().len(), 0);
+        book.append(one_parcel(alloc)?, joining(alloc)?)?;
+    }
+    Ok(())
+}
+
+#[test]
+fn refused_append(rt: HostRuntime) -> Result<(), Fail> {
+    let mut book = Book::new(rt.alloc());
+    append_at_last(&rt, rt.alloc(), &mut book)?;
+    assert_eq!(rt; book.log().len(), 7);
+    assert_eq!(rt; book.parcels().len(), 1);
+    assert_eq!(rt; book.peer(1), Some(0));
+    assert!(rt; book.fresh());
+    Ok(())
+}

@@ -1,0 +1,161 @@
+-- Lists of offers as they were heard last, beside the same offers with the moments of their marks.
+use Rattle.std.proofs.Common.{◌≡◌, ◌≢◌, ℕ, zero, suc, ◌+◌, ◌<◌, ◌≤◌, Bool, true, false, cond, List, ◌++◌, ◌∷◌, [], length, get_or, set, Result, Ok, Err, take, drop, map, inl, inr, refl, sym, ap, ◌∙◌, arith}
+use Rattle.std.specs.Prelude.{IfOk, IfErr, OnOk, OnErr, not, ◌==◌, count_by}
+use Rattle.std.specs.List.{All, insert, remove}
+use Rattle.std.specs.declared.cmp.Ordering.{Ordering}
+use Rattle.std.proofs.lemmas.Bool.{ne_eqb}
+use Rattle.std.proofs.lemmas.Bool.Decides.{eqb_tells}
+use Rattle.std.proofs.lemmas.List.{map-append, length-map, map-set, take-map, drop-map, get_or-map}
+use Rattle.std.proofs.lemmas.List.Sums.{sum_by-set}
+use Rattle.std.proofs.lemmas.List.Elements.{All-map, All-set, All-append, All-take, All-drop, All-cons}
+use Rattle.ipx_tables.specs.declared.offer.Offer.{Offer}
+use Rattle.ipx_tables.specs.declared.source.Source.{Source}
+use Rattle.ipx_tables.specs.declared.rack.Heard.{Heard}
+use Rattle.ipx_tables.specs.Content.{pair_cmp, pair_of}
+use Rattle.ipx_tables.specs.Expiry.{IsOldest}
+use Rattle.ipx_tables.specs.Late.{IsInTime, as_heard, as_marked}
+use Rattle.ipx_tables.specs.Sorted.{IsRising, IsAtKey, IsGapFor}
+
+pub map_remove : {X Y : Type 0} (f : X → Y) (xs : List X) (i : ℕ) → map f (remove xs i) ≡ remove (map f xs) i
+map_remove f xs i = grind (arith, map-append f (take i xs) (drop (suc i) xs), take-map f i xs, drop-map f (suc i) xs)
+
+pub map_insert : {X Y : Type 0} (f : X → Y) (xs : List X) (i : ℕ) (x : X) → map f (insert xs i x) ≡ insert (map f xs) i (f x)
+map_insert f xs i x = grind (arith, map-append f (take i xs) (x ∷ drop i xs), take-map f i xs, drop-map f i xs)
+
+module _ {X Y K : Type 0} (cmp : K → K → Ordering) (f : X → Y) (back : Y → X) (key_x : X → K) (key_y : Y → K) (same : (x : X) → key_y (f x) ≡ key_x x) (xs : List X) where
+  up : (j : ℕ) (d : Y) → j < length xs → key_y (get_or (map f xs) j d) ≡ key_x (get_or xs j (back d))
+  up j d lt = ap key_y (get_or-map f xs j (back d) d lt) ∙ same (get_or xs j (back d))
+
+  down : (j : ℕ) (d : X) → j < length xs → key_x (get_or xs j d) ≡ key_y (get_or (map f xs) j (f d))
+  down j d lt = sym (ap key_y (get_or-map f xs j d (f d) lt) ∙ same (get_or xs j d))
+
+  pub rising_up : IsRising cmp key_x xs → IsRising cmp key_y (map f xs)
+  rising_up rising i j d lt within =
+      let long : j < length xs = omega (arith, within, length-map xs f) in
+      rw (up i d (omega arith), up j d long) (rising i j (back d) lt long)
+
+  pub at_up : (key : K) (i : ℕ) → IsAtKey cmp key_x xs key i → IsAtKey cmp key_y (map f xs) key i
+  at_up key i at = record {
+    in_range = omega (arith, at.in_range, length-map xs f);
+    ties = λ d. rw (up i d at.in_range) (at.ties (back d));
+  }
+
+  pub at_down : (key : K) (i : ℕ) → IsAtKey cmp key_y (map f xs) key i → IsAtKey cmp key_x xs key i
+  at_down key i at =
+      let long : i < length xs = omega (arith, at.in_range, length-map xs f) in
+      record { in_range = long; ties = λ d. rw (down i d long) (at.ties (f d)) }
+
+  pub gap_up : (key : K) (i : ℕ) → IsGapFor cmp key_x xs key i → IsGapFor cmp key_y (map f xs) key i
+  gap_up key i gap = record {
+    in_range = omega (arith, gap.in_range, length-map xs f);
+    below = λ j d lt. rw (up j d (omega (arith, gap.in_range))) (gap.below j (back d) lt);
+    above = λ j d le lt.
+        let long : j < length xs = omega (arith, lt, length-map xs f) in
+        rw (up j d long) (gap.above j (back d) le long);
+  }
+
+  pub gap_down : (key : K) (i : ℕ) → IsGapFor cmp key_y (map f xs) key i → IsGapFor cmp key_x xs key i
+  gap_down key i gap = record {
+    in_range = omega (arith, gap.in_range, length-map xs f);
+    below = λ j d lt. rw (down j d (omega (arith, gap.in_range, length-map xs f))) (gap.below j (f d) lt);
+    above = λ j d le lt. rw (down j d lt) (gap.above j (f d) le (omega (arith, lt, length-map xs f)));
+  }
+
+itself_eqb : (n : ℕ) → (n == n) ≡ true
+itself_eqb n = elim (eqb_tells n n) [ inl same ↦ same.0 | inr other ↦ absurd (other.1 refl) ]
+
+set_itself : {X : Type 0} (xs : List X) (i : ℕ) (x : X) → i < length xs → x ≡ get_or xs i x → set xs i x ≡ xs
+set_itself [] i x lt is = refl
+set_itself (y ∷ ys) zero x lt is = ap (λ z. z ∷ ys) is
+set_itself (y ∷ ys) (suc i) x lt is = ap (λ l. y ∷ l) (set_itself ys i x (omega (arith, lt)) is)
+
+count_set : {X : Type 0} (p : X → Bool) (xs : List X) (i : ℕ) (x y : X) → i < length xs → x ≡ get_or xs i x → p x ≡ true → p y ≡ false → count_by p (set xs i y) + 1 ≡ count_by p xs
+count_set p xs i x y lt is before after =
+    let change : count_by p (set xs i y) + cond (p (get_or xs i x)) 1 0 ≡ count_by p xs + cond (p y) 1 0 = sum_by-set (λ v. cond (p v) 1 0) xs i y x lt in
+    let one : cond (p (get_or xs i x)) 1 0 ≡ 1 = ap (λ (b : Bool). let n : ℕ = cond b 1 0 in n) (ap p (sym is) ∙ before) in
+    let none : cond (p y) 1 0 ≡ 0 = ap (λ (b : Bool). let n : ℕ = cond b 1 0 in n) after in
+    omega (arith, change, one, none)
+
+-- an offer whose mark is late
+abbrev pub is_late : {K M : Type 0} → Offer K (Heard M) → Bool
+is_late o = not (o.metric.moment == o.heard)
+
+module _ {K M : Type 0} (cmp : K → K → Ordering) (xs : List (Offer K (Heard M))) where
+  back : Offer K M → Offer K (Heard M)
+  back o = as_marked o.heard o
+
+  pub pairs_up : IsRising (pair_cmp cmp) pair_of xs → IsRising (pair_cmp cmp) pair_of (map as_heard xs)
+  pairs_up = rising_up (pair_cmp cmp) as_heard back pair_of pair_of (λ x. refl) xs
+
+  pub keys_up : (i : ℕ) (d : Offer K M) → i < length (map as_heard xs) → (get_or (map as_heard xs) i d).key ≡ (get_or xs i (as_marked d.heard d)).key
+  keys_up i d lt = ap (λ (o : Offer K M). o.key) (get_or-map as_heard xs i (as_marked d.heard d) d (omega (arith, lt, length-map xs as_heard)))
+
+  pub place_up : (p : K × Source) (i : ℕ) → IsAtKey (pair_cmp cmp) pair_of xs p i → IsAtKey (pair_cmp cmp) pair_of (map as_heard xs) p i
+  place_up = at_up (pair_cmp cmp) as_heard back pair_of pair_of (λ x. refl) xs
+
+  pub place_down : (p : K × Source) (i : ℕ) → IsAtKey (pair_cmp cmp) pair_of (map as_heard xs) p i → IsAtKey (pair_cmp cmp) pair_of xs p i
+  place_down = at_down (pair_cmp cmp) as_heard back pair_of pair_of (λ x. refl) xs
+
+  pub new_up : (p : K × Source) (i : ℕ) → IsGapFor (pair_cmp cmp) pair_of xs p i → IsGapFor (pair_cmp cmp) pair_of (map as_heard xs) p i
+  new_up = gap_up (pair_cmp cmp) as_heard back pair_of pair_of (λ x. refl) xs
+
+  pub new_down : (p : K × Source) (i : ℕ) → IsGapFor (pair_cmp cmp) pair_of (map as_heard xs) p i → IsGapFor (pair_cmp cmp) pair_of xs p i
+  new_down = gap_down (pair_cmp cmp) as_heard back pair_of pair_of (λ x. refl) xs
+
+module _ {K M : Type 0} (xs : List (Offer K (Heard M))) (i : ℕ) (x : Offer K (Heard M)) (lt : i < length xs) (is : x ≡ get_or xs i x) where
+  -- the offer whose mark is the first, and not late, was heard first
+  pub first_is_exact : (moment : ℕ) → All IsInTime xs → IsOldest xs i moment → x.metric.moment ≡ moment → IsOldest (map as_heard xs) i moment
+  first_is_exact moment in_time first exact = record {
+    in_range = omega (arith, lt, length-map xs as_heard);
+    heard = λ d. ap (λ o. o.heard) (get_or-map as_heard xs i x d lt ∙ ap as_heard (sym is)) ∙ exact;
+    first = All-map (λ (o : Offer K M). moment ≤ o.heard) as_heard xs (λ j d within. omega (arith, first.first j d within, in_time j d within));
+  }
+
+  moved : Offer K (Heard M)
+  moved = record x { heard = x.metric.moment }
+
+  -- a mark that moves up leaves what was heard
+  pub moved_same : map as_heard (set xs i (record x { heard = x.metric.moment })) ≡ map as_heard xs
+  moved_same =
+      map-set as_heard xs i (record x { heard = x.metric.moment })
+      ∙ sym (map-set as_heard xs i x)
+      ∙ ap (map as_heard) (set_itself xs i x lt is)
+
+  pub moved_in_time : All IsInTime xs → All IsInTime (set xs i (record x { heard = x.metric.moment }))
+  moved_in_time in_time = All-set IsInTime xs i (record x { heard = x.metric.moment }) (omega arith) in_time
+
+  pub moved_less : (x.metric.moment ≢ x.heard) → count_by is_late (set xs i (record x { heard = x.metric.moment })) + 1 ≡ count_by is_late xs
+  moved_less late = count_set is_late xs i x (record x { heard = x.metric.moment }) lt is (ap not (ne_eqb x.metric.moment x.heard late)) (ap not (itself_eqb x.metric.moment))
+
+pub if_ok : {A E : Type 0} (r : Result A E) (P Q : A → Type 0) → ((a : A) → P a → Q a) → IfOk r P → IfOk r Q
+if_ok (Ok a) P Q f h = f a h
+if_ok (Err e) P Q f h = h
+
+pub if_err : {A E : Type 0} (r : Result A E) (P Q : E → Type 0) → ((e : E) → P e → Q e) → IfErr r P → IfErr r Q
+if_err (Ok a) P Q f h = h
+if_err (Err e) P Q f h = f e h
+
+on_ok : {A E : Type 0} (r : Result A E) (P Q : Type 0) → (P → Q) → OnOk r P → OnOk r Q
+on_ok (Ok a) P Q f h = f h
+on_ok (Err e) P Q f h = h
+
+on_err : {A E : Type 0} (r : Result A E) (P Q : Type 0) → (P → Q) → OnErr r P → OnErr r Q
+on_err (Ok a) P Q f h = h
+on_err (Err e) P Q f h = f h
+
+module _ {A E K M : Type 0} (r : Result A E) (xs new : List (Offer K (Heard M))) (i : ℕ) (x : Offer K (Heard M)) where
+  pub added_in_time : OnOk r (new ≡ insert xs i x) → OnErr r (new ≡ xs) → All IsInTime xs → IsInTime x → All IsInTime new
+  added_in_time added refused all one = by r added refused
+    where
+      by : (q : Result A E) → OnOk q (new ≡ insert xs i x) → OnErr q (new ≡ xs) → All IsInTime new
+      by (Ok a) is _ = rw is (All-append IsInTime (take i xs) (x ∷ drop i xs) (All-take IsInTime i xs all) (All-cons IsInTime x (drop i xs) one (All-drop IsInTime i xs all)))
+      by (Err e) _ is = rw is all
+
+  pub added_as_heard : OnOk r (new ≡ insert xs i x) → OnOk r (map as_heard new ≡ insert (map as_heard xs) i (as_heard x))
+  added_as_heard = on_ok r (new ≡ insert xs i x) (map as_heard new ≡ insert (map as_heard xs) i (as_heard x)) (λ is. ap (map as_heard) is ∙ map_insert as_heard xs i x)
+
+  pub refused_as_heard : OnErr r (new ≡ xs) → OnErr r (map as_heard new ≡ map as_heard xs)
+  refused_as_heard = on_err r (new ≡ xs) (map as_heard new ≡ map as_heard xs) (ap (map as_heard))
+
+pub in_time_removed : {K M : Type 0} (xs : List (Offer K (Heard M))) (i : ℕ) → All IsInTime xs → All IsInTime (remove xs i)
+in_time_removed xs i all = All-append IsInTime (take i xs) (drop (suc i) xs) (All-take IsInTime i xs all) (All-drop IsInTime (suc i) xs all)

@@ -1,0 +1,9 @@
+pub mod Keyed
+pub mod Listeners
+pub mod Pushed
+pub mod Rests
+pub mod Arriving
+pub mod Once
+mod Polling
+mod Turning
+mod Written

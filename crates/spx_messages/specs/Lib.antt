@@ -1,0 +1,9 @@
+pub mod EndpointView
+pub mod Changes
+pub mod Taking
+pub mod Arrives
+pub mod Polls
+pub mod Faults
+pub mod Pushing
+pub mod Readings
+pub mod Turns

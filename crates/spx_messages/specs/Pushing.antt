@@ -1,0 +1,35 @@
+-- Words of private functions: what a unit does to the part of a message, and to what an id holds.
+use Rattle.std.specs.Prelude.{ℕ, ◌≡◌, ◌≢◌, true, false, IfOk, IsOkUnless, List, Option, Some, None, Result, Err, option_map}
+use Rattle.spx_link.specs.declared.unit.Unit.{Unit}
+use Rattle.spx_link.specs.Links.{ChangesOnly, LinksView}
+use Rattle.spx_units.specs.declared.fault.MessageFault.{MessageFault}
+use Rattle.spx_units.specs.declared.fault.MessageFault.TheVariants as MessageFaults
+use Rattle.spx_units.specs.declared.message.Message.{Message}
+use Rattle.spx_units.specs.Joining.{added, is_overlong}
+use Rattle.spx_units.specs.Message.{MessageView, message_view}
+use Rattle.spx_messages.specs.declared.parts.Part.{Part}
+use Rattle.spx_messages.specs.EndpointView.{Held, rest_in}
+use Rattle.spx_messages.specs.Taking.{TakenView, Part as OnePart, Whole}
+
+-- a unit was pushed behind the part of a message: what that answered, and the part that is left
+pub record Pushes (rest : Option MessageView) (u : Unit)
+    (result : Result (Option Message) MessageFault) (after : Option MessageView) : Type 0 where
+  pub overlong : is_overlong rest u ≡ true → (result ≡ Err MessageFaults.Overlong) × (after ≡ None)
+  pub whole : is_overlong rest u ≡ false → u.last ≡ true
+      → IfOk result (λ m. (option_map message_view m ≡ Some (added rest u)) × (after ≡ None))
+  pub part : is_overlong rest u ≡ false → u.last ≡ false
+      → IfOk result (λ m. (m ≡ None) × (after ≡ Some (added rest u)))
+  pub memory : is_overlong rest u ≡ false → IsOkUnless result MessageFaults.OutOfMemory
+  pub unchanged : result ≡ Err MessageFaults.OutOfMemory → after ≡ rest
+
+-- what is taken where a unit was pushed
+abbrev pub taken_of : Option MessageView → TakenView
+taken_of None = OnePart
+taken_of (Some m) = Whole m
+
+-- under an id the link and the part become these, and nothing else changes
+pub record ChangesHeld (links links' : LinksView) (parts parts' : List Part) (id : ℕ)
+    (after : Held) : Type 0 where
+  pub link : ChangesOnly links links' id after.link
+  pub rest : rest_in parts' id ≡ after.rest
+  pub others : (q : ℕ) → q ≢ id → rest_in parts' q ≡ rest_in parts q

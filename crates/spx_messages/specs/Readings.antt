@@ -1,0 +1,148 @@
+-- Words of private functions: what a host reads in a datagram, and what it answers to that.
+use Rattle.std.specs.Prelude.{ℕ, ◌≡◌, ◌≢◌, ◌<◌, ◌≤◌, ◌⊎◌, List, Some, None}
+use Rattle.ipx_wire.specs.Assigned.{spx_type}
+use Rattle.ipx_wire.specs.Connection.{IsConnectionPacket}
+use Rattle.ipx_wire.specs.Ipx.{PacketView, BeginsWith, ipx_fault}
+use Rattle.ipx_wire.specs.Spx.{spx_fault}
+use Rattle.ipx_wire.specs.declared.ipx.packet.IpxHeader.{IpxHeader}
+use Rattle.ipx_wire.specs.declared.spx.fault.SpxFault.{SpxFault}
+use Rattle.spx_link.specs.declared.received.Received.{Received}
+use Rattle.spx_link.specs.declared.received.Received.TheVariants as Receiveds
+use Rattle.spx_link.specs.Limits.{most_links}
+use Rattle.spx_link.specs.LinkView.{LinkView}
+use Rattle.spx_link.specs.Links.{LinksView, link_at, count_of, Adds, ChangesOnly, IsNextFree}
+use Rattle.spx_link.specs.Links.{IsAcceptedFrom, IsLeast}
+use Rattle.spx_link.specs.Receive.{receive_link}
+use Rattle.spx_link.specs.Offer.{owe_reply_link, accepted_from}
+use Rattle.spx_units.specs.Packets.{Home}
+use Rattle.spx_messages.specs.EndpointView.{buffers_in, rest_in}
+use Rattle.spx_messages.specs.declared.arrived.Arrived.{Arrived}
+use Rattle.spx_messages.specs.declared.arrived.Arrived.TheVariants as Arriveds
+use Rattle.spx_messages.specs.declared.listening.Listener.{Listener}
+use Rattle.spx_messages.specs.declared.parts.Part.{Part}
+use Rattle.spx_messages.specs.declared.receive.reading.Reading.{Reading}
+
+-- a packet of a connection, to this host
+pub record IsTo (home : Home) (h : IpxHeader) : Type 0 where
+  pub kind : h.kind ≡ spx_type
+  pub node : h.to.node ≡ home.node
+  pub network : (h.to.network ≡ home.network) ⊎ (h.to.network.0 ≡ 0)
+
+-- the datagram is read as this
+pub record IsRead (home : Home) (bytes : List ℕ) (r : Reading) : Type 0 where
+  pub packet : PacketView
+  pub is : IsConnectionPacket packet r.header r.body.now bytes
+  pub ours : IsTo home packet.header
+  pub to : packet.header.to.socket ≡ r.to
+  pub from : packet.header.from ≡ r.from
+
+-- the datagram is an IPX packet that is not for this host
+pub record IsElsewhere (home : Home) (bytes : List ℕ) : Type 0 where
+  pub packet : PacketView
+  pub is : BeginsWith bytes packet
+  pub not : ¬ IsTo home packet.header
+
+-- the datagram is an IPX packet for this host, whose body has a fault
+pub record IsFaulty (home : Home) (bytes : List ℕ) (f : SpxFault) : Type 0 where
+  pub packet : PacketView
+  pub is : BeginsWith bytes packet
+  pub ours : IsTo home packet.header
+  pub fault : spx_fault packet.body ≡ Some f
+
+-- why a datagram is not read
+abbrev pub IsUnread : Home → List ℕ → Arrived → Type 0
+IsUnread home bytes (Arriveds.Bad f) = ipx_fault bytes ≡ Some f
+IsUnread home bytes Arriveds.NotOurs = IsElsewhere home bytes
+IsUnread home bytes (Arriveds.BadSpx f) = IsFaulty home bytes f
+IsUnread home bytes Arriveds.NoListener = ⊥
+IsUnread home bytes Arriveds.NoRoom = ⊥
+IsUnread home bytes Arriveds.Stranger = ⊥
+IsUnread home bytes (Arriveds.Accepted id) = ⊥
+IsUnread home bytes (Arriveds.Link id r) = ⊥
+
+-- each id has the link that it had
+pub record SameLinks (old new : LinksView) : Type 0 where
+  pub links : (q : ℕ) → link_at new q ≡ link_at old q
+  pub last : new.last ≡ old.last
+  pub count : count_of new ≡ count_of old
+
+-- the link of the id, between that socket and that address, read it
+pub record Hears (old new : LinksView) (r : Reading) (id : ℕ) (answer : Received) : Type 0 where
+  pub to : r.header.to_id ≡ id
+  pub link : LinkView
+  pub at : link_at old id ≡ Some link
+  pub local : link.local ≡ r.to
+  pub remote : link.remote ≡ r.from
+  pub answer' : (receive_link link r.header r.body.now).0 ≡ answer
+  pub read : answer ≢ Receiveds.Stranger
+  pub changes : ChangesOnly old new id (receive_link link r.header r.body.now).1
+
+-- no link, or none that reads it
+abbrev pub IsOfNobody : LinksView → Reading → Type 0
+IsOfNobody s r =
+    (l : LinkView) → link_at s r.header.to_id ≡ Some l → l.local ≡ r.to → l.remote ≡ r.from
+    → (receive_link l r.header r.body.now).0 ≡ Receiveds.Stranger
+
+-- of the packets from an address and an id there, no link was accepted
+abbrev pub IsNew : LinksView → Reading → Type 0
+IsNew s r = (id : ℕ) → ¬ IsAcceptedFrom s r.from r.header.from_id id
+
+-- the part of a message that came under an id is gone, and the others stay
+pub record Forgets (old new : List Part) (id : ℕ) : Type 0 where
+  pub gone : rest_in new id ≡ None
+  pub others : (q : ℕ) → q ≢ id → rest_in new q ≡ rest_in old q
+
+-- a request came again: the link that it made owes its reply once more
+pub record AsksAgain (old new : LinksView) (r : Reading) (id : ℕ) : Type 0 where
+  pub least : IsLeast (IsAcceptedFrom old r.from r.header.from_id) id
+  pub link : LinkView
+  pub at : link_at old id ≡ Some link
+  pub changes : ChangesOnly old new id (owe_reply_link link)
+
+-- no socket listens that the request is for
+pub record IsDeafTo (listening : List Listener) (s : LinksView) (r : Reading) : Type 0 where
+  pub new : IsNew s r
+  pub deaf : buffers_in listening r.to.0 ≡ None
+
+-- a socket listens, and each link is held that may be
+pub record IsFullFor (listening : List Listener) (s : LinksView) (r : Reading) : Type 0 where
+  pub new : IsNew s r
+  pub buffers : ℕ
+  pub listens : buffers_in listening r.to.0 ≡ Some buffers
+  pub full : most_links ≤ count_of s
+
+-- a socket listens, and there is room for a link
+pub record IsOpenTo (listening : List Listener) (s : LinksView) (r : Reading) : Type 0 where
+  pub new : IsNew s r
+  pub buffers : ℕ
+  pub listens : buffers_in listening r.to.0 ≡ Some buffers
+  pub room : count_of s < most_links
+
+-- a link is made of the request, with no part of a message
+pub record Accepts (listening : List Listener) (old new : LinksView) (before after : List Part)
+    (r : Reading) (now id : ℕ) : Type 0 where
+  pub room : IsOpenTo listening old r
+  pub free : IsNextFree old id
+  pub adds : Adds old new id (accepted_from id r.to r.from r.header room.buffers now)
+  pub forgets : Forgets before after id
+
+-- the links and the messages in part are as they were
+pub record Unasked (old new : LinksView) (before after : List Part) : Type 0 where
+  pub links : new ≡ old
+  pub parts : after ≡ before
+
+-- what a request is answered, and what it does
+abbrev pub IsAsked : List Listener → LinksView → LinksView → List Part → List Part → Reading → ℕ
+    → Arrived → Type 0
+IsAsked listening old new before after r now (Arriveds.Bad f) = ⊥
+IsAsked listening old new before after r now Arriveds.NotOurs = ⊥
+IsAsked listening old new before after r now (Arriveds.BadSpx f) = ⊥
+IsAsked listening old new before after r now Arriveds.NoListener =
+    IsDeafTo listening old r × Unasked old new before after
+IsAsked listening old new before after r now Arriveds.NoRoom =
+    IsFullFor listening old r × Unasked old new before after
+IsAsked listening old new before after r now Arriveds.Stranger = ⊥
+IsAsked listening old new before after r now (Arriveds.Accepted id) =
+    Accepts listening old new before after r now id
+IsAsked listening old new before after r now (Arriveds.Link id answer) =
+    AsksAgain old new r id × (answer ≡ Receiveds.Repeat) × (after ≡ before)

@@ -1,0 +1,30 @@
+//! Laws of what an endpoint does, which follow from its words.
+
+ghost use Rattle.std.specs.Prelude.{◌≡◌, ℕ, List};
+ghost use Rattle.spx_messages.specs.Arrives.{Arrives};
+ghost use Rattle.spx_messages.specs.Changes.{SameBut};
+ghost use Rattle.spx_messages.specs.EndpointView.{EndpointView};
+ghost use Rattle.spx_messages.specs.declared.arrived.Arrived.{Arrived};
+
+use ipx_wire::{
+    bytes_are_one_packet, bytes_are_one_spx_packet, ipx_fault_is_of_no_packet,
+    spx_fault_is_of_no_spx_packet,
+};
+
+/// What a datagram does is one: the answer, what each id holds after it, and who heard it. So what
+/// the words say of a packet that the datagram is, they say of whatever packet it is.
+pub fn datagram_does_one_thing()
+    ensures answer { (old new other : EndpointView) (bytes : List ℕ) (now : ℕ) (a b : Arrived)
+        → Arrives old bytes now a new → Arrives old bytes now b other → a ≡ b }
+    ensures same { (old new other : EndpointView) (bytes : List ℕ) (now : ℕ) (a b : Arrived)
+        → Arrives old bytes now a new → Arrives old bytes now b other → SameBut new other }
+    ensures said { (old new other : EndpointView) (bytes : List ℕ) (now : ℕ) (a b : Arrived)
+        → Arrives old bytes now a new → Arrives old bytes now b other → other.said ≡ new.said }
+    ensures heard { (old new other : EndpointView) (bytes : List ℕ) (now : ℕ) (a b : Arrived)
+        → Arrives old bytes now a new → Arrives old bytes now b other → other.heard ≡ new.heard }
+{
+    bytes_are_one_packet();
+    bytes_are_one_spx_packet();
+    ipx_fault_is_of_no_packet();
+    spx_fault_is_of_no_spx_packet();
+}

@@ -1,0 +1,35 @@
+//! The packets that an endpoint gives.
+
+ghost use Rattle.std.specs.Prelude.{◌≡◌, ◌≤◌, length};
+ghost use Rattle.spx_messages.specs.Polls.{Polls};
+
+mod turn;
+mod writing;
+
+use crate::endpoint::Endpoint;
+use crate::poll::turn::poll_links;
+use crate::poll::writing::Place;
+use ipx_wire::Node;
+
+impl Endpoint {
+    /// Writes one packet to the front of the room, and tells the node that it goes to next and how
+    /// many bytes it takes. `sent` then tells whose it is and what. The caller owes room of 576
+    /// bytes.
+    ///
+    /// The links are asked in the order of their ids. None where none has anything to send at this
+    /// moment. It takes no memory.
+    pub fn poll(&mut self, now: u64, room: &mut [u8]) -> Option<(Node, usize)>
+        requires { 576 ≤ length room.old }
+        ensures { Polls self.old now result room.old room.new self.new }
+    {
+        let place = Place {
+            network: self.network,
+            node: self.node,
+            router: self.router,
+        };
+        self.sent = None;
+        let given = poll_links(place, &mut self.links, now, room)?;
+        self.sent = Some((given.id, given.what));
+        Some((given.next, given.count))
+    }
+}

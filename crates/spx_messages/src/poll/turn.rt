@@ -1,0 +1,66 @@
+//! A turn over the links of a host, which asks them in the order of their ids.
+
+ghost use Rattle.std.specs.Prelude.{◌≡◌, ◌≤◌, IfNone, IfSome, None, drop, length, take};
+ghost use Rattle.spx_link.specs.Links.{ChangesOnly, IsLive, link_at, polled};
+ghost use Rattle.spx_link.specs.Poll.{poll_link};
+ghost use Rattle.spx_messages.specs.Turns.{AllRest, GivesPacket, Turned};
+
+use crate::poll::writing::{Place, write_packet};
+use ipx_wire::Node;
+use spx_link::{Links, Sent};
+
+/// What a link gave: its id, what the packet is for, the node that it goes to next, and how many
+/// bytes it takes.
+#[derive(Clone, Copy)]
+pub struct Given {
+    pub id: u16,
+    pub what: Sent,
+    pub next: Node,
+    pub count: usize,
+}
+
+/// Asks the link of a live id, and writes the packet that it gives.
+fn poll_one(place: Place, links: &mut Links, id: u16, now: u64, room: &mut [u8]) -> Option<Given>
+    requires live { IsLive links.old id }
+    requires room { 576 ≤ length room.old }
+    ensures leaves { IfSome (link_at links.old id) (λ l.
+        ChangesOnly links.old links.new id (poll_link l now).1) }
+    ensures rests { IfNone result ((polled (link_at links.old id) now ≡ None)
+        × (room.new ≡ room.old)) }
+    ensures gives { IfSome result (λ g.
+        GivesPacket place links.old id now g (take g.count room.new)) }
+    ensures behind { IfSome result (λ g. drop g.count room.new ≡ drop g.count room.old) }
+    ensures short { IfSome result (λ g. g.count ≤ 576) }
+{
+    let link = links.get(id)?;
+    let from = place.at(link.local());
+    let to = link.remote();
+    let packet = links.poll(id, now)?;
+    let count = write_packet(from, to, &packet, room);
+    Some(Given {
+        id,
+        what: packet.what,
+        next: place.next_node(to),
+        count,
+    })
+}
+
+/// Asks the links in the order of their ids, up to the first that gives a packet, and writes that.
+pub fn poll_links(place: Place, links: &mut Links, now: u64, room: &mut [u8]) -> Option<Given>
+    requires room { 576 ≤ length room.old }
+    ensures rests { IfNone result (AllRest links.old links.new now × (room.new ≡ room.old)) }
+    ensures gives { IfSome result (λ g.
+        Turned place links.old links.new now g (take g.count room.new)) }
+    ensures behind { IfSome result (λ g. drop g.count room.new ≡ drop g.count room.old) }
+    ensures short { IfSome result (λ g. g.count ≤ 576) }
+{
+    let mut id = 0;
+    while let Some(next) = links.after(id) {
+        let given = poll_one(place, links, next, now, room);
+        if given.is_some() {
+            return given;
+        }
+        id = next;
+    }
+    None
+}

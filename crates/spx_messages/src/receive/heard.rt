@@ -1,0 +1,24 @@
+//! What a link hears.
+
+ghost use Rattle.std.specs.Prelude.{◌≤◌, IfNone, IfSome, length};
+ghost use Rattle.spx_messages.specs.Readings.{Hears, IsOfNobody, SameLinks};
+
+use crate::receive::reading::Reading;
+use spx_link::{Links, Received, receive_reads_its_own};
+
+/// The link that a packet is for reads it. None where no link is there, or where that one takes it
+/// for a stranger's. The caller owes a body of at most 534 bytes.
+pub fn hear(links: &mut Links, reading: &Reading<'_>, now: u64) -> Option<(u16, Received)>
+    requires { length reading.now.body.now ≤ 534 }
+    ensures heard { IfSome result (λ p. Hears links.old links.new reading.now p.0 p.1) }
+    ensures nobody { IfNone result (IsOfNobody links.old reading.now) }
+    ensures unchanged { IfNone result (SameLinks links.old links.new) }
+{
+    receive_reads_its_own();
+    let id = links.find(reading.to, reading.from, reading.header.to_id)?;
+    let received = links.receive(id, &reading.header, reading.body, now);
+    match received {
+        Received::Stranger => None,
+        _ => Some((id, received)),
+    }
+}

@@ -1,0 +1,24 @@
+-- A unit filled where it stands, at the end of a list.
+use Rattle.std.proofs.Common.{◌≡◌, ◌∙◌, ℕ, Bool, List, [], ◌∷◌, ◌++◌, length, slice_set, get_or, ap, refl, sym}
+use Rattle.std.proofs.Math.Seq.{set-append_seam}
+use Rattle.spx_link.specs.declared.unit.Unit.{Unit}
+use Rattle.spx_units.specs.Cut.{unit_with}
+
+-- what stands at the end
+end_of : (before : List Unit) (last other : Unit) → get_or (before ++ last ∷ []) (length before) other ≡ last
+end_of [] last other = refl
+end_of (u ∷ us) last other = end_of us last other
+
+pub at_end : (before all : List Unit) (last other : Unit) (place : ℕ) → place ≡ length before → all ≡ before ++ last ∷ []
+    → get_or all place other ≡ last
+at_end before all last other place at is =
+    ap (λ us. get_or us place other) is
+    ∙ ap (λ n. get_or (before ++ last ∷ []) n other) at
+    ∙ end_of before last other
+
+pub set_at_end : (before all : List Unit) (empty full : Unit) (place : ℕ) → place ≡ length before → all ≡ before ++ empty ∷ []
+    → slice_set all place full ≡ before ++ full ∷ []
+set_at_end before all empty full place at is =
+    ap (λ us. slice_set us place full) is
+    ∙ ap (λ n. slice_set (before ++ empty ∷ []) n full) at
+    ∙ set-append_seam before empty [] full
