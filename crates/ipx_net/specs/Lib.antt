@@ -17,3 +17,4 @@ pub mod NetEvents
 pub mod NetFaults
 pub mod NetReach
 pub mod Theorems
+pub mod Beginnings
