@@ -74,16 +74,16 @@ impl Net {
     /// The caller owes networks other than 0 and FFFFFFFF, of hosts and of ports, and 1 to 8,192
     /// buffers where a host listens. It is refused with the fault of the first router that is
     /// refused, else for want of memory.
-    pub fn new(alloc: Global, hosts: &[Host], routers: Vec<Vec<Port>>) -> Result<Net, NewFault>
-        requires hosts { All IsHostOwed hosts.now }
+    pub fn new(alloc: Global, hosts: Vec<Host>, routers: Vec<Vec<Port>>) -> Result<Net, NewFault>
+        requires hosts { All IsHostOwed hosts.items }
         requires ports { All ArePortsOwed routers.items }
-        ensures new { IfOk result (λ n. IsNewNet hosts.now routers.items n) }
+        ensures new { IfOk result (λ n. IsNewNet hosts.items routers.items n) }
         ensures sound { OnOk result (first_refusal routers.items ≡ None) }
         ensures fault { IfErr result (λ f. f ≡ unwrap_or (first_refusal routers.items) NewFaults.OutOfMemory) }
     {
         peers_of_worlds_are_in_step();
         let routers = routers_of(alloc, routers)?;
-        let Ok(hosts) = hosts_of(alloc, hosts) else {
+        let Ok(hosts) = hosts_of(alloc, &hosts) else {
             return Err(NewFault::OutOfMemory);
         };
         Ok(Net {

@@ -57,7 +57,9 @@ fn net_with(alloc: Global, network: u32) -> Result<Net, NewFault>
     requires first { network ≢ 0 }
     requires last { network ≢ 4294967295 }
 {
-    let hosts = [host(3, None), host(4, Some((Socket(0x4000), 8)))];
+    let Ok(hosts) = vec![in alloc; host(3, None), host(4, Some((Socket(0x4000), 8)))] else {
+        return Err(NewFault::OutOfMemory);
+    };
     let Ok(first) = ports_with(alloc, 0x22) else {
         return Err(NewFault::OutOfMemory);
     };
@@ -67,7 +69,7 @@ fn net_with(alloc: Global, network: u32) -> Result<Net, NewFault>
     let Ok(routers) = vec![in alloc; first, second] else {
         return Err(NewFault::OutOfMemory);
     };
-    Net::new(alloc, &hosts, routers)
+    Net::new(alloc, hosts, routers)
 }
 
 #[test]
@@ -82,7 +84,7 @@ fn twin_in_the_second_router(rt: HostRuntime) -> Result<(), Fail> {
 fn two_that_are_refused(rt: HostRuntime) -> Result<(), Fail> {
     let twins = ports_with(rt.alloc(), 0x11)?;
     let routers = vec![in rt.alloc(); Vec::new(rt.alloc()), twins]?;
-    let net = Net::new(rt.alloc(), &[], routers);
+    let net = Net::new(rt.alloc(), Vec::new(rt.alloc()), routers);
     assert!(rt; matches!(net, Err(NewFault::NoPorts)));
     Ok(())
 }
@@ -163,7 +165,7 @@ fn twins_at_last(alloc: Global) -> Result<Vec<Vec<Port>>, AllocError>
 #[test]
 fn refused_memory_before_a_twin(rt: HostRuntime) -> Result<(), Fail> {
     let routers = twins_at_last(rt.alloc())?;
-    let net = Net::new(rt.alloc(), &[], routers);
+    let net = Net::new(rt.alloc(), Vec::new(rt.alloc()), routers);
     assert!(rt; matches!(net, Err(NewFault::TwinNetwork(Network(0x11)))));
     Ok(())
 }
