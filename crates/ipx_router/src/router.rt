@@ -82,9 +82,11 @@ impl Router {
         })
     }
 
-    /// Its ports. The first is port 1. A caller counts them before it names a port to `receive`.
+    /// Its ports, 1 to 16. The first is port 1. A caller counts them before it names a port to
+    /// `receive`.
     pub fn ports(&self) -> &[Port]
         ensures ports { result.now ≡ self.now.ports }
+        ensures count { (1 ≤ length self.now.ports) × (length self.now.ports ≤ 16) }
         ensures valid { AreTables (tables self.now) }
         ensures networks { All IsOwnNetwork self.now.ports }
     {
