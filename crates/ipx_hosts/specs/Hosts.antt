@@ -56,19 +56,21 @@ pub record Standing (v : HostsView) (who host id : ℕ) : Type 0 where
   pub held : Held
   pub live : held_at station.endpoint id ≡ Some held
 
--- an end refused, and the world is as it was
-abbrev pub LeftAs : HostsView → HostsView → ℕ → Type 0
-LeftAs old new now =
-    (host : ℕ) × ((parcels : List ParcelView) (log : List Note)
-    → RefusesAt (world_of old parcels log now) host (world_of new parcels log now))
+-- a host refused, and the world is as it was
+abbrev pub LeftAt : ℕ → HostsView → HostsView → ℕ → Type 0
+LeftAt host old new now = (parcels : List ParcelView) (log : List Note)
+    → RefusesAt (world_of old parcels log now) host (world_of new parcels log now)
 
--- a refusal by an end leaves the world as it was. Of want of memory nothing is said
-abbrev pub LeavesSo : Refusal → HostsView → HostsView → ℕ → Type 0
-LeavesSo (Refusals.ByEnd f) old new now = LeftAs old new now
-LeavesSo Refusals.OutOfMemory old new now = Unit {0}
+-- the host of an end refused, and the world is as it was
+pub record LeftAs (who : ℕ) (old new : HostsView) (now : ℕ) : Type 0 where
+  pub end' : EndNow
+  pub at : slice_get old.ends who ≡ Some end'
+  pub left : LeftAt end'.host old new now
 
-abbrev pub want : EndFault
-want = EndFaults.Message MessageFaults.OutOfMemory
+-- a refusal by a host leaves the world as it was. Of want of memory nothing is said
+abbrev pub LeavesSo : Refusal → ℕ → HostsView → HostsView → ℕ → Type 0
+LeavesSo (Refusals.ByEnd f) host old new now = LeftAt host old new now
+LeavesSo Refusals.OutOfMemory host old new now = Unit {0}
 
 -- a take was refused, and not for want of memory
 abbrev pub is_lost : Result TakenView EndFault → Bool

@@ -84,7 +84,7 @@ pub fn close(
     }
 }
 
-/// An end that stands goes.
+/// An end that stands goes. No end refuses that.
 pub fn release(
     alloc: Global,
     hosts: &mut Hosts,
@@ -96,10 +96,8 @@ pub fn release(
     requires stands { stands hosts.old who ≡ true }
     ensures { IfOk result (λ g. Grows hosts.old hosts.new first now (growth_view g) (Releasing who)) }
 {
-    match hosts.release(who, now) {
-        Ok(()) => noted(alloc, Entry::Released { who }, Answer::Done),
-        Err(fault) => Ok(quiet(alloc, Answer::Refused(fault))),
-    }
+    hosts.release(who, now).unwrap();
+    noted(alloc, Entry::Released { who }, Answer::Done)
 }
 
 /// A message like this one.

@@ -6,8 +6,7 @@ ghost use Rattle.ipx_log.specs.Packets.{notes_of};
 ghost use Rattle.ipx_steps.specs.Steps.{arrival_notes, read_notes};
 ghost use Rattle.ipx_net.specs.Entries.{entry_notes};
 ghost use Rattle.ipx_net.specs.GrowthView.{growth_view};
-ghost use Rattle.ipx_net.specs.HostEvents.{end_for};
-ghost use Rattle.ipx_net.specs.Hearing.{DeliversSo};
+ghost use Rattle.ipx_net.specs.HostEvents.{DeliversSo, end_for};
 
 use crate::answer::Answer;
 use crate::entry::Entry;

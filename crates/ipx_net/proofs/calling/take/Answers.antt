@@ -1,6 +1,8 @@
 use Rattle.std.proofs.Common.{◌++◌, Err, sym, ◌∙◌, ap, subst}
 use Rattle.ipx_steps.specs.Steps.{TakesOf, unit_notes, whole_notes}
 use Rattle.ipx_hosts.specs.Hosts.{Noting}
+use Rattle.ipx_hosts.specs.Refusing.{TakeIsRefused}
+use Rattle.std.specs.Prelude.{IfErr}
 use Rattle.spx_messages.specs.Taking.{result_view, taken_view}
 use Rattle.ipx_net.specs.GrowthView.{growth_view}
 use Rattle.ipx_net.proofs.EventSteps.{if_ok_then, taking_err, taking_ok}
@@ -21,4 +23,6 @@ returns-in-Err c =
     (λ other. subst (λ r. Noting c.args.hosts.now c.take-unit.new.self c.args.now (unit_notes (result_view r) u who ++ whole_notes (result_view r) who) (λ w w'. TakesOf w who (result_view r) w'))
     c.in-Err.is (c.take-unit.ensures.takes (λ e. other (cc (sym c.in-Err.is ∙ e)))))
     (λ is. c.take-unit.ensures.refused (c.in-Err.is ∙ ap Err is))
+    (subst (λ r. IfErr r TakeIsRefused) c.in-Err.is c.take-unit.ensures.fault)
+    (λ is. c.take-unit.ensures.memory (c.in-Err.is ∙ ap Err is))
     c.quiet.ensures

@@ -8,4 +8,4 @@ pub returns : goal.returns
 returns c =
     delivering c.args.hosts.now c.deliver.new.self c.args.host c.args.parcel c.ends-count.result c.args.bytes.now c.args.now c.in_ok-arrived.arrived
     c.told_of.result (c.in_ok-who.who, c.in_ok-who.entries) (λ p. p.0) (λ p. entry_notes p.1.items) (parcel_views c.new.result.items)
-    c.in_ok-arrived.ensures c.ends-count.ensures c.told_of.ensures c.in_ok-who.was (ap parcel_views c.new.ensures.items)
+    c.in_ok-arrived.ensures.delivered c.ends-count.ensures c.told_of.ensures c.in_ok-who.was (ap parcel_views c.new.ensures.items)
