@@ -1,7 +1,7 @@
 use Rattle.std.proofs.Common.{take, subst, sym, ◌≡◌}
 use Rattle.std.proofs.lemmas.List.{take_rest}
 use Rattle.ipx_wire.specs.Ipx.{IsAddress, number}
-use Rattle.ipx_control.proofs.sap.reading.service_at.Goals as goal
+use Rattle.ipx_control.proofs.sap.entries.service_at.Goals as goal
 
 pub returns : goal.returns
 returns c =
