@@ -6,6 +6,8 @@ use Rattle.std.specs.List.{cons_option, filter}
 use Rattle.std.specs.declared.cmp.Ordering.{Ordering}
 use Rattle.std.specs.declared.cmp.Ordering.TheVariants.{Less}
 use Rattle.std.proofs.lemmas.List.Kept.{AllPairs-filter}
+use Rattle.std.proofs.lemmas.List.Folds.{list_any-append}
+use Rattle.ipx_wire.specs.Assigned.{all_networks}
 use Rattle.ipx_wire.specs.declared.address.Network.{Network}
 use Rattle.ipx_control.specs.declared.rip.packet.RipEntry.{RipEntry}
 use Rattle.ipx_control.specs.declared.sap.packet.ServiceEntry.{ServiceEntry}
@@ -16,7 +18,7 @@ use Rattle.ipx_router.specs.declared.route.Route.{Route}
 use Rattle.ipx_router.specs.Knowledge.{Routes, Services}
 use Rattle.ipx_router.specs.Route.{IsHeardRoute, IsRouteOrNone, IsRouteTo, over_port}
 use Rattle.ipx_router.specs.Told.{AreToldServices, IsListOf, IsToldRoute, IsToldService, key_of_service, told_route}
-use Rattle.ipx_router.specs.Replying.{AreServicesAsked, AreToldOf, is_of_kind}
+use Rattle.ipx_router.specs.Replying.{AreServicesAsked, AreToldOf, asks_all, is_of_kind}
 use Rattle.ipx_router.specs.Picking.{IsToldOf}
 use Rattle.ipx_router.proofs.Members.{filter_has, filter_only}
 use Rattle.ipx_router.proofs.ToldRoutes.{OneBest, one_route}
@@ -34,6 +36,11 @@ asked_more IsTold (x ∷ asked) entries e o are told = elim are [
       inl (first.0, rest ++ cons_option o [], ap (λ (es : List RipEntry). es ++ cons_option o []) first.2, first.3, first.4, asked_more IsTold asked rest e o first.5 told)
   | inr none ↦ inr (none.0, asked_more IsTold asked entries e o none.1 told)
 ]
+
+-- one more entry that names a network
+pub named_more : (ys : List RipEntry) (e : RipEntry) → asks_all ys ≡ false → (e.network.0 == all_networks) ≡ false → asks_all (ys ++ e ∷ []) ≡ false
+named_more ys e before other =
+    list_any-append (λ (x : RipEntry). x.network.0 == all_networks) ys (e ∷ []) ∙ rw (before, other) refl
 
 module _ (one : OneBest) (ports : List Port) (routes : Routes) (at : PortNow) (network : Network) where
   -- nothing is told of a network that has no route
