@@ -179,7 +179,7 @@ fn pump(alloc: Global, site: &mut Site, turns: u32) -> Result<(), Fail> {
 
 /// How many messages `abc` of stream 0 are taken, of all that a host has.
 fn taken(alloc: Global, host: &mut HostCore) -> Result<u32, Fail> {
-    let mut count = 0;
+    let mut count: u32 = 0;
     for _ in 0..20_u32 {
         if let Taken::Whole(message) = host.endpoint().take(alloc, 1)? {
             if message.stream == 0 && message.body.as_slice() == b"abc".as_slice() {
