@@ -44,15 +44,15 @@ pub fn routers_of(alloc: Global, routers: Vec<Vec<Port>>) -> Result<Vec<RouterNo
     ensures fault { IfErr result (λ f. f ≡ unwrap_or (first_refusal routers.items) NewFaults.OutOfMemory) }
 {
     let mut made = Vec::new(alloc);
-    // Want of memory comes last, so the ports of the others are looked at first.
-    let mut wants = false;
+    // It is told last: the routers behind may be refused for their ports.
+    let mut out_of_memory = false;
     for ports in routers {
         let router = Router::new(alloc, ports)?;
         if add(&mut made, router).is_err() {
-            wants = true;
+            out_of_memory = true;
         }
     }
-    if wants {
+    if out_of_memory {
         return Err(NewFault::OutOfMemory);
     }
     Ok(made)

@@ -49,7 +49,8 @@ fn answer_rip(
     at: PortNow,
     packet: Packet<'_>,
 ) -> Result<Outcome, OutOfMemory>
-    requires { IsTable network_cmp routes.old }
+    requires ports { length ports.now ≤ 16 }
+    requires table { IsTable network_cmp routes.old }
     ensures answer { IfOk result (λ o.
         AnswersRip ports.now (routes_in routes.old) at (packet_view packet.entry) (view o)
         routes.new) }

@@ -33,8 +33,8 @@ loop-ports-preserved c =
       can = tt;
       finite = tt;
       sound = sound_more c.loop-ports.yielded c.in-Some.ports c.loop-ports.invariant.sound c.in_ok-router.ensures.sound;
-      are = λ wants. more_routers c.loop-ports.yielded c.in-Some.ports c.loop-ports.made.items _ (record { router = c.in_ok-router.router; started = false })
-          (c.loop-ports.invariant.are wants)
+      are = λ room. more_routers c.loop-ports.yielded c.in-Some.ports c.loop-ports.made.items _ (record { router = c.in_ok-router.router; started = false })
+          (c.loop-ports.invariant.are room)
           (record {
             ports_are = c.in_ok-router.ensures.ports;
             routes = c.in_ok-router.ensures.knows_nothing.0;

@@ -8,5 +8,5 @@ invariant-loop-ports l =
       can : (goal.iterator-loop-ports).can_next l.ports-iterator;
       finite : (goal.iterator-loop-ports).is_finite l.ports-iterator;
       sound : router_faults l.yielded ≡ [];
-      are : l.wants ≡ false → AreRouters l.yielded l.made.items;
+      are : l.out_of_memory ≡ false → AreRouters l.yielded l.made.items;
     }
