@@ -1,12 +1,16 @@
 -- Where ends stand, and what a call on one host does to all of them.
-use Rattle.std.proofs.Common.{◌≡◌, ◌≢◌, ◌<◌, ◌≤◌, ℕ, zero, suc, List, [], ◌∷◌, ◌++◌, Bool, true, false, cond, not, length, set, get_or, refl, ap, sym, subst, ◌∙◌, Option, None, Some, Result, Ok, Err, OnErr, IfSome, arith, append_assoc}
+use Rattle.std.proofs.Common.{◌≡◌, ◌≢◌, ◌<◌, ◌≤◌, ℕ, zero, suc, List, [], ◌∷◌, ◌++◌, Bool, true, false, cond, not, length, map, set, get_or, refl, ap, sym, subst, ◌∙◌, Option, None, Some, Result, Ok, Err, OnErr, IfSome, arith, append_assoc}
 use Rattle.std.specs.Prelude.{slice_get}
 use Rattle.std.proofs.lemmas.Option.{slice_get_read}
+use Rattle.std.proofs.Math.Seq.{map-set_same}
 use Rattle.ipx_wire.specs.declared.address.Address.{Address}
 use Rattle.ipx_wire.specs.declared.address.Socket.{Socket}
 use Rattle.spx_link.specs.Limits.{most_units}
 use Rattle.spx_link.specs.Offer.{first_of}
 use Rattle.spx_link.specs.declared.unit.Unit.{Unit}
+use Rattle.spx_messages.specs.Arrives.{Arrives}
+use Rattle.spx_messages.specs.declared.arrived.Arrived.{Arrived}
+use Rattle.spx_messages.specs.declared.arrived.Arrived.TheVariants as Arriveds
 use Rattle.spx_messages.specs.Changes.{ChangesEnd, ReleasesEnd}
 use Rattle.spx_messages.specs.EndpointView.{Held, held_at}
 use Rattle.spx_messages.specs.Taking.{TakenView, result_view, take_end}
@@ -16,9 +20,9 @@ use Rattle.spx_messages.specs.declared.taken.Taken.{Taken}
 use Rattle.spx_units.specs.declared.fault.MessageFault.TheVariants as MessageFaults
 use Rattle.ipx_log.specs.Note.{Opened, Released}
 use Rattle.ipx_steps.specs.Calls.{DialsFrom, ReleasesOf}
-use Rattle.ipx_steps.specs.Steps.{TakesOf, marked_over, unit_notes, whole_notes}
-use Rattle.ipx_steps.specs.World.{EndNow, Station, StandsAt, end_at, held_in, held_of}
-use Rattle.ipx_hosts.specs.Hosts.{FitTogether, HostsView, LeavesSo, LeftAs, LeftAt, Noting, Standing, is_lost, stands, stands_now}
+use Rattle.ipx_steps.specs.Steps.{TakesOf, ends_after, here_after, marked_over, unit_notes, whole_notes}
+use Rattle.ipx_steps.specs.World.{EndNow, Station, StandsAt, end_at, held_in, held_of, home_at}
+use Rattle.ipx_hosts.specs.Hosts.{DeliveredAt, FitTogether, HostsView, LeavesSo, LeftAs, LeftAt, Noting, Standing, is_lost, stands, stands_now}
 use Rattle.ipx_hosts.specs.Refusing.{end_held, held_by, want}
 use Rattle.ipx_hosts.specs.Stations.{ChangesAt, DialsAt, ReleasesAt, Stays, StaysAt}
 use Rattle.ipx_hosts.specs.declared.refusal.Refusal.{Refusal}
@@ -301,3 +305,35 @@ held_there v ss es who host id x view read s =
 pub station_there : (v : HostsView) (ss : List Station) (es : List EndNow) (host : ℕ) (x : Station) → made ss es ≡ v → x ≡ get_or ss host x → host < length ss → Some x ≡ slice_get v.stations host
 station_there v ss es host x view read within =
     sym (slice_get_read ss (length ss) host x refl within read) ∙ ap (λ (u : HostsView). slice_get u.stations host) view
+
+-- ---- addresses
+
+pub homes_set : (v : HostsView) (ss : List Station) (es : List EndNow) (host : ℕ) (x y : Station) → made ss es ≡ v → x ≡ get_or ss host x → home_at y ≡ home_at x → map home_at (set ss host y) ≡ map home_at v.stations
+homes_set v ss es host x y view read home =
+    map-set_same home_at ss host y x (home ∙ ap home_at read) ∙ ap (λ (u : HostsView). map home_at u.stations) view
+
+-- ---- deliver
+
+-- a datagram that makes no link makes no end
+ends_kept : (a : Arrived) (host : ℕ) (es : List EndNow) → ((id : ℕ) → a ≢ Arriveds.Accepted id) → ends_after a host es ≡ es
+ends_kept (Arriveds.Bad f) host es other = refl
+ends_kept Arriveds.NotOurs host es other = refl
+ends_kept (Arriveds.BadSpx f) host es other = refl
+ends_kept Arriveds.NoListener host es other = refl
+ends_kept Arriveds.NoRoom host es other = refl
+ends_kept Arriveds.Stranger host es other = refl
+ends_kept (Arriveds.Accepted id) host es other = absurd (other id refl)
+ends_kept (Arriveds.Link id r) host es other = refl
+
+pub delivered : (v : HostsView) (ss : List Station) (es : List EndNow) (host count : ℕ) (x y : Station) (bytes : List ℕ) (t : ℕ) (a : Arrived) → made ss es ≡ v → x ≡ get_or ss host x → host < length ss → count ≡ length es
+    → ((id : ℕ) → a ≢ Arriveds.Accepted id) → Arrives x.endpoint bytes t a y.endpoint → y.here ≡ here_after a count x.here → DeliveredAt v host bytes t a (made (set ss host y) es)
+delivered v ss es host count x y bytes t a view read within counted other arrives here =
+    subst (λ u. DeliveredAt u host bytes t a (made (set ss host y) es)) view (record {
+      before = x;
+      there = slice_get_read ss (length ss) host x refl within read;
+      after = y;
+      arrives = arrives;
+      here = here ∙ ap (λ n. here_after a n x.here) counted;
+      stations = refl;
+      ends = sym (ends_kept a host es other);
+    })

@@ -1,5 +1,5 @@
 -- The hosts of a network and their ends, by their numbers; and the world that they are a part of.
-use Rattle.std.specs.Prelude.{ℕ, ◌≡◌, Bool, false, true, not, List, ◌++◌, length, set, Option, Some, None, Result, Ok, Err, slice_get}
+use Rattle.std.specs.Prelude.{ℕ, ◌≡◌, Bool, false, true, not, List, ◌++◌, length, map, set, Option, Some, None, Result, Ok, Err, slice_get}
 use Rattle.ipx_wire.specs.declared.address.Node.{Node}
 use Rattle.spx_messages.specs.Arrives.{Arrives}
 use Rattle.spx_messages.specs.Polls.{Polls}
@@ -14,7 +14,7 @@ use Rattle.ipx_steps.specs.Calls.{RefusesAt}
 use Rattle.ipx_steps.specs.Steps.{ends_after, here_after}
 use Rattle.ipx_hosts.specs.declared.refusal.Refusal.{Refusal}
 use Rattle.ipx_hosts.specs.declared.refusal.Refusal.TheVariants as Refusals
-use Rattle.ipx_steps.specs.World.{EndNow, InOrder, ParcelView, Station, World, end_at}
+use Rattle.ipx_steps.specs.World.{EndNow, InOrder, ParcelView, Station, World, end_at, home_at}
 
 pub record HostsView : Type 0 where
   pub stations : List Station
@@ -38,6 +38,10 @@ FitTogether v = (parcels : List ParcelView) (log : List Note) (now : ℕ)
 abbrev pub stands_now : Option EndNow → Bool
 stands_now None = false
 stands_now (Some e) = not e.released
+
+-- hosts keep their addresses, whatever is called and whatever is refused
+abbrev pub SameHomes : HostsView → HostsView → Type 0
+SameHomes old new = map home_at new.stations ≡ map home_at old.stations
 
 -- there is such an end, and it is not released
 abbrev pub stands : HostsView → ℕ → Bool

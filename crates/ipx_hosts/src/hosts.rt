@@ -11,7 +11,7 @@ ghost use Rattle.spx_messages.specs.EndpointView.{held_at};
 ghost use Rattle.spx_messages.specs.Arrives.{IsAcceptable};
 ghost use Rattle.spx_messages.specs.Taking.{overlong, result_view};
 ghost use Rattle.ipx_hosts.specs.Stations.{reader_of, speaker};
-ghost use Rattle.ipx_hosts.specs.Hosts.{DeliveredAt, FitTogether, LeavesSo, LeftAs, Noting, PolledAt, Standing, is_lost, stands};
+ghost use Rattle.ipx_hosts.specs.Hosts.{DeliveredAt, FitTogether, LeavesSo, LeftAs, Noting, PolledAt, SameHomes, Standing, is_lost, stands};
 ghost use Rattle.ipx_hosts.specs.Refusing.{CloseIsRefused, DialIsLeft, Overruns, PushesTo, SendIsRefused, TakeIsRefused, close_fault, dial_fault, end_held, send_fault, want};
 
 use crate::end::EndNow;
@@ -79,6 +79,7 @@ impl Hosts {
         ensures room { OnOk result (dial_fault (slice_get self.old.stations host) ≡ None) }
         ensures fault { IfErr result (DialIsLeft (slice_get self.old.stations host)) }
         ensures refused { IfErr result (λ f. LeavesSo f host self.old self.new now) }
+        ensures homes { SameHomes self.old self.new }
     {
         let who = self.ends.len();
         let id = match self.stations[host].dial(alloc, who, socket, to, buffers, now) {
@@ -114,6 +115,7 @@ impl Hosts {
         ensures fault { IfErr result (SendIsRefused (end_held self.old.stations self.old.ends who)
             (message_view message.now)) }
         ensures refused { OnErr result (LeftAs who self.old self.new now) }
+        ensures homes { SameHomes self.old self.new }
     {
         let (host, id) = self.place(who);
         self.stations[host].send(alloc, id, message)
@@ -129,6 +131,7 @@ impl Hosts {
         ensures sound { OnOk result (close_fault (end_held self.old.stations self.old.ends who) ≡ None) }
         ensures fault { IfErr result (CloseIsRefused (end_held self.old.stations self.old.ends who)) }
         ensures refused { OnErr result (LeftAs who self.old self.new now) }
+        ensures homes { SameHomes self.old self.new }
     {
         let (host, id) = self.place(who);
         self.stations[host].close(alloc, id)
@@ -141,6 +144,7 @@ impl Hosts {
         ensures ok { OnOk result (Noting self.old self.new now (Released who ∷ [])
             (λ w w'. ReleasesOf w who w')) }
         ensures done { IsOk result }
+        ensures homes { SameHomes self.old self.new }
     {
         let (host, id) = self.place(who);
         if let Err(fault) = self.stations[host].release(id) {
@@ -167,6 +171,7 @@ impl Hosts {
         ensures fault { IfErr result.1 TakeIsRefused }
         ensures memory { result.1 ≡ Err want → PushesTo (end_held self.old.stations self.old.ends who) }
         ensures refused { result.1 ≡ Err want → LeftAs who self.old self.new now }
+        ensures homes { SameHomes self.old self.new }
     {
         let (host, id) = self.place(who);
         let (unit, taken) = self.stations[host].take(alloc, id);
@@ -181,7 +186,8 @@ impl Hosts {
     pub fn poll(&mut self, host: usize, now: u64, room: &mut [u8]) -> Option<(Node, usize)>
         requires there { host < length self.old.stations }
         requires room { 576 ≤ length room.old }
-        ensures { PolledAt self.old host now result room.old room.new self.new }
+        ensures polled { PolledAt self.old host now result room.old room.new self.new }
+        ensures homes { SameHomes self.old self.new }
     {
         self.stations[host].poll(now, room)
     }
@@ -199,6 +205,7 @@ impl Hosts {
         ensures delivered { IfOk result (λ a. DeliveredAt self.old host bytes.now now a self.new) }
         ensures memory { OnErr result (IfSome (slice_get self.old.stations host)
             (λ s. IsAcceptable s.endpoint bytes.now)) }
+        ensures homes { SameHomes self.old self.new }
     {
         let who = self.ends.len();
         let arrived = self.stations[host].deliver(alloc, bytes, now, who)?;

@@ -3,7 +3,7 @@
 ghost use Rattle.std.specs.Prelude.{◌≡◌, ◌≢◌, ◌≤◌, ◌↔◌, ◌++◌, ◌∷◌, ◌==◌, ℕ, [], Err, IfErr, IfOk, IfSome, IsOk, None, OnErr, OnOk, Some, filter, find, length, not, option_map};
 ghost use Rattle.spx_link.specs.Offer.{end_link, first_of, offer_link, refusal};
 ghost use Rattle.spx_messages.specs.Arrives.{Arrives, IsAcceptable};
-ghost use Rattle.spx_messages.specs.Polls.{Polls};
+ghost use Rattle.spx_messages.specs.Polls.{Polls, home_of};
 ghost use Rattle.spx_messages.specs.Taking.{overlong, result_view, take_end};
 ghost use Rattle.spx_messages.specs.declared.fault.EndFault.TheVariants as EndFaults;
 ghost use Rattle.spx_units.specs.declared.fault.MessageFault.TheVariants as MessageFaults;
@@ -107,6 +107,7 @@ impl Station {
         ensures room { OnOk result (dial_fault (Some self.old) ≡ None) }
         ensures fault { IfErr result (DialIsLeft (Some self.old)) }
         ensures refused { IfErr result (λ f. Stays f self.old self.new) }
+        ensures home { home_of self.new.endpoint ≡ home_of self.old.endpoint }
     {
         let id = self.endpoint.dial(alloc, socket, to, buffers, now)?;
         self.here.push((id, who))?;
@@ -125,6 +126,7 @@ impl Station {
         ensures fault { IfErr result
             (SendIsRefused (held_at self.old.endpoint id) (message_view message.now)) }
         ensures refused { OnErr result (StaysAt self.old self.new) }
+        ensures home { home_of self.new.endpoint ≡ home_of self.old.endpoint }
     {
         self.endpoint.send(alloc, id, message)
     }
@@ -138,6 +140,7 @@ impl Station {
         ensures sound { OnOk result (close_fault (held_at self.old.endpoint id) ≡ None) }
         ensures fault { IfErr result (CloseIsRefused (held_at self.old.endpoint id)) }
         ensures refused { OnErr result (StaysAt self.old self.new) }
+        ensures home { home_of self.new.endpoint ≡ home_of self.old.endpoint }
     {
         self.endpoint.close(alloc, id)
     }
@@ -147,6 +150,7 @@ impl Station {
         ensures ok { OnOk result (ReleasesAt self.old id self.new) }
         ensures done { IfSome (held_at self.old.endpoint id) (λ _. IsOk result) }
         ensures refused { OnErr result (StaysAt self.old self.new) }
+        ensures home { home_of self.new.endpoint ≡ home_of self.old.endpoint }
     {
         if let Err(fault) = self.endpoint.release(id) {
             return Err(fault);
@@ -177,6 +181,7 @@ impl Station {
         ensures memory { result.1 ≡ Err want → PushesTo (held_at self.old.endpoint id) }
         ensures refused { result.1 ≡ Err (EndFaults.Message MessageFaults.OutOfMemory)
             → IfSome (held_at self.old.endpoint id) (λ _. StaysAt self.old self.new) }
+        ensures home { home_of self.new.endpoint ≡ home_of self.old.endpoint }
     {
         let unit = self.next_unit(id);
         (unit, self.endpoint.take(alloc, id))
@@ -187,6 +192,7 @@ impl Station {
         requires { 576 ≤ length room.old }
         ensures polls { Polls self.old.endpoint now result room.old room.new self.new.endpoint }
         ensures here { self.new.here ≡ self.old.here }
+        ensures home { home_of self.new.endpoint ≡ home_of self.old.endpoint }
     {
         self.endpoint.poll(now, room)
     }
@@ -211,6 +217,7 @@ impl Station {
         ensures arrives { IfOk result (λ a. Arrives self.old.endpoint bytes.now now a self.new.endpoint) }
         ensures here { IfOk result (λ a. self.new.here ≡ here_after a who self.old.here) }
         ensures memory { OnErr result (IsAcceptable self.old.endpoint bytes.now) }
+        ensures home { home_of self.new.endpoint ≡ home_of self.old.endpoint }
     {
         let arrived = self.endpoint.receive(alloc, bytes, now)?;
         if let Arrived::Accepted(id) = arrived {

@@ -135,18 +135,18 @@ impl Net {
 
     /// What is so of every network.
     fn holds(&self)
-        // Of the log and the parcels, also after want of memory.
+        // Of the log, the parcels and the addresses of hosts, also after want of memory.
         ensures alters { RoutersAlterHopsAlone (scene_of self.now.now.world) }
         ensures in_order { UnitsAreSentInOrder (scene_of self.now.now.world) }
         ensures allowed { WithinAllocation (scene_of self.now.now.world) }
         ensures hands_on { PeersHandOn (scene_of self.now.now.world) }
         ensures alone_hands { AloneHandsOutNothing (scene_of self.now.now.world) }
+        ensures addresses { AddressesTellPeers (scene_of self.now.now.world) }
         // Of links and log, while the network goes on.
         ensures in_step { self.now.spent ≡ false → PeersAreInStep (scene_of self.now.now.world) }
         ensures machine { self.now.spent ≡ false → PairsTakeSteps (scene_of self.now.now.world) }
         ensures joined { self.now.spent ≡ false → HandsOutWhatItTook (scene_of self.now.now.world) }
         ensures alone { self.now.spent ≡ false → AloneReadsNothing (scene_of self.now.now.world) }
-        ensures addresses { self.now.spent ≡ false → AddressesTellPeers (scene_of self.now.now.world) }
         ensures confirmed { self.now.spent ≡ false → ConfirmedIsRead (scene_of self.now.now.world) }
         ensures end_taken { self.now.spent ≡ false → EndTakenIsWhole (scene_of self.now.now.world) }
         ensures sends { self.now.spent ≡ false → LinksSendInOrder (scene_of self.now.now.world) }
@@ -184,18 +184,18 @@ impl Net {
             → self.new.now.world.log ≡ self.old.now.world.log }
         ensures parcels { result ≡ Err NetFaults.OutOfMemory
             → self.new.now.world.parcels ≡ self.old.now.world.parcels }
-        // Of the log and the parcels, also after want of memory.
+        // Of the log, the parcels and the addresses of hosts, also after want of memory.
         ensures alters { RoutersAlterHopsAlone (scene_of self.new.now.world) }
         ensures in_order { UnitsAreSentInOrder (scene_of self.new.now.world) }
         ensures allowed { WithinAllocation (scene_of self.new.now.world) }
         ensures hands_on { PeersHandOn (scene_of self.new.now.world) }
         ensures alone_hands { AloneHandsOutNothing (scene_of self.new.now.world) }
+        ensures addresses { AddressesTellPeers (scene_of self.new.now.world) }
         // Of links and log, while the network goes on.
         ensures in_step { self.new.spent ≡ false → PeersAreInStep (scene_of self.new.now.world) }
         ensures machine { self.new.spent ≡ false → PairsTakeSteps (scene_of self.new.now.world) }
         ensures joined { self.new.spent ≡ false → HandsOutWhatItTook (scene_of self.new.now.world) }
         ensures alone { self.new.spent ≡ false → AloneReadsNothing (scene_of self.new.now.world) }
-        ensures addresses { self.new.spent ≡ false → AddressesTellPeers (scene_of self.new.now.world) }
         ensures confirmed { self.new.spent ≡ false → ConfirmedIsRead (scene_of self.new.now.world) }
         ensures end_taken { self.new.spent ≡ false → EndTakenIsWhole (scene_of self.new.now.world) }
         ensures sends { self.new.spent ≡ false → LinksSendInOrder (scene_of self.new.now.world) }

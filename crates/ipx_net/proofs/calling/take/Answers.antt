@@ -8,15 +8,15 @@ use Rattle.ipx_net.specs.GrowthView.{growth_view}
 use Rattle.ipx_net.proofs.EventSteps.{if_ok_then, taking_err, taking_ok}
 use Rattle.ipx_net.proofs.calling.take.Goals as goal
 
-pub returns-in-Ok : goal.returns-in-Ok
-returns-in-Ok c =
+pub returns-in-Ok-clause-grows : goal.returns-in-Ok-clause-grows
+returns-in-Ok-clause-grows c =
     if_ok_then c.taken.result _ _
     (λ g same. taking_ok c.args.hosts.now c.take-unit.new.self c.args.first c.args.now c.args.who (taken_view c.in-Ok.answer) c.take-unit.result.0 (result_view c.take-unit.result.1) (growth_view g)
     (ap result_view c.in-Ok.is) (c.take-unit.ensures.takes (λ e. absurd (cc (sym c.in-Ok.is ∙ e)))) same)
     c.taken.ensures
 
-pub returns-in-Err : goal.returns-in-Err
-returns-in-Err c =
+pub returns-in-Err-clause-grows : goal.returns-in-Err-clause-grows
+returns-in-Err-clause-grows c =
     let u = c.take-unit.result.0 in
     let who = c.args.who in
     taking_err c.args.hosts.now c.take-unit.new.self c.args.first c.args.now who c.in-Err.fault u (growth_view c.quiet.result)

@@ -2,7 +2,7 @@ use Rattle.std.proofs.Common.{◌≡◌, None, subst}
 use Rattle.std.specs.Prelude.{IfErr, OnOk}
 use Rattle.spx_units.specs.Message.{message_view}
 use Rattle.ipx_hosts.specs.Refusing.{SendIsRefused, send_fault}
-use Rattle.ipx_hosts.proofs.Placing.{held_there, left_err}
+use Rattle.ipx_hosts.proofs.Placing.{held_there, homes_set, left_err}
 use Rattle.ipx_hosts.proofs.hosts.Hosts.send.Goals as goal
 
 pub returns-clause-sound : goal.returns-clause-sound
@@ -18,3 +18,7 @@ returns-clause-fault c =
 pub returns-clause-refused : goal.returns-clause-refused
 returns-clause-refused c =
     left_err c.send.result c.args.self.now c.self.inside.stations.items c.self.inside.ends.items c.args.who c.place-host.result.0 c.place-host.result.1 c.index_mut.result.now c.send.new.self c.args.now c.self.view_is c.index_mut.ensures.value c.place-host.ensures c.send.ensures.refused
+
+pub returns-clause-homes : goal.returns-clause-homes
+returns-clause-homes c =
+    homes_set c.args.self.now c.self.inside.stations.items c.self.inside.ends.items c.place-host.result.0 c.index_mut.result.now c.send.new.self c.self.view_is c.index_mut.ensures.value c.send.ensures.home
