@@ -1,6 +1,6 @@
 //! A network in memory, step by step.
 
-ghost use Rattle.std.specs.Prelude.{◌≡◌, ◌≢◌, ◌≤◌, Err, IfErr, IfOk, None, OnOk, Some, false, true};
+ghost use Rattle.std.specs.Prelude.{◌≡◌, ◌≢◌, ◌<◌, ◌≤◌, ◌↔◌, Err, IfErr, IfOk, IsTrue, None, OnOk, Some, false, length, true};
 ghost use Rattle.ipx_log.specs.Addresses.{AddressesTellPeers};
 ghost use Rattle.ipx_log.specs.Allocation.{AloneReadsNothing, WithinAllocation};
 ghost use Rattle.ipx_log.specs.Carried.{RoutersAlterHopsAlone};
@@ -8,21 +8,28 @@ ghost use Rattle.ipx_log.specs.Close.{ConfirmedIsRead, EndTakenIsWhole};
 ghost use Rattle.ipx_log.specs.HandedOut.{HandsOutWhatItTook};
 ghost use Rattle.ipx_log.specs.InStep.{PeersAreInStep};
 ghost use Rattle.ipx_log.specs.InSteps.{PairsTakeSteps};
+ghost use Rattle.ipx_log.specs.Peers.{IsFresh, Premises};
+ghost use Rattle.ipx_log.specs.Scan.{scan};
 ghost use Rattle.ipx_log.specs.SentUnits.{LinksSendInOrder, UnitsAreSentInOrder};
 ghost use Rattle.ipx_steps.specs.World.{scene_of};
 ghost use Rattle.ipx_net.specs.AnswerView.{answer_view};
+ghost use Rattle.ipx_net.specs.Begins.{Begins};
+ghost use Rattle.ipx_net.specs.Entries.{entry_notes};
 ghost use Rattle.ipx_net.specs.NetEvents.{Happens, IsOwed};
 ghost use Rattle.ipx_net.specs.NetFaults.{first_fault};
+ghost use Rattle.ipx_net.specs.Parcels.{parcel_views};
 ghost use Rattle.ipx_net.specs.Theorems.{AloneHandsOutNothing, PeersHandOn};
 ghost use Rattle.ipx_net.specs.declared.fault.NetFault.TheVariants as NetFaults;
 
 use crate::answer::Answer;
 use crate::book::Book;
+use crate::entry::Entry;
 use crate::event::Event;
 use crate::fault::NetFault;
 use crate::faults::fault_of;
 use crate::growth::Growth;
 use crate::happening::happen;
+use crate::parcel::Parcel;
 use crate::routers::RouterNow;
 use ipx_hosts::Hosts;
 use ipx_log::{
@@ -203,5 +210,39 @@ impl Net {
         let result = self.take_in(alloc, event);
         self.holds();
         result
+    }
+
+    /// The log: what happened, from the beginning on.
+    pub fn log(&self) -> &[Entry]
+        ensures { entry_notes result.now ≡ self.now.now.world.log }
+    {
+        self.book.log()
+    }
+
+    /// The parcels, by their numbers from 0.
+    pub fn parcels(&self) -> &[Parcel]
+        ensures { parcel_views result.now ≡ self.now.now.world.parcels }
+    {
+        self.book.parcels()
+    }
+
+    /// Whether what an end handed out is a beginning of what its peer handed in. Without a peer: it
+    /// handed out nothing. It is false for a number of no end.
+    pub fn begins(&self, end: usize) -> bool
+        ensures begins { IsTrue result ↔ Begins self.now.now.world.log end }
+        // The headline, also after want of memory: under its premises each end that there is begins.
+        ensures headline { Premises self.now.now.world.log
+            → end < length (scan self.now.now.world.log).roles → IsTrue result }
+    {
+        self.holds();
+        self.book.begins(end)
+    }
+
+    /// Whether each packet that an end read of its peer was sent fewer than 32,768 units of each of
+    /// the two before.
+    pub fn fresh(&self) -> bool
+        ensures { IsTrue result ↔ IsFresh self.now.now.world.log }
+    {
+        self.book.fresh()
     }
 }

@@ -1,0 +1,16 @@
+use Rattle.std.proofs.Common.{◌↔◌, subst}
+use Rattle.std.specs.Prelude.{IsTrue}
+use Rattle.ipx_steps.specs.World.{scene_of}
+use Rattle.ipx_net.specs.Begins.{Begins}
+use Rattle.ipx_net.specs.NetView.{NetView}
+use Rattle.ipx_net.proofs.Beginning.{each_begins}
+use Rattle.ipx_net.proofs.net.Net.begins.Goals as goal
+
+pub returns-clause-begins : goal.returns-clause-begins
+returns-clause-begins c =
+    subst (λ (v : NetView). IsTrue c.begins.result ↔ Begins v.now.world.log c.args.end) c.self.view_is c.begins.ensures
+
+pub returns-clause-headline : goal.returns-clause-headline
+returns-clause-headline c = λ premises made.
+    let both = subst (λ (v : NetView). IsTrue c.begins.result ↔ Begins v.now.world.log c.args.end) c.self.view_is c.begins.ensures in
+    both.1 (each_begins (scene_of c.args.self.now.now.world) c.args.end c.holds.ensures.hands_on c.holds.ensures.alone_hands premises made)
