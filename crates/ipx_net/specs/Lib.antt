@@ -12,6 +12,8 @@ pub mod Hearing
 pub mod HostEvents
 pub mod Speaking
 pub mod NetView
+pub mod Ends
+pub mod Told
 pub mod RouterEvents
 pub mod NetEvents
 pub mod NetFaults

@@ -29,6 +29,7 @@ mod role;
 mod routers;
 mod routing;
 mod scanned;
+mod told;
 
 pub use answer::Answer;
 pub use book::Book;
