@@ -12,3 +12,4 @@ pub mod Happened
 pub mod NetKept
 pub mod Holding
 pub mod Beginning
+pub mod TellingCounts
