@@ -13,3 +13,5 @@ pub mod NetKept
 pub mod Holding
 pub mod Beginning
 pub mod TellingCounts
+pub mod TellingStands
+pub mod TellingPeers

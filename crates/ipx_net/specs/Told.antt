@@ -2,11 +2,15 @@
 use Rattle.std.specs.Prelude.{ℕ, ◌≡◌, ◌+◌, Bool, true, false, List, [], ◌∷◌, ◌++◌, Option, Some, None, length, set}
 use Rattle.spx_link.specs.declared.state.State.{State}
 use Rattle.spx_link.specs.Marks.{mark}
+use Rattle.ipx_log.specs.EndsTold.{peer_of}
 use Rattle.ipx_log.specs.Handed.{handed_in, handed_out}
 use Rattle.ipx_log.specs.Note.{Note, Opened, Accepted, Joined, HandsIn, HandsOut, SendsUnit}
 use Rattle.ipx_log.specs.Numbered.{IsNumbered}
 use Rattle.ipx_log.specs.Scan.{scan}
 use Rattle.ipx_log.specs.SentUnits.{sent_by}
+use Rattle.ipx_steps.specs.World.{end_at}
+use Rattle.ipx_hosts.specs.Hosts.{HostsView}
+use Rattle.ipx_hosts.specs.Telling.{here_at, state_at}
 use Rattle.ipx_net.specs.Ends.{nobody, told_of}
 use Rattle.ipx_net.specs.declared.endinfo.EndInfo.{EndInfo}
 
@@ -106,3 +110,14 @@ abbrev pub joins : Note → Option ℕ
 joins (Accepted who parcel buffers) = Some who
 joins (Joined who parcel) = Some who
 joins n = None
+
+-- the end of a link of a host is told as it stands, or as gone
+abbrev pub settled : HostsView → ℕ → Bool → Option (ℕ × ℕ) → List EndInfo → List EndInfo
+settled v host gone None told = told
+settled v host gone (Some x) told =
+    stood (end_at (here_at v host) x.0) host (state_by gone (state_at v host x.0)) told
+
+-- the peers of an end that an entry made or joined, by the whole log
+abbrev pub paired_by : Option ℕ → List Note → List EndInfo → List EndInfo
+paired_by None log told = told
+paired_by (Some who) log told = paired who (peer_of log who) told

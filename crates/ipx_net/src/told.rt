@@ -1,6 +1,6 @@
 //! What is told of the ends of a network, kept as its log grows.
 
-ghost use Rattle.std.specs.Prelude.{◌≡◌, ◌≢◌, ◌<◌, ◌≤◌, ◌+◌, ◌-◌, ◌^◌, ℕ, [], OnOk, Some, length, set, take, vec_capacity, vec_len};
+ghost use Rattle.std.specs.Prelude.{◌≡◌, ◌≢◌, ◌<◌, ◌≤◌, ◌+◌, ◌-◌, ◌^◌, ℕ, [], OnOk, Some, length, set, slice_get, take, vec_capacity, vec_len};
 ghost use Rattle.ipx_hosts.specs.Hosts.{FitTogether};
 ghost use Rattle.ipx_hosts.specs.Telling.{here_at, state_at};
 ghost use Rattle.ipx_log.specs.EndsTold.{peer_of};
@@ -8,12 +8,13 @@ ghost use Rattle.ipx_log.specs.Scan.{scan};
 ghost use Rattle.ipx_steps.specs.World.{end_at};
 ghost use Rattle.ipx_net.specs.Ends.{nobody, told_of};
 ghost use Rattle.ipx_net.specs.Entries.{entry_note, entry_notes};
-ghost use Rattle.ipx_net.specs.Told.{AreCounted, AreNumbered, StandsSo, StayAlone, StayAs, change, joins, logged, one_given, one_out, one_sent, paired, standing, state_by, stood, told_with, with_peer};
+ghost use Rattle.ipx_net.specs.Told.{AreCounted, AreNumbered, StandsSo, StayAlone, StayAs, change, joins, logged, one_given, one_out, one_sent, paired, paired_by, settled, standing, state_by, stood, told_with, with_peer};
 
 use crate::book::Book;
 use crate::endinfo::EndInfo;
 use crate::entry::Entry;
 use ipx_hosts::Hosts;
+use ipx_log::peer_is_found;
 use spx_link::State;
 use std::alloc::{AllocError, Global};
 
@@ -211,6 +212,16 @@ impl EndsTold {
         }
     }
 
+    /// The peer of the end that an entry of a book made or joined.
+    fn pair_by(&mut self, entry: &Entry, book: &Book)
+        ensures { self.new.infos.items
+            ≡ paired_by (joins (entry_note entry.now)) book.now.log self.old.infos.items }
+    {
+        if let Some(who) = joining(entry) {
+            self.pair(who, book.peer(who));
+        }
+    }
+
     /// The peers of the ends that the entries of a book from a place on made or joined.
     pub fn pair_from(&mut self, book: &Book, from: usize)
         requires range { from ≤ length book.now.log }
@@ -222,11 +233,10 @@ impl EndsTold {
         ensures alone { StayAlone self.old.infos.items self.new.infos.items }
         ensures count { length self.new.infos.items ≡ length self.old.infos.items }
     {
+        peer_is_found();
         let log = book.log();
         for at in from..log.len() {
-            if let Some(who) = joining(&log[at]) {
-                self.pair(who, book.peer(who));
-            }
+            self.pair_by(&log[at], book);
         }
     }
 
@@ -238,6 +248,16 @@ impl EndsTold {
         if let Some(who) = hosts.known(host, id) {
             let state = if gone { None } else { hosts.state(host, id) };
             set_standing(&mut self.infos, who, host, state);
+        }
+    }
+
+    /// The end of a link of a host, by its place, is told as it stands, or as gone.
+    fn stand_at(&mut self, hosts: &Hosts, host: usize, place: usize, gone: bool)
+        ensures { self.new.infos.items ≡ settled hosts.now host gone
+            (slice_get (here_at hosts.now host) place) self.old.infos.items }
+    {
+        if let Some(id) = hosts.id(host, place) {
+            self.stand(hosts, host, id, gone);
         }
     }
 
@@ -254,9 +274,7 @@ impl EndsTold {
             → told_of self.new.infos.items who ≡ told_of self.old.infos.items who }
     {
         for place in 0..hosts.links(host) {
-            if let Some(id) = hosts.id(host, place) {
-                self.stand(hosts, host, id, gone);
-            }
+            self.stand_at(hosts, host, place, gone);
         }
     }
 }
