@@ -15,3 +15,6 @@ pub mod Beginning
 pub mod TellingCounts
 pub mod TellingStands
 pub mod TellingPeers
+pub mod TellingSteps
+pub mod CourseTells
+pub mod NetTells

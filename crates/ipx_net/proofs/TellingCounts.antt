@@ -233,7 +233,7 @@ gathered_few : (f : Note → List MessageView) → ((n : Note) → length (f n) 
 gathered_few f one [] = omega arith
 gathered_few f one (n ∷ log) = omega (arith, length-append (f n) (gathered f log), one n, gathered_few f one log)
 
-notes_length : (es : List Entry) → length (entry_notes es) ≡ length es
+pub notes_length : (es : List Entry) → length (entry_notes es) ≡ length es
 notes_length [] = refl
 notes_length (e ∷ es) = ap suc (notes_length es)
 

@@ -25,25 +25,25 @@ get_front [] ys k x is = absurd (cc is)
 get_front (y ∷ xs) ys zero x is = is
 get_front (y ∷ xs) ys (suc k) x is = get_front xs ys k x is
 
-get_pushed : {A : Type 0} (xs : List A) (y : A) (k : ℕ) (x : A) → slice_get (xs ++ y ∷ []) k ≡ Some x → (slice_get xs k ≡ Some x) ⊎ ((k ≡ length xs) × (x ≡ y))
+pub get_pushed : {A : Type 0} (xs : List A) (y : A) (k : ℕ) (x : A) → slice_get (xs ++ y ∷ []) k ≡ Some x → (slice_get xs k ≡ Some x) ⊎ ((k ≡ length xs) × (x ≡ y))
 get_pushed [] y zero x is = inr (refl, sym (same_Some y x is))
 get_pushed [] y (suc k) x is = absurd (cc is)
 get_pushed (z ∷ xs) y zero x is = inl is
 get_pushed (z ∷ xs) y (suc k) x is = elim (get_pushed xs y k x is) [ inl before ↦ inl before | inr last ↦ inr (ap suc last.0, last.1) ]
 
-get_written : {A : Type 0} (xs : List A) (k : ℕ) (x y : A) → slice_get xs k ≡ Some x → slice_get (set xs k y) k ≡ Some y
+pub get_written : {A : Type 0} (xs : List A) (k : ℕ) (x y : A) → slice_get xs k ≡ Some x → slice_get (set xs k y) k ≡ Some y
 get_written [] k x y is = absurd (cc is)
 get_written (z ∷ xs) zero x y is = refl
 get_written (z ∷ xs) (suc k) x y is = get_written xs k x y is
 
-get_beside : {A : Type 0} (xs : List A) (j k : ℕ) (y : A) → (j ≡ k → ⊥) → slice_get (set xs j y) k ≡ slice_get xs k
+pub get_beside : {A : Type 0} (xs : List A) (j k : ℕ) (y : A) → (j ≡ k → ⊥) → slice_get (set xs j y) k ≡ slice_get xs k
 get_beside [] j k y differ = refl
 get_beside (z ∷ xs) zero zero y differ = absurd (differ refl)
 get_beside (z ∷ xs) zero (suc k) y differ = refl
 get_beside (z ∷ xs) (suc j) zero y differ = refl
 get_beside (z ∷ xs) (suc j) (suc k) y differ = get_beside xs j k y (λ same. differ (ap suc same))
 
-get_set_is : {A : Type 0} (xs : List A) (j : ℕ) (y x : A) → slice_get (set xs j y) j ≡ Some x → x ≡ y
+pub get_set_is : {A : Type 0} (xs : List A) (j : ℕ) (y x : A) → slice_get (set xs j y) j ≡ Some x → x ≡ y
 get_set_is [] j y x is = absurd (cc is)
 get_set_is (z ∷ xs) zero y x is = sym (same_Some y x is)
 get_set_is (z ∷ xs) (suc j) y x is = get_set_is xs j y x is

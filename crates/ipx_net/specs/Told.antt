@@ -1,5 +1,5 @@
 -- How what is told of ends is kept: words of private functions.
-use Rattle.std.specs.Prelude.{ℕ, ◌≡◌, ◌+◌, Bool, true, false, List, [], ◌∷◌, ◌++◌, Option, Some, None, length, set}
+use Rattle.std.specs.Prelude.{ℕ, ◌≡◌, ◌≢◌, ◌<◌, ◌+◌, Bool, true, false, List, [], ◌∷◌, ◌++◌, Option, Some, None, length, option_map, set, slice_get}
 use Rattle.spx_link.specs.declared.state.State.{State}
 use Rattle.spx_link.specs.Marks.{mark}
 use Rattle.ipx_log.specs.EndsTold.{peer_of}
@@ -8,11 +8,17 @@ use Rattle.ipx_log.specs.Note.{Note, Opened, Accepted, Joined, HandsIn, HandsOut
 use Rattle.ipx_log.specs.Numbered.{IsNumbered}
 use Rattle.ipx_log.specs.Scan.{scan}
 use Rattle.ipx_log.specs.SentUnits.{sent_by}
-use Rattle.ipx_steps.specs.World.{end_at}
+use Rattle.ipx_steps.specs.World.{World, end_at}
 use Rattle.ipx_hosts.specs.Hosts.{HostsView}
 use Rattle.ipx_hosts.specs.Telling.{here_at, state_at}
 use Rattle.ipx_net.specs.Ends.{nobody, told_of}
 use Rattle.ipx_net.specs.declared.endinfo.EndInfo.{EndInfo}
+use Rattle.ipx_net.specs.declared.event.Event.{Event}
+use Rattle.ipx_net.specs.declared.event.Event.TheVariants as Events
+use Rattle.ipx_net.specs.declared.event.Member.{Member}
+use Rattle.ipx_net.specs.declared.event.Member.TheVariants as Members
+use Rattle.ipx_net.specs.declared.place.Place.{Place}
+use Rattle.ipx_net.specs.declared.place.Place.TheVariants as Places
 
 -- ---- what the log says but peers, entry by entry
 
@@ -121,3 +127,49 @@ settled v host gone (Some x) told =
 abbrev pub paired_by : Option ℕ → List Note → List EndInfo → List EndInfo
 paired_by None log told = told
 paired_by (Some who) log told = paired who (peer_of log who) told
+
+-- ---- the ends of a host, before and after an event
+
+-- what the ends of a host are told as, gone or as they stand; all else stays
+pub record Resettled (v : HostsView) (host : ℕ) (gone : Bool) (old new : List EndInfo) : Type 0 where
+  pub count : length new ≡ length old
+  pub log : (who : ℕ) → logged (told_of new who) ≡ logged (told_of old who)
+  pub here : (id who : ℕ) → end_at (here_at v host) id ≡ Some who → who < length old
+      → StandsSo host (state_by gone (state_at v host id)) (told_of new who)
+  pub others : (who : ℕ) → ((id : ℕ) → end_at (here_at v host) id ≢ Some who)
+      → told_of new who ≡ told_of old who
+
+abbrev pub Restood : HostsView → Option ℕ → Bool → List EndInfo → List EndInfo → Type 0
+Restood v None gone old new = new ≡ old
+Restood v (Some host) gone old new = Resettled v host gone old new
+
+-- host and state are as they were
+pub record StandAs (old new : List EndInfo) : Type 0 where
+  pub host : (who : ℕ) → (told_of new who).host ≡ (told_of old who).host
+  pub state : (who : ℕ) → (told_of new who).state ≡ (told_of old who).state
+
+abbrev pub hosts_of : World → HostsView
+hosts_of w = record { stations = w.hosts; ends = w.ends }
+
+-- the host whose ends an event may change
+abbrev pub host_there : World → ℕ → Option ℕ
+host_there w who = option_map (λ n. n.host) (slice_get w.ends who)
+
+abbrev pub polled_host : Member → Option ℕ
+polled_host (Members.Host host) = Some host
+polled_host (Members.Router router) = None
+
+abbrev pub reached_host : Place → Option ℕ
+reached_host (Places.Host host) = Some host
+reached_host (Places.Port router port) = None
+
+abbrev pub touched_by : World → Event → Option ℕ
+touched_by w (Events.Dial host socket to buffers) = Some host
+touched_by w (Events.Send who message) = host_there w who
+touched_by w (Events.Take who) = host_there w who
+touched_by w (Events.Close who) = host_there w who
+touched_by w (Events.Release who) = host_there w who
+touched_by w (Events.Tick now) = None
+touched_by w (Events.Poll member) = polled_host member
+touched_by w (Events.Deliver parcel place) = reached_host place
+touched_by w (Events.Inject segment next bytes) = None

@@ -7,6 +7,7 @@
 mod answer;
 mod book;
 mod calling;
+mod course;
 mod delivering;
 mod endinfo;
 mod entry;

@@ -1,5 +1,7 @@
-use Rattle.std.proofs.Common.{◌↔◌, subst}
+use Rattle.std.proofs.Common.{◌↔◌, ◌<◌, length, subst}
 use Rattle.std.specs.Prelude.{IsTrue}
+use Rattle.ipx_log.specs.Peers.{Premises}
+use Rattle.ipx_log.specs.Scan.{scan}
 use Rattle.ipx_steps.specs.World.{scene_of}
 use Rattle.ipx_net.specs.Begins.{Begins}
 use Rattle.ipx_net.specs.NetView.{NetView}
@@ -11,6 +13,6 @@ returns-clause-begins c =
     subst (λ (v : NetView). IsTrue c.begins.result ↔ Begins v.now.world.log c.args.end) c.self.view_is c.begins.ensures
 
 pub returns-clause-headline : goal.returns-clause-headline
-returns-clause-headline c = λ premises made.
-    let both = subst (λ (v : NetView). IsTrue c.begins.result ↔ Begins v.now.world.log c.args.end) c.self.view_is c.begins.ensures in
-    both.1 (each_begins (scene_of c.args.self.now.now.world) c.args.end c.holds.ensures.hands_on c.holds.ensures.alone_hands premises made)
+returns-clause-headline c =
+    subst (λ (v : NetView). Premises v.now.world.log → c.args.end < length (scan v.now.world.log).roles → IsTrue c.begins.result) c.self.view_is
+    (λ premises made. c.begins.ensures.1 (each_begins (scene_of c.self.inside.course.now.world) c.args.end c.holds.ensures.hands_on c.holds.ensures.alone_hands premises made))
