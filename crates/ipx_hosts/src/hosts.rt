@@ -312,10 +312,10 @@ impl Hosts {
     pub fn links(&self, host: usize) -> usize
         ensures { result ≡ length (here_at self.now host) }
     {
-        match self.stations.get(host) {
-            Some(station) => station.links(),
-            None => 0,
-        }
+        let Some(station) = self.stations.get(host) else {
+            return 0;
+        };
+        station.links()
     }
 
     /// The id of a link of a host that is an end, by its place among those.
