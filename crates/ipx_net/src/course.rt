@@ -101,8 +101,8 @@ fn reached_host(place: Place) -> Option<usize>
 }
 
 impl Course {
-    /// The course of a network of these hosts and routers, numbered from 0 in their order, at moment 0. Nothing
-    /// happened in it, its routers know nothing, and its hosts have no connections.
+    /// The course of a network of these hosts and routers, numbered from 0 in their order, at moment
+    /// 0. Nothing happened in it, its routers know nothing, and its hosts have no connections.
     ///
     /// The caller owes networks other than 0 and FFFFFFFF, of hosts and of ports, and 1 to 8,192
     /// buffers where a host listens. It is refused with the fault of the first router that is
