@@ -12,6 +12,7 @@ ghost use Rattle.ipx_hosts.specs.Beginnings.{AddsHost};
 ghost use Rattle.spx_messages.specs.Arrives.{IsAcceptable};
 ghost use Rattle.spx_messages.specs.Taking.{overlong, result_view};
 ghost use Rattle.ipx_hosts.specs.Stations.{reader_of, speaker};
+ghost use Rattle.ipx_hosts.specs.Telling.{here_at, state_at};
 ghost use Rattle.ipx_hosts.specs.Hosts.{DeliveredAt, FitTogether, LeavesSo, LeftAs, Noting, PolledAt, SameHomes, Standing, is_lost, stands};
 ghost use Rattle.ipx_hosts.specs.Refusing.{CloseIsRefused, DialIsLeft, Overruns, PushesTo, SendIsRefused, TakeIsRefused, close_fault, dial_fault, end_held, send_fault, want};
 
@@ -19,7 +20,7 @@ use crate::end::EndNow;
 use crate::refusal::Refusal;
 use crate::station::Station;
 use ipx_wire::{Address, Network, Node, OutOfMemory, Socket};
-use spx_link::{Sent, Unit};
+use spx_link::{Sent, State, Unit};
 use spx_messages::{Arrived, EndFault, Message, MessageFault, Taken};
 use std::alloc::Global;
 use std::marker::Model;
@@ -304,6 +305,56 @@ impl Hosts {
         match self.stations.get(host) {
             Some(station) => station.buffers(id),
             None => 0,
+        }
+    }
+
+    /// How many links of a host are ends; 0 where there is no such host.
+    pub fn links(&self, host: usize) -> usize
+        ensures { result ≡ length (here_at self.now host) }
+    {
+        let Some(station) = self.stations.get(host) else {
+            return 0;
+        };
+        station.links()
+    }
+
+    /// The id of a link of a host that is an end, by its place among those.
+    pub fn id(&self, host: usize, place: usize) -> Option<u16>
+        ensures { result ≡ option_map (λ x. x.0) (slice_get (here_at self.now host) place) }
+    {
+        match self.stations.get(host) {
+            Some(station) => station.id(place),
+            None => None,
+        }
+    }
+
+    /// The end that an id of a host is, if there is such a host and such an end.
+    pub fn known(&self, host: usize, id: u16) -> Option<usize>
+        ensures { result ≡ end_at (here_at self.now host) id }
+    {
+        match self.stations.get(host) {
+            Some(station) => station.end(id),
+            None => None,
+        }
+    }
+
+    /// The state of a link of a host; None where there is none.
+    pub fn state(&self, host: usize, id: u16) -> Option<State>
+        ensures { result ≡ state_at self.now host id }
+    {
+        match self.stations.get(host) {
+            Some(station) => station.state(id),
+            None => None,
+        }
+    }
+
+    /// The host of an end, released or not.
+    pub fn host_of(&self, who: usize) -> Option<usize>
+        ensures { result ≡ option_map (λ e. e.host) (slice_get self.now.ends who) }
+    {
+        match self.ends.get(who) {
+            Some(end) => Some(end.host),
+            None => None,
         }
     }
 }

@@ -1,6 +1,6 @@
 //! A host, and which end each of its links is.
 
-ghost use Rattle.std.specs.Prelude.{◌≡◌, ◌≢◌, ◌≤◌, ◌↔◌, ◌++◌, ◌∷◌, ◌==◌, ℕ, [], Err, IfErr, IfOk, IfSome, IsOk, None, OnErr, OnOk, Some, filter, find, length, not, option_map};
+ghost use Rattle.std.specs.Prelude.{◌≡◌, ◌≢◌, ◌≤◌, ◌↔◌, ◌++◌, ◌∷◌, ◌==◌, ℕ, [], Err, IfErr, IfOk, IfSome, IsOk, None, OnErr, OnOk, Some, filter, find, length, not, option_map, slice_get};
 ghost use Rattle.spx_link.specs.Offer.{end_link, first_of, offer_link, refusal};
 ghost use Rattle.spx_messages.specs.Arrives.{Arrives, IsAcceptable};
 ghost use Rattle.spx_messages.specs.Polls.{Polls, home_of};
@@ -16,10 +16,11 @@ ghost use Rattle.spx_messages.specs.Changes.{Listens};
 ghost use Rattle.ipx_hosts.specs.Beginnings.{BeginsAt};
 ghost use Rattle.ipx_hosts.specs.Refusing.{CloseIsRefused, DialIsLeft, Overruns, PushesTo, SendIsRefused, TakeIsRefused, close_fault, dial_fault, send_fault, want};
 ghost use Rattle.ipx_hosts.specs.Stations.{ChangesAt, DialsAt, ReleasesAt, Stays, StaysAt, reader_of, speaker};
+ghost use Rattle.ipx_hosts.specs.Telling.{state_of};
 
 use crate::refusal::Refusal;
 use ipx_wire::{Address, Fragment, Network, Node, OutOfMemory, Socket};
-use spx_link::{Sent, Unit};
+use spx_link::{Sent, State, Unit};
 use spx_messages::{Arrived, EndFault, Endpoint, Message, Taken};
 use std::alloc::Global;
 use std::marker::Model;
@@ -276,6 +277,31 @@ impl Station {
         match self.endpoint.numbers(id) {
             Ok(numbers) => numbers.buffers,
             Err(_) => 0,
+        }
+    }
+
+    /// How many of its links are ends.
+    pub fn links(&self) -> usize
+        ensures { result ≡ length self.now.here }
+    {
+        self.here.len()
+    }
+
+    /// The id of a link that is an end, by its place among those.
+    pub fn id(&self, place: usize) -> Option<u16>
+        ensures { result ≡ option_map (λ x. x.0) (slice_get self.now.here place) }
+    {
+        let known = self.here.get(place)?;
+        Some(known.0)
+    }
+
+    /// The state of a link; None where there is none.
+    pub fn state(&self, id: u16) -> Option<State>
+        ensures { result ≡ state_of (held_at self.now.endpoint id) }
+    {
+        match self.endpoint.state(id) {
+            Ok(state) => Some(state),
+            Err(_) => None,
         }
     }
 }

@@ -11,6 +11,8 @@ pub mod GrowthView
 pub mod HostEvents
 pub mod Speaking
 pub mod NetView
+pub mod Ends
+pub mod Told
 pub mod RouterEvents
 pub mod NetEvents
 pub mod NetFaults

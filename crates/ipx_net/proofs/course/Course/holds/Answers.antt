@@ -12,7 +12,7 @@ use Rattle.ipx_hosts.specs.Hosts.{world_of}
 use Rattle.ipx_net.specs.NetView.{NetView}
 use Rattle.ipx_net.specs.Theorems.{AloneHandsOutNothing, PeersHandOn}
 use Rattle.ipx_net.proofs.Holding.{addresses, allowed, alone_hands, alters, going_has, hands_on, in_order}
-use Rattle.ipx_net.proofs.net.Net.holds.Goals as goal
+use Rattle.ipx_net.proofs.course.Course.holds.Goals as goal
 
 pub returns-clause-alters : goal.returns-clause-alters
 returns-clause-alters c =
