@@ -209,7 +209,7 @@ for_good found log at c d is =
     let front : List Note = entry_notes (take at log) in
     let back : List Note = entry_notes (drop at log) in
     let whole : scan (entry_notes log) ≡ seen_all (scan front) back =
-        ap (λ (es : List Entry). scan (entry_notes es)) (sym (take-append-drop at log)) ∙ ap scan (map-append entry_note (take at log) (drop at log)) ∙ seen_all-append unread front back in
+    ap (λ (es : List Entry). scan (entry_notes es)) (sym (take-append-drop at log)) ∙ ap scan (map-append entry_note (take at log) (drop at log)) ∙ seen_all-append unread front back in
     let kept : ArePeersIn (seen_all (scan front) back) c d = peers_kept (scan front) back c d (lone_log front) ((found (scan front) c d).only is) in
     ap (λ (s : Scan). peer_in s c) whole ∙ (found (seen_all (scan front) back) c d).there kept
 
@@ -225,9 +225,9 @@ paired_either F who (Some d) told is both e =
     let one : List EndInfo = change (with_peer (Some d)) who told in
     elim (change_where (with_peer (Some who)) d one e) [
       | inl same ↦ elim (change_where (with_peer (Some d)) who told e) [
-          | inl kept ↦ inr (ap (λ (x : EndInfo). x.peer) same ∙ ap (λ (x : EndInfo). x.peer) kept)
-          | inr here ↦ inl (ap (λ (x : EndInfo). x.peer) same ∙ ap (λ (x : EndInfo). x.peer) here.1 ∙ sym is ∙ ap F here.0)
-        ]
+        | inl kept ↦ inr (ap (λ (x : EndInfo). x.peer) same ∙ ap (λ (x : EndInfo). x.peer) kept)
+        | inr here ↦ inl (ap (λ (x : EndInfo). x.peer) same ∙ ap (λ (x : EndInfo). x.peer) here.1 ∙ sym is ∙ ap F here.0)
+      ]
       | inr here ↦ inl (ap (λ (x : EndInfo). x.peer) here.1 ∙ sym (both d is) ∙ ap F here.0)
     ]
 
@@ -326,14 +326,14 @@ paired_next found log old at entry told new h is numbered made step p =
                     let told_own : (told_of next who).peer ≡ F who = paired_own who (F who) told (inside who c own) in
                     ap (λ (k : ℕ). (told_of next k).peer) (sym same) ∙ told_own ∙ own
                 | inr differ ↦ elim (cases_eq who c) [
-                    | inl same ↦
-                        let back : F who ≡ Some e = swapped found (scan (entry_notes log)) e who (final ∙ ap Some (sym same)) in
-                        paired_other who e (F who) told back (inside e c final) ∙ ap Some same
-                    | inr other ↦ elim (either e) [
-                        | inl good ↦ good ∙ final
-                        | inr same ↦ same ∙ before e c (λ j. differ (same_Some who e (sym some ∙ j))) (λ j. other (same_Some who c (sym some ∙ j))) w
-                      ]
+                  | inl same ↦
+                      let back : F who ≡ Some e = swapped found (scan (entry_notes log)) e who (final ∙ ap Some (sym same)) in
+                      paired_other who e (F who) told back (inside e c final) ∙ ap Some same
+                  | inr other ↦ elim (either e) [
+                    | inl good ↦ good ∙ final
+                    | inr same ↦ same ∙ before e c (λ j. differ (same_Some who e (sym some ∙ j))) (λ j. other (same_Some who c (sym some ∙ j))) w
                   ]
+                ]
               ];
           alone = alone_then old told next p.alone (paired_alone who (F who) told);
           count = paired_length who (F who) told ∙ p.count;

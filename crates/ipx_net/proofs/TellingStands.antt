@@ -17,9 +17,9 @@ pub change_where : (f : EndInfo → EndInfo) (w : ℕ) (told : List EndInfo) (wh
     → (told_of (change f w told) who ≡ told_of told who) ⊎ ((w ≡ who) × (told_of (change f w told) who ≡ f (told_of told who)))
 change_where f w told who = elim (cases_eq w who) [
   | inl same ↦ elim (cases_lt w (length told)) [
-      | inl h ↦ inr (same, subst (λ (k : ℕ). told_of (change f w told) k ≡ f (told_of told k)) same (get_or-set_same told w (f (told_of told w)) nobody h))
-      | inr past ↦ inl (ap (λ (xs : List EndInfo). told_of xs who) (set_past told w (f (told_of told w)) past))
-    ]
+    | inl h ↦ inr (same, subst (λ (k : ℕ). told_of (change f w told) k ≡ f (told_of told k)) same (get_or-set_same told w (f (told_of told w)) nobody h))
+    | inr past ↦ inl (ap (λ (xs : List EndInfo). told_of xs who) (set_past told w (f (told_of told w)) past))
+  ]
   | inr differ ↦ inl (get_or-set_other told w who (f (told_of told w)) nobody (λ e. differ (sym e)))
 ]
 
@@ -112,14 +112,14 @@ told_here v host gone old place cur x w fit there known s =
               state_is = ap (λ (e : EndInfo). e.state) own' ∙ ap (λ (i : ℕ). state_by gone (state_at v host i)) id;
             }
         | inr differ ↦ elim (cases_lt j place) [
-            | inl before ↦ subst (StandsSo host (state_by gone (state_at v host y.0))) (sym (change_other (standing host st) w cur who differ)) (s.here j y who before at is within)
-            | inr past ↦
-                let one : j ≡ place = omega arith in
-                let both : Some y ≡ Some x = sym at ∙ ap (slice_get (here_at v host)) one ∙ there in
-                let same : y.0 ≡ x.0 = ap (λ (p : ℕ × ℕ). p.0) (same_Some y x both) in
-                let end' : Some who ≡ Some w = sym is ∙ ap (end_at (here_at v host)) same ∙ known in
-                absurd (differ (sym (same_Some who w end')))
-          ]
+          | inl before ↦ subst (StandsSo host (state_by gone (state_at v host y.0))) (sym (change_other (standing host st) w cur who differ)) (s.here j y who before at is within)
+          | inr past ↦
+              let one : j ≡ place = omega arith in
+              let both : Some y ≡ Some x = sym at ∙ ap (slice_get (here_at v host)) one ∙ there in
+              let same : y.0 ≡ x.0 = ap (λ (p : ℕ × ℕ). p.0) (same_Some y x both) in
+              let end' : Some who ≡ Some w = sym is ∙ ap (end_at (here_at v host)) same ∙ known in
+              absurd (differ (sym (same_Some who w end')))
+        ]
       ];
       others = λ who none. change_other (standing host st) w cur who (λ same. none x.0 (known ∙ ap Some same)) ∙ s.others who none;
     }

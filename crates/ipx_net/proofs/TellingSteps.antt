@@ -65,8 +65,8 @@ refused_only k f a o n d =
       elsewhere = λ j id not. elim (cases_eq host j) [
         | inl same ↦
             let here : held_in (slice_get n.hosts host) id ≡ held_in (slice_get o.hosts host) id =
-                ap (λ (hs : List Station). held_in (slice_get hs host) id) r.hosts ∙ ap (λ (s : Option Station). held_in s id) (get_written o.hosts host r.before r.after r.there)
-                ∙ r.same.held id ∙ ap (λ (s : Option Station). held_in s id) (sym r.there) in
+            ap (λ (hs : List Station). held_in (slice_get hs host) id) r.hosts ∙ ap (λ (s : Option Station). held_in s id) (get_written o.hosts host r.before r.after r.there)
+            ∙ r.same.held id ∙ ap (λ (s : Option Station). held_in s id) (sym r.there) in
             subst (λ (i : ℕ). held_in (slice_get n.hosts i) id ≡ held_in (slice_get o.hosts i) id) same here
         | inr differ ↦ ap (λ (hs : List Station). held_in (slice_get hs j) id) r.hosts ∙ ap (λ (s : Option Station). held_in s id) (get_beside o.hosts host j r.after differ)
       ];
@@ -280,10 +280,10 @@ stayed k w w' t0 t1 t2 t3 t who n' n at' at host id same false standing = elim (
       let old = t.before who n at in
       let was : n.released ≡ false = sym same ∙ standing in
       let told = same_told k w w' t0 t1 t2 t3 t who
-          (λ h i is. not_elsewhere w t.order who n at h (λ e. not (is ∙ ap Some (sym e ∙ sym host))) i)
-          (λ h i is. not_elsewhere w' t.order' who n' at' h (λ e. not (is ∙ ap Some (sym e))) i) in
+      (λ h i is. not_elsewhere w t.order who n at h (λ e. not (is ∙ ap Some (sym e ∙ sym host))) i)
+      (λ h i is. not_elsewhere w' t.order' who n' at' h (λ e. not (is ∙ ap Some (sym e))) i) in
       let held : held_in (slice_get w.hosts n.host) n.id ≡ held_in (slice_get w'.hosts n'.host) n'.id =
-          ap (λ (h : ℕ). held_in (slice_get w.hosts h) n.id) (sym host) ∙ ap (held_in (slice_get w.hosts n'.host)) (sym id) ∙ sym (t.only.elsewhere n'.host n'.id not) in
+      ap (λ (h : ℕ). held_in (slice_get w.hosts h) n.id) (sym host) ∙ ap (held_in (slice_get w.hosts n'.host)) (sym id) ∙ sym (t.only.elsewhere n'.host n'.id not) in
       record {
         host = told.0 ∙ old.host ∙ sym host;
         state = told.1 ∙ old.state ∙ ap state_of (held_standing w.hosts n was ∙ held ∙ sym (held_standing w'.hosts n' standing));

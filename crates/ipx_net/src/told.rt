@@ -117,7 +117,15 @@ fn set_standing(infos: &mut [EndInfo], who: usize, host: usize, state: Option<St
     ensures { infos.new ≡ change (standing host state) who infos.old }
 {
     let info = told_of(infos, who);
-    put(infos, who, EndInfo { host, state, ..info });
+    put(
+        infos,
+        who,
+        EndInfo {
+            host,
+            state,
+            ..info
+        },
+    );
 }
 
 /// The end that an entry made by a request, or joined.

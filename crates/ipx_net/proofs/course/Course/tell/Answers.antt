@@ -15,5 +15,5 @@ read_from-requires-clause-counted c =
     let told : List EndInfo = c.args.told.now.infos.items in
     let eq : entry_notes es ≡ c.args.self.now.now.world.log = c.log.ensures ∙ ap (λ (v : NetView). v.now.world.log) c.self.view_is in
     let before : TellsLog (entry_notes (take c.args.from es)) told =
-        subst (λ (ns : List Note). TellsLog ns told) (ap (take c.args.from) (sym eq) ∙ sym (notes_take c.args.from es)) c.requires.before in
+    subst (λ (ns : List Note). TellsLog ns told) (ap (take c.args.from) (sym eq) ∙ sym (notes_take c.args.from es)) c.requires.before in
     counted_of (entry_notes (take c.args.from es)) told before
