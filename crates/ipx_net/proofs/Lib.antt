@@ -18,3 +18,4 @@ pub mod TellingPeers
 pub mod TellingSteps
 pub mod CourseTells
 pub mod NetTells
+pub mod Beginnings

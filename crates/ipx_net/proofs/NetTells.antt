@@ -1,11 +1,12 @@
 -- What is told of ends is right after an event, and after want of memory.
-use Rattle.std.proofs.Common.{ℕ, ◌≡◌, ◌≤◌, ◌+◌, ◌-◌, List, Bool, true, false, Option, length, map, take, refl, sym, ap, subst, ◌∙◌, arith, length-take}
+use Rattle.std.proofs.Common.{ℕ, ◌≡◌, ◌≤◌, ◌+◌, ◌-◌, List, [], Bool, true, false, Option, None, Some, length, map, take, refl, sym, ap, subst, ◌∙◌, arith, length-take}
 use Rattle.std.proofs.lemmas.List.{length-map}
 use Rattle.ipx_log.specs.EndsTold.{EndsAreTold}
 use Rattle.ipx_log.specs.Note.{Note}
 use Rattle.spx_link.specs.LinkView.{LinkView}
 use Rattle.ipx_log.specs.Scene.{Stand, Stands}
-use Rattle.ipx_steps.specs.World.{InOrder, World, scene_of, stand_of}
+use Rattle.std.specs.Prelude.{slice_get}
+use Rattle.ipx_steps.specs.World.{EndNow, InOrder, World, scene_of, stand_of}
 use Rattle.ipx_net.specs.AnswerView.{AnswerView}
 use Rattle.ipx_net.specs.Ends.{TellsEnds, TellsLog, TellsNext}
 use Rattle.ipx_net.specs.NetEvents.{Happens}
@@ -62,3 +63,11 @@ range_on log log' is = omega (arith, ap length is, length-take (length log) log'
 
 pub tells_next : (w : World) (t : List EndInfo) → EndsAreTold (scene_of w) → TellsLog w.log t → TellsNext w t
 tells_next w t told log = λ who s l stands. (log.each who).next ∙ sym (told.next who s l stands)
+
+-- a network in which nothing happened has no ends to tell of
+pub tells_new : (v : NetView) → v.now.world.log ≡ [] → v.now.world.ends ≡ [] → TellsEnds v []
+tells_new v log ends =
+    record {
+      log = subst (λ (ns : List Note). TellsLog ns []) (sym log) (record { count = refl; each = λ who. record { given = refl; out = refl; next = refl; peer = refl } });
+      stands = λ _ who n at. let no : None ≡ Some n = ap (λ (es : List EndNow). slice_get es who) (sym ends) ∙ at in cc;
+    }

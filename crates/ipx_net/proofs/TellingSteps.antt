@@ -11,7 +11,7 @@ use Rattle.ipx_router.specs.declared.port.Port.{Port}
 use Rattle.spx_messages.specs.declared.arrived.Arrived.{Arrived}
 use Rattle.spx_messages.specs.declared.arrived.Arrived.TheVariants as Arriveds
 use Rattle.spx_messages.specs.declared.fault.EndFault.{EndFault}
-use Rattle.spx_messages.specs.Taking.{TakenView}
+use Rattle.spx_messages.specs.Taking.{TakenView, overlong}
 use Rattle.spx_link.specs.LinkView.{LinkView}
 use Rattle.ipx_steps.specs.Calls.{ChangesLink, DialsFrom, RefusesAt, ReleasesOf}
 use Rattle.ipx_steps.specs.Steps.{TakesOf, ends_after, marked_over}
@@ -22,7 +22,7 @@ use Rattle.ipx_hosts.specs.Hosts.{HostsView}
 use Rattle.ipx_hosts.specs.Telling.{here_at, here_in, state_at, state_of}
 use Rattle.ipx_net.specs.AnswerView.{AnswerView}
 use Rattle.ipx_net.specs.Ends.{TellsEnd, TellsEnds, TellsLog, TellsStand, TellsStands, told_of}
-use Rattle.ipx_net.specs.HostEvents.{IsRefused}
+use Rattle.ipx_net.specs.HostEvents.{RefusedOf}
 use Rattle.ipx_net.specs.NetEvents.{Happens}
 use Rattle.ipx_net.specs.NetView.{NetNow, NetView}
 use Rattle.ipx_net.specs.RouterEvents.{RouterDoes}
@@ -57,10 +57,8 @@ at_host k o n host after is same j id not =
 unmoved : (k : Option ℕ) (o n : World) → n.hosts ≡ o.hosts → n.ends ≡ o.ends → OnlyAt k o n
 unmoved k o n hosts ends = record { elsewhere = λ j id not. ap (λ (hs : List Station). held_in (slice_get hs j) id) hosts; stay = stay_same k o n ends }
 
-refused_only : (k : Option ℕ) (f : EndFault) (a : AnswerView) (o n : World) → IsRefused f a o n → OnlyAt k o n
-refused_only k f a o n d =
-    let host : ℕ = d.1 in
-    let r : RefusesAt o host n = d.2 in
+refused_only : (k : Option ℕ) (host : ℕ) (o n : World) → RefusesAt o host n → OnlyAt k o n
+refused_only k host o n r =
     record {
       elsewhere = λ j id not. elim (cases_eq host j) [
         | inl same ↦
@@ -146,15 +144,18 @@ router_only parcel router ports (Outcomes.Replies sent) a o n d = unmoved None o
 router_only parcel router ports (Outcomes.Heard k) a o n d = unmoved None o n (ap (λ (w : World). w.hosts) d.1) (ap (λ (w : World). w.ends) d.1)
 router_only parcel router ports (Outcomes.Dropped reason) a o n d = unmoved None o n (ap (λ (w : World). w.hosts) d.1) (ap (λ (w : World). w.ends) d.1)
 
+refused_of : (who : ℕ) (f : EndFault) (a : AnswerView) (o n : World) → RefusedOf who f a o n → OnlyAt (host_there o who) o n
+refused_of who f a o n r = refused_only (host_there o who) _ o n r.2.1
+
 pub happens_only : (e : Event) (a : AnswerView) (o n : NetNow) → Happens e a o n → OnlyAt (touched_by o.world e) o.world n.world
-happens_only (Events.Dial host socket to buffers) a o n h = elim h.0 [ inl d ↦ dials_only o.world n.world host socket to buffers d.1 d.2 | inr r ↦ refused_only (Some host) r.0 a o.world n.world r.1 ]
-happens_only (Events.Send who message) a o n h = elim h.0 [ inl d ↦ changes_only o.world n.world who _ _ d.1.changes | inr r ↦ refused_only (host_there o.world who) r.0 a o.world n.world r.1 ]
+happens_only (Events.Dial host socket to buffers) a o n h = elim h.0 [ inl d ↦ dials_only o.world n.world host socket to buffers d.2 d.3 | inr r ↦ refused_only (Some host) host o.world n.world r.2.1 ]
+happens_only (Events.Send who message) a o n h = elim h.0 [ inl d ↦ changes_only o.world n.world who _ _ d.2.changes | inr r ↦ refused_of who r.0 a o.world n.world r.2 ]
 happens_only (Events.Take who) a o n h = elim h.0 [
   | inl t ↦ takes_only o.world n.world who (Ok t.0) t.2
-  | inr more ↦ elim more [ inl l ↦ takes_only o.world n.world who (Err l.0) l.2 | inr r ↦ refused_only (host_there o.world who) _ a o.world n.world r ]
+  | inr more ↦ elim more [ inl l ↦ takes_only o.world n.world who (Err overlong) l.1 | inr r ↦ refused_of who _ a o.world n.world r.1 ]
 ]
-happens_only (Events.Close who) a o n h = elim h.0 [ inl d ↦ changes_only o.world n.world who _ _ d.1 | inr r ↦ refused_only (host_there o.world who) r.0 a o.world n.world r.1 ]
-happens_only (Events.Release who) a o n h = elim h.0 [ inl d ↦ releases_only o.world n.world who d.1 | inr r ↦ refused_only (host_there o.world who) r.0 a o.world n.world r.1 ]
+happens_only (Events.Close who) a o n h = elim h.0 [ inl d ↦ changes_only o.world n.world who _ _ d.2 | inr r ↦ refused_of who r.0 a o.world n.world r.2 ]
+happens_only (Events.Release who) a o n h = releases_only o.world n.world who h.0.1
 happens_only (Events.Tick now) a o n h = unmoved None o.world n.world h.0.1.hosts h.0.1.ends
 happens_only (Events.Poll (Members.Host host)) a o n h =
     let p = h.0.1 in

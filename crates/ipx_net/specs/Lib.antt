@@ -8,7 +8,6 @@ pub mod Sights
 pub mod RouterMembers
 pub mod AnswerView
 pub mod GrowthView
-pub mod Hearing
 pub mod HostEvents
 pub mod Speaking
 pub mod NetView
@@ -19,3 +18,4 @@ pub mod NetEvents
 pub mod NetFaults
 pub mod NetReach
 pub mod Theorems
+pub mod Beginnings

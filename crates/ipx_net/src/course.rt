@@ -1,7 +1,7 @@
 //! The course of a network, event by event: its hosts, routers and log, without what is told of its
 //! ends.
 
-ghost use Rattle.std.specs.Prelude.{◌≡◌, ◌≤◌, ◌+◌, ◌-◌, ◌↔◌, IfErr, IfOk, IsTrue, None, OnOk, false, length, take, true, vec_capacity, vec_len};
+ghost use Rattle.std.specs.Prelude.{◌≡◌, ◌≤◌, ◌+◌, ◌-◌, ◌↔◌, All, IfErr, IfOk, IsTrue, None, OnOk, false, length, take, true, unwrap_or, vec_capacity, vec_len};
 ghost use Rattle.ipx_log.specs.Addresses.{AddressesTellPeers};
 ghost use Rattle.ipx_log.specs.Allocation.{AloneReadsNothing, WithinAllocation};
 ghost use Rattle.ipx_log.specs.Carried.{RoutersAlterHopsAlone};
@@ -13,7 +13,9 @@ ghost use Rattle.ipx_log.specs.InSteps.{PairsTakeSteps};
 ghost use Rattle.ipx_log.specs.Peers.{IsFresh};
 ghost use Rattle.ipx_log.specs.SentUnits.{LinksSendInOrder, UnitsAreSentInOrder};
 ghost use Rattle.ipx_steps.specs.World.{InOrder, scene_of};
+ghost use Rattle.ipx_router.specs.declared.fault.NewFault.TheVariants as NewFaults;
 ghost use Rattle.ipx_net.specs.AnswerView.{answer_view};
+ghost use Rattle.ipx_net.specs.Beginnings.{ArePortsOwed, IsHostOwed, IsNewNet, first_refusal};
 ghost use Rattle.ipx_net.specs.Begins.{Begins};
 ghost use Rattle.ipx_net.specs.Ends.{TellsLog};
 ghost use Rattle.ipx_net.specs.Entries.{entry_notes};
@@ -32,6 +34,8 @@ use crate::fault::NetFault;
 use crate::faults::fault_of;
 use crate::growth::Growth;
 use crate::happening::happen;
+use crate::host::Host;
+use crate::making::{hosts_of, routers_of};
 use crate::parcel::Parcel;
 use crate::place::Place;
 use crate::routers::RouterNow;
@@ -43,7 +47,8 @@ use ipx_log::{
     pairs_take_steps, peers_are_in_step, routers_alter_hops_alone, units_are_sent_in_order,
     within_allocation,
 };
-use ipx_steps::steps_are_deeds;
+use ipx_router::{NewFault, Port};
+use ipx_steps::{peers_of_worlds_are_in_step, steps_are_deeds};
 use std::alloc::Global;
 use std::marker::Model;
 
@@ -96,6 +101,33 @@ fn reached_host(place: Place) -> Option<usize>
 }
 
 impl Course {
+    /// The course of a network of these hosts and routers, numbered from 0 in their order, at moment
+    /// 0. Nothing happened in it, its routers know nothing, and its hosts have no connections.
+    ///
+    /// The caller owes networks other than 0 and FFFFFFFF, of hosts and of ports, and 1 to 8,192
+    /// buffers where a host listens. It is refused with the fault of the first router that is
+    /// refused, else for want of memory.
+    pub fn new(alloc: Global, hosts: Vec<Host>, routers: Vec<Vec<Port>>) -> Result<Course, NewFault>
+        requires hosts { All IsHostOwed hosts.items }
+        requires ports { All ArePortsOwed routers.items }
+        ensures new { IfOk result (λ n. IsNewNet hosts.items routers.items n) }
+        ensures sound { OnOk result (first_refusal routers.items ≡ None) }
+        ensures fault { IfErr result (λ f. f ≡ unwrap_or (first_refusal routers.items) NewFaults.OutOfMemory) }
+    {
+        peers_of_worlds_are_in_step();
+        let routers = routers_of(alloc, routers)?;
+        let Ok(hosts) = hosts_of(alloc, &hosts) else {
+            return Err(NewFault::OutOfMemory);
+        };
+        Ok(Course {
+            hosts,
+            routers,
+            book: Book::new(alloc),
+            moment: 0,
+            spent: false,
+        })
+    }
+
     /// The fault that an event meets before anything is done, if it meets one.
     pub fn first_fault(&self, event: &Event) -> Option<NetFault>
         ensures { result ≡ first_fault self.now event.now }
@@ -162,18 +194,18 @@ impl Course {
 
     /// What is so of every network.
     pub fn holds(&self)
-        // Of the log and the parcels, also after want of memory.
+        // Of the log, the parcels and the addresses of hosts, also after want of memory.
         ensures alters { RoutersAlterHopsAlone (scene_of self.now.now.world) }
         ensures in_order { UnitsAreSentInOrder (scene_of self.now.now.world) }
         ensures allowed { WithinAllocation (scene_of self.now.now.world) }
         ensures hands_on { PeersHandOn (scene_of self.now.now.world) }
         ensures alone_hands { AloneHandsOutNothing (scene_of self.now.now.world) }
+        ensures addresses { AddressesTellPeers (scene_of self.now.now.world) }
         // Of links and log, while the network goes on.
         ensures in_step { self.now.spent ≡ false → PeersAreInStep (scene_of self.now.now.world) }
         ensures machine { self.now.spent ≡ false → PairsTakeSteps (scene_of self.now.now.world) }
         ensures joined { self.now.spent ≡ false → HandsOutWhatItTook (scene_of self.now.now.world) }
         ensures alone { self.now.spent ≡ false → AloneReadsNothing (scene_of self.now.now.world) }
-        ensures addresses { self.now.spent ≡ false → AddressesTellPeers (scene_of self.now.now.world) }
         ensures confirmed { self.now.spent ≡ false → ConfirmedIsRead (scene_of self.now.now.world) }
         ensures end_taken { self.now.spent ≡ false → EndTakenIsWhole (scene_of self.now.now.world) }
         ensures sends { self.now.spent ≡ false → LinksSendInOrder (scene_of self.now.now.world) }

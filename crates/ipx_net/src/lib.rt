@@ -18,6 +18,7 @@ mod growth;
 mod handed;
 mod happening;
 mod host;
+mod making;
 mod mark;
 mod net;
 mod parcel;

@@ -1,6 +1,6 @@
 //! A network in memory, step by step.
 
-ghost use Rattle.std.specs.Prelude.{◌≡◌, ◌≢◌, ◌<◌, ◌↔◌, Err, IfErr, IfOk, IsTrue, None, OnOk, Some, false, length, true};
+ghost use Rattle.std.specs.Prelude.{◌≡◌, ◌≢◌, ◌<◌, ◌↔◌, All, Err, IfErr, IfOk, IsTrue, None, OnOk, Some, false, length, true, unwrap_or};
 ghost use Rattle.ipx_log.specs.Addresses.{AddressesTellPeers};
 ghost use Rattle.ipx_log.specs.Allocation.{AloneReadsNothing, WithinAllocation};
 ghost use Rattle.ipx_log.specs.Carried.{RoutersAlterHopsAlone};
@@ -12,7 +12,9 @@ ghost use Rattle.ipx_log.specs.Peers.{IsFresh, Premises};
 ghost use Rattle.ipx_log.specs.Scan.{scan};
 ghost use Rattle.ipx_log.specs.SentUnits.{LinksSendInOrder, UnitsAreSentInOrder};
 ghost use Rattle.ipx_steps.specs.World.{scene_of};
+ghost use Rattle.ipx_router.specs.declared.fault.NewFault.TheVariants as NewFaults;
 ghost use Rattle.ipx_net.specs.AnswerView.{answer_view};
+ghost use Rattle.ipx_net.specs.Beginnings.{ArePortsOwed, IsHostOwed, IsNewNet, first_refusal};
 ghost use Rattle.ipx_net.specs.Begins.{Begins};
 ghost use Rattle.ipx_net.specs.Ends.{TellsEnds, TellsNext};
 ghost use Rattle.ipx_net.specs.Entries.{entry_notes};
@@ -28,8 +30,10 @@ use crate::endinfo::EndInfo;
 use crate::entry::Entry;
 use crate::event::Event;
 use crate::fault::NetFault;
+use crate::host::Host;
 use crate::parcel::Parcel;
 use crate::told::EndsTold;
+use ipx_router::{NewFault, Port};
 use std::alloc::Global;
 use std::marker::Model;
 
@@ -114,6 +118,28 @@ fn take_in(
 }
 
 impl Net {
+    /// A network of these hosts and routers, numbered from 0 in their order, at moment 0. Nothing
+    /// happened in it, its routers know nothing, and its hosts have no connections.
+    ///
+    /// The caller owes networks other than 0 and FFFFFFFF, of hosts and of ports, and 1 to 8,192
+    /// buffers where a host listens. It is refused with the fault of the first router that is
+    /// refused, else for want of memory.
+    pub fn new(alloc: Global, hosts: Vec<Host>, routers: Vec<Vec<Port>>) -> Result<Net, NewFault>
+        requires hosts { All IsHostOwed hosts.items }
+        requires ports { All ArePortsOwed routers.items }
+        ensures new { IfOk result (λ n. IsNewNet hosts.items routers.items n) }
+        ensures sound { OnOk result (first_refusal routers.items ≡ None) }
+        ensures fault { IfErr result (λ f. f ≡ unwrap_or (first_refusal routers.items) NewFaults.OutOfMemory) }
+    {
+        match Course::new(alloc, hosts, routers) {
+            Ok(course) => Ok(Net {
+                course,
+                told: EndsTold::new(alloc),
+            }),
+            Err(fault) => Err(fault),
+        }
+    }
+
     /// Takes one event, and answers what became of it.
     ///
     /// The caller owes 1 to 8,192 buffers of what is dialled. It is refused as `Spent` where memory
@@ -133,18 +159,18 @@ impl Net {
             → self.new.now.world.log ≡ self.old.now.world.log }
         ensures parcels { result ≡ Err NetFaults.OutOfMemory
             → self.new.now.world.parcels ≡ self.old.now.world.parcels }
-        // Of the log and the parcels, also after want of memory.
+        // Of the log, the parcels and the addresses of hosts, also after want of memory.
         ensures alters { RoutersAlterHopsAlone (scene_of self.new.now.world) }
         ensures in_order { UnitsAreSentInOrder (scene_of self.new.now.world) }
         ensures allowed { WithinAllocation (scene_of self.new.now.world) }
         ensures hands_on { PeersHandOn (scene_of self.new.now.world) }
         ensures alone_hands { AloneHandsOutNothing (scene_of self.new.now.world) }
+        ensures addresses { AddressesTellPeers (scene_of self.new.now.world) }
         // Of links and log, while the network goes on.
         ensures in_step { self.new.spent ≡ false → PeersAreInStep (scene_of self.new.now.world) }
         ensures machine { self.new.spent ≡ false → PairsTakeSteps (scene_of self.new.now.world) }
         ensures joined { self.new.spent ≡ false → HandsOutWhatItTook (scene_of self.new.now.world) }
         ensures alone { self.new.spent ≡ false → AloneReadsNothing (scene_of self.new.now.world) }
-        ensures addresses { self.new.spent ≡ false → AddressesTellPeers (scene_of self.new.now.world) }
         ensures confirmed { self.new.spent ≡ false → ConfirmedIsRead (scene_of self.new.now.world) }
         ensures end_taken { self.new.spent ≡ false → EndTakenIsWhole (scene_of self.new.now.world) }
         ensures sends { self.new.spent ≡ false → LinksSendInOrder (scene_of self.new.now.world) }

@@ -11,7 +11,7 @@ use Rattle.ipx_steps.specs.World.{World, scene_of}
 use Rattle.ipx_hosts.specs.Hosts.{world_of}
 use Rattle.ipx_net.specs.NetView.{NetView}
 use Rattle.ipx_net.specs.Theorems.{AloneHandsOutNothing, PeersHandOn}
-use Rattle.ipx_net.proofs.Holding.{allowed, alone_hands, alters, going_has, hands_on, in_order}
+use Rattle.ipx_net.proofs.Holding.{addresses, allowed, alone_hands, alters, going_has, hands_on, in_order}
 use Rattle.ipx_net.proofs.course.Course.holds.Goals as goal
 
 pub returns-clause-alters : goal.returns-clause-alters
@@ -72,7 +72,7 @@ pub returns-clause-addresses : goal.returns-clause-addresses
 returns-clause-addresses c =
     let n = c.self.inside in
     let w : World = world_of n.hosts n.book.parcels n.book.log n.moment in
-    subst (λ (v : NetView). v.spent ≡ false → AddressesTellPeers (scene_of v.now.world)) c.self.view_is (λ going. going_has AddressesTellPeers c.addresses_tell_peers.ensures w n.spent c.self.invariant going)
+    subst (λ (v : NetView). AddressesTellPeers (scene_of v.now.world)) c.self.view_is (addresses c.addresses_tell_peers.ensures w n.spent c.self.invariant)
 
 pub returns-clause-confirmed : goal.returns-clause-confirmed
 returns-clause-confirmed c =
