@@ -1,3 +1,4 @@
 pub mod Hosts
 pub mod Refusing
 pub mod Stations
+pub mod Beginnings

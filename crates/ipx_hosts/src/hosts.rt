@@ -8,6 +8,7 @@ ghost use Rattle.ipx_steps.specs.Calls.{Closes, DialsFrom, ReleasesOf, SendsTo};
 ghost use Rattle.ipx_steps.specs.Steps.{TakesOf, buffers_of, unit_notes, whole_notes};
 ghost use Rattle.ipx_steps.specs.World.{end_at};
 ghost use Rattle.spx_messages.specs.EndpointView.{held_at};
+ghost use Rattle.ipx_hosts.specs.Beginnings.{AddsHost};
 ghost use Rattle.spx_messages.specs.Arrives.{IsAcceptable};
 ghost use Rattle.spx_messages.specs.Taking.{overlong, result_view};
 ghost use Rattle.ipx_hosts.specs.Stations.{reader_of, speaker};
@@ -39,6 +40,35 @@ impl Model for Hosts {
 }
 
 impl Hosts {
+    /// No hosts. It takes no memory.
+    pub fn new(alloc: Global) -> Hosts
+        ensures stations { result.stations ≡ [] }
+        ensures ends { result.ends ≡ [] }
+    {
+        Hosts {
+            stations: Vec::new(alloc),
+            ends: Vec::new(alloc),
+        }
+    }
+
+    /// A host comes behind the others: without links, and listening at one socket, if at one.
+    pub fn add(
+        &mut self,
+        alloc: Global,
+        network: Network,
+        node: Node,
+        router: Node,
+        listen: Option<(Socket, u16)>,
+    ) -> Result<(), OutOfMemory>
+        ensures ok { OnOk result (AddsHost self.old.stations self.new.stations network node router listen) }
+        ensures unchanged { OnErr result (self.new.stations ≡ self.old.stations) }
+        ensures ends { self.new.ends ≡ self.old.ends }
+    {
+        let station = Station::listening(alloc, network, node, router, listen)?;
+        self.stations.push(station)?;
+        Ok(())
+    }
+
     /// There is such an end, and it was not released.
     pub fn stands(&self, who: usize) -> bool
         ensures { result ≡ stands self.now who }

@@ -12,6 +12,8 @@ ghost use Rattle.spx_units.specs.Cut.{cut_of};
 ghost use Rattle.spx_units.specs.Message.{cut_fault, message_view};
 ghost use Rattle.ipx_steps.specs.Steps.{buffers_of, here_after};
 ghost use Rattle.ipx_steps.specs.World.{end_at};
+ghost use Rattle.spx_messages.specs.Changes.{Listens};
+ghost use Rattle.ipx_hosts.specs.Beginnings.{BeginsAt};
 ghost use Rattle.ipx_hosts.specs.Refusing.{CloseIsRefused, DialIsLeft, Overruns, PushesTo, SendIsRefused, TakeIsRefused, close_fault, dial_fault, send_fault, want};
 ghost use Rattle.ipx_hosts.specs.Stations.{ChangesAt, DialsAt, ReleasesAt, Stays, StaysAt, reader_of, speaker};
 
@@ -77,13 +79,39 @@ fn forget(here: &mut Vec<(u16, usize)>, id: u16)
 impl Station {
     /// A host without links.
     pub fn new(alloc: Global, network: Network, node: Node, router: Node) -> Station
-        ensures network { result.endpoint.network ≡ network }
-        ensures here { result.here ≡ [] }
+        ensures begins { BeginsAt network node router None result }
     {
         Station {
             endpoint: Endpoint::new(alloc, network, node, router),
             here: Vec::new(alloc),
         }
+    }
+
+    /// A host without links, which listens at one socket, if at one.
+    pub fn listening(
+        alloc: Global,
+        network: Network,
+        node: Node,
+        router: Node,
+        listen: Option<(Socket, u16)>,
+    ) -> Result<Station, OutOfMemory>
+        ensures { IfOk result (λ s. BeginsAt network node router listen s) }
+    {
+        let mut station = Station::new(alloc, network, node, router);
+        if let Some((socket, buffers)) = listen {
+            station.listen(alloc, socket, buffers)?;
+        }
+        Ok(station)
+    }
+
+    /// Links are accepted at a socket.
+    fn listen(&mut self, alloc: Global, socket: Socket, buffers: u16) -> Result<(), OutOfMemory>
+        ensures listens { OnOk result (Listens self.old.endpoint self.new.endpoint socket buffers) }
+        ensures here { self.new.here ≡ self.old.here }
+        ensures said { self.new.endpoint.said ≡ self.old.endpoint.said }
+        ensures heard { self.new.endpoint.heard ≡ self.old.endpoint.heard }
+    {
+        self.endpoint.listen(alloc, socket, buffers)
     }
 
     /// Its network.

@@ -11,3 +11,4 @@ pub mod EventSteps
 pub mod Happened
 pub mod NetKept
 pub mod Holding
+pub mod Beginnings

@@ -16,3 +16,4 @@ pub mod NetEvents
 pub mod NetFaults
 pub mod NetReach
 pub mod Theorems
+pub mod Beginnings

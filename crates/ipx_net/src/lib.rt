@@ -17,6 +17,7 @@ mod growth;
 mod handed;
 mod happening;
 mod host;
+mod making;
 mod mark;
 mod net;
 mod parcel;

@@ -1,6 +1,6 @@
 //! A network in memory, step by step.
 
-ghost use Rattle.std.specs.Prelude.{◌≡◌, ◌≢◌, ◌≤◌, Err, IfErr, IfOk, None, OnOk, Some, false, true};
+ghost use Rattle.std.specs.Prelude.{◌≡◌, ◌≢◌, ◌≤◌, All, Err, IfErr, IfOk, None, OnOk, Some, false, true, unwrap_or};
 ghost use Rattle.ipx_log.specs.Addresses.{AddressesTellPeers};
 ghost use Rattle.ipx_log.specs.Allocation.{AloneReadsNothing, WithinAllocation};
 ghost use Rattle.ipx_log.specs.Carried.{RoutersAlterHopsAlone};
@@ -10,7 +10,9 @@ ghost use Rattle.ipx_log.specs.InStep.{PeersAreInStep};
 ghost use Rattle.ipx_log.specs.InSteps.{PairsTakeSteps};
 ghost use Rattle.ipx_log.specs.SentUnits.{LinksSendInOrder, UnitsAreSentInOrder};
 ghost use Rattle.ipx_steps.specs.World.{scene_of};
+ghost use Rattle.ipx_router.specs.declared.fault.NewFault.TheVariants as NewFaults;
 ghost use Rattle.ipx_net.specs.AnswerView.{answer_view};
+ghost use Rattle.ipx_net.specs.Beginnings.{ArePortsOwed, IsHostOwed, IsNewNet, first_refusal};
 ghost use Rattle.ipx_net.specs.NetEvents.{Happens, IsOwed};
 ghost use Rattle.ipx_net.specs.NetFaults.{first_fault};
 ghost use Rattle.ipx_net.specs.Theorems.{AloneHandsOutNothing, PeersHandOn};
@@ -23,6 +25,8 @@ use crate::fault::NetFault;
 use crate::faults::fault_of;
 use crate::growth::Growth;
 use crate::happening::happen;
+use crate::host::Host;
+use crate::making::{hosts_of, routers_of};
 use crate::routers::RouterNow;
 use ipx_hosts::Hosts;
 use ipx_log::{
@@ -30,7 +34,8 @@ use ipx_log::{
     hands_out_what_it_took, links_send_in_order, pairs_take_steps, peers_are_in_step,
     routers_alter_hops_alone, units_are_sent_in_order, within_allocation,
 };
-use ipx_steps::steps_are_deeds;
+use ipx_router::{NewFault, Port};
+use ipx_steps::{peers_of_worlds_are_in_step, steps_are_deeds};
 use std::alloc::Global;
 use std::marker::Model;
 
@@ -63,6 +68,33 @@ impl Model for Net {
 }
 
 impl Net {
+    /// A network of these hosts and routers, numbered from 0 in their order, at moment 0. Nothing
+    /// happened in it, its routers know nothing, and its hosts have no connections.
+    ///
+    /// The caller owes networks other than 0 and FFFFFFFF, of hosts and of ports, and 1 to 8,192
+    /// buffers where a host listens. It is refused with the fault of the first router that is
+    /// refused, else for want of memory.
+    pub fn new(alloc: Global, hosts: Vec<Host>, routers: Vec<Vec<Port>>) -> Result<Net, NewFault>
+        requires hosts { All IsHostOwed hosts.items }
+        requires ports { All ArePortsOwed routers.items }
+        ensures new { IfOk result (λ n. IsNewNet hosts.items routers.items n) }
+        ensures sound { OnOk result (first_refusal routers.items ≡ None) }
+        ensures fault { IfErr result (λ f. f ≡ unwrap_or (first_refusal routers.items) NewFaults.OutOfMemory) }
+    {
+        peers_of_worlds_are_in_step();
+        let routers = routers_of(alloc, routers)?;
+        let Ok(hosts) = hosts_of(alloc, &hosts) else {
+            return Err(NewFault::OutOfMemory);
+        };
+        Ok(Net {
+            hosts,
+            routers,
+            book: Book::new(alloc),
+            moment: 0,
+            spent: false,
+        })
+    }
+
     /// The fault that an event meets before anything is done, if it meets one.
     fn first_fault(&self, event: &Event) -> Option<NetFault>
         ensures { result ≡ first_fault self.now event.now }
