@@ -209,6 +209,25 @@ impl Layout {
         Ok(true)
     }
 
+    /// The hosts that were laid out, in order.
+    pub fn hosts(&self) -> &[Host]
+        ensures { All IsHostOwed result.now }
+    {
+        &self.hosts
+    }
+
+    /// The ports of each router that was laid out, in order.
+    pub fn routers(&self) -> &[Vec<Port>]
+        ensures { All ArePortsOwed result.now }
+    {
+        &self.routers
+    }
+
+    /// The names and places that were laid out.
+    pub fn map(&self) -> &Map {
+        &self.map
+    }
+
     /// The network that was laid out, in which nothing happened yet. Each router was tried at its
     /// own line, so memory alone can be wanting.
     pub fn finish(self, alloc: Global) -> Result<Simulation, Halt> {

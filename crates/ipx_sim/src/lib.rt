@@ -18,5 +18,13 @@ mod summing;
 mod words;
 
 pub use acting::act;
+pub use fields::{fields_of, is_blank};
+pub use halt::Halt;
+pub use layout::Layout;
+pub use line::Line;
+pub use lines::refused_to_line;
+pub use map::{Map, Spot};
+pub use reading::read_line;
 pub use sim::do_sim;
 pub use summing::summary;
+pub use words::state_word;
