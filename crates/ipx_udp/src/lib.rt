@@ -1,0 +1,11 @@
+//! A script over sockets of the loopback, one for each node: `ipx udp`.
+#![tactic(auto)]
+
+mod mapped;
+mod runner;
+mod site;
+mod stop;
+mod summing;
+mod udp;
+
+pub use udp::do_udp;

@@ -1,0 +1,241 @@
+//! The command `udp`.
+
+ghost use Rattle.std.specs.Prelude.{◌≡◌, IfErr};
+ghost use Rattle.ipx_sim.specs.Script.{IsLineOwed};
+
+use crate::mapped::is_mapped;
+use crate::site::Site;
+use crate::stop::Stop;
+use crate::summing::write_ends;
+use ipx_commands::{InputFault, read_up_to, tell_no_memory, write_lines};
+use ipx_net::Event;
+use ipx_sim::{Layout, Line, Map, fields_of, is_blank, read_line, refused_to_line};
+use ipx_wire::OutOfMemory;
+use log::{Log, warn};
+use spx_messages::EndFault;
+use std::alloc::Global;
+use std::io::{Read, Write};
+use std::net::Net;
+
+/// The longest script, in bytes.
+const MOST: usize = 1_000_000;
+
+/// One more than the most lines that such a script has, which count from 1.
+const LINES_END: u32 = 1_000_002;
+
+/// Why a script goes no further, and at which line.
+#[derive(Clone, Copy)]
+struct Stopped {
+    line: u32,
+    stop: Stop,
+}
+
+fn bad_line(alloc: Global, line: u32) -> Result<(String, u8), OutOfMemory> {
+    Ok((format!(in alloc; "line {line} bad\n")?, 2))
+}
+
+fn refused_line(alloc: Global, fault: EndFault) -> Result<(String, u8), OutOfMemory> {
+    Ok((refused_to_line(alloc, fault)?, 1))
+}
+
+fn fixed_line(alloc: Global, text: &str, status: u8) -> Result<(String, u8), OutOfMemory> {
+    Ok((String::from_str(alloc, text)?, status))
+}
+
+/// Tells why a script goes no further.
+fn tell_stopped<W: Write>(alloc: Global, stopped: Stopped, writer: &mut W) -> Result<u8, u8>
+    ensures { IfErr result (λ status. status ≡ 1) }
+{
+    match stopped.stop {
+        Stop::Bad => write_lines(writer, bad_line(alloc, stopped.line)),
+        Stop::Device => {
+            let _ = writer.write_all(b"fault (39) Device\n");
+            Err(1)
+        }
+        Stop::Memory => Err(tell_no_memory(writer)),
+        Stop::Refused(_) | Stop::NoSuchEnd | Stop::Write => Err(1),
+    }
+}
+
+/// Does a line of the script. It answers whether it prints `ok`.
+fn do_line(alloc: Global, site: &mut Site, line: Line) -> Result<bool, Stop> {
+    match line {
+        Line::Act(
+            Event::Dial {
+                host,
+                socket,
+                to,
+                buffers,
+            },
+        ) => site.dial(alloc, host, socket, to, buffers)?,
+        Line::Act(Event::Send { who, message }) => site.send(alloc, who, &message)?,
+        Line::Act(Event::Close { who }) => {
+            site.close(alloc, who)?;
+            return Ok(true);
+        }
+        Line::Fill { end, count } => site.fill(alloc, end, count)?,
+        Line::Pump(turns) => site.pump(alloc, turns)?,
+        _ => return Err(Stop::Bad),
+    }
+    Ok(false)
+}
+
+/// Reads and does a line that is behind the layout. It answers whether it prints `ok`.
+fn read_and_do(alloc: Global, site: &mut Site, map: &Map, line: &[u8]) -> Result<bool, Stop> {
+    if is_blank(line) {
+        return Ok(false);
+    }
+    let fields = fields_of(alloc, line)?;
+    let line = read_line(alloc, map, &fields)?;
+    do_line(alloc, site, line)
+}
+
+/// Does a line and writes what it came to. It answers the line's status.
+fn run_line<W: Write>(
+    alloc: Global,
+    site: &mut Site,
+    map: &Map,
+    line: &[u8],
+    writer: &mut W,
+) -> Result<u8, Stop> {
+    let told = match read_and_do(alloc, site, map, line) {
+        Ok(false) => return Ok(0),
+        Ok(true) => fixed_line(alloc, "ok\n", 0),
+        Err(Stop::Refused(fault)) => refused_line(alloc, fault),
+        Err(Stop::NoSuchEnd) => fixed_line(alloc, "fault (34) NoSuchEnd\n", 1),
+        Err(stop) => return Err(stop),
+    };
+    let (text, status) = told?;
+    match writer.write_all(text.as_bytes()) {
+        Ok(()) => Ok(status),
+        Err(_) => Err(Stop::Write),
+    }
+}
+
+/// Runs the lines from that number on, and answers the greatest of their statuses.
+fn run_lines<W: Write>(
+    alloc: Global,
+    site: &mut Site,
+    map: &Map,
+    input: &[u8],
+    first: u32,
+    writer: &mut W,
+) -> Result<u8, Stopped> {
+    let mut status = 0;
+    for (number, line) in (1..LINES_END).zip(input.split(|byte| *byte == b'\n')) {
+        if number < first {
+            continue;
+        }
+        match run_line(alloc, site, map, line, writer) {
+            Ok(one) => status = status.max(one),
+            Err(stop) => return Err(Stopped { line: number, stop }),
+        }
+    }
+    Ok(status)
+}
+
+/// Reads a line of the layout. It is false where the line is of another kind.
+fn read_layout(alloc: Global, layout: &mut Layout, line: &[u8]) -> Result<bool, Stop> {
+    let read = layout.read(alloc, line)?;
+    if read && !is_mapped(layout) {
+        return Err(Stop::Bad);
+    }
+    Ok(read)
+}
+
+/// Reads the lines of the layout, and answers the number of the first other line.
+fn lay_out(alloc: Global, layout: &mut Layout, input: &[u8]) -> Result<u32, Stopped> {
+    for (number, line) in (1..LINES_END).zip(input.split(|byte| *byte == b'\n')) {
+        match read_layout(alloc, layout, line) {
+            Ok(true) => {}
+            Ok(false) => return Ok(number),
+            Err(stop) => return Err(Stopped { line: number, stop }),
+        }
+    }
+    Ok(LINES_END)
+}
+
+/// Runs a script, and answers its status and the packets that had no IP address.
+fn run_bound<W: Write>(
+    alloc: Global,
+    site: &mut Site,
+    map: &Map,
+    input: &[u8],
+    first: u32,
+    writer: &mut W,
+) -> Result<u8, Stopped> {
+    let status = run_lines(alloc, site, map, input, first, writer)?;
+    if write_ends(writer, site, map) {
+        return Ok(status);
+    }
+    Err(Stopped {
+        line: first,
+        stop: Stop::Write,
+    })
+}
+
+fn run_whole<R: Net + Log, W: Write>(
+    rt: &R,
+    alloc: Global,
+    input: &[u8],
+    writer: &mut W,
+    port: u16,
+) -> Result<u8, Stopped> {
+    let mut layout = Layout::new(alloc);
+    let first = lay_out(alloc, &mut layout, input)?;
+    let mut site = match Site::bind(rt, alloc, &layout, port) {
+        Ok(site) => site,
+        Err(stop) => return Err(Stopped { line: first, stop }),
+    };
+    let done = run_bound(alloc, &mut site, layout.map(), input, first, writer);
+    let unmapped = site.unmapped();
+    if unmapped > 0 {
+        warn!(rt; "unmapped {unmapped}");
+    }
+    done
+}
+
+fn run_script<R: Net + Log, W: Write>(
+    rt: &R,
+    alloc: Global,
+    input: &[u8],
+    writer: &mut W,
+    port: u16,
+) -> Result<u8, u8>
+    ensures { IfErr result (λ status. status ≡ 1) }
+{
+    match run_whole(rt, alloc, input, writer, port) {
+        Ok(status) => Ok(status),
+        Err(stopped) => tell_stopped(alloc, stopped, writer),
+    }
+}
+
+/// The command `udp`: reads a script of at most 1,000,000 bytes, binds a socket of the loopback for
+/// each node that it lays out, and runs line by line: `dial`, `send`, `fill`, `close` and `pump`.
+/// A line for each end follows the last one.
+///
+/// `Ok` is the status that goes with the lines that were written: 0; 1 where an end refused or is
+/// not there; 2 for a bad line, behind which nothing is read, and for an input that is too long.
+/// `Err` is the status 1 of a read or write fault, after which nothing more is written; of a socket
+/// that cannot be bound or fails, which writes `fault (39) Device`; or of want of memory, which
+/// writes `fault (14) OutOfMemory`. Where packets had a node without an IP address, a warning says
+/// how many.
+pub fn do_udp<R: Net + Log, I: Read, W: Write>(
+    rt: &R,
+    alloc: Global,
+    reader: &mut I,
+    writer: &mut W,
+    port: u16,
+) -> Result<u8, u8>
+    ensures fault { IfErr result (λ status. status ≡ 1) }
+{
+    let input = match read_up_to(alloc, reader, MOST + 1) {
+        Ok(input) => input,
+        Err(InputFault::Read) => return Err(1),
+        Err(InputFault::Memory) => return Err(tell_no_memory(writer)),
+    };
+    if input.len() > MOST {
+        return write_lines(writer, fixed_line(alloc, "line 0 bad\n", 2));
+    }
+    run_script(rt, alloc, &input, writer, port)
+}
