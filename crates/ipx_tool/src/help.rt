@@ -108,6 +108,21 @@ Example:
   now 507
   fresh yes";
 
+const UDP: &str = "\
+A script over UDP sockets of the loopback, one for each node, in one process
+
+Reads a script as sim does, with these lines alone: host, router, dial, send, fill, close, pump N.
+A node is two zero bytes and an IP address. pump N lets each node take N turns, and takes what ends
+got. At the end it prints what became of each end.";
+
+const UDP_STATUSES: &str = "\
+Status 0: done. 1: an end refused, a socket cannot be bound or fails (fault (39) Device), reading or
+writing failed, or memory ran out. 2: a bad line (line K bad), or too long a script (line 0 bad).
+Port 213 wants the right to bind it.
+
+Example:
+  $ ipx udp --port 20213 < script";
+
 fn hop_command<'a>(alloc: Global) -> Command<'a> {
     Command::new(alloc, "hop")
         .about("What a router with two ports does with one packet")
@@ -141,6 +156,19 @@ fn sim_command<'a>(alloc: Global) -> Command<'a> {
         .after_help(SIM_STATUSES)
 }
 
+fn udp_command<'a>(alloc: Global) -> Result<Command<'a>, Error> {
+    let port = Arg::new(alloc, "port")
+        .long("port")
+        .value_name("P")
+        .help("The UDP port of every socket, 1 to 65535; 213 where none is given");
+    let command = Command::new(alloc, "udp")
+        .about("A script over UDP sockets of the loopback")
+        .long_about(UDP)
+        .after_help(UDP_STATUSES)
+        .arg(port)?;
+    Ok(command)
+}
+
 /// The program's commands, with what is said of them.
 pub fn whole_command<'a>(alloc: Global) -> Result<Command<'a>, Error> {
     let command = Command::new(alloc, "ipx")
@@ -152,6 +180,7 @@ pub fn whole_command<'a>(alloc: Global) -> Result<Command<'a>, Error> {
         .subcommand(hop_command(alloc))?
         .subcommand(show_command(alloc)?)?
         .subcommand(check_command(alloc))?
-        .subcommand(sim_command(alloc))?;
+        .subcommand(sim_command(alloc))?
+        .subcommand(udp_command(alloc)?)?;
     Ok(command)
 }

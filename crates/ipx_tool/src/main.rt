@@ -7,6 +7,7 @@ mod words;
 use clap::error::ErrorKind;
 use ipx_commands::{do_check, do_hop, do_show, tell_no_memory};
 use ipx_sim::do_sim;
+use ipx_udp::do_udp;
 use std::process::ExitCode;
 use std::{env, io};
 use words::{Task, fault_of, task_of};
@@ -33,6 +34,13 @@ fn do_task(rt: &HostRuntime, task: Task<'_>) -> Result<u8, u8> {
         Task::Show(text) => do_show(rt.alloc(), text, &mut io::writer(rt)),
         Task::Check => do_check(rt.alloc(), &mut rt.stdin(), &mut io::writer(rt)),
         Task::Sim => do_sim(rt.alloc(), &mut rt.stdin(), &mut io::writer(rt)),
+        Task::Udp(port) => do_udp(
+            rt,
+            rt.alloc(),
+            &mut rt.stdin(),
+            &mut io::writer(rt),
+            port,
+        ),
     }
 }
 

@@ -14,16 +14,25 @@ pub enum Task<'a> {
     Show(&'a str),
     Check,
     Sim,
+    /// The UDP port of every socket.
+    Udp(u16),
 }
 
-/// The command that the words ask for, the program's own name first: just `hop`, `check` or
-/// `sim`, or `show` and one word that is no option. No other words ask for one.
+/// The UDP port of IPX (RFC 1234).
+const IPX_PORT: u16 = 213;
+
+/// The command that the words ask for, the program's own name first: just `hop`, `check`, `sim` or
+/// `udp`; `show` and one word that is no option; or `udp` and a port, as `--port P` or `--port=P`. No
+/// other words ask for one.
 pub fn task_of(words: &[String]) -> Option<Task<'_>>
     ensures { IfSome result (AsksFor (map string_bytes words.now)) }
 {
     match words {
         [_, command] => plain_task(command.as_str()),
-        [_, command, packet] => show_task(command.as_str(), packet.as_str()),
+        [_, command, word] => one_word_task(command.as_str(), word.as_str()),
+        [_, command, option, value] => {
+            option_task(command.as_str(), option.as_str(), value.as_str())
+        }
         _ => None,
     }
 }
@@ -35,6 +44,7 @@ fn plain_task(command: &str) -> Option<Task<'_>>
         "hop" => Some(Task::Hop),
         "check" => Some(Task::Check),
         "sim" => Some(Task::Sim),
+        "udp" => Some(Task::Udp(IPX_PORT)),
         _ => None,
     }
 }
@@ -47,6 +57,47 @@ fn show_task<'a>(command: &str, packet: &'a str) -> Option<Task<'a>>
         return None;
     }
     Some(Task::Show(packet))
+}
+
+/// A port from 1 to 65,535 in decimal digits.
+fn port_of(text: &str) -> Option<u16> {
+    if text.as_bytes().starts_with(b"+") {
+        return None;
+    }
+    let port = text.parse::<u16>().ok()?;
+    if port == 0 { None } else { Some(port) }
+}
+
+fn udp_task<'a>(command: &str, port: Option<u16>) -> Option<Task<'a>>
+    ensures { IfSome result (λ t.
+        (name : List ℕ) (rest : List (List ℕ)) → AsksFor (name ∷ command.now ∷ rest) t) }
+{
+    if command != "udp" {
+        return None;
+    }
+    Some(Task::Udp(port?))
+}
+
+/// A command with one word more: a packet of `show`, or the port of `udp`.
+fn one_word_task<'a>(command: &str, word: &'a str) -> Option<Task<'a>>
+    ensures { IfSome result (λ t.
+        (name : List ℕ) → AsksFor (name ∷ command.now ∷ word.now ∷ []) t) }
+{
+    match word.strip_prefix("--port=") {
+        Some(port) => udp_task(command, port_of(port)),
+        None => show_task(command, word),
+    }
+}
+
+/// A command with an option and its value: the port of `udp`.
+fn option_task<'a>(command: &str, option: &str, value: &str) -> Option<Task<'a>>
+    ensures { IfSome result (λ t.
+        (name : List ℕ) (rest : List (List ℕ)) → AsksFor (name ∷ command.now ∷ rest) t) }
+{
+    if option != "--port" {
+        return None;
+    }
+    udp_task(command, port_of(value))
 }
 
 /// Why words ask for no command: a mistake in them, or a call for help or the version, with the
