@@ -12,7 +12,7 @@ use ipx_wire::{IpxFault, Network, SpxFault};
 use std::alloc::{AllocError, Global};
 
 /// A number in brackets, and what it stands for.
-fn numbered_text(alloc: Global, number: u8, name: &str) -> Result<String, AllocError>
+pub fn numbered_text(alloc: Global, number: u8, name: &str) -> Result<String, AllocError>
     ensures { IfOk result (λ t. string_bytes t ≡ numbered number name.now) }
 {
     format!(in alloc; "({number}) {name}")

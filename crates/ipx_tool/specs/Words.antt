@@ -2,7 +2,7 @@
 use Rattle.std.specs.Prelude.{◌≡◌, ℕ, false, List, [], ◌∷◌, codes, nat_eq}
 use Rattle.std.specs.List.{starts_with}
 use Rattle.ipx_tool.specs.declared.words.Task.{Task}
-use Rattle.ipx_tool.specs.declared.words.Task.TheVariants.{Hop, Show, Check}
+use Rattle.ipx_tool.specs.declared.words.Task.TheVariants.{Hop, Show, Check, Sim}
 
 -- these words ask for this command: the program's own name, the command, and for `show` its packet
 -- in hex, which is no option
@@ -11,3 +11,4 @@ AsksFor words Hop = (name : List ℕ) × (words ≡ name ∷ codes "hop" ∷ [])
 AsksFor words (Show packet) = (name : List ℕ) × (words ≡ name ∷ codes "show" ∷ packet.now ∷ [])
     × (starts_with nat_eq packet.now (codes "-") ≡ false)
 AsksFor words Check = (name : List ℕ) × (words ≡ name ∷ codes "check" ∷ [])
+AsksFor words Sim = (name : List ℕ) × (words ≡ name ∷ codes "sim" ∷ [])

@@ -11,8 +11,8 @@ const ABOUT: &str = "Packets of a Novell internetwork: IPX, SPX, RIP and SAP";
 const STATUSES: &str = "\
 A packet is written in hex, two digits a byte, from its checksum ffff on.
 
-Status 0: done. 1: a packet was dropped or refused, a vector failed, reading or writing
-failed, or memory ran out. 2: a line or the words of the command line cannot be read.
+Status 0: done. 1: a packet, call or event was dropped or refused, a vector failed, reading or
+writing failed, or memory ran out. 2: a line or the words of the command line cannot be read.
 Lines go to standard output, this text and what is wrong with words to standard error.
 
 Example:
@@ -77,6 +77,37 @@ Example:
   $ echo bad 3 ffff001d00000000002200007f00000540000000001100007f0000035000 | ipx check
   checked 1 failed 0";
 
+const SIM: &str = "\
+A network in memory, run by a script
+
+Reads a script from standard input, at most 1000000 bytes, a line a step. Fields are parted by one
+blank. Networks have 1 to 8 hex digits, nodes 12, sockets 4, the datastream type SS two; HEX is hex,
+or - for nothing; other numbers are decimal. First the layout, then what happens:
+  host NAME NET NODE ROUTERNODE [listen SOCKET BUFFERS]
+  router NAME NET NODE COST ..             (three fields a port)
+  dial HOST SOCKET NET NODE SOCKET BUFFERS end K: a connection is asked for
+  send E SS HEX, fill E N                  a message is handed in, or N of one byte
+  take E                                   what the end got
+  close E, release E                       an end is asked to end, or goes
+  tick MS                                  the moment rises
+  poll NAME                                parcel N NET NODE HEX for each packet, or quiet
+  deliver N PLACE                          a parcel comes to a host, or to ROUTER.PORT
+  inject NET NODE HEX                      a packet from outside
+  run N, pump N                            at most N rounds: all poll, all is delivered; pump takes
+At the end it prints what became of each end, whether what it handed out begins what its peer handed
+in, and whether all that ends read of their peers was fresh.";
+
+const SIM_STATUSES: &str = "\
+Status 0: done. 1: an end refused (refused (n) TEXT), or an event met a fault (fault (n) NAME);
+reading or writing failed, or memory ran out. 2: a bad line (line K bad), or too long a script
+(line 0 bad): nothing is run behind it, and the last lines are not printed.
+
+Example:
+  $ printf 'tick 500\\ntick 7\\n' | ipx sim
+  now 500
+  now 507
+  fresh yes";
+
 fn hop_command<'a>(alloc: Global) -> Command<'a> {
     Command::new(alloc, "hop")
         .about("What a router with two ports does with one packet")
@@ -103,6 +134,13 @@ fn check_command<'a>(alloc: Global) -> Command<'a> {
         .after_help(CHECK_STATUSES)
 }
 
+fn sim_command<'a>(alloc: Global) -> Command<'a> {
+    Command::new(alloc, "sim")
+        .about("A network in memory, run by a script")
+        .long_about(SIM)
+        .after_help(SIM_STATUSES)
+}
+
 /// The program's commands, with what is said of them.
 pub fn whole_command<'a>(alloc: Global) -> Result<Command<'a>, Error> {
     let command = Command::new(alloc, "ipx")
@@ -113,6 +151,7 @@ pub fn whole_command<'a>(alloc: Global) -> Result<Command<'a>, Error> {
         .subcommand_required(true)
         .subcommand(hop_command(alloc))?
         .subcommand(show_command(alloc)?)?
-        .subcommand(check_command(alloc))?;
+        .subcommand(check_command(alloc))?
+        .subcommand(sim_command(alloc))?;
     Ok(command)
 }

@@ -6,6 +6,7 @@ mod words;
 
 use clap::error::ErrorKind;
 use ipx_commands::{do_check, do_hop, do_show, tell_no_memory};
+use ipx_sim::do_sim;
 use std::process::ExitCode;
 use std::{env, io};
 use words::{Task, fault_of, task_of};
@@ -31,6 +32,7 @@ fn do_task(rt: &HostRuntime, task: Task<'_>) -> Result<u8, u8> {
         Task::Hop => do_hop(rt.alloc(), &mut rt.stdin(), &mut io::writer(rt)),
         Task::Show(text) => do_show(rt.alloc(), text, &mut io::writer(rt)),
         Task::Check => do_check(rt.alloc(), &mut rt.stdin(), &mut io::writer(rt)),
+        Task::Sim => do_sim(rt.alloc(), &mut rt.stdin(), &mut io::writer(rt)),
     }
 }
 

@@ -13,10 +13,11 @@ pub enum Task<'a> {
     Hop,
     Show(&'a str),
     Check,
+    Sim,
 }
 
-/// The command that the words ask for, the program's own name first: just `hop`, just `check`, or
-/// `show` and one word that is no option. No other words ask for one.
+/// The command that the words ask for, the program's own name first: just `hop`, `check` or
+/// `sim`, or `show` and one word that is no option. No other words ask for one.
 pub fn task_of(words: &[String]) -> Option<Task<'_>>
     ensures { IfSome result (AsksFor (map string_bytes words.now)) }
 {
@@ -33,6 +34,7 @@ fn plain_task(command: &str) -> Option<Task<'_>>
     match command {
         "hop" => Some(Task::Hop),
         "check" => Some(Task::Check),
+        "sim" => Some(Task::Sim),
         _ => None,
     }
 }

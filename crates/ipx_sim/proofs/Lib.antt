@@ -1,0 +1,4 @@
+pub mod Steps
+pub mod Texts
+pub mod Telling
+pub mod Ends

@@ -1,0 +1,56 @@
+//! One event at a network, and the lines that tell of it.
+
+ghost use Rattle.std.specs.Prelude.{◌≡◌, IfErr, IfOk, Result};
+ghost use Rattle.std.specs.Io.KnownBytes.{Appends};
+ghost use Rattle.ipx_net.specs.AnswerView.{AnswerView};
+ghost use Rattle.ipx_net.specs.declared.fault.NetFault.{NetFault};
+ghost use Rattle.ipx_sim.specs.Act.{IsActOwed, Stepped, outcome_view};
+ghost use Rattle.ipx_sim.specs.ActLine.{act_lines, act_status, moment_of};
+
+use crate::lines::outcome_to_lines;
+use ipx_commands::write_lines;
+use ipx_net::{Answer, Event, Net, NetFault};
+use std::alloc::Global;
+use std::io::Write;
+
+/// The moment that an event sets, if it sets one.
+fn moment_of(event: &Event) -> Option<u64>
+    ensures { result ≡ moment_of event.now }
+{
+    match event {
+        Event::Tick { now } => Some(*now),
+        _ => None,
+    }
+}
+
+/// The step itself: whatever came, it is what the network's own contract has of that event.
+fn step(alloc: Global, net: &mut Net, event: Event) -> Result<Answer, NetFault>
+    requires { IsActOwed event }
+    ensures { Stepped net.old event (outcome_view result) net.new }
+{
+    net.step(alloc, event)
+}
+
+/// Does one event at a network and writes the lines that tell of it: of its answer, or of the fault
+/// that refused it.
+///
+/// The caller owes what the caller of `Net::step` owes, and an event other than `Take`, which has no
+/// line. `Ok` is the status of the line: 1 where an end refused, or the network met a fault, else 0.
+/// `Err` is the status 1 with which the command ends: a write fault, after which nothing more is
+/// written, or want of memory in printing, which writes `fault (14) OutOfMemory`. The event took
+/// place then too.
+pub fn act<W: Write>(alloc: Global, net: &mut Net, event: Event, writer: &mut W) -> Result<u8, u8>
+    requires { IsActOwed event }
+    ensures written { (outcome : Result AnswerView NetFault) × Stepped net.old event outcome net.new
+        × IfOk result (λ status. (status ≡ act_status outcome)
+        × Appends (W.contents writer.old) (W.contents writer.new)
+        (act_lines (moment_of event) net.new.now.world.parcels outcome)) }
+    ensures fault { IfErr result (λ status. status ≡ 1) }
+{
+    let moment = moment_of(&event);
+    let outcome = step(alloc, net, event);
+    write_lines(
+        writer,
+        outcome_to_lines(alloc, moment, net.parcels(), &outcome),
+    )
+}

@@ -1,0 +1,33 @@
+//! Why a script goes no further.
+
+use ipx_wire::OutOfMemory;
+use std::alloc::{AllocError, AllocFailed};
+
+/// Why a script goes no further.
+#[derive(Clone, Copy, Debug, PartialEq, Eq)]
+pub enum Halt {
+    /// The line at hand is of no known form, or names what is not there.
+    Bad,
+    /// Memory was refused.
+    Memory,
+    /// The command has ended: a write failed, or it was told already that memory ran out.
+    Ended,
+}
+
+impl From<OutOfMemory> for Halt {
+    fn from(_error: OutOfMemory) -> Halt {
+        Halt::Memory
+    }
+}
+
+impl From<AllocError> for Halt {
+    fn from(_error: AllocError) -> Halt {
+        Halt::Memory
+    }
+}
+
+impl<T: Drop> From<AllocFailed<T>> for Halt {
+    fn from(_error: AllocFailed<T>) -> Halt {
+        Halt::Memory
+    }
+}

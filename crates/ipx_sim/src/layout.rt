@@ -1,0 +1,225 @@
+//! The lines that lay a network out.
+
+ghost use Rattle.std.specs.Prelude.{◌<◌, ◌≤◌, All, IfOk, IfSome};
+ghost use Rattle.ipx_net.specs.Beginnings.{ArePortsOwed, IsHostOwed};
+ghost use Rattle.ipx_router.specs.NewRouter.{IsOwnNetwork};
+
+use crate::fields::{
+    buffers_of, fields_of, is_blank, is_name, node_of, own_network_of, short_of, socket_of,
+};
+use crate::halt::Halt;
+use crate::map::{Map, Spot};
+use crate::simulation::Simulation;
+use ipx_net::{Host, Member, Net, Place};
+use ipx_router::{Port, Router};
+use ipx_wire::Socket;
+use std::alloc::Global;
+use std::marker::Model;
+
+/// How many hosts there are at most, and how many routers.
+const MOST_MEMBERS: usize = 16;
+
+/// What the lines of a layout gave so far.
+#[derive(Drop)]
+pub struct Layout {
+    hosts: Vec<Host>,
+    routers: Vec<Vec<Port>>,
+    map: Map,
+}
+
+impl Model for Layout {
+    ghost use Rattle.std.specs.Prelude.{All};
+    ghost use Rattle.ipx_net.specs.Beginnings.{ArePortsOwed, IsHostOwed};
+
+    ghost Value = { Unit {0} };
+
+    ghost view = { λ l. tt };
+
+    ghost invariant = { λ l. All IsHostOwed l.hosts.items × All ArePortsOwed l.routers.items };
+}
+
+/// `listen SOCKET BUFFERS`, or nothing.
+fn listen_of(args: &[&[u8]]) -> Option<Option<(Socket, u16)>>
+    ensures { IfSome result (λ o. IfSome o (λ l. (0 < l.1) × (l.1 ≤ 8192))) }
+{
+    let [word, socket, buffers] = args else {
+        return if args.is_empty() { Some(None) } else { None };
+    };
+    match *word {
+        b"listen" => Some(Some((socket_of(socket)?, buffers_of(buffers)?))),
+        _ => None,
+    }
+}
+
+/// `NET NODE ROUTERNODE`, and where it listens.
+fn host_of(args: &[&[u8]]) -> Option<Host>
+    ensures { IfSome result IsHostOwed }
+{
+    let [network, node, router, listen @ ..] = args else {
+        return None;
+    };
+    Some(Host {
+        network: own_network_of(network)?,
+        node: node_of(node)?,
+        router: node_of(router)?,
+        listen: listen_of(listen)?,
+    })
+}
+
+/// `NET NODE COST`.
+fn port_of(args: &[&[u8]]) -> Option<Port>
+    ensures { IfSome result IsOwnNetwork }
+{
+    let [network, node, cost] = args else {
+        return None;
+    };
+    Some(Port {
+        network: own_network_of(network)?,
+        node: node_of(node)?,
+        cost: short_of(cost)?,
+    })
+}
+
+/// Three fields a port.
+fn ports_of(alloc: Global, args: &[&[u8]]) -> Result<Vec<Port>, Halt>
+    ensures { IfOk result ArePortsOwed }
+{
+    let mut ports = Vec::new(alloc);
+    for part in args.chunks(3) {
+        match port_of(part) {
+            Some(port) => ports.push(port)?,
+            None => return Err(Halt::Bad),
+        }
+    }
+    Ok(ports)
+}
+
+/// Whether these ports make a router: the line is bad where they do not.
+fn try_router(alloc: Global, ports: &[Port]) -> Result<(), Halt>
+    requires { All IsOwnNetwork ports.now }
+{
+    let ports = Vec::from_slice(alloc, ports)?;
+    match Router::new(alloc, ports) {
+        Ok(_) => Ok(()),
+        Err(_) => Err(Halt::Bad),
+    }
+}
+
+/// A name that no member has yet.
+fn new_name(alloc: Global, map: &Map, name: &[u8]) -> Result<String, Halt> {
+    if !is_name(name) || map.member(name).is_some() {
+        return Err(Halt::Bad);
+    }
+    match std::str::from_utf8(name) {
+        Ok(text) => Ok(String::from_str(alloc, text)?),
+        Err(_) => Err(Halt::Bad),
+    }
+}
+
+/// A host comes into the map.
+fn map_host(map: &mut Map, name: String, host: Host) -> Result<(), Halt> {
+    let number = map.hosts.len();
+    map.hosts.push(name)?;
+    map.members.push(Member::Host(number))?;
+    map.spots.push(Spot {
+        place: Place::Host(number),
+        network: host.network,
+        node: host.node,
+    })?;
+    Ok(())
+}
+
+/// The ports of a router come into the map.
+fn map_ports(map: &mut Map, router: usize, ports: &[Port]) -> Result<(), Halt> {
+    for (port, number) in ports.iter().zip(1..17) {
+        map.spots.push(Spot {
+            place: Place::Port(router, number),
+            network: port.network,
+            node: port.node,
+        })?;
+    }
+    Ok(())
+}
+
+/// A router comes into the map.
+fn map_router(map: &mut Map, name: String, ports: &[Port]) -> Result<(), Halt> {
+    let number = map.routers.len();
+    map.routers.push(name)?;
+    map.members.push(Member::Router(number))?;
+    map_ports(map, number, ports)
+}
+
+impl Layout {
+    /// A layout without members.
+    pub fn new(alloc: Global) -> Layout {
+        Layout {
+            hosts: Vec::new(alloc),
+            routers: Vec::new(alloc),
+            map: Map::new(alloc),
+        }
+    }
+
+    /// `host NAME NET NODE ROUTERNODE [listen SOCKET BUFFERS]`, without its first word.
+    fn read_host(&mut self, alloc: Global, args: &[&[u8]]) -> Result<(), Halt> {
+        let Some((name, rest)) = args.split_first() else {
+            return Err(Halt::Bad);
+        };
+        let Some(host) = host_of(rest) else {
+            return Err(Halt::Bad);
+        };
+        if self.hosts.len() >= MOST_MEMBERS {
+            return Err(Halt::Bad);
+        }
+        let name = new_name(alloc, &self.map, name)?;
+        self.hosts.push(host)?;
+        map_host(&mut self.map, name, host)
+    }
+
+    /// `router NAME NET NODE COST ..`, without its first word.
+    fn read_router(&mut self, alloc: Global, args: &[&[u8]]) -> Result<(), Halt> {
+        let Some((name, rest)) = args.split_first() else {
+            return Err(Halt::Bad);
+        };
+        if self.routers.len() >= MOST_MEMBERS {
+            return Err(Halt::Bad);
+        }
+        let name = new_name(alloc, &self.map, name)?;
+        let ports = ports_of(alloc, rest)?;
+        try_router(alloc, &ports)?;
+        map_router(&mut self.map, name, &ports)?;
+        self.routers.push(ports)?;
+        Ok(())
+    }
+
+    /// Reads one line of a script. It is false, and nothing was read, where the line is neither
+    /// blank nor one of a layout.
+    pub fn read(&mut self, alloc: Global, line: &[u8]) -> Result<bool, Halt> {
+        if is_blank(line) {
+            return Ok(true);
+        }
+        let fields = fields_of(alloc, line)?;
+        let Some((command, args)) = fields.split_first() else {
+            return Ok(false);
+        };
+        match *command {
+            b"host" => self.read_host(alloc, args)?,
+            b"router" => self.read_router(alloc, args)?,
+            _ => return Ok(false),
+        }
+        Ok(true)
+    }
+
+    /// The network that was laid out, in which nothing happened yet. Each router was tried at its
+    /// own line, so memory alone can be wanting.
+    pub fn finish(self, alloc: Global) -> Result<Simulation, Halt> {
+        let Layout {
+            hosts,
+            routers,
+            map,
+        } = self;
+        match Net::new(alloc, &hosts, routers) {
+            Ok(net) => Ok(Simulation::new(alloc, net, map)),
+            Err(_) => Err(Halt::Memory),
+        }
+    }
+}
