@@ -150,18 +150,19 @@ pub fn address_of(network: &[u8], node: &[u8], socket: &[u8]) -> Option<Address>
     })
 }
 
-/// Bytes in hex, `-` for none. `None` is a field that is neither.
-pub fn bytes_of(alloc: Global, field: &[u8]) -> Result<Option<Vec<u8>>, OutOfMemory> {
-    if field.is_empty() {
-        return Ok(None);
-    }
-    match field {
-        b"-" => return Ok(Some(Vec::new(alloc))),
-        _ => {}
-    }
+fn hex_bytes_of(alloc: Global, field: &[u8]) -> Result<Option<Vec<u8>>, OutOfMemory> {
     match hex::decode(alloc, field) {
         Ok(bytes) => Ok(Some(bytes)),
         Err(FromHexError::OutOfMemory) => Err(OutOfMemory),
         Err(_) => Ok(None),
+    }
+}
+
+/// Bytes in hex, `-` for none. `None` is a field that is neither.
+pub fn bytes_of(alloc: Global, field: &[u8]) -> Result<Option<Vec<u8>>, OutOfMemory> {
+    match field {
+        [] => Ok(None),
+        b"-" => Ok(Some(Vec::new(alloc))),
+        _ => hex_bytes_of(alloc, field),
     }
 }

@@ -84,8 +84,7 @@ fn laid_out(alloc: Global, input: &[u8]) -> Result<(Simulation, u32), Halted> {
 }
 
 fn run_whole<W: Write>(alloc: Global, input: &[u8], writer: &mut W) -> Result<u8, Halted> {
-    let (simulation, first) = laid_out(alloc, input)?;
-    let mut simulation = simulation;
+    let (mut simulation, first) = laid_out(alloc, input)?;
     let status = run_lines(alloc, &mut simulation, input, first, writer)?;
     match simulation.finish(writer) {
         Ok(()) => Ok(status),

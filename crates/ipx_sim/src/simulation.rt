@@ -72,7 +72,7 @@ fn tell_taken<W: Write>(
     }
 }
 
-/// Takes from an end until nothing is held, and tells what came. The end is not left before that.
+/// Takes from an end until nothing is held, and tells what came.
 fn take_told<W: Write>(
     alloc: Global,
     net: &mut Net,

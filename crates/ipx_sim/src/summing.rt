@@ -1,6 +1,7 @@
 //! The lines at the end of a script.
 
-ghost use Rattle.std.specs.Prelude.{◌≡◌, ℕ, List, IfErr, OnOk, map, string_bytes};
+ghost use Rattle.std.specs.Prelude.{◌≡◌, ◌↔◌, ℕ, List, IfErr, IsTrue, OnOk, map, string_bytes};
+ghost use Rattle.ipx_net.specs.Begins.{Begins};
 ghost use Rattle.std.specs.Io.KnownBytes.{Appends};
 ghost use Rattle.std.specs.Int.{w16, to_be_bytes};
 ghost use Rattle.hex.specs.Hex.{encode_lower};
@@ -73,6 +74,13 @@ fn write_end<W: Write>(
     write!(writer, " begins {begins}\n")
 }
 
+/// Whether what an end handed out begins what its peer handed in.
+fn begins_of(net: &Net, who: usize) -> bool
+    ensures { IsTrue result ↔ Begins net.now.now.world.log who }
+{
+    net.begins(who)
+}
+
 fn write_ends<W: Write>(writer: &mut W, net: &Net, names: &[String]) -> Written<()>
     ensures { OnOk result ((infos : List EndInfo) × TellsEnds net.now infos × (lines : List ℕ)
         × AreEndLines net.now (map string_bytes names.now) 0 infos lines
@@ -80,7 +88,7 @@ fn write_ends<W: Write>(writer: &mut W, net: &Net, names: &[String]) -> Written<
 {
     let infos = net.ends();
     for who in 0..infos.len() {
-        write_end(writer, names, who, infos[who], net.begins(who))?;
+        write_end(writer, names, who, infos[who], begins_of(net, who))?;
     }
     Ok(())
 }
