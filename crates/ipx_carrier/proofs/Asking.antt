@@ -1,9 +1,10 @@
 -- The ports of a device, asked one after another.
-use Rattle.std.proofs.Common.{◌≡◌, ◌≤◌, ℕ, ◌+◌, Bool, List, [], ◌∷◌, ◌++◌, length, Option, is_some, refl, sym, ap, ◌∙◌, subst, arith, cond, length-append}
+use Rattle.std.proofs.Common.{◌≡◌, ◌<◌, ℕ, ◌+◌, Bool, List, [], ◌∷◌, ◌++◌, length, Option, is_some, refl, sym, ap, ◌∙◌, subst, arith, cond, length-append}
+use Rattle.ipx_carrier.specs.declared.fault.RunFault.{RunFault}
 use Rattle.ipx_carrier.specs.Device.{Reception, Traffic}
-use Rattle.ipx_carrier.specs.Turns.{HearsAnswer, HearsEach}
+use Rattle.ipx_carrier.specs.Turns.{FailsAtPort, HearsAnswer, HearsEach}
 use Rattle.ipx_carrier.specs.Counts.{heard_in}
-use Rattle.ipx_carrier.specs.Parts.{AsksPort, AsksPorts, AsksSomePorts, ReceivesAtMost}
+use Rattle.ipx_carrier.specs.Parts.{AsksInVain, AsksPort, AsksPorts, AsksSomePorts}
 use Rattle.ipx_carrier.proofs.Passing.{count-append, passes_nothing, passes_received}
 
 abbrev Hears : Type 0 → Type 1
@@ -38,8 +39,7 @@ asked_more hears now port s t u a b c count more heard h k e =
       e ∙ ap (λ b. count + cond b 1 0) is ∙ ap (λ n. n + cond (is_some k.0) 1 0) counted ∙ sym (heard_more rs port k.0),
     )
 
-pub asked_some : {C : Type 0} (hears : Hears C) (now port ports : ℕ) (s t u : Option Traffic) (a b : C) (count : ℕ) → AsksPorts hears now port s t a b count → ReceivesAtMost 1 t u → port + 1 ≤ ports → AsksSomePorts hears now ports s u a
-asked_some hears now port ports s t u a b count h k e =
+pub asked_some : {C : Type 0} (hears misses : Hears C) (now port ports : ℕ) (s t u : Option Traffic) (a b c : C) (count : ℕ) (f : RunFault) → AsksPorts hears now port s t a b count → AsksInVain hears misses now port t u f b c → port < ports → AsksSomePorts hears misses now ports s u f a c
+asked_some hears misses now port ports s t u a b c count f h k e =
     let long : length h.0 ≡ port = h.1 in
-    let last : length k.0 ≤ 1 = k.1 in
-    (h.0, k.0, b, omega arith, last, passes_received s t u h.0 k.0 h.2 k.2, h.3)
+    (h.0, k.0, b, omega arith, passes_received s t u h.0 k.0 h.2 k.1, h.3, subst (λ n. FailsAtPort misses now n k.0 f b c) (sym long) k.2)

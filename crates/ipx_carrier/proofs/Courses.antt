@@ -2,6 +2,7 @@
 use Rattle.std.proofs.Common.{◌≡◌, ◌≤◌, ◌<◌, ℕ, ◌+◌, List, [], ◌∷◌, ◌++◌, length, Option, refl, sym, ap, ◌∙◌, subst, append_assoc, append-nil, arith, length-append, inl, inr, is_some, lit<}
 use Rattle.std.proofs.lemmas.Grind.{flat_map-append}
 use Rattle.std.proofs.lemmas.List.{map-append}
+use Rattle.ipx_carrier.specs.declared.fault.RunFault.{RunFault}
 use Rattle.ipx_carrier.specs.declared.report.Report.{Report}
 use Rattle.ipx_carrier.specs.declared.report.Tally.{Tally}
 use Rattle.ipx_carrier.specs.Device.{Datagram, Passes, Reception, Tells, Traffic}
@@ -90,38 +91,46 @@ module _ {C : Type 0} (hears : C → ℕ → List ℕ → ℕ → C → Type 0)
         ap (λ x. plus x y) h.5 ∙ ap (λ y. plus (report_of peers ts) y) k.5 ∙ sym (more_reported peers ts us),
       )
 
-  pub ends_hearing : (now : ℕ) (s t : Option Traffic) (r r' : K) (a : C) → tells r now r' → AsksSomePorts hears now ports s t a → EndsEarly hears gives tells ports peers 1 s t r r' a
-  ends_hearing now s t r r' a told h =
-      let turn : Turn = record { moment = now; answers = h.0 ++ h.1; packets = [] } in
-      let few : length h.0 + length h.1 ≤ ports = h.3 in (
+  -- the same where the count of ports is written otherwise
+  pub ran_more : (here m : ℕ) (s t u : Option Traffic) (r r' r'' : K) (a b c : C) (x y z : Report) → here ≡ ports → Runs hears gives tells ports peers m s t r r' a b x → Runs hears gives tells here peers 1 t u r' r'' b c y → z ≡ plus x y → Runs hears gives tells ports peers (m + 1) s u r r'' a c z
+  ran_more here m s t u r r' r'' a b c x y z e h k is =
+      let k' : Runs hears gives tells ports peers 1 t u r' r'' b c y = subst (λ n. Runs hears gives tells n peers 1 t u r' r'' b c y) e k in
+      subst (λ z. Runs hears gives tells ports peers (m + 1) s u r r'' a c z) (sym is) (ran_on m 1 s t u r r' r'' a b c x y h k')
+
+module _ {C : Type 0} (hears misses : C → ℕ → List ℕ → ℕ → C → Type 0)
+    (gives : C → ℕ → Option Given → C → Type 0) (withholds : C → ℕ → C → Type 0)
+    {K : Type 0} (tells : K → ℕ → K → Type 0) (ports : ℕ) (peers : Peers) where
+  pub ends_hearing : (now : ℕ) (s t : Option Traffic) (r r' : K) (f : RunFault) (a b : C) → tells r now r' → AsksSomePorts hears misses now ports s t f a b → EndsEarly hears misses gives withholds tells ports peers 1 s t r r' f a b
+  ends_hearing now s t r r' f a b told h =
+      let turn : Turn = record { moment = now; answers = h.0 ++ h.1; packets = [] } in (
         [],
         turn,
         [],
         a,
         lit< tt,
         refl,
-        inl (h.0, h.1, h.2, refl, h.4, omega (arith, length-append h.0 h.1), h.6, refl, refl),
-        h.5,
+        inl (h.0, h.1, h.2, refl, h.3, h.5, h.6, refl, refl),
+        h.4,
         (r', told, refl),
       )
 
-  pub ends_sending : (now : ℕ) (s t u : Option Traffic) (r r' : K) (a b : C) (heard : ℕ) → tells r now r' → AsksPorts hears now ports s t a b heard → SendsSome gives 64 now peers t u b → EndsEarly hears gives tells ports peers 1 s u r r' a
-  ends_sending now s t u r r' a b heard told h k =
+  pub ends_sending : (now : ℕ) (s t u : Option Traffic) (r r' : K) (f : RunFault) (a b c : C) (heard : ℕ) → tells r now r' → AsksPorts hears now ports s t a b heard → SendsSome gives withholds 64 now peers t u f b c → EndsEarly hears misses gives withholds tells ports peers 1 s u r r' f a c
+  ends_sending now s t u r r' f a b c heard told h k =
       let turn : Turn = record { moment = now; answers = h.0; packets = k.0 } in
-      let passed : Passes s u (h.0 ++ []) k.4.0 = passes_on s t u h.0 [] [] k.4.0 h.2 k.4.2 in (
+      let passed : Passes s u (h.0 ++ []) k.1 = passes_on s t u h.0 [] [] k.1 h.2 k.3 in (
         [],
         turn,
-        k.4.0,
+        k.1,
         a,
         lit< tt,
         refl,
-        inr (h.1, b, k.1, h.3, k.2, k.3, k.4.1),
-        subst (λ (rs : List Reception). Passes s u rs k.4.0) (append-nil h.0) passed,
+        inr (h.1, b, h.3, k.2),
+        subst (λ (rs : List Reception). Passes s u rs k.1) (append-nil h.0) passed,
         (r', told, refl),
       )
 
-  pub ends_on : (m n total : ℕ) (s t u : Option Traffic) (r r' r'' : K) (a b : C) (x : Report) → m + n ≤ total → Runs hears gives tells ports peers m s t r r' a b x → EndsEarly hears gives tells ports peers n t u r' r'' b → EndsEarly hears gives tells ports peers total s u r r'' a
-  ends_on m n total s t u r r' r'' a b x few h k =
+  ends_on : (m n total : ℕ) (s t u : Option Traffic) (r r' r'' : K) (f : RunFault) (a b c : C) (x : Report) → m + n ≤ total → Runs hears gives tells ports peers m s t r r' a b x → EndsEarly hears misses gives withholds tells ports peers n t u r' r'' f b c → EndsEarly hears misses gives withholds tells ports peers total s u r r'' f a c
+  ends_on m n total s t u r r' r'' f a b c x few h k =
       let ts = h.0 in
       let us = k.0 in
       let long : length ts ≡ m = h.1 in
@@ -138,20 +147,14 @@ module _ {C : Type 0} (hears : C → ℕ → List ℕ → ℕ → C → Type 0)
         k.2,
         k.3,
         omega (arith, length-append ts us),
-        turns_on ts us a b k.3 h.2 k.5,
+        turns_on hears gives tells ports peers ts us a b k.3 h.2 k.5,
         k.6,
         subst (λ (rs : List Reception). Passes s u rs (sent_of peers (packets_of (ts ++ us)) ++ k.2)) (sym received)
             (subst (λ (ds : List Datagram). Passes s u (received_of ts ++ rs) ds) (sym sent) passed),
         subst (λ (ms : List ℕ). Tells tells r r'' ms) (sym moments) (tells_on tells r r' r'' (moments_of ts) ms h.4 k.8),
       )
 
-  -- the same where the count of ports is written otherwise
-  pub ran_more : (here m : ℕ) (s t u : Option Traffic) (r r' r'' : K) (a b c : C) (x y z : Report) → here ≡ ports → Runs hears gives tells ports peers m s t r r' a b x → Runs hears gives tells here peers 1 t u r' r'' b c y → z ≡ plus x y → Runs hears gives tells ports peers (m + 1) s u r r'' a c z
-  ran_more here m s t u r r' r'' a b c x y z e h k is =
-      let k' : Runs hears gives tells ports peers 1 t u r' r'' b c y = subst (λ n. Runs hears gives tells n peers 1 t u r' r'' b c y) e k in
-      subst (λ z. Runs hears gives tells ports peers (m + 1) s u r r'' a c z) (sym is) (ran_on m 1 s t u r r' r'' a b c x y h k')
-
-  pub ends_more : (here m total : ℕ) (s t u : Option Traffic) (r r' r'' : K) (a b : C) (x : Report) → here ≡ ports → m + 1 ≤ total → Runs hears gives tells ports peers m s t r r' a b x → EndsEarly hears gives tells here peers 1 t u r' r'' b → EndsEarly hears gives tells ports peers total s u r r'' a
-  ends_more here m total s t u r r' r'' a b x e few h k =
-      let k' : EndsEarly hears gives tells ports peers 1 t u r' r'' b = subst (λ n. EndsEarly hears gives tells n peers 1 t u r' r'' b) e k in
-      ends_on m 1 total s t u r r' r'' a b x few h k'
+  pub ends_more : (here m total : ℕ) (s t u : Option Traffic) (r r' r'' : K) (f : RunFault) (a b c : C) (x : Report) → here ≡ ports → m + 1 ≤ total → Runs hears gives tells ports peers m s t r r' a b x → EndsEarly hears misses gives withholds tells here peers 1 t u r' r'' f b c → EndsEarly hears misses gives withholds tells ports peers total s u r r'' f a c
+  ends_more here m total s t u r r' r'' f a b c x e few h k =
+      let k' : EndsEarly hears misses gives withholds tells ports peers 1 t u r' r'' f b c = subst (λ n. EndsEarly hears misses gives withholds tells n peers 1 t u r' r'' f b c) e k in
+      ends_on m 1 total s t u r r' r'' f a b c x few h k'

@@ -4,3 +4,4 @@ pub mod Sends
 pub mod Courses
 pub mod Givable
 pub mod Putting
+pub mod Waiting

@@ -1,5 +1,5 @@
 -- The queue of a router as a core.
-use Rattle.std.proofs.Common.{◌≡◌, ◌≤◌, ℕ, ◌+◌, ◌-◌, ◌^◌, Bool, true, false, List, [], ◌∷◌, ◌++◌, length, drop, min, nat_le, Option, refl, sym, ap, ◌∙◌, subst, arith, cond, length-append, MatchBool, Result, Ok, Err}
+use Rattle.std.proofs.Common.{◌≡◌, ◌≤◌, ℕ, ◌+◌, ◌-◌, ◌^◌, Bool, true, false, List, [], ◌∷◌, ◌++◌, length, drop, min, nat_le, Option, refl, sym, ap, ◌∙◌, subst, arith, cond, length-append, MatchBool, Result, Ok, Err, inr}
 use Rattle.std.proofs.lemmas.List.Elements.{All-append, All-head}
 use Rattle.std.proofs.lemmas.List.{length-map}
 use Rattle.std.specs.Result.{OnErr, OnOk}
@@ -8,7 +8,7 @@ use Rattle.ipx_router.specs.RouterView.{RouterView}
 use Rattle.ipx_router.specs.declared.outcome.Reply.{Reply}
 use Rattle.ipx_router.specs.Packets.{SendingView, sending_of, sendings}
 use Rattle.ipx_carrier.specs.Turns.{Given}
-use Rattle.ipx_carrier.specs.RouterCore.{AreGivable, CoreView, Gives, IsGivable, first_of, most_queued, put}
+use Rattle.ipx_carrier.specs.RouterCore.{AreGivable, CoreView, Gives, IsGivable, IsNotTold, Withholds, first_of, most_queued, put}
 use Rattle.ipx_carrier.specs.Queued.{Puts, PutsStart, PutsTold}
 
 abbrev pub core_of : RouterView → List SendingView → Bool → ℕ → CoreView
@@ -42,6 +42,16 @@ put_keeps_givable n sent q q' d d' gq gs h = givable_cases (nat_le (length q + l
 -- the first of packets that are givable
 pub first_givable : (n : ℕ) (items : List Reply) (r : Reply) (rest : List Reply) → items ≡ r ∷ rest → AreGivable n (sendings items) → IsGivable n (sending_of r)
 first_givable n items r rest e g = All-head (IsGivable n) (sending_of r) (sendings rest) (subst (λ (xs : List Reply). AreGivable n (sendings xs)) e g)
+
+-- what is so at an error twice over
+pub err_both : {T E : Type 0} (r : Result T E) (P Q : Type 0) → OnErr r P → OnErr r Q → OnErr r (P × Q)
+err_both (Ok x) P Q p q = tt
+err_both (Err e) P Q p q = (p, q)
+
+-- a queue that is as it was
+pub same_core : (router : RouterView) (items items' : List Reply) (started started' : Bool) (d d' : ℕ) → (items' ≡ items) × (d' ≡ d) → started' ≡ started → core_of router (sendings items') started' d' ≡ core_of router (sendings items) started d
+same_core router items items' started started' d d' h s =
+    ap (λ (xs : List Reply). core_of router (sendings xs) started' d') h.0 ∙ ap (λ d. core_of router (sendings items) started' d) h.1 ∙ ap (λ s. core_of router (sendings items) s d) s
 
 -- what a queue keeps
 pub record IsKept (n : ℕ) (items : List Reply) : Type 0 where
@@ -79,4 +89,14 @@ next_gives router router' items items1 items2 items3 started started' d d1 d2 no
       h.1,
       k.1,
       (e ∙ ap (λ (c : CoreView). first_of c.queue) (sym x), after ∙ ap (λ (c : CoreView). core_of c.router (drop 1 c.queue) c.started c.dropped) (sym x)),
+    )
+
+pub next_withholds : (router router' : RouterView) (items items1 items2 : List Reply) (started started' : Bool) (d d1 d2 now : ℕ) → PutsStart router started (sendings items) d (sendings items1) d1 → started' ≡ true → (items2 ≡ items1) × (d2 ≡ d1) → IsNotTold router now (sendings items1) router' → Withholds (core_of router (sendings items) started d) now (core_of router' (sendings items2) started' d2)
+next_withholds router router' items items1 items2 started started' d d1 d2 now h s same lost =
+    inr (
+      h.0,
+      router',
+      h.1,
+      same_core router' items1 items2 true started' d1 d2 same s ∙ put_is h.0 (sendings items) (sendings items1) d d1 router' true h.2,
+      subst (λ (xs : List Reply). IsNotTold router now (sendings xs) router') (sym same.0) lost,
     )

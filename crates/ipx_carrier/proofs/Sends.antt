@@ -1,12 +1,14 @@
 -- Packets of a core, sent one after another.
-use Rattle.std.proofs.Common.{◌≡◌, ◌≤◌, ◌<◌, ℕ, zero, suc, ◌+◌, Bool, true, false, List, [], ◌∷◌, ◌++◌, length, map, Option, Some, None, refl, sym, ap, ◌∙◌, subst, append_assoc, append-nil, arith, cond, length-append, take, get_or, inl, inr, lit≤, add-zero, not, ◌&&◌, is_none, slice_get, unwrap_or}
+use Rattle.std.proofs.Common.{◌≡◌, ◌≤◌, ◌<◌, ℕ, zero, suc, ◌+◌, Bool, true, false, List, [], ◌∷◌, ◌++◌, length, map, Option, Some, None, refl, sym, ap, ◌∙◌, subst, append_assoc, append-nil, arith, cond, length-append, take, get_or, inl, inr, lit≤, lit<, add-zero, not, ◌&&◌, is_none, slice_get, unwrap_or}
 use Rattle.std.proofs.lemmas.Grind.{flat_map-append}
 use Rattle.ipx_router.specs.Packets.{broadcast}
 use Rattle.ipx_router.specs.Classify.{is_node}
 use Rattle.std.proofs.lemmas.List.{take_more, map-append}
+use Rattle.ipx_carrier.specs.declared.fault.RunFault.{RunFault}
+use Rattle.ipx_carrier.specs.declared.fault.RunFault.TheVariants.{Device, OutOfMemory}
 use Rattle.ipx_carrier.specs.declared.report.Tally.{Tally}
 use Rattle.ipx_carrier.specs.Device.{Datagram, Passes, Traffic}
-use Rattle.ipx_carrier.specs.Turns.{Given, GivesEach, datagram_to, IsFrontOf, Peers, datagrams_of, sent_of, to_node}
+use Rattle.ipx_carrier.specs.Turns.{FailsAfter, Given, GivesEach, datagram_to, IsFrontOf, Peers, datagrams_of, sent_of, to_node}
 use Rattle.ipx_carrier.specs.SendingView.{added}
 use Rattle.ipx_carrier.specs.Counts.{is_unmapped, unmapped_in}
 use Rattle.ipx_carrier.specs.Mapping.{ip_at}
@@ -32,9 +34,14 @@ first_sent f xs n s t u h e =
     (map f (take n xs), front_of_map f xs n, subst (λ u. Passes s u [] (map f (take n xs))) (sym e) h)
 
 -- a packet whose datagrams were sent in part
-pub one_sent_in_part : {C : Type 0} (gives : C → ℕ → Option Given → C → Type 0) (now : ℕ) (peers : Peers) (p : Given) (s t : Option Traffic) (a b : C) → gives a now (Some p) b → SendsFrontOf (datagrams_of peers p) s t → SendsSome gives 1 now peers s t a
-one_sent_in_part gives now peers p s t a b h k =
-    (p ∷ [], b, (b, h, refl), lit≤ tt, (k.0, subst (λ (all : List Datagram). IsFrontOf k.0 all) (sym (append-nil (datagrams_of peers p))) k.1, k.2))
+pub one_sent_in_part : {C : Type 0} (gives : C → ℕ → Option Given → C → Type 0) (withholds : C → ℕ → C → Type 0) (now : ℕ) (peers : Peers) (p : Given) (s t : Option Traffic) (a b : C) → gives a now (Some p) b → SendsFrontOf (datagrams_of peers p) s t → SendsSome gives withholds 1 now peers s t Device a b
+one_sent_in_part gives withholds now peers p s t a b h k =
+    (p ∷ [], k.0, ((b, h, refl), lit≤ tt, subst (λ (all : List Datagram). IsFrontOf k.0 all) (sym (append-nil (datagrams_of peers p))) k.1), k.2)
+
+-- a packet that is withheld
+pub none_sent : {C : Type 0} (gives : C → ℕ → Option Given → C → Type 0) (withholds : C → ℕ → C → Type 0) (now : ℕ) (peers : Peers) (s t : Option Traffic) (a b : C) → withholds a now b → t ≡ s → SendsSome gives withholds 1 now peers s t OutOfMemory a b
+none_sent gives withholds now peers s t a b h e =
+    ([], [], (a, refl, lit< tt, refl, h), passes_nothing s t e)
 
 pub gives_on : {C : Type 0} (gives : C → ℕ → Option Given → C → Type 0) (now : ℕ) (ps qs : List Given) (a b c : C) → GivesEach gives now ps a b → GivesEach gives now qs b c → GivesEach gives now (ps ++ qs) a c
 gives_on gives now [] qs a b c h k = subst (λ a. GivesEach gives now qs a c) h k
@@ -87,21 +94,17 @@ sends_quiet gives n now peers s t u a b c tally h lt k =
 pub sends_full : {C : Type 0} (gives : C → ℕ → Option Given → C → Type 0) (n now : ℕ) (peers : Peers) (s t : Option Traffic) (a b : C) (tally : Tally) → SendsEach gives n now peers s t a b tally → n ≡ 64 → SendsAll gives now peers s t a b tally
 sends_full gives n now peers s t a b tally h e = (h.0, inl (h.2, h.1 ∙ e), h.3, h.4)
 
--- packets that were sent, and then some of another one
-pub sends_in_part : {C : Type 0} (gives : C → ℕ → Option Given → C → Type 0) (n most now : ℕ) (peers : Peers) (s t u : Option Traffic) (a b : C) (tally : Tally) → SendsEach gives n now peers s t a b tally → n < most → SendsSome gives 1 now peers t u b → SendsSome gives most now peers s u a
-sends_in_part gives n most now peers s t u a b tally h lt k =
-    let ps = h.0 in
-    let qs = k.0 in
+fails_on : {C : Type 0} (gives : C → ℕ → Option Given → C → Type 0) (withholds : C → ℕ → C → Type 0) (n most now : ℕ) (peers : Peers) (ps qs : List Given) (sent : List Datagram) (f : RunFault) (a b c : C) → length ps ≡ n → n < most → GivesEach gives now ps a b → FailsAfter gives withholds 1 now peers qs sent f b c → FailsAfter gives withholds most now peers (ps ++ qs) (sent_of peers ps ++ sent) f a c
+fails_on gives withholds n most now peers ps qs sent Device a b c first lt h k =
     let all : sent_of peers (ps ++ qs) ≡ sent_of peers ps ++ sent_of peers qs = flat_map-append (datagrams_of peers) ps qs in
-    let first : length ps ≡ n = h.1 in
-    let last : length qs ≤ 1 = k.3 in (
-      ps ++ qs,
-      k.1,
-      gives_on gives now ps qs a b k.1 h.2 k.2,
-      omega (arith, length-append ps qs),
-      (
-        sent_of peers ps ++ k.4.0,
-        subst (λ (ds : List Datagram). IsFrontOf (sent_of peers ps ++ k.4.0) ds) (sym all) (front_on (sent_of peers ps) k.4.0 (sent_of peers qs) k.4.1),
-        passes_sent s t u (sent_of peers ps) k.4.0 h.3 k.4.2,
-      ),
-    )
+    let last : length qs ≤ 1 = k.1 in
+    (gives_on gives now ps qs a b c h k.0, omega (arith, length-append ps qs), subst (λ (ds : List Datagram). IsFrontOf (sent_of peers ps ++ sent) ds) (sym all) (front_on (sent_of peers ps) sent (sent_of peers qs) k.2))
+fails_on gives withholds n most now peers ps qs sent OutOfMemory a b c first lt h k =
+    let all : sent_of peers (ps ++ qs) ≡ sent_of peers ps ++ sent_of peers qs = flat_map-append (datagrams_of peers) ps qs in
+    let none : length qs < 1 = k.2 in
+    (k.0, gives_on gives now ps qs a b k.0 h k.1, omega (arith, length-append ps qs), ap (λ ds. sent_of peers ps ++ ds) k.3 ∙ sym all, k.4)
+
+-- packets that were sent, and then a fault
+pub sends_in_part : {C : Type 0} (gives : C → ℕ → Option Given → C → Type 0) (withholds : C → ℕ → C → Type 0) (n most now : ℕ) (peers : Peers) (s t u : Option Traffic) (a b c : C) (tally : Tally) (f : RunFault) → SendsEach gives n now peers s t a b tally → n < most → SendsSome gives withholds 1 now peers t u f b c → SendsSome gives withholds most now peers s u f a c
+sends_in_part gives withholds n most now peers s t u a b c tally f h lt k =
+    (h.0 ++ k.0, sent_of peers h.0 ++ k.1, fails_on gives withholds n most now peers h.0 k.0 k.1 f a b c h.1 lt h.2 k.2, passes_sent s t u (sent_of peers h.0) k.1 h.3 k.3)

@@ -9,5 +9,7 @@ pub mod SendingView
 pub mod Runs
 pub mod Stepped
 pub mod RouterCore
+pub mod HostCore
+pub mod HostLends
 pub mod Queued
 pub mod Memory

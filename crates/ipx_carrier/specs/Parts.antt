@@ -1,14 +1,10 @@
 -- The parts of a turn: what asking the ports, and what sending the core's packets, leave.
-use Rattle.std.specs.Prelude.{◌≡◌, ◌≤◌, ℕ, ◌+◌, Bool, List, [], ◌∷◌, ◌++◌, length, Option, Some, None, is_some, if◌then◌else◌}
+use Rattle.std.specs.Prelude.{◌≡◌, ◌<◌, ◌≤◌, ℕ, ◌+◌, Bool, List, [], ◌∷◌, ◌++◌, length, Option, Some, None, is_some, if◌then◌else◌}
+use Rattle.ipx_carrier.specs.declared.fault.RunFault.{RunFault}
 use Rattle.ipx_carrier.specs.declared.report.Tally.{Tally}
 use Rattle.ipx_carrier.specs.Device.{Datagram, Passes, Reception, Traffic}
-use Rattle.ipx_carrier.specs.Turns.{GivesAll, GivesEach, Given, HearsAnswer, HearsEach, IsFrontOf, Peers, datagrams_of, sent_of}
+use Rattle.ipx_carrier.specs.Turns.{FailsAfter, FailsAtPort, GivesAll, GivesEach, Given, HearsAnswer, HearsEach, IsFrontOf, Peers, datagrams_of, sent_of}
 use Rattle.ipx_carrier.specs.Counts.{heard_in, is_unmapped, unmapped_in}
-
--- what the device received, at most so much, and sent nothing
-abbrev pub ReceivesAtMost : ℕ → Option Traffic → Option Traffic → Type 0
-ReceivesAtMost most before after =
-    (rs : List Reception) × (length rs ≤ most) × Passes before after rs []
 
 -- the device sent some of these datagrams, the first ones
 abbrev pub SendsFrontOf : List Datagram → Option Traffic → Option Traffic → Type 0
@@ -31,11 +27,18 @@ module _ {C : Type 0} (hears : C → ℕ → List ℕ → ℕ → C → Type 0) 
   AsksPorts now ports before after old new count = (rs : List Reception) × (length rs ≡ ports)
       × Passes before after rs [] × HearsEach hears now 0 rs old new × (count ≡ heard_in rs)
 
-  -- some of the ports were asked, and the core heard what they answered, but the last one at most
-  abbrev pub AsksSomePorts : ℕ → ℕ → Option Traffic → Option Traffic → C → Type 0
-  AsksSomePorts now ports before after old = (heard last : List Reception) × (mid : C)
-      × (length heard + length last ≤ ports) × (length last ≤ 1)
-      × Passes before after (heard ++ last) [] × HearsEach hears now 0 heard old mid
+module _ {C : Type 0} (hears misses : C → ℕ → List ℕ → ℕ → C → Type 0) where
+  -- a port was asked, and a fault came of it
+  abbrev pub AsksInVain : ℕ → ℕ → Option Traffic → Option Traffic → RunFault → C → C → Type 0
+  AsksInVain now port before after fault old new = (last : List Reception)
+      × Passes before after last [] × FailsAtPort misses now port last fault old new
+
+  -- some of the ports were asked in order, and a fault came of the last one
+  abbrev pub AsksSomePorts : ℕ → ℕ → Option Traffic → Option Traffic → RunFault → C → C → Type 0
+  AsksSomePorts now ports before after fault old new = (heard last : List Reception) × (mid : C)
+      × (length heard < ports) × Passes before after (heard ++ last) []
+      × HearsEach hears now 0 heard old mid
+      × FailsAtPort misses now (length heard) last fault mid new
 
 -- what sending a core's packets counted
 abbrev pub tally_of : Peers → List Given → Tally
@@ -62,8 +65,11 @@ module _ {C : Type 0} (gives : C → ℕ → Option Given → C → Type 0) wher
       × GivesAll gives now packets old new
       × Passes before after [] (sent_of peers packets) × (tally ≡ tally_of peers packets)
 
-  -- the core gave at most so many packets, and the first of their datagrams were sent
-  abbrev pub SendsSome : ℕ → ℕ → Peers → Option Traffic → Option Traffic → C → Type 0
-  SendsSome most now peers before after old = (packets : List Given) × (last : C)
-      × GivesEach gives now packets old last × (length packets ≤ most)
-      × SendsFrontOf (sent_of peers packets) before after
+module _ {C : Type 0} (gives : C → ℕ → Option Given → C → Type 0)
+    (withholds : C → ℕ → C → Type 0) where
+  -- the core was asked at most so many times, and a fault came of the last one
+  abbrev pub SendsSome : ℕ → ℕ → Peers → Option Traffic → Option Traffic → RunFault → C → C
+      → Type 0
+  SendsSome most now peers before after fault old new = (packets : List Given)
+      × (sent : List Datagram) × FailsAfter gives withholds most now peers packets sent fault old new
+      × Passes before after [] sent

@@ -1,11 +1,12 @@
 -- A router as a core: it hears datagrams and gives packets by a queue, which holds 16,384 of them.
--- The entry points are `Hears` and `Gives`.
-use Rattle.std.specs.Prelude.{◌≡◌, ◌≤◌, ℕ, ◌+◌, ◌-◌, ◌^◌, Bool, true, List, [], ◌∷◌, ◌++◌, All, length, drop, min, nat_le, Option, Some, None, if◌then◌else◌, MatchBool}
+-- The entry points are `Hears` and `Gives`, and `Misses` and `Withholds` where memory is refused.
+use Rattle.std.specs.Prelude.{◌≡◌, ◌≤◌, ◌⊎◌, ℕ, ◌+◌, ◌-◌, ◌^◌, Bool, true, false, List, [], ◌∷◌, ◌++◌, All, length, drop, min, nat_le, Option, Some, None, if◌then◌else◌, MatchBool}
 use Rattle.ipx_router.specs.RouterView.{RouterView}
 use Rattle.ipx_router.specs.Packets.{SendingView}
 use Rattle.ipx_router.specs.Ports.{IsPortNumber}
 use Rattle.ipx_router.specs.OutcomeView.{OutcomeView, Forward, Replies, Heard, Dropped}
 use Rattle.ipx_router.specs.Answer.{Receives}
+use Rattle.ipx_router.specs.WantOfMemory.{WantsMemory}
 use Rattle.ipx_router.specs.Starting.{AreStarts}
 use Rattle.ipx_router.specs.Knowledge.{HoldsKnown, KeepsRest, known_at, tables}
 use Rattle.ipx_router.specs.Telling as telling
@@ -70,6 +71,45 @@ abbrev pub Gives : CoreView → ℕ → Option Given → CoreView → Type 0
 Gives old now given new = (first told : List SendingView) × (router : RouterView)
     × AreFirst old first × TellsNow old.router now told router
     × TakesFirst (put told (put first (record old { router = router; started = true }))) given new
+
+-- packets would pass no limit of a queue
+abbrev pub IsRoomFor : List SendingView → List SendingView → Type 0
+IsRoomFor queue sent = length queue + length sent ≤ most_queued
+
+-- memory is refused to a router for what comes in
+abbrev pub ReceivesInVain : RouterView → ℕ → List ℕ → ℕ → RouterView → Type 0
+ReceivesInVain old port bytes now new =
+    WantsMemory old port bytes now new × KeepsRest old new × (new.told ≡ old.told)
+
+-- memory is refused to the router, or to the queue for what the router answers, which is lost
+abbrev pub Misses : CoreView → ℕ → List ℕ → ℕ → CoreView → Type 0
+Misses old port bytes now new = (router : RouterView) × (new ≡ record old { router = router })
+    × (ReceivesInVain old.router (port + 1) bytes now router
+    ⊎ ((a : OutcomeView) × Receives old.router (port + 1) bytes now a router
+    × IsRoomFor old.queue (sent_by a)))
+
+-- memory is refused for the packets of the start, which are lost: they are asked for once
+abbrev pub StartsInVain : CoreView → CoreView → Type 0
+StartsInVain old new = (old.started ≡ false) × (new ≡ record old { started = true })
+
+-- memory is refused to a router as it is to tell, and it is still time then
+abbrev pub TellsInVain : RouterView → ℕ → RouterView → Type 0
+TellsInVain old now new = (telling.is_due old.told now ≡ true)
+    × telling.HasToTell (known_at old now) now × (new.told ≡ old.told)
+    × HoldsKnown (known_at old now) (tables new) × KeepsRest old new
+
+-- the same, or memory is refused to the queue for what the router tells, which is lost
+abbrev pub IsNotTold : RouterView → ℕ → List SendingView → RouterView → Type 0
+IsNotTold old now queue new = TellsInVain old now new
+    ⊎ ((told : List SendingView) × TellsNow old now told new × IsRoomFor queue told)
+
+-- memory is refused for the packets of the start; or these are put into the queue, and memory is
+-- refused for those that are told
+abbrev pub Withholds : CoreView → ℕ → CoreView → Type 0
+Withholds old now new = StartsInVain old new
+    ⊎ ((first : List SendingView) × (router : RouterView) × AreFirst old first
+    × (new ≡ put first (record old { router = router; started = true }))
+    × IsNotTold old.router now new.queue router)
 
 -- a packet leaves by a port that is there, and fits the room
 abbrev pub IsGivable : ℕ → SendingView → Type 0

@@ -1,6 +1,7 @@
 -- What a run leaves: turns of a core over a device, which its clock's moments part.
 -- The entry points are `Runs`, and `EndsEarly` where a fault ends it.
 use Rattle.std.specs.Prelude.{◌≡◌, ◌<◌, ℕ, List, [], ◌∷◌, ◌++◌, length, Option}
+use Rattle.ipx_carrier.specs.declared.fault.RunFault.{RunFault}
 use Rattle.ipx_carrier.specs.declared.report.Report.{Report}
 use Rattle.ipx_carrier.specs.Device.{Datagram, Passes, Tells, Traffic}
 use Rattle.ipx_carrier.specs.Turns.{BreaksOff, Given, Peers, Turn, Turns, moments_of, packets_of, received_of, sent_of}
@@ -17,11 +18,16 @@ module _ {C : Type 0} (hears : C → ℕ → List ℕ → ℕ → C → Type 0)
       × Passes before after (received_of course) (sent_of peers (packets_of course))
       × Tells tells clock clock_after (moments_of course) × (report ≡ report_of peers course)
 
-  -- fewer whole turns, and then one that a fault ends
-  abbrev pub EndsEarly : ℕ → Option Traffic → Option Traffic → K → K → C → Type 0
-  EndsEarly turns before after clock clock_after old = (course : List Turn) × (last : Turn)
-      × (sent : List Datagram) × (mid : C) × (length course < turns)
-      × Turns hears gives ports course old mid × BreaksOff hears gives ports peers last sent mid
+module _ {C : Type 0} (hears misses : C → ℕ → List ℕ → ℕ → C → Type 0)
+    (gives : C → ℕ → Option Given → C → Type 0) (withholds : C → ℕ → C → Type 0)
+    {K : Type 0} (tells : K → ℕ → K → Type 0) (ports : ℕ) (peers : Peers) where
+  -- fewer whole turns, and then one that a fault ends: what was received and sent, the moments that
+  -- were read, and the core after are theirs
+  abbrev pub EndsEarly : ℕ → Option Traffic → Option Traffic → K → K → RunFault → C → C → Type 0
+  EndsEarly turns before after clock clock_after fault old new = (course : List Turn)
+      × (last : Turn) × (sent : List Datagram) × (mid : C) × (length course < turns)
+      × Turns hears gives ports course old mid
+      × BreaksOff hears misses gives withholds ports peers last sent fault mid new
       × Passes before after (received_of course ++ last.answers)
       (sent_of peers (packets_of course) ++ sent)
       × Tells tells clock clock_after (moments_of course ++ last.moment ∷ [])

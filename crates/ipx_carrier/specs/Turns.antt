@@ -5,6 +5,8 @@ use Rattle.std.specs.Global.{Global}
 use Rattle.ipx_wire.specs.declared.address.Node.{Node}
 use Rattle.ipx_router.specs.Packets.{broadcast}
 use Rattle.ipx_router.specs.Classify.{is_node}
+use Rattle.ipx_carrier.specs.declared.fault.RunFault.{RunFault}
+use Rattle.ipx_carrier.specs.declared.fault.RunFault.TheVariants.{Device, OutOfMemory}
 use Rattle.ipx_carrier.specs.Mapping.{ip_at}
 use Rattle.ipx_carrier.specs.Device.{Datagram, Reception}
 
@@ -93,21 +95,43 @@ module _ {C : Type 0} (hears : C → ℕ → List ℕ → ℕ → C → Type 0)
   Turns ports [] old new = new ≡ old
   Turns ports (t ∷ ts) old new = (mid : C) × IsTurn ports t old mid × Turns ports ts mid new
 
-  -- a turn that ends as its ports are asked: all answers but the last one at most were heard, and
-  -- nothing was sent
-  abbrev pub BreaksOffHearing : ℕ → Turn → List Datagram → C → Type 0
-  BreaksOffHearing ports t sent old = (heard last : List Reception) × (mid : C)
-      × (t.answers ≡ heard ++ last) × (length last ≤ 1) × (length t.answers ≤ ports)
-      × HearsEach hears t.moment 0 heard old mid × (t.packets ≡ []) × (sent ≡ [])
+module _ {C : Type 0} (misses : C → ℕ → List ℕ → ℕ → C → Type 0) where
+  -- what a fault ends the asking of a port with: the device fails and nothing came, or a datagram
+  -- came and the core misses it
+  abbrev pub FailsAtPort : ℕ → ℕ → List Reception → RunFault → C → C → Type 0
+  FailsAtPort now port last Device old new = (last ≡ []) × (new ≡ old)
+  FailsAtPort now port last OutOfMemory old new = (bytes : List ℕ)
+      × (last ≡ record { port = port; bytes = Some bytes } ∷ []) × misses old port bytes now new
 
-  -- a turn that ends as its core is asked: each answer was heard, and of the packets that the core
-  -- gave the first datagrams were sent
-  abbrev pub BreaksOffSending : ℕ → Peers → Turn → List Datagram → C → Type 0
-  BreaksOffSending ports peers t sent old = (length t.answers ≡ ports) × (mid last : C)
-      × HearsEach hears t.moment 0 t.answers old mid × GivesEach gives t.moment t.packets mid last
-      × (length t.packets ≤ 64) × IsFrontOf sent (sent_of peers t.packets)
+module _ {C : Type 0} (gives : C → ℕ → Option Given → C → Type 0)
+    (withholds : C → ℕ → C → Type 0) where
+  -- what a fault ends the asking for packets with: the device fails, and the first of the packets'
+  -- datagrams were sent, or the core withholds a packet, and those before it were sent
+  abbrev pub FailsAfter : ℕ → ℕ → Peers → List Given → List Datagram → RunFault → C → C → Type 0
+  FailsAfter most now peers packets sent Device old new = GivesEach gives now packets old new
+      × (length packets ≤ most) × IsFrontOf sent (sent_of peers packets)
+  FailsAfter most now peers packets sent OutOfMemory old new = (last : C)
+      × GivesEach gives now packets old last × (length packets < most)
+      × (sent ≡ sent_of peers packets) × withholds last now new
 
-  -- a turn that a fault ends, and the datagrams that it sent
-  abbrev pub BreaksOff : ℕ → Peers → Turn → List Datagram → C → Type 0
-  BreaksOff ports peers t sent old =
-      BreaksOffHearing ports t sent old ⊎ BreaksOffSending ports peers t sent old
+module _ {C : Type 0} (hears misses : C → ℕ → List ℕ → ℕ → C → Type 0)
+    (gives : C → ℕ → Option Given → C → Type 0) (withholds : C → ℕ → C → Type 0) where
+  -- a turn that a fault ends as its ports are asked: the answers before were heard, and nothing was
+  -- sent
+  abbrev pub BreaksOffHearing : ℕ → Turn → List Datagram → RunFault → C → C → Type 0
+  BreaksOffHearing ports t sent fault old new = (heard last : List Reception) × (mid : C)
+      × (t.answers ≡ heard ++ last) × (length heard < ports)
+      × HearsEach hears t.moment 0 heard old mid
+      × FailsAtPort misses t.moment (length heard) last fault mid new
+      × (t.packets ≡ []) × (sent ≡ [])
+
+  -- a turn that a fault ends as its core is asked: each answer was heard
+  abbrev pub BreaksOffSending : ℕ → Peers → Turn → List Datagram → RunFault → C → C → Type 0
+  BreaksOffSending ports peers t sent fault old new = (length t.answers ≡ ports) × (mid : C)
+      × HearsEach hears t.moment 0 t.answers old mid
+      × FailsAfter gives withholds 64 t.moment peers t.packets sent fault mid new
+
+  -- a turn that a fault ends, the datagrams that it sent, and the core then
+  abbrev pub BreaksOff : ℕ → Peers → Turn → List Datagram → RunFault → C → C → Type 0
+  BreaksOff ports peers t sent fault old new = BreaksOffHearing ports t sent fault old new
+      ⊎ BreaksOffSending ports peers t sent fault old new

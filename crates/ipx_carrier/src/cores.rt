@@ -1,6 +1,6 @@
 //! What runs over a device: a router or a host.
 
-ghost use Rattle.std.specs.Prelude.{◌≡◌, ◌<◌, ◌≤◌, ℕ, List, Option, IfOk, OnOk, IfSome, length};
+ghost use Rattle.std.specs.Prelude.{◌≡◌, ◌<◌, ◌≤◌, ℕ, List, Option, IfOk, OnOk, OnErr, IfSome, length};
 ghost use Rattle.ipx_carrier.specs.Turns.{Given};
 ghost use Rattle.ipx_carrier.specs.Given.{given_in};
 
@@ -19,6 +19,13 @@ pub trait Core {
     /// Asked at a moment, it gives a packet or none, and is as the last argument says then.
     ghost gives: { Self → ℕ → Option Given → Self → Type 0 };
 
+    /// Memory is refused as it hears bytes that came in on a port at a moment, and it is as the
+    /// last argument says then.
+    ghost misses: { Self → ℕ → List ℕ → ℕ → Self → Type 0 };
+
+    /// Memory is refused as it is asked at a moment, and it is as the last argument says then.
+    ghost withholds: { Self → ℕ → Self → Type 0 };
+
     /// How many ports it has.
     fn ports(&self) -> usize
         ensures { result ≡ port_count self.now };
@@ -34,6 +41,7 @@ pub trait Core {
     ) -> Result<(), OutOfMemory>
         requires { port < port_count self.old }
         ensures heard { OnOk result (hears self.old port bytes.now now self.new) }
+        ensures refused { OnErr result (misses self.old port bytes.now now self.new) }
         ensures ports { port_count self.new ≡ port_count self.old };
 
     /// Gives the next packet that is to be sent, if there is one: its port, the node there that it
@@ -47,6 +55,7 @@ pub trait Core {
         requires { 1536 ≤ length room.old }
         ensures given { IfOk result (λ given.
             gives self.old now (given_in room.new given) self.new) }
+        ensures refused { OnErr result (withholds self.old now self.new) }
         ensures within { IfOk result (λ given. IfSome given (λ g. g.2 ≤ length room.old)) }
         ensures there { IfOk result (λ given. IfSome given (λ g. g.0 < port_count self.old)) }
         ensures ports { port_count self.new ≡ port_count self.old };

@@ -1,8 +1,8 @@
 //! The first part of a turn: each port is asked for a datagram, and the core hears what came.
 
-ghost use Rattle.std.specs.Prelude.{◌≡◌, ◌<◌, ◌≤◌, ◌+◌, ◌^◌, IfOk, OnErr, length};
+ghost use Rattle.std.specs.Prelude.{◌≡◌, ◌<◌, ◌≤◌, ◌+◌, ◌^◌, IfOk, IfErr, length};
 ghost use Rattle.ipx_carrier.specs.Fault.{failures_after};
-ghost use Rattle.ipx_carrier.specs.Parts.{AsksPort, AsksPorts, AsksSomePorts, ReceivesAtMost};
+ghost use Rattle.ipx_carrier.specs.Parts.{AsksInVain, AsksPort, AsksPorts, AsksSomePorts};
 
 use crate::cores::Core;
 use crate::datagrams::Datagrams;
@@ -23,8 +23,8 @@ fn hear_port<C: Core, D: Datagrams>(
     requires countable { D.failed datagrams.old + 1 < 2 ^ 64 }
     ensures heard { IfOk result (λ heard. AsksPort C.hears now port
         (D.traffic datagrams.old) (D.traffic datagrams.new) core.old core.new heard) }
-    ensures fault { OnErr result
-        (ReceivesAtMost 1 (D.traffic datagrams.old) (D.traffic datagrams.new)) }
+    ensures fault { IfErr result (λ f. AsksInVain C.hears C.misses now port
+        (D.traffic datagrams.old) (D.traffic datagrams.new) f core.old core.new) }
     ensures failures { D.failed datagrams.new ≡ failures_after result (D.failed datagrams.old) }
     ensures core_ports { C.port_count core.new ≡ C.port_count core.old }
     ensures device_ports { D.port_count datagrams.new ≡ D.port_count datagrams.old }
@@ -49,8 +49,8 @@ pub fn hear_ports<C: Core, D: Datagrams>(
     requires countable { D.failed datagrams.old + 1 < 2 ^ 64 }
     ensures heard { IfOk result (λ count. AsksPorts C.hears now (C.port_count core.old)
         (D.traffic datagrams.old) (D.traffic datagrams.new) core.old core.new count) }
-    ensures fault { OnErr result (AsksSomePorts C.hears now (C.port_count core.old)
-        (D.traffic datagrams.old) (D.traffic datagrams.new) core.old) }
+    ensures fault { IfErr result (λ f. AsksSomePorts C.hears C.misses now (C.port_count core.old)
+        (D.traffic datagrams.old) (D.traffic datagrams.new) f core.old core.new) }
     ensures failures { D.failed datagrams.new ≡ failures_after result (D.failed datagrams.old) }
     ensures few { IfOk result (λ count. count < 2 ^ 64) }
     ensures core_ports { C.port_count core.new ≡ C.port_count core.old }

@@ -1,8 +1,8 @@
 //! Datagrams in memory, for tests and for what is run without a network.
 
-ghost use Rattle.std.specs.Prelude.{◌≡◌, ◌<◌, ◌≤◌, [], ◌∷◌, ◌++◌, OnOk, OnErr, IfOk, IfSome, length, map};
+ghost use Rattle.std.specs.Prelude.{◌≡◌, ◌<◌, ◌≤◌, [], ◌∷◌, ◌++◌, OnOk, OnErr, IfOk, IfSome, Some, length, map};
 ghost use Rattle.ipx_carrier.specs.Device.{received_in};
-ghost use Rattle.ipx_carrier.specs.Memory.{memory_received, memory_sent, traffic_of};
+ghost use Rattle.ipx_carrier.specs.Memory.{KeepsRest, WaitsLast, memory_received, memory_sent, traffic_of, waiting_of};
 
 use crate::datagrams::Datagrams;
 use crate::fault::DeviceFault;
@@ -65,6 +65,10 @@ impl MemoryDatagrams {
     /// Puts a datagram behind those that wait at a port, which the caller owes to be there.
     pub fn put(&mut self, alloc: Global, port: usize, bytes: &[u8]) -> Result<(), OutOfMemory>
         requires { port < length self.old.waiting.items }
+        ensures put { OnOk result
+            (WaitsLast (waiting_of self.old) port bytes.now (waiting_of self.new)) }
+        ensures refused { OnErr result (waiting_of self.new ≡ waiting_of self.old) }
+        ensures rest { KeepsRest self.old self.new }
     {
         let datagram = bytes.to_vec(alloc)?;
         self.waiting[port].push_back(datagram)?;
@@ -86,7 +90,12 @@ impl MemoryDatagrams {
     }
 
     /// The k-th `send` or `receive` from now on, counted from 1, fails. Later ones go on.
-    pub fn fail_at(&mut self, k: u64) {
+    pub fn fail_at(&mut self, k: u64)
+        ensures named { self.new.fails_after ≡ Some k }
+        ensures waiting { waiting_of self.new ≡ waiting_of self.old }
+        ensures traffic { traffic_of self.new ≡ traffic_of self.old }
+        ensures failures { self.new.failures ≡ self.old.failures }
+    {
         self.fails_after = Some(k);
     }
 }

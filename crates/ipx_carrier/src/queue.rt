@@ -1,10 +1,10 @@
 //! The packets of a router that are to be sent.
 
-ghost use Rattle.std.specs.Prelude.{◌≡◌, ℕ, ◌<◌, ◌≤◌, ◌∷◌, [], length, drop, true, OnOk, OnErr, IfSome};
+ghost use Rattle.std.specs.Prelude.{◌≡◌, ℕ, ◌<◌, ◌≤◌, ◌∷◌, [], length, drop, true, false, OnOk, OnErr, IfSome};
 ghost use Rattle.ipx_router.specs.Packets.{sendings};
 ghost use Rattle.ipx_carrier.specs.Given.{given_in};
 ghost use Rattle.ipx_router.specs.OutcomeView.{view};
-ghost use Rattle.ipx_carrier.specs.RouterCore.{AreGivable, first_of, most_queued, sent_by};
+ghost use Rattle.ipx_carrier.specs.RouterCore.{AreGivable, IsNotTold, IsRoomFor, first_of, most_queued, sent_by};
 ghost use Rattle.ipx_carrier.specs.Queued.{Puts, PutsStart, PutsTold};
 
 use ipx_router::{Outcome, Reply, Router};
@@ -26,6 +26,8 @@ pub fn put_all(
         (sendings queue.old.items) dropped.old (sendings queue.new.items) dropped.new) }
     ensures refused { OnErr result
         ((queue.new.items ≡ queue.old.items) × (dropped.new ≡ dropped.old)) }
+    ensures lost { OnErr result
+        (IsRoomFor (sendings queue.old.items) (sendings replies.items)) }
 {
     if replies.len() > MOST_QUEUED - queue.len() {
         *dropped = dropped.saturating_add(replies.len() as u64);
@@ -46,6 +48,8 @@ pub fn put_one(
         (sendings queue.old.items) dropped.old (sendings queue.new.items) dropped.new) }
     ensures refused { OnErr result
         ((queue.new.items ≡ queue.old.items) × (dropped.new ≡ dropped.old)) }
+    ensures lost { OnErr result
+        (IsRoomFor (sendings queue.old.items) (sendings (reply ∷ []))) }
 {
     if queue.len() >= MOST_QUEUED {
         *dropped = dropped.saturating_add(1);
@@ -66,6 +70,7 @@ pub fn put_outcome(
         (sendings queue.old.items) dropped.old (sendings queue.new.items) dropped.new) }
     ensures refused { OnErr result
         ((queue.new.items ≡ queue.old.items) × (dropped.new ≡ dropped.old)) }
+    ensures lost { OnErr result (IsRoomFor (sendings queue.old.items) (sent_by (view outcome))) }
 {
     match outcome {
         Outcome::Forward(reply) => put_one(queue, dropped, reply),
@@ -88,6 +93,7 @@ pub fn put_start(
     ensures started { started.new ≡ true }
     ensures refused { OnErr result
         ((queue.new.items ≡ queue.old.items) × (dropped.new ≡ dropped.old)) }
+    ensures once { OnErr result (started.old ≡ false) }
 {
     if *started {
         return Ok(());
@@ -111,6 +117,8 @@ pub fn put_told(
     ensures ports { router.new.ports ≡ router.old.ports }
     ensures refused { OnErr result
         ((queue.new.items ≡ queue.old.items) × (dropped.new ≡ dropped.old)) }
+    ensures lost { OnErr result
+        (IsNotTold router.old now (sendings queue.old.items) router.new) }
 {
     let told = router.tell(alloc, now)?;
     put_all(queue, dropped, told)

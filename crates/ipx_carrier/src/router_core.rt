@@ -43,13 +43,12 @@ impl Model for RouterCore {
 
 impl RouterCore {
     /// A router that has sent nothing yet. What waits to be sent is kept in memory of `alloc`.
-    ///
-    /// The caller owes at most 16 ports, which each router has that `Router::new` made.
     pub fn new(alloc: Global, router: Router) -> RouterCore
-        requires { length router.ports ≤ 16 }
         ensures router { result.router ≡ router }
         ensures fresh { (result.queue ≡ []) × (result.started ≡ false) × (result.dropped ≡ 0) }
     {
+        // A router has at most 16 ports, as its ports' contract says.
+        let _ports = router.ports();
         RouterCore {
             router,
             queue: VecDeque::new(alloc),
@@ -69,13 +68,17 @@ impl RouterCore {
 
 impl Core for RouterCore {
     ghost use Rattle.std.specs.Prelude.{length};
-    ghost use Rattle.ipx_carrier.specs.RouterCore.{Gives, Hears};
+    ghost use Rattle.ipx_carrier.specs.RouterCore.{Gives, Hears, Misses, Withholds};
 
     ghost port_count = { λ c. length c.router.ports };
 
     ghost hears = { Hears };
 
     ghost gives = { Gives };
+
+    ghost misses = { Misses };
+
+    ghost withholds = { Withholds };
 
     fn ports(&self) -> usize {
         self.router.ports().len()

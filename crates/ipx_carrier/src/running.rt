@@ -1,6 +1,6 @@
 //! A run: turns of a core over a device.
 
-ghost use Rattle.std.specs.Prelude.{◌≡◌, ◌<◌, ◌≤◌, ◌+◌, ◌*◌, ◌^◌, IfOk, OnErr, length};
+ghost use Rattle.std.specs.Prelude.{◌≡◌, ◌<◌, ◌≤◌, ◌+◌, ◌*◌, ◌^◌, IfOk, IfErr, length};
 ghost use Rattle.ipx_carrier.specs.Fault.{failures_after};
 ghost use Rattle.ipx_carrier.specs.Turns.{peers_of};
 ghost use Rattle.ipx_carrier.specs.Counts.{plus};
@@ -55,10 +55,10 @@ fn take_turn<C: Core, D: Datagrams, K: Clock>(
     ensures heard { IfOk result (λ report. report.heard < 2 ^ 64) }
     ensures sent { IfOk result (λ report. report.sent ≤ 64 * 2 ^ 64) }
     ensures unmapped { IfOk result (λ report. report.unmapped ≤ 64) }
-    ensures fault { OnErr result
-        (EndsEarly C.hears C.gives K.tells (C.port_count core.old) (peers_of peers.now) 1
+    ensures fault { IfErr result (λ f. EndsEarly C.hears C.misses C.gives C.withholds K.tells
+        (C.port_count core.old) (peers_of peers.now) 1
         (D.traffic datagrams.old) (D.traffic datagrams.new) clock.old clock.new
-        core.old) }
+        f core.old core.new) }
     ensures failures { D.failed datagrams.new ≡ failures_after result (D.failed datagrams.old) }
     ensures core_ports { C.port_count core.new ≡ C.port_count core.old }
     ensures device_ports { D.port_count datagrams.new ≡ D.port_count datagrams.old }
@@ -102,11 +102,11 @@ pub fn run<C: Core, D: Datagrams, K: Clock>(
         Runs C.hears C.gives K.tells (C.port_count core.old) (peers_of peers.now) turns
         (D.traffic datagrams.old) (D.traffic datagrams.new) clock.old clock.new
         core.old core.new report) }
-    // At a fault they are those of fewer turns, and of a part of the next one.
-    ensures fault { OnErr result
-        (EndsEarly C.hears C.gives K.tells (C.port_count core.old) (peers_of peers.now) turns
+    // At a fault they are those of fewer turns, and of a part of the next one that the fault ends.
+    ensures fault { IfErr result (λ f. EndsEarly C.hears C.misses C.gives C.withholds K.tells
+        (C.port_count core.old) (peers_of peers.now) turns
         (D.traffic datagrams.old) (D.traffic datagrams.new) clock.old clock.new
-        core.old) }
+        f core.old core.new) }
     // `Device` comes just where the device failed.
     ensures failures { D.failed datagrams.new ≡ failures_after result (D.failed datagrams.old) }
     ensures core_ports { C.port_count core.new ≡ C.port_count core.old }

@@ -1,6 +1,6 @@
 //! The second part of a turn: the core is asked for packets, and each is sent.
 
-ghost use Rattle.std.specs.Prelude.{◌≡◌, ◌<◌, ◌≤◌, ◌+◌, ◌*◌, ◌^◌, [], Some, None, IfOk, OnErr, OnOk, IfSome, length, map};
+ghost use Rattle.std.specs.Prelude.{◌≡◌, ◌<◌, ◌≤◌, ◌+◌, ◌*◌, ◌^◌, [], Some, None, IfOk, IfErr, OnErr, OnOk, IfSome, length, map};
 ghost use Rattle.ipx_carrier.specs.Device.{Passes};
 ghost use Rattle.ipx_carrier.specs.Fault.{device_failures, failures_after};
 ghost use Rattle.ipx_carrier.specs.Turns.{datagrams_of, peers_of};
@@ -97,8 +97,8 @@ fn send_next<C: Core, D: Datagrams>(
     requires room { 1536 ≤ length room.old }
     ensures sent { IfOk result (λ sending. SendsNext C.gives now (peers_of peers.now)
         (D.traffic datagrams.old) (D.traffic datagrams.new) core.old core.new (view sending)) }
-    ensures fault { OnErr result (SendsSome C.gives 1 now (peers_of peers.now)
-        (D.traffic datagrams.old) (D.traffic datagrams.new) core.old) }
+    ensures fault { IfErr result (λ f. SendsSome C.gives C.withholds 1 now (peers_of peers.now)
+        (D.traffic datagrams.old) (D.traffic datagrams.new) f core.old core.new) }
     ensures failures { D.failed datagrams.new ≡ failures_after result (D.failed datagrams.old) }
     ensures core_ports { C.port_count core.new ≡ C.port_count core.old }
     ensures device_ports { D.port_count datagrams.new ≡ D.port_count datagrams.old }
@@ -147,8 +147,8 @@ pub fn send_all<C: Core, D: Datagrams>(
         (D.traffic datagrams.old) (D.traffic datagrams.new) core.old core.new tally) }
     ensures few { IfOk result (λ tally. tally.sent ≤ 64 * 2 ^ 64) }
     ensures few_unmapped { IfOk result (λ tally. tally.unmapped ≤ 64) }
-    ensures fault { OnErr result (SendsSome C.gives 64 now (peers_of peers.now)
-        (D.traffic datagrams.old) (D.traffic datagrams.new) core.old) }
+    ensures fault { IfErr result (λ f. SendsSome C.gives C.withholds 64 now (peers_of peers.now)
+        (D.traffic datagrams.old) (D.traffic datagrams.new) f core.old core.new) }
     ensures failures { D.failed datagrams.new ≡ failures_after result (D.failed datagrams.old) }
     ensures core_ports { C.port_count core.new ≡ C.port_count core.old }
     ensures device_ports { D.port_count datagrams.new ≡ D.port_count datagrams.old }

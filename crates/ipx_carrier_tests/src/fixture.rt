@@ -26,9 +26,6 @@ pub fn two_ports(alloc: Global) -> Result<RouterCore, OutOfMemory> {
     let Ok(router) = Router::new(alloc, ports) else {
         return Err(OutOfMemory);
     };
-    if router.ports().len() > 16 {
-        return Err(OutOfMemory);
-    }
     Ok(RouterCore::new(alloc, router))
 }
 
@@ -45,18 +42,29 @@ pub fn no_peers(alloc: Global) -> Result<Vec<Vec<[u8; 4]>>, OutOfMemory> {
 }
 
 /// Runs a core for one turn. Peers or a device of another count of ports are no memory.
+pub fn turn_at<C: Core>(
+    alloc: Global,
+    core: &mut C,
+    datagrams: &mut MemoryDatagrams,
+    peers: &[Vec<[u8; 4]>],
+    clock: &mut SteppedClock,
+) -> Result<Report, RunFault> {
+    let ports = core.ports();
+    if datagrams.ports() != ports || peers.len() != ports || datagrams.failures() > 1000 {
+        return Err(RunFault::OutOfMemory);
+    }
+    run(alloc, core, datagrams, peers, clock, 1)
+}
+
+/// The same at the moment 0.
 pub fn one_turn(
     alloc: Global,
     core: &mut RouterCore,
     datagrams: &mut MemoryDatagrams,
     peers: &[Vec<[u8; 4]>],
 ) -> Result<Report, RunFault> {
-    let ports = core.ports();
-    if datagrams.ports() != ports || peers.len() != ports || datagrams.failures() > 1000 {
-        return Err(RunFault::OutOfMemory);
-    }
     let mut clock = SteppedClock::new(0, 10);
-    run(alloc, core, datagrams, peers, &mut clock, 1)
+    turn_at(alloc, core, datagrams, peers, &mut clock)
 }
 
 /// A datagram as text: port, last byte of the address and bytes in hex.

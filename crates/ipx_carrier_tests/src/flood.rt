@@ -2,6 +2,7 @@
 
 use crate::fixture::{one_peer_each, one_turn, two_ports};
 use ipx_carrier::{Core, Datagrams, MemoryDatagrams, RouterCore, SentDatagram};
+use ipx_wire::IpxFault;
 use std::alloc::Global;
 use std::process::Abort;
 use std::test::Fail;
@@ -38,6 +39,20 @@ fn a_datagram_that_is_cut_is_dropped(rt: HostRuntime) -> Result<(), Fail> {
     let cut = long(alloc, 1600, [0x06, 0x40])?;
     let datagrams = sent_for(&rt, alloc, &cut)?;
     assert_eq!(rt; datagrams.sent().len(), 6);
+    Ok(())
+}
+
+#[test]
+fn what_is_received_of_it_is_truncated(rt: HostRuntime) -> Result<(), Fail> {
+    let alloc = rt.alloc();
+    let cut = long(alloc, 1600, [0x06, 0x40])?;
+    let received = cut.get(..1536).unwrap_or(&[]);
+    assert!(rt;
+        matches!(
+            ipx_wire::decode(received),
+            Err(IpxFault::Truncated(1600, 1536))
+        )
+    );
     Ok(())
 }
 

@@ -1,4 +1,4 @@
-//! Tests of a router over datagrams in memory, with literal values. They call what `ipx_carrier`
+//! Tests of routers and hosts over datagrams in memory and by UDP, with literal values. They call what `ipx_carrier`
 //! makes public, and no crate stands on this one.
 #![tactic(auto)]
 
@@ -7,8 +7,12 @@ mod fixture;
 #[cfg(test)]
 mod flood;
 #[cfg(test)]
+mod hosts;
+#[cfg(test)]
 mod mapping;
 #[cfg(test)]
 mod refused;
 #[cfg(test)]
 mod turns;
+#[cfg(test)]
+mod udp;

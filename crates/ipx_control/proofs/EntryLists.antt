@@ -7,6 +7,7 @@ use Rattle.std.proofs.lemmas.List.Elements.{All-push}
 use Rattle.ipx_wire.specs.FieldLaws.{FieldLaws}
 use Rattle.ipx_wire.specs.Ipx.{IsBytes, IsWritten}
 use Rattle.ipx_control.specs.Entries.{AreEntries}
+use Rattle.ipx_control.specs.Lent.{first_entries}
 use Rattle.ipx_control.proofs.Parts.{write-rest}
 use borrow.Rule.Slice.PartMut.{put_mid}
 
@@ -103,17 +104,18 @@ pub All-take_more : {E : Type 0} (P : E → Type 0) (es : List E) (i : ℕ) (d :
 All-take_more P es i d lt all one =
     subst (All P) (sym (take_more es i d lt)) (All-push P (take i es) (get_or es i d) all one)
 
--- bytes with room for n entries are n entries, and what is behind them
-pub entries_there : {E : Type 0} (IsEntry : E → List ℕ → Type 0) (size : ℕ) (first : List ℕ → E) → ((bytes : List ℕ) → IsEntry (first bytes) bytes)
-    → (n : ℕ) (bytes : List ℕ) → n * size ≤ length bytes → (es : List E) × (length es ≡ n) × AreEntries IsEntry size es bytes (drop (n * size) bytes)
-entries_there IsEntry size first is zero bytes fits =
-    let none : zero * size ≡ 0 = omega arith in
-    ([], refl, ap (λ (k : ℕ). drop k bytes) (sym none))
-entries_there {E} IsEntry size first is (suc n) bytes fits =
-    let rest = entries_there IsEntry size first is n (drop size bytes) (omega (arith, length-drop size bytes)) in
-    let behind : drop (n * size) (drop size bytes) ≡ drop (suc n * size) bytes = drop-drop (n * size) size bytes ∙ ap (λ (k : ℕ). drop k bytes) (omega arith) in
-    let es : List E = rest.0 in (
-      first bytes ∷ es,
-      ap suc rest.1,
-      (omega arith, is bytes, subst (λ (t : List ℕ). AreEntries IsEntry size es (drop size bytes) t) behind rest.2),
-    )
+module _ {E : Type 0} (entry_in : List ℕ → E) (size : ℕ) where
+  -- bytes with room for n entries are the n that are read off them, and what is behind them
+  pub first_are : (IsEntry : E → List ℕ → Type 0) → ((bytes : List ℕ) → IsEntry (entry_in bytes) bytes)
+      → (n : ℕ) (bytes : List ℕ) → n * size ≤ length bytes → AreEntries IsEntry size (first_entries entry_in size n bytes) bytes (drop (n * size) bytes)
+  first_are IsEntry is zero bytes fits =
+      let none : zero * size ≡ 0 = omega arith in
+      ap (λ (k : ℕ). drop k bytes) (sym none)
+  first_are IsEntry is (suc n) bytes fits =
+      let rest = first_are IsEntry is n (drop size bytes) (omega (arith, length-drop size bytes)) in
+      let behind : drop (n * size) (drop size bytes) ≡ drop (suc n * size) bytes = drop-drop (n * size) size bytes ∙ ap (λ (k : ℕ). drop k bytes) (omega arith) in
+      (omega arith, is bytes, subst (λ (t : List ℕ). AreEntries IsEntry size (first_entries entry_in size n (drop size bytes)) (drop size bytes) t) behind rest)
+
+  pub length-first : (n : ℕ) (bytes : List ℕ) → length (first_entries entry_in size n bytes) ≡ n
+  length-first zero bytes = refl
+  length-first (suc n) bytes = ap suc (length-first n (drop size bytes))

@@ -1,5 +1,5 @@
 -- The bytes of a RIP packet hold it, with any short tail behind them, and hold no other.
-use Rattle.std.proofs.Common.{◌≡◌, ◌≢◌, ◌≤◌, ◌<◌, ◌/◌, ℕ, ◌-◌, ◌*◌, List, ◌++◌, [], length, take, drop, arith, sym, ap, ◌∙◌, refl, subst, None, inl, inr, eq-eqb}
+use Rattle.std.proofs.Common.{◌≡◌, ◌≢◌, ◌≤◌, ◌<◌, ◌/◌, ℕ, ◌-◌, ◌*◌, suc, List, ◌++◌, ◌∷◌, [], length, take, drop, arith, sym, ap, ◌∙◌, refl, subst, None, inl, inr, eq-eqb}
 use Rattle.std.specs.Prelude.{nat_lt, ◌==◌, ◌||◌}
 use Rattle.std.specs.List.{flat_map}
 use Rattle.std.proofs.lemmas.List.{drop-append-le, drop-drop, length-append, length-drop, append-nil}
@@ -9,12 +9,13 @@ use Rattle.ipx_wire.specs.FieldLaws.{FieldLaws}
 use Rattle.ipx_wire.specs.Ipx.{IsBytes, IsWritten, number}
 use Rattle.ipx_control.specs.declared.rip.packet.RipEntry.{RipEntry}
 use Rattle.ipx_control.specs.Entries.{AreEntries}
+use Rattle.ipx_control.specs.Lent.{first_entries, rip_entries_in, rip_entry_in}
 use Rattle.ipx_control.specs.Rip.{IsRip, IsRipEntry, IsRipEntryInRange, IsRipInRange, RipView, Request, Response, rip_entries, rip_entry_bytes, rip_fault, rip_operation}
 use Rattle.std.proofs.lemmas.Bool.{eqb-true, le-ltb, ltb-false}
 use Rattle.ipx_control.specs.declared.fault.ControlFault.TheVariants.{NoOperation, TooManyEntries, UnknownOperation}
 use Rattle.ipx_control.proofs.Faults.{either_true, first_true, no_fault_here, no_fault_there, second_true}
 use Rattle.ipx_control.proofs.Parts.{written-front}
-use Rattle.ipx_control.proofs.EntryLists.{AreEntries-append, entries_alike, entries_read, entries_there, length-entries, same_entries}
+use Rattle.ipx_control.proofs.EntryLists.{AreEntries-append, entries_alike, entries_read, first_are, length-entries, same_entries}
 
 -- ---- one entry
 
@@ -120,22 +121,32 @@ rip_written m old xs k r was =
 
 -- ---- faults
 
-entry_in : List ℕ → RipEntry
-entry_in bytes = record { network = record { 0 = number 4 0 bytes }; hops = number 2 4 bytes; ticks = number 2 6 bytes }
+rip_entry_in_is : (bytes : List ℕ) → IsRipEntry (rip_entry_in bytes) bytes
+rip_entry_in_is bytes = record { network = refl; hops = refl; ticks = refl }
 
-entry_in_is : (bytes : List ℕ) → IsRipEntry (entry_in bytes) bytes
-unfolding entry_in
-entry_in_is bytes = record { network = refl; hops = refl; ticks = refl }
+-- entries that are read off bytes are those that fit
+pub rip_entries_are : (bytes : List ℕ) → (tail : List ℕ) × AreEntries IsRipEntry 8 (rip_entries_in bytes) bytes tail × (length tail < 8)
+rip_entries_are bytes =
+    let count = length bytes / 8 in
+    (drop (count * 8) bytes, first_are rip_entry_in 8 IsRipEntry rip_entry_in_is count bytes (omega arith), omega (arith, length-drop (count * 8) bytes))
+
+-- the first of them, and those behind it
+pub rip_entries_more : (e : RipEntry) (bytes : List ℕ) → 8 ≤ length bytes → IsRipEntry e bytes → rip_entries_in bytes ≡ e ∷ rip_entries_in (drop 8 bytes)
+rip_entries_more e bytes fits is =
+    let rest = drop 8 bytes in
+    let count : length bytes / 8 ≡ suc (length rest / 8) = omega (arith, length-drop 8 bytes) in
+    let first : rip_entry_in bytes ≡ e = same_rip_entry (rip_entry_in bytes) e bytes (rip_entry_in_is bytes) is in
+    ap (λ (n : ℕ). first_entries rip_entry_in 8 n bytes) count ∙ ap (λ (x : RipEntry). x ∷ rip_entries_in rest) first
 
 rip_of : (m : List RipEntry → RipView) (n : ℕ) → ((es : List RipEntry) → rip_operation (m es) ≡ n) → ((es : List RipEntry) → rip_entries (m es) ≡ es) → (bytes : List ℕ) → 2 ≤ length bytes
     → number 2 0 bytes ≡ n → (length bytes - 2) / 8 ≤ 50 → (p : RipView) × (tail : List ℕ) × IsRip p bytes tail
 rip_of m n operation entries bytes room said few =
     let behind = drop 2 bytes in
     let count = (length bytes - 2) / 8 in
-    let there = entries_there IsRipEntry 8 entry_in entry_in_is count behind (omega (arith, length-drop 2 bytes)) in
-    let es : List RipEntry = there.0 in
+    let es : List RipEntry = first_entries rip_entry_in 8 count behind in
+    let there = first_are rip_entry_in 8 IsRipEntry rip_entry_in_is count behind (omega (arith, length-drop 2 bytes)) in
     let tail = drop (count * 8) behind in
-    let are = subst (λ (xs : List RipEntry). AreEntries IsRipEntry 8 xs behind tail) (sym (entries es)) there.2 in
+    let are = subst (λ (xs : List RipEntry). AreEntries IsRipEntry 8 xs behind tail) (sym (entries es)) there in
     (m es, tail, rip_found (m es) bytes tail room (said ∙ sym (operation es)) are (omega (arith, length-drop 2 bytes, length-drop (count * 8) behind)) few)
 
 pub rip_without_fault : (bytes : List ℕ) → rip_fault bytes ≡ None → (m : RipView) × (tail : List ℕ) × IsRip m bytes tail

@@ -1,5 +1,5 @@
 -- The bytes of a SAP packet hold it, with any tail that may stand behind them, and hold no other.
-use Rattle.std.proofs.Common.{◌≡◌, ◌≢◌, ◌≤◌, ◌<◌, ◌/◌, ◌^◌, ℕ, ◌-◌, ◌*◌, Bool, true, false, List, ◌++◌, [], length, take, drop, arith, sym, ap, ◌∙◌, refl, subst, append_assoc, take-append-drop, ◌⊎◌, inl, inr}
+use Rattle.std.proofs.Common.{◌≡◌, ◌≢◌, ◌≤◌, ◌<◌, ◌/◌, ◌^◌, ℕ, ◌-◌, ◌*◌, suc, Bool, true, false, List, ◌++◌, ◌∷◌, [], length, take, drop, arith, sym, ap, ◌∙◌, refl, subst, append_assoc, take-append-drop, ◌⊎◌, inl, inr}
 use Rattle.std.specs.Prelude.{nat_lt, ◌==◌, ◌||◌, None}
 use Rattle.std.specs.List.{flat_map}
 use Rattle.std.proofs.lemmas.List.{drop-append-le, drop-drop, length-append, length-drop, take-append-le, take_at, drop_at, append-nil}
@@ -10,12 +10,13 @@ use Rattle.ipx_wire.specs.FieldLaws.{FieldLaws}
 use Rattle.ipx_wire.specs.Ipx.{IsAddress, IsBytes, IsWritten, address_bytes, number}
 use Rattle.ipx_control.specs.declared.sap.packet.ServiceEntry.{ServiceEntry}
 use Rattle.ipx_control.specs.Entries.{AreEntries}
+use Rattle.ipx_control.specs.Lent.{first_entries, service_in, services_in}
 use Rattle.ipx_control.specs.Sap.{IsSap, IsSapQuery, IsSapResponse, IsSapInRange, IsSapTail, AreServicesInRange, IsServiceEntry, IsServiceEntryInRange, SapView, Query, Response, query_operation, response_operation, sap_fault, service_bytes}
 use Rattle.std.proofs.lemmas.Bool.{eqb-true, le-ltb, ltb-false}
 use Rattle.ipx_control.specs.declared.fault.ControlFault.TheVariants.{NoOperation, QueryShort, TooManyEntries, UnknownOperation}
 use Rattle.ipx_control.proofs.Faults.{either_true, no_query_fault, no_response_fault, no_sap_fault_here}
 use Rattle.ipx_control.proofs.Parts.{written-front}
-use Rattle.ipx_control.proofs.EntryLists.{AreEntries-append, entries_alike, entries_read, entries_there, length-entries, same_entries}
+use Rattle.ipx_control.proofs.EntryLists.{AreEntries-append, entries_alike, entries_read, first_are, length-entries, same_entries}
 
 pub length-address : (a : Address) → length a.node.0 ≡ 6 → length (address_bytes a) ≡ 12
 length-address a e = omega (arith, e, length-append a.node.0 (big_bytes 2 a.socket.0))
@@ -201,21 +202,22 @@ response_written laws nearest services old xs k r was =
 
 -- ---- faults
 
-service_in : List ℕ → ServiceEntry
-service_in bytes = record {
-  kind = number 2 0 bytes;
-  name = take 48 (drop 2 bytes);
-  at = record {
-    network = record { 0 = number 4 0 (drop 50 bytes) };
-    node = record { 0 = take 6 (drop 4 (drop 50 bytes)) };
-    socket = record { 0 = number 2 10 (drop 50 bytes) };
-  };
-  hops = number 2 62 bytes;
-}
-
 service_in_is : (bytes : List ℕ) → IsServiceEntry (service_in bytes) bytes
-unfolding service_in
 service_in_is bytes = record { kind = refl; name = refl; at = record { network = refl; node = refl; socket = refl }; hops = refl }
+
+-- services that are read off bytes are those that fit
+pub services_are : (bytes : List ℕ) → (tail : List ℕ) × AreEntries IsServiceEntry 64 (services_in bytes) bytes tail × (length tail < 64)
+services_are bytes =
+    let count = length bytes / 64 in
+    (drop (count * 64) bytes, first_are service_in 64 IsServiceEntry service_in_is count bytes (omega arith), omega (arith, length-drop (count * 64) bytes))
+
+-- the first of them, and those behind it
+pub services_more : FieldLaws → (e : ServiceEntry) (bytes : List ℕ) → 64 ≤ length bytes → IsServiceEntry e bytes → services_in bytes ≡ e ∷ services_in (drop 64 bytes)
+services_more laws e bytes fits is =
+    let rest = drop 64 bytes in
+    let count : length bytes / 64 ≡ suc (length rest / 64) = omega (arith, length-drop 64 bytes) in
+    let first : service_in bytes ≡ e = same_service laws (service_in bytes) e bytes (service_in_is bytes) is in
+    ap (λ (n : ℕ). first_entries service_in 64 n bytes) count ∙ ap (λ (x : ServiceEntry). x ∷ services_in rest) first
 
 query_of : (nearest : Bool) (bytes : List ℕ) → 4 ≤ length bytes → number 2 0 bytes ≡ query_operation nearest → (m : SapView) × (tail : List ℕ) × IsSap m bytes tail
 query_of nearest bytes room said = (Query nearest (number 2 2 bytes), drop 4 bytes, record { has_query = room; operation = said; service = refl; rest = refl })
@@ -225,10 +227,10 @@ response_of : (nearest : Bool) (bytes : List ℕ) → 2 ≤ length bytes → num
 response_of nearest bytes room said few =
     let behind = drop 2 bytes in
     let count = (length bytes - 2) / 64 in
-    let there = entries_there IsServiceEntry 64 service_in service_in_is count behind (omega (arith, length-drop 2 bytes)) in
-    let services : List ServiceEntry = there.0 in
+    let services : List ServiceEntry = first_entries service_in 64 count behind in
+    let there = first_are service_in 64 IsServiceEntry service_in_is count behind (omega (arith, length-drop 2 bytes)) in
     let tail = drop (count * 64) behind in
-    (Response nearest services, tail, response_found nearest services bytes tail room said there.2 (omega (arith, length-drop 2 bytes, length-drop (count * 64) behind)) few)
+    (Response nearest services, tail, response_found nearest services bytes tail room said there (omega (arith, length-drop 2 bytes, length-drop (count * 64) behind)) few)
 
 pub sap_without_fault : (bytes : List ℕ) → sap_fault bytes ≡ None → (m : SapView) × (tail : List ℕ) × IsSap m bytes tail
 sap_without_fault bytes none =

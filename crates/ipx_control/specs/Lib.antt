@@ -1,4 +1,5 @@
 pub mod Entries
 pub mod Fault
+pub mod Lent
 pub mod Rip
 pub mod Sap

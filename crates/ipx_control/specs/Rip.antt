@@ -8,6 +8,8 @@ use Rattle.ipx_control.specs.declared.fault.ControlFault.TheVariants.{NoOperatio
 use Rattle.ipx_control.specs.declared.rip.packet.RipEntry.{RipEntry}
 use Rattle.ipx_control.specs.declared.rip.packet.Rip.{Rip}
 use Rattle.ipx_control.specs.declared.rip.packet.Rip.TheVariants as rips
+use Rattle.ipx_control.specs.declared.rip.packet.RipBody.{RipBody}
+use Rattle.ipx_control.specs.declared.rip.packet.RipBody.TheVariants as bodies
 use Rattle.ipx_control.specs.Entries.{AreEntries, entries_fault}
 
 -- the bytes of an entry, and how many entries a packet may hold
@@ -25,6 +27,11 @@ pub data RipView : Type 0 where
 abbrev pub rip_view : Rip → RipView
 rip_view (rips.Request entries) = Request entries.items
 rip_view (rips.Response entries) = Response entries.items
+
+-- the same of one whose entries stand in lent bytes
+abbrev pub rip_body_view : RipBody → RipView
+rip_body_view (bodies.Request entries) = Request entries
+rip_body_view (bodies.Response entries) = Response entries
 
 abbrev pub rip_operation : RipView → ℕ
 rip_operation (Request entries) = 1

@@ -8,6 +8,8 @@ use Rattle.ipx_control.specs.declared.fault.ControlFault.TheVariants.{NoOperatio
 use Rattle.ipx_control.specs.declared.sap.packet.ServiceEntry.{ServiceEntry}
 use Rattle.ipx_control.specs.declared.sap.packet.Sap.{Sap}
 use Rattle.ipx_control.specs.declared.sap.packet.Sap.TheVariants as saps
+use Rattle.ipx_control.specs.declared.sap.packet.SapBody.{SapBody}
+use Rattle.ipx_control.specs.declared.sap.packet.SapBody.TheVariants as bodies
 use Rattle.ipx_control.specs.Entries.{AreEntries, entries_fault}
 
 -- the bytes of a service, and how many services a response may hold
@@ -26,6 +28,11 @@ pub data SapView : Type 0 where
 abbrev pub sap_view : Sap → SapView
 sap_view (saps.Query nearest kind) = Query nearest kind
 sap_view (saps.Response nearest services) = Response nearest services.items
+
+-- the same of one whose services stand in lent bytes
+abbrev pub sap_body_view : SapBody → SapView
+sap_body_view (bodies.Query nearest kind) = Query nearest kind
+sap_body_view (bodies.Response nearest services) = Response nearest services
 
 -- the services that a packet names
 abbrev pub sap_services : SapView → List ServiceEntry

@@ -9,12 +9,12 @@ mod sap;
 pub use fault::ControlFault;
 pub use laws::control_constants_are_assigned;
 pub use rip::{
-    RIP_MAX_ENTRIES, Rip, RipEntry, bytes_are_one_rip, decode_rip, encode_rip_into,
-    encode_routes_into, rip_before_any_tail, rip_fault_is_of_no_rip, rip_has_bytes,
-    rip_is_one_list_of_bytes,
+    RIP_MAX_ENTRIES, Rip, RipBody, RipEntries, RipEntry, bytes_are_one_rip, decode_rip,
+    encode_rip_into, encode_routes_into, read_rip, rip_before_any_tail, rip_fault_is_of_no_rip,
+    rip_has_bytes, rip_is_one_list_of_bytes,
 };
 pub use sap::{
-    SAP_MAX_SERVICES, Sap, ServiceEntry, bytes_are_one_sap, decode_sap, encode_sap_into,
-    encode_services_into, sap_before_any_tail, sap_fault_is_of_no_sap, sap_has_bytes,
-    sap_is_one_list_of_bytes,
+    SAP_MAX_SERVICES, Sap, SapBody, ServiceEntries, ServiceEntry, bytes_are_one_sap, decode_sap,
+    encode_sap_into, encode_services_into, read_sap, sap_before_any_tail, sap_fault_is_of_no_sap,
+    sap_has_bytes, sap_is_one_list_of_bytes,
 };

@@ -1,12 +1,16 @@
 -- Where ends stand, and what a call on one host does to all of them.
-use Rattle.std.proofs.Common.{◌≡◌, ◌≢◌, ◌<◌, ◌≤◌, ℕ, zero, suc, List, [], ◌∷◌, ◌++◌, Bool, true, false, not, length, set, get_or, refl, ap, sym, subst, ◌∙◌, Option, None, Some, Result, Ok, Err, OnErr, IfSome, arith, append_assoc}
+use Rattle.std.proofs.Common.{◌≡◌, ◌≢◌, ◌<◌, ◌≤◌, ℕ, zero, suc, List, [], ◌∷◌, ◌++◌, Bool, true, false, cond, not, length, map, set, get_or, refl, ap, sym, subst, ◌∙◌, Option, None, Some, Result, Ok, Err, OnErr, IfSome, arith, append_assoc}
 use Rattle.std.specs.Prelude.{slice_get}
 use Rattle.std.proofs.lemmas.Option.{slice_get_read}
+use Rattle.std.proofs.Math.Seq.{map-set_same}
 use Rattle.ipx_wire.specs.declared.address.Address.{Address}
 use Rattle.ipx_wire.specs.declared.address.Socket.{Socket}
 use Rattle.spx_link.specs.Limits.{most_units}
 use Rattle.spx_link.specs.Offer.{first_of}
 use Rattle.spx_link.specs.declared.unit.Unit.{Unit}
+use Rattle.spx_messages.specs.Arrives.{Arrives}
+use Rattle.spx_messages.specs.declared.arrived.Arrived.{Arrived}
+use Rattle.spx_messages.specs.declared.arrived.Arrived.TheVariants as Arriveds
 use Rattle.spx_messages.specs.Changes.{ChangesEnd, ReleasesEnd}
 use Rattle.spx_messages.specs.EndpointView.{Held, held_at}
 use Rattle.spx_messages.specs.Taking.{TakenView, result_view, take_end}
@@ -16,9 +20,10 @@ use Rattle.spx_messages.specs.declared.taken.Taken.{Taken}
 use Rattle.spx_units.specs.declared.fault.MessageFault.TheVariants as MessageFaults
 use Rattle.ipx_log.specs.Note.{Opened, Released}
 use Rattle.ipx_steps.specs.Calls.{DialsFrom, ReleasesOf}
-use Rattle.ipx_steps.specs.Steps.{TakesOf, marked_over, unit_notes, whole_notes}
-use Rattle.ipx_steps.specs.World.{EndNow, Station, StandsAt, end_at}
-use Rattle.ipx_hosts.specs.Hosts.{FitTogether, HostsView, LeavesSo, LeftAs, Noting, Standing, is_lost, stands, stands_now, want}
+use Rattle.ipx_steps.specs.Steps.{TakesOf, ends_after, here_after, marked_over, unit_notes, whole_notes}
+use Rattle.ipx_steps.specs.World.{EndNow, Station, StandsAt, end_at, held_in, held_of, home_at}
+use Rattle.ipx_hosts.specs.Hosts.{DeliveredAt, FitTogether, HostsView, LeavesSo, LeftAs, LeftAt, Noting, Standing, is_lost, stands, stands_now}
+use Rattle.ipx_hosts.specs.Refusing.{end_held, held_by, want}
 use Rattle.ipx_hosts.specs.Stations.{ChangesAt, DialsAt, ReleasesAt, Stays, StaysAt}
 use Rattle.ipx_hosts.specs.declared.refusal.Refusal.{Refusal}
 use Rattle.ipx_hosts.specs.declared.refusal.Refusal.TheVariants as Refusals
@@ -72,30 +77,40 @@ host_within v ss es who host id view s = there_within ss host s.station (ap (λ 
 pub end_within : (v : HostsView) (ss : List Station) (es : List EndNow) (who host id : ℕ) → made ss es ≡ v → Standing v who host id → who < length es
 end_within v ss es who host id view s = there_within es who s.end' (ap (λ (u : HostsView). slice_get u.ends who) view ∙ s.at)
 
--- an end refused
-pub left : (v : HostsView) (ss : List Station) (es : List EndNow) (host : ℕ) (x y : Station) (t : ℕ) → made ss es ≡ v → x ≡ get_or ss host x → host < length ss
-    → StaysAt x y → LeftAs v (made (set ss host y) es) t
-left v ss es host x y t view read within same =
-    subst (λ u. LeftAs u (made (set ss host y) es) t) view (
-      host,
-      λ parcels log. record {
-        before = x;
-        there = slice_get_read ss (length ss) host x refl within read;
-        after = y;
-        same = same.same;
-        here = same.here;
-        hosts = refl;
-        ends = refl;
-        parcels = refl;
-        log = refl;
-        moment = refl;
-      },
-    )
+-- a host refused
+left_at : (v : HostsView) (ss : List Station) (es : List EndNow) (host : ℕ) (x y : Station) (t : ℕ) → made ss es ≡ v → x ≡ get_or ss host x → host < length ss
+    → StaysAt x y → LeftAt host v (made (set ss host y) es) t
+left_at v ss es host x y t view read within same =
+    subst (λ u. LeftAt host u (made (set ss host y) es) t) view (
+    λ parcels log. record {
+      before = x;
+      there = slice_get_read ss (length ss) host x refl within read;
+      after = y;
+      same = same.same;
+      said = same.said;
+      heard = same.heard;
+      here = same.here;
+      hosts = refl;
+      ends = refl;
+      parcels = refl;
+      log = refl;
+      moment = refl;
+    })
+
+-- the host of an end refused
+pub left : (v : HostsView) (ss : List Station) (es : List EndNow) (who host id : ℕ) (x y : Station) (t : ℕ) → made ss es ≡ v → x ≡ get_or ss host x → Standing v who host id
+    → StaysAt x y → LeftAs who v (made (set ss host y) es) t
+left v ss es who host id x y t view read s same =
+    record {
+      end' = s.end';
+      at = s.at;
+      left = subst (λ k. LeftAt k v (made (set ss host y) es) t) (sym s.host_is) (left_at v ss es host x y t view read (host_within v ss es who host id view s) same);
+    }
 
 pub left_err : {A E : Type 0} (r : Result A E) (v : HostsView) (ss : List Station) (es : List EndNow) (who host id : ℕ) (x y : Station) (t : ℕ) → made ss es ≡ v → x ≡ get_or ss host x → Standing v who host id
-    → OnErr r (StaysAt x y) → OnErr r (LeftAs v (made (set ss host y) es) t)
+    → OnErr r (StaysAt x y) → OnErr r (LeftAs who v (made (set ss host y) es) t)
 left_err (Ok a) v ss es who host id x y t view read s same = tt
-left_err (Err f) v ss es who host id x y t view read s same = left v ss es host x y t view read (host_within v ss es who host id view s) same
+left_err (Err f) v ss es who host id x y t view read s same = left v ss es who host id x y t view read s same
 
 -- ---- dial
 
@@ -239,8 +254,8 @@ taken v ss es es' who host id x y r u t view read s unit takes not_want ends =
 -- ---- refusals
 
 pub left_so : (f : Refusal) (v : HostsView) (ss : List Station) (es : List EndNow) (host : ℕ) (x y : Station) (t : ℕ) → made ss es ≡ v → x ≡ get_or ss host x → host < length ss
-    → Stays f x y → LeavesSo f v (made (set ss host y) es) t
-left_so (Refusals.ByEnd f) v ss es host x y t view read within same = left v ss es host x y t view read within same
+    → Stays f x y → LeavesSo f host v (made (set ss host y) es) t
+left_so (Refusals.ByEnd f) v ss es host x y t view read within same = left_at v ss es host x y t view read within same
 left_so Refusals.OutOfMemory v ss es host x y t view read within same = tt
 
 pub host_there : (v : HostsView) (ss : List Station) (es : List EndNow) (host : ℕ) → made ss es ≡ v → host < length v.stations → host < length ss
@@ -273,3 +288,52 @@ known_held v ss es who host id x P view read s holds =
     let there : slice_get ss host ≡ Some s.station = ap (λ (u : HostsView). slice_get u.stations host) view ∙ s.there in
     let same : x ≡ s.station = read ∙ there_read ss host s.station x there in
     at_held (held_at x.endpoint id) (λ _. P) s.held holds (ap (λ (z : Station). held_at z.endpoint id) same ∙ s.live)
+
+-- what an end has is what its host holds under its id
+pub held_there : (v : HostsView) (ss : List Station) (es : List EndNow) (who host id : ℕ) (x : Station) → made ss es ≡ v → x ≡ get_or ss host x → Standing v who host id
+    → held_at x.endpoint id ≡ end_held v.stations v.ends who
+held_there v ss es who host id x view read s =
+    let there : slice_get ss host ≡ Some s.station = ap (λ (u : HostsView). slice_get u.stations host) view ∙ s.there in
+    let same : x ≡ s.station = read ∙ there_read ss host s.station x there in
+    let of_end : end_held v.stations v.ends who ≡ held_of v.stations s.end' = ap (held_by v.stations) s.at in
+    let not_released : held_of v.stations s.end' ≡ held_in (slice_get v.stations s.end'.host) s.end'.id = ap (λ b. cond b None (held_in (slice_get v.stations s.end'.host) s.end'.id)) s.stands in
+    let at_host : held_in (slice_get v.stations s.end'.host) s.end'.id ≡ held_in (Some s.station) id =
+    ap (λ k. held_in (slice_get v.stations k) s.end'.id) s.host_is ∙ ap (λ k. held_in (slice_get v.stations host) k) s.id_is ∙ ap (λ (o : Option Station). held_in o id) s.there in
+    ap (λ (z : Station). held_at z.endpoint id) same ∙ sym (of_end ∙ not_released ∙ at_host)
+
+-- what stands at a host is what was read of it
+pub station_there : (v : HostsView) (ss : List Station) (es : List EndNow) (host : ℕ) (x : Station) → made ss es ≡ v → x ≡ get_or ss host x → host < length ss → Some x ≡ slice_get v.stations host
+station_there v ss es host x view read within =
+    sym (slice_get_read ss (length ss) host x refl within read) ∙ ap (λ (u : HostsView). slice_get u.stations host) view
+
+-- ---- addresses
+
+pub homes_set : (v : HostsView) (ss : List Station) (es : List EndNow) (host : ℕ) (x y : Station) → made ss es ≡ v → x ≡ get_or ss host x → home_at y ≡ home_at x → map home_at (set ss host y) ≡ map home_at v.stations
+homes_set v ss es host x y view read home =
+    map-set_same home_at ss host y x (home ∙ ap home_at read) ∙ ap (λ (u : HostsView). map home_at u.stations) view
+
+-- ---- deliver
+
+-- a datagram that makes no link makes no end
+ends_kept : (a : Arrived) (host : ℕ) (es : List EndNow) → ((id : ℕ) → a ≢ Arriveds.Accepted id) → ends_after a host es ≡ es
+ends_kept (Arriveds.Bad f) host es other = refl
+ends_kept Arriveds.NotOurs host es other = refl
+ends_kept (Arriveds.BadSpx f) host es other = refl
+ends_kept Arriveds.NoListener host es other = refl
+ends_kept Arriveds.NoRoom host es other = refl
+ends_kept Arriveds.Stranger host es other = refl
+ends_kept (Arriveds.Accepted id) host es other = absurd (other id refl)
+ends_kept (Arriveds.Link id r) host es other = refl
+
+pub delivered : (v : HostsView) (ss : List Station) (es : List EndNow) (host count : ℕ) (x y : Station) (bytes : List ℕ) (t : ℕ) (a : Arrived) → made ss es ≡ v → x ≡ get_or ss host x → host < length ss → count ≡ length es
+    → ((id : ℕ) → a ≢ Arriveds.Accepted id) → Arrives x.endpoint bytes t a y.endpoint → y.here ≡ here_after a count x.here → DeliveredAt v host bytes t a (made (set ss host y) es)
+delivered v ss es host count x y bytes t a view read within counted other arrives here =
+    subst (λ u. DeliveredAt u host bytes t a (made (set ss host y) es)) view (record {
+      before = x;
+      there = slice_get_read ss (length ss) host x refl within read;
+      after = y;
+      arrives = arrives;
+      here = here ∙ ap (λ n. here_after a n x.here) counted;
+      stations = refl;
+      ends = sym (ends_kept a host es other);
+    })

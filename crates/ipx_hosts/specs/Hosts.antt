@@ -1,5 +1,5 @@
 -- The hosts of a network and their ends, by their numbers; and the world that they are a part of.
-use Rattle.std.specs.Prelude.{ℕ, ◌≡◌, Bool, false, true, not, List, ◌++◌, length, set, Option, Some, None, Result, Ok, Err, slice_get}
+use Rattle.std.specs.Prelude.{ℕ, ◌≡◌, Bool, false, true, not, List, ◌++◌, length, map, set, Option, Some, None, Result, Ok, Err, slice_get}
 use Rattle.ipx_wire.specs.declared.address.Node.{Node}
 use Rattle.spx_messages.specs.Arrives.{Arrives}
 use Rattle.spx_messages.specs.Polls.{Polls}
@@ -14,7 +14,7 @@ use Rattle.ipx_steps.specs.Calls.{RefusesAt}
 use Rattle.ipx_steps.specs.Steps.{ends_after, here_after}
 use Rattle.ipx_hosts.specs.declared.refusal.Refusal.{Refusal}
 use Rattle.ipx_hosts.specs.declared.refusal.Refusal.TheVariants as Refusals
-use Rattle.ipx_steps.specs.World.{EndNow, InOrder, ParcelView, Station, World, end_at}
+use Rattle.ipx_steps.specs.World.{EndNow, InOrder, ParcelView, Station, World, end_at, home_at}
 
 pub record HostsView : Type 0 where
   pub stations : List Station
@@ -39,6 +39,10 @@ abbrev pub stands_now : Option EndNow → Bool
 stands_now None = false
 stands_now (Some e) = not e.released
 
+-- hosts keep their addresses, whatever is called and whatever is refused
+abbrev pub SameHomes : HostsView → HostsView → Type 0
+SameHomes old new = map home_at new.stations ≡ map home_at old.stations
+
 -- there is such an end, and it is not released
 abbrev pub stands : HostsView → ℕ → Bool
 stands v who = stands_now (slice_get v.ends who)
@@ -56,19 +60,21 @@ pub record Standing (v : HostsView) (who host id : ℕ) : Type 0 where
   pub held : Held
   pub live : held_at station.endpoint id ≡ Some held
 
--- an end refused, and the world is as it was
-abbrev pub LeftAs : HostsView → HostsView → ℕ → Type 0
-LeftAs old new now =
-    (host : ℕ) × ((parcels : List ParcelView) (log : List Note)
-    → RefusesAt (world_of old parcels log now) host (world_of new parcels log now))
+-- a host refused, and the world is as it was
+abbrev pub LeftAt : ℕ → HostsView → HostsView → ℕ → Type 0
+LeftAt host old new now = (parcels : List ParcelView) (log : List Note)
+    → RefusesAt (world_of old parcels log now) host (world_of new parcels log now)
 
--- a refusal by an end leaves the world as it was. Of want of memory nothing is said
-abbrev pub LeavesSo : Refusal → HostsView → HostsView → ℕ → Type 0
-LeavesSo (Refusals.ByEnd f) old new now = LeftAs old new now
-LeavesSo Refusals.OutOfMemory old new now = Unit {0}
+-- the host of an end refused, and the world is as it was
+pub record LeftAs (who : ℕ) (old new : HostsView) (now : ℕ) : Type 0 where
+  pub end' : EndNow
+  pub at : slice_get old.ends who ≡ Some end'
+  pub left : LeftAt end'.host old new now
 
-abbrev pub want : EndFault
-want = EndFaults.Message MessageFaults.OutOfMemory
+-- a refusal by a host leaves the world as it was. Of want of memory nothing is said
+abbrev pub LeavesSo : Refusal → ℕ → HostsView → HostsView → ℕ → Type 0
+LeavesSo (Refusals.ByEnd f) host old new now = LeftAt host old new now
+LeavesSo Refusals.OutOfMemory host old new now = Unit {0}
 
 -- a take was refused, and not for want of memory
 abbrev pub is_lost : Result TakenView EndFault → Bool

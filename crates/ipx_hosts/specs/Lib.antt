@@ -1,2 +1,5 @@
 pub mod Hosts
+pub mod Refusing
 pub mod Stations
+pub mod Telling
+pub mod Beginnings

@@ -12,9 +12,11 @@ use Rattle.ipx_steps.specs.World.{Station, end_at}
 use Rattle.ipx_hosts.specs.declared.refusal.Refusal.{Refusal}
 use Rattle.ipx_hosts.specs.declared.refusal.Refusal.TheVariants as Refusals
 
--- nothing changes but what the endpoint said and heard last
+-- nothing changes
 pub record StaysAt (old new : Station) : Type 0 where
   pub same : SameBut old.endpoint new.endpoint
+  pub said : new.endpoint.said ≡ old.endpoint.said
+  pub heard : new.endpoint.heard ≡ old.endpoint.heard
   pub here : new.here ≡ old.here
 
 -- an end that refuses stays as it is. Of want of memory in the host itself nothing is said

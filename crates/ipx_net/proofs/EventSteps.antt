@@ -1,5 +1,5 @@
 -- What the calls on hosts say, as what events at hosts do.
-use Rattle.std.proofs.Common.{ℕ, zero, suc, ◌≡◌, ◌≢◌, ◌⊎◌, inl, inr, List, [], ◌∷◌, ◌++◌, length, take, set, Option, Some, None, Result, Ok, Err, refl, sym, ◌∙◌, ap, subst}
+use Rattle.std.proofs.Common.{ℕ, zero, suc, ◌≡◌, ◌≢◌, inl, inr, List, [], ◌∷◌, ◌++◌, length, take, set, Option, Some, None, Result, Ok, Err, refl, sym, ◌∙◌, ap, subst}
 use Rattle.std.specs.Prelude.{IfOk, IfSome, option_map, slice_get}
 use Rattle.std.proofs.lemmas.List.{append-nil}
 use Rattle.ipx_wire.specs.declared.address.Network.{Network}
@@ -7,20 +7,18 @@ use Rattle.ipx_wire.specs.declared.address.Node.{Node}
 use Rattle.spx_link.specs.declared.outgoing.Sent.{Sent}
 use Rattle.spx_link.specs.declared.unit.Unit.{Unit}
 use Rattle.spx_messages.specs.declared.fault.EndFault.{EndFault}
-use Rattle.spx_messages.specs.declared.fault.EndFault.TheVariants as EndFaults
-use Rattle.spx_units.specs.declared.fault.MessageFault.TheVariants as MessageFaults
-use Rattle.spx_messages.specs.Taking.{TakenView}
+use Rattle.spx_messages.specs.Taking.{TakenView, overlong}
 use Rattle.ipx_log.specs.Note.{Note}
 use Rattle.ipx_steps.specs.Steps.{TakesOf, said_notes, given_notes, unit_notes, whole_notes}
 use Rattle.ipx_steps.specs.Calls.{RefusesAt}
 use Rattle.ipx_steps.specs.World.{AtHost, ParcelView, Station, World, end_at}
-use Rattle.ipx_hosts.specs.Hosts.{HostsView, LeftAs, Noting, PolledAt, want, world_of}
+use Rattle.ipx_hosts.specs.Hosts.{HostsView, LeftAs, Noting, PolledAt, world_of}
+use Rattle.ipx_hosts.specs.Refusing.{PushesTo, TakeIsRefused, end_held, want}
 use Rattle.ipx_hosts.specs.Stations.{given_as, speaker}
-use Rattle.ipx_net.specs.AnswerView.{AnswerView, Parcels, Refused, Taken}
+use Rattle.ipx_net.specs.AnswerView.{Parcels, Refused, Taken}
 use Rattle.ipx_net.specs.GrowthView.{GrowthView, Grows}
-use Rattle.ipx_net.specs.HostEvents.{PollingHost, TakingFrom}
+use Rattle.ipx_net.specs.HostEvents.{DeliversSo, PollingHost, TakingFrom}
 use Rattle.ipx_net.specs.Speaking.{spoken_notes}
-use Rattle.ipx_net.specs.Hearing.{DeliversSo}
 use Rattle.spx_messages.specs.declared.arrived.Arrived.{Arrived}
 use Rattle.ipx_steps.specs.Steps.{arrival_notes}
 use Rattle.ipx_hosts.specs.Hosts.{DeliveredAt}
@@ -47,35 +45,31 @@ taking_ok old new first now who t u r g is noting same =
           (subst (λ x. TakesOf W who x (world_of new parcels (log ++ (unit_notes x u who ++ whole_notes x who)) now)) is (noting parcels log)),
     ))
 
-want_or_not : (f : EndFault) → (f ≡ want) ⊎ (f ≢ want)
-want_or_not (EndFaults.Offer o) = inr (λ e. absurd (cc e))
-want_or_not (EndFaults.Message MessageFaults.OutOfMemory) = inl refl
-want_or_not (EndFaults.Message (MessageFaults.TooLong n)) = inr (λ e. absurd (cc e))
-want_or_not (EndFaults.Message (MessageFaults.BadStream n)) = inr (λ e. absurd (cc e))
-want_or_not (EndFaults.Message MessageFaults.Overlong) = inr (λ e. absurd (cc e))
-want_or_not (EndFaults.Links l) = inr (λ e. absurd (cc e))
-want_or_not EndFaults.NoSuchEnd = inr (λ e. absurd (cc e))
+over_is_not_want : (f : EndFault) → f ≡ overlong → f ≢ want
+over_is_not_want f is e = absurd (cc (sym is ∙ e))
 
 pub taking_err : (old new : HostsView) (first now who : ℕ) (f : EndFault) (u : Option Unit) (g : GrowthView)
     → (f ≢ want → Noting old new now (unit_notes (Err f) u who ++ whole_notes (Err f) who) (λ w w'. TakesOf w who (Err f) w'))
-    → (f ≡ want → LeftAs old new now)
+    → (f ≡ want → LeftAs who old new now)
+    → TakeIsRefused f
+    → (f ≡ want → PushesTo (end_held old.stations old.ends who))
     → g ≡ record { parcels = []; notes = []; answer = Refused f }
     → Grows old new first now g (TakingFrom who)
-taking_err old new first now who f u g takes left same =
+taking_err old new first now who f u g takes left why pushes same =
     subst (λ x. Grows old new first now x (TakingFrom who)) (sym same)
     (λ parcels log count.
     let W : World = world_of old parcels log now in
-    elim (want_or_not f) [
+    elim why [
       | inl is ↦
-          let l = left is in
-          inr (inr (
-            ap Refused is,
-            l.0,
-            subst (λ ps. RefusesAt W l.0 (world_of new ps (log ++ []) now)) (sym (append-nil parcels))
-                (subst (λ ns. RefusesAt W l.0 (world_of new parcels ns now)) (sym (append-nil log)) (l.1 parcels log)),
-          ))
-      | inr other ↦
-          inr (inl (f, refl, subst (λ ps. TakesOf W who (Err f) (world_of new ps (log ++ []) now)) (sym (append-nil parcels)) (takes other parcels log)))
+          let T : TakesOf W who (Err f) (world_of new (parcels ++ []) (log ++ []) now) =
+          subst (λ ps. TakesOf W who (Err f) (world_of new ps (log ++ []) now)) (sym (append-nil parcels)) (takes (over_is_not_want f is) parcels log) in
+          inr (inl (ap Refused is, subst (λ x. TakesOf W who (Err x) (world_of new (parcels ++ []) (log ++ []) now)) is T))
+      | inr is ↦
+          let l : LeftAs who old new now = left is in
+          let R : RefusesAt W l.end'.host (world_of new (parcels ++ []) (log ++ []) now) =
+          subst (λ ps. RefusesAt W l.end'.host (world_of new ps (log ++ []) now)) (sym (append-nil parcels))
+          (subst (λ ns. RefusesAt W l.end'.host (world_of new parcels ns now)) (sym (append-nil log)) (l.left parcels log)) in
+          inr (inr (pushes is, (l.end', l.at, (ap Refused is, R))))
     ])
 
 -- ---- a host is polled

@@ -1,5 +1,5 @@
 -- What an event did is what the relation of steps says of it.
-use Rattle.std.proofs.Common.{ℕ, ◌≡◌, ◌<◌, ◌++◌, ◌==◌, All, List, [], ◌∷◌, Bool, true, false, Result, Ok, Err, IfOk, Option, Some, None, refl, sym, ap, subst, ◌∙◌, length, map, set, get_or}
+use Rattle.std.proofs.Common.{ℕ, ◌≡◌, ◌<◌, ◌++◌, ◌==◌, All, List, [], ◌∷◌, Bool, true, false, Result, Ok, Err, IfOk, Option, Some, None, refl, sym, ap, subst, ◌∙◌, length, get_or}
 use Rattle.std.specs.Prelude.{option_map, slice_get}
 use Rattle.std.proofs.lemmas.List.{append-nil, length-map}
 use Rattle.std.proofs.lemmas.Option.{slice_get_read, slice_get_within}
@@ -15,21 +15,19 @@ use Rattle.ipx_router.specs.declared.port.Port.{Port}
 use Rattle.ipx_log.specs.Note.{Note}
 use Rattle.ipx_log.specs.Note as Notes
 use Rattle.ipx_log.specs.Packets.{IsOneOn}
-use Rattle.ipx_steps.specs.Routers.{CarriesOn, TellsOf, told_notes}
-use Rattle.ipx_steps.specs.World.{ParcelView, Station, World}
+use Rattle.ipx_steps.specs.Routers.{TellsOf, told_notes}
+use Rattle.ipx_steps.specs.World.{ParcelView, World}
 use Rattle.ipx_hosts.specs.Hosts.{HostsView, world_of}
 use Rattle.ipx_net.specs.AnswerView.{AnswerView, Parcels}
 use Rattle.ipx_net.specs.BookView.{BookView}
 use Rattle.ipx_net.specs.GrowthView.{Grows, GrowthView, growth_view}
-use Rattle.ipx_net.specs.Hearing.{DeliversSo}
-use Rattle.ipx_net.specs.HostEvents.{DeliveringToHost}
+use Rattle.ipx_net.specs.HostEvents.{DeliveringToHost, DeliversSo}
 use Rattle.ipx_net.specs.NetEvents.{BesideRouters}
-use Rattle.ipx_net.specs.NetFaults.{member_fault, network_at, network_of_host, network_of_port, place_fault, segment_fault}
+use Rattle.ipx_net.specs.NetFaults.{member_fault, network_of_host, network_of_port, place_fault, segment_fault}
 use Rattle.ipx_net.specs.NetView.{NetNow, net_of}
 use Rattle.ipx_net.specs.Parcels.{parcel_view, parcel_views}
-use Rattle.ipx_net.specs.RouterEvents.{DeliveringToRouter, MemberPolled, MemberReached, PollingRouter, RouterDoes, numbers, routed_growth, told_growth}
-use Rattle.ipx_net.specs.RouterMembers.{letter_of, letters_of, network_of, port_at}
-use Rattle.ipx_net.specs.declared.fault.NetFault.{NetFault}
+use Rattle.ipx_net.specs.RouterEvents.{DeliveringToRouter, MemberPolled, MemberReached, PollingRouter, RouterDoes, numbers, routed_growth}
+use Rattle.ipx_net.specs.RouterMembers.{letters_of, network_of, port_at}
 use Rattle.ipx_net.specs.declared.growth.Growth.{Growth}
 use Rattle.ipx_net.specs.declared.parcel.Parcel.{Parcel}
 use Rattle.ipx_net.specs.declared.routers.RouterNow.{RouterNow}

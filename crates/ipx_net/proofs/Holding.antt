@@ -1,6 +1,8 @@
 -- The laws of scenes that are reached, of a network.
 use Rattle.std.proofs.Common.{ℕ, ◌≡◌, List, [], Bool, true, false, map, refl, sym, subst}
 use Rattle.ipx_wire.specs.declared.address.Network.{Network}
+use Rattle.spx_units.specs.Packets.{Home}
+use Rattle.ipx_log.specs.Addresses.{AddressesTellPeers}
 use Rattle.ipx_log.specs.Allocation.{AloneReadsNothing, WithinAllocation}
 use Rattle.ipx_log.specs.Carried.{RoutersAlterHopsAlone}
 use Rattle.ipx_log.specs.Deeds.{Reached}
@@ -8,7 +10,7 @@ use Rattle.ipx_log.specs.InStep.{PeersAreInStep}
 use Rattle.ipx_log.specs.Note.{Note}
 use Rattle.ipx_log.specs.Scene.{Scene}
 use Rattle.ipx_log.specs.SentUnits.{UnitsAreSentInOrder}
-use Rattle.ipx_steps.specs.World.{World, bytes_of, scene_of, segment_of}
+use Rattle.ipx_steps.specs.World.{World, bytes_of, home_at, scene_of, segment_of}
 use Rattle.ipx_net.specs.NetReach.{IsKept}
 use Rattle.ipx_net.specs.Theorems.{AloneHandsOutNothing, PeersHandOn}
 
@@ -45,3 +47,14 @@ hands_on law w spent kept = always PeersHandOn (λ s r premises c d joined. ((la
 
 pub alone_hands : ((s : Scene) → Reached s → AloneReadsNothing s) → (w : World) (spent : Bool) → IsKept w spent → AloneHandsOutNothing (scene_of w)
 alone_hands law w spent kept = always AloneHandsOutNothing (λ s r premises who alone. let x = law s r premises who alone in (x.0, x.1)) w spent kept
+
+-- of what speaks of addresses and log alone
+abbrev pub addressed : List Home → List Note → Scene
+addressed homes log = record { homes = homes; ends = []; parcels = []; segments = []; log = log }
+
+pub addresses : ((s : Scene) → Reached s → AddressesTellPeers s) → (w : World) (spent : Bool) → IsKept w spent → AddressesTellPeers (scene_of w)
+addresses law w false kept = law (scene_of w) kept.reached
+addresses law w true kept =
+    let s : Scene = kept.scene in
+    subst (λ l. AddressesTellPeers (addressed (map home_at w.hosts) l)) kept.log
+    (subst (λ h. AddressesTellPeers (addressed h s.log)) kept.homes (law s kept.reached))

@@ -11,3 +11,11 @@ pub mod EventSteps
 pub mod Happened
 pub mod NetKept
 pub mod Holding
+pub mod Beginning
+pub mod TellingCounts
+pub mod TellingStands
+pub mod TellingPeers
+pub mod TellingSteps
+pub mod CourseTells
+pub mod NetTells
+pub mod Beginnings

@@ -33,7 +33,7 @@ one_seen s t entries at e h is step =
     ap (λ (es : List Entry). seen_all s (entry_notes es)) (drop_more entries at e h ∙ ap (λ (x : Entry). x ∷ drop (at + 1) entries) (sym is))
     ∙ ap (λ (u : Scan). seen_all u (entry_notes (drop (at + 1) entries))) (sym step)
 
-seen_all-append : (s : Scan) (ns more : List Note) → seen_all s (ns ++ more) ≡ seen_all (seen_all s ns) more
+pub seen_all-append : (s : Scan) (ns more : List Note) → seen_all s (ns ++ more) ≡ seen_all (seen_all s ns) more
 seen_all-append s [] more = refl
 seen_all-append s (n ∷ ns) more = seen_all-append (seen s n) ns more
 

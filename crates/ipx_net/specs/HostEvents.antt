@@ -1,47 +1,68 @@
 -- What events at hosts do to a world, with their answers.
-use Rattle.std.specs.Prelude.{ℕ, ◌≡◌, ◌⊎◌, List, [], ◌∷◌, length, Option, Some, None, Ok, Err}
+use Rattle.std.specs.Prelude.{ℕ, ◌≡◌, ◌⊎◌, List, [], ◌∷◌, length, Option, Some, None, Ok, Err, slice_get}
 use Rattle.ipx_wire.specs.declared.address.Address.{Address}
 use Rattle.ipx_wire.specs.declared.address.Node.{Node}
 use Rattle.ipx_wire.specs.declared.address.Socket.{Socket}
 use Rattle.spx_messages.specs.declared.arrived.Arrived.{Arrived}
 use Rattle.spx_messages.specs.declared.arrived.Arrived.TheVariants as Arriveds
 use Rattle.spx_messages.specs.declared.fault.EndFault.{EndFault}
-use Rattle.spx_messages.specs.Taking.{TakenView}
+use Rattle.spx_messages.specs.EndpointView.{Held}
+use Rattle.spx_messages.specs.Taking.{TakenView, overlong}
 use Rattle.spx_units.specs.Message.{MessageView}
-use Rattle.ipx_hosts.specs.Hosts.{want}
+use Rattle.ipx_hosts.specs.Hosts.{DeliveredAt, HostsView}
+use Rattle.ipx_hosts.specs.Refusing.{CloseIsRefused, DialIsRefused, PushesTo, SendIsRefused, close_fault, dial_fault, end_held, send_fault, want}
 use Rattle.ipx_steps.specs.Calls.{Closes, DialsFrom, RefusesAt, ReleasesOf, SendsTo}
-use Rattle.ipx_steps.specs.Steps.{Delivers, PollsHost, TakesOf}
-use Rattle.ipx_steps.specs.World.{Station, World, end_at}
+use Rattle.ipx_steps.specs.Steps.{Delivers, PollsHost, TakesOf, arrival_notes}
+use Rattle.ipx_steps.specs.World.{EndNow, Station, World, end_at}
 use Rattle.ipx_net.specs.AnswerView.{AnswerView, ArrivedAt, Done, End, Parcels, Refused, Taken}
+use Rattle.ipx_net.specs.GrowthView.{GrowthView}
 
--- an end refused, and the world is as it was
-abbrev pub IsRefused : EndFault → AnswerView → World → World → Type 0
-IsRefused f a old new = (a ≡ Refused f) × (host : ℕ) × RefusesAt old host new
+-- a host refused, and the world is as it was
+abbrev pub RefusedAt : ℕ → EndFault → AnswerView → World → World → Type 0
+RefusedAt host f a old new = (a ≡ Refused f) × RefusesAt old host new
 
--- it was done, or an end refused
-abbrev pub IsDone : (World → World → Type 0) → AnswerView → World → World → Type 0
-IsDone P a old new = ((a ≡ Done) × P old new) ⊎ ((f : EndFault) × IsRefused f a old new)
+-- the host of an end refused, and the world is as it was
+abbrev pub RefusedOf : ℕ → EndFault → AnswerView → World → World → Type 0
+RefusedOf who f a old new = (end' : EndNow) × (slice_get old.ends who ≡ Some end')
+    × RefusedAt end'.host f a old new
+
+-- what stands under the number of an end
+abbrev pub held_under : World → ℕ → Option Held
+held_under w who = end_held w.hosts w.ends who
+
+-- it was done, where it meets no fault; or an end refused, with the fault that it meets or for want of
+-- memory
+abbrev pub IsDone : (World → World → Type 0) → (World → Option EndFault)
+    → (World → EndFault → Type 0) → ℕ → AnswerView → World → World → Type 0
+IsDone P fault IsRefused who a old new =
+    ((a ≡ Done) × (fault old ≡ None) × P old new)
+    ⊎ ((f : EndFault) × IsRefused old f × RefusedOf who f a old new)
 
 abbrev pub Dialling : ℕ → Socket → Address → ℕ → AnswerView → World → World → Type 0
 Dialling host socket to buffers a old new =
-    ((a ≡ End (length old.ends)) × (id : ℕ) × DialsFrom old host socket to buffers id new)
-    ⊎ ((f : EndFault) × IsRefused f a old new)
+    ((a ≡ End (length old.ends)) × (dial_fault (slice_get old.hosts host) ≡ None)
+    × (id : ℕ) × DialsFrom old host socket to buffers id new)
+    ⊎ ((f : EndFault) × DialIsRefused (slice_get old.hosts host) f × RefusedAt host f a old new)
 
 abbrev pub Sending : ℕ → MessageView → AnswerView → World → World → Type 0
-Sending who m = IsDone (λ old new. SendsTo old who m new)
+Sending who m = IsDone (λ old new. SendsTo old who m new) (λ w. send_fault (held_under w who) m)
+    (λ w. SendIsRefused (held_under w who) m) who
 
 abbrev pub Closing : ℕ → AnswerView → World → World → Type 0
-Closing who = IsDone (λ old new. Closes old who new)
+Closing who = IsDone (λ old new. Closes old who new) (λ w. close_fault (held_under w who))
+    (λ w. CloseIsRefused (held_under w who)) who
 
+-- an end that stands goes, and is not refused
 abbrev pub Releasing : ℕ → AnswerView → World → World → Type 0
-Releasing who = IsDone (λ old new. ReleasesOf old who new)
+Releasing who a old new = (a ≡ Done) × ReleasesOf old who new
 
--- a unit was taken, or the message grew too long, or memory was wanted for it and nothing changed
+-- a unit was taken; or the message grew too long; or memory was wanted for the message that the unit
+-- joins, and nothing changed
 abbrev pub TakingFrom : ℕ → AnswerView → World → World → Type 0
 TakingFrom who a old new =
     ((t : TakenView) × (a ≡ Taken t) × TakesOf old who (Ok t) new)
-    ⊎ ((f : EndFault) × (a ≡ Refused f) × TakesOf old who (Err f) new)
-    ⊎ IsRefused want a old new
+    ⊎ ((a ≡ Refused overlong) × TakesOf old who (Err overlong) new)
+    ⊎ (PushesTo (held_under old who) × RefusedOf who want a old new)
 
 -- the number of the parcel that a poll made, if it made one
 abbrev pub made_by : Option (Node × ℕ) → ℕ → List ℕ
@@ -63,6 +84,20 @@ end_for Arriveds.Stranger s count = None
 end_for (Arriveds.Accepted id) s count = Some count
 end_for (Arriveds.Link id r) s count = end_at s.here id
 
+-- what a delivery to a host is answered: what the host made of the datagram, and the end that it was
+-- for. The host is the one after it, and so many ends there were before
+abbrev pub arrival_answer : Arrived → Station → ℕ → AnswerView
+arrival_answer r s count = ArrivedAt (end_for r s count) r
+
 abbrev pub DeliveringToHost : ℕ → ℕ → AnswerView → World → World → Type 0
 DeliveringToHost parcel host a old new = (r : Arrived) × (d : Delivers old parcel host r new)
-    × (a ≡ ArrivedAt (end_for r d.after (length old.ends)) r)
+    × (a ≡ arrival_answer r d.after (length old.ends))
+
+-- the same of the hosts alone, with what it adds to the book
+pub record DeliversSo (old : HostsView) (host parcel : ℕ) (bytes : List ℕ) (now : ℕ)
+    (g : GrowthView) (new : HostsView) : Type 0 where
+  pub answer : Arrived
+  pub delivered : DeliveredAt old host bytes now answer new
+  pub parcels : g.parcels ≡ []
+  pub notes : g.notes ≡ arrival_notes answer delivered.after (length old.ends) parcel
+  pub answers : g.answer ≡ arrival_answer answer delivered.after (length old.ends)

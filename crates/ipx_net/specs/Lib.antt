@@ -8,12 +8,14 @@ pub mod Sights
 pub mod RouterMembers
 pub mod AnswerView
 pub mod GrowthView
-pub mod Hearing
 pub mod HostEvents
 pub mod Speaking
 pub mod NetView
+pub mod Ends
+pub mod Told
 pub mod RouterEvents
 pub mod NetEvents
 pub mod NetFaults
 pub mod NetReach
 pub mod Theorems
+pub mod Beginnings

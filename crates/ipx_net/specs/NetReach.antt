@@ -1,9 +1,9 @@
--- What is always so of a network: while it goes on, its scene is one that is reached; once memory was refused, its log and
--- its parcels are those of one.
+-- What is always so of a network: while it goes on, its scene is one that is reached; once memory was
+-- refused, its log and its parcels are those of one, and the addresses of its hosts.
 use Rattle.std.specs.Prelude.{ℕ, ◌≡◌, Bool, true, false, map}
 use Rattle.ipx_log.specs.Deeds.{Reached}
 use Rattle.ipx_log.specs.Scene.{Scene}
-use Rattle.ipx_steps.specs.World.{InOrder, World, bytes_of, scene_of, segment_of}
+use Rattle.ipx_steps.specs.World.{InOrder, World, bytes_of, home_at, scene_of, segment_of}
 
 pub record GoesOn (w : World) : Type 0 where
   pub order : InOrder w
@@ -12,6 +12,7 @@ pub record GoesOn (w : World) : Type 0 where
 pub record StandsStill (w : World) : Type 0 where
   pub scene : Scene
   pub reached : Reached scene
+  pub homes : scene.homes ≡ map home_at w.hosts
   pub log : scene.log ≡ w.log
   pub parcels : scene.parcels ≡ map bytes_of w.parcels
   pub segments : scene.segments ≡ map segment_of w.parcels

@@ -4,7 +4,7 @@ ghost use Rattle.std.specs.Prelude.{◌≡◌, ◌<◌, ◌≤◌, ◌++◌, [],
 ghost use Rattle.spx_link.specs.Limits.{most_units};
 ghost use Rattle.spx_messages.specs.Taking.{taken_view};
 ghost use Rattle.spx_units.specs.Message.{message_view};
-ghost use Rattle.ipx_hosts.specs.Hosts.{FitTogether, stands};
+ghost use Rattle.ipx_hosts.specs.Hosts.{FitTogether, SameHomes, stands};
 ghost use Rattle.ipx_steps.specs.Steps.{unit_notes, whole_notes};
 ghost use Rattle.ipx_net.specs.AnswerView as views;
 ghost use Rattle.ipx_net.specs.GrowthView.{Grows, growth_view};
@@ -32,8 +32,9 @@ pub fn dial(
 ) -> Result<Growth, OutOfMemory>
     requires there { host < length hosts.old.stations }
     requires range { (0 < buffers) × (buffers ≤ most_units) }
-    ensures { IfOk result (λ g. Grows hosts.old hosts.new first now (growth_view g)
+    ensures grows { IfOk result (λ g. Grows hosts.old hosts.new first now (growth_view g)
         (Dialling host socket to buffers)) }
+    ensures homes { SameHomes hosts.old hosts.new }
 {
     match hosts.dial(alloc, host, socket, to, buffers, now) {
         Ok(who) => noted(
@@ -57,8 +58,9 @@ pub fn send(
 ) -> Result<Growth, OutOfMemory>
     requires order { FitTogether hosts.old }
     requires stands { stands hosts.old who ≡ true }
-    ensures { IfOk result (λ g. Grows hosts.old hosts.new first now (growth_view g)
+    ensures grows { IfOk result (λ g. Grows hosts.old hosts.new first now (growth_view g)
         (Sending who (message_view message))) }
+    ensures homes { SameHomes hosts.old hosts.new }
 {
     match hosts.send(alloc, who, &message, now) {
         Ok(()) => noted(alloc, Entry::HandIn { who, message }, Answer::Done),
@@ -76,7 +78,8 @@ pub fn close(
 ) -> Result<Growth, OutOfMemory>
     requires order { FitTogether hosts.old }
     requires stands { stands hosts.old who ≡ true }
-    ensures { IfOk result (λ g. Grows hosts.old hosts.new first now (growth_view g) (Closing who)) }
+    ensures grows { IfOk result (λ g. Grows hosts.old hosts.new first now (growth_view g) (Closing who)) }
+    ensures homes { SameHomes hosts.old hosts.new }
 {
     match hosts.close(alloc, who, now) {
         Ok(()) => noted(alloc, Entry::EndAsked { who }, Answer::Done),
@@ -84,7 +87,7 @@ pub fn close(
     }
 }
 
-/// An end that stands goes.
+/// An end that stands goes. No end refuses that.
 pub fn release(
     alloc: Global,
     hosts: &mut Hosts,
@@ -94,12 +97,11 @@ pub fn release(
 ) -> Result<Growth, OutOfMemory>
     requires order { FitTogether hosts.old }
     requires stands { stands hosts.old who ≡ true }
-    ensures { IfOk result (λ g. Grows hosts.old hosts.new first now (growth_view g) (Releasing who)) }
+    ensures grows { IfOk result (λ g. Grows hosts.old hosts.new first now (growth_view g) (Releasing who)) }
+    ensures homes { SameHomes hosts.old hosts.new }
 {
-    match hosts.release(who, now) {
-        Ok(()) => noted(alloc, Entry::Released { who }, Answer::Done),
-        Err(fault) => Ok(quiet(alloc, Answer::Refused(fault))),
-    }
+    hosts.release(who, now).unwrap();
+    noted(alloc, Entry::Released { who }, Answer::Done)
 }
 
 /// A message like this one.
@@ -147,7 +149,8 @@ pub fn take(
 ) -> Result<Growth, OutOfMemory>
     requires order { FitTogether hosts.old }
     requires stands { stands hosts.old who ≡ true }
-    ensures { IfOk result (λ g. Grows hosts.old hosts.new first now (growth_view g) (TakingFrom who)) }
+    ensures grows { IfOk result (λ g. Grows hosts.old hosts.new first now (growth_view g) (TakingFrom who)) }
+    ensures homes { SameHomes hosts.old hosts.new }
 {
     let (unit, result) = hosts.take(alloc, who, now);
     match result {

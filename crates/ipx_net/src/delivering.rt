@@ -4,10 +4,10 @@ ghost use Rattle.std.specs.Prelude.{◌≡◌, ◌<◌, ◌≤◌, ◌∷◌, []
 ghost use Rattle.ipx_log.specs.Note as Notes;
 ghost use Rattle.ipx_log.specs.Packets.{notes_of};
 ghost use Rattle.ipx_steps.specs.Steps.{arrival_notes, read_notes};
+ghost use Rattle.ipx_hosts.specs.Hosts.{SameHomes};
 ghost use Rattle.ipx_net.specs.Entries.{entry_notes};
 ghost use Rattle.ipx_net.specs.GrowthView.{growth_view};
-ghost use Rattle.ipx_net.specs.HostEvents.{end_for};
-ghost use Rattle.ipx_net.specs.Hearing.{DeliversSo};
+ghost use Rattle.ipx_net.specs.HostEvents.{DeliversSo, end_for};
 
 use crate::answer::Answer;
 use crate::entry::Entry;
@@ -116,8 +116,9 @@ pub fn deliver_host(
     now: u64,
 ) -> Result<Growth, OutOfMemory>
     requires { host < length hosts.old.stations }
-    ensures { IfOk result (λ g.
+    ensures delivers { IfOk result (λ g.
         DeliversSo hosts.old host parcel bytes.now now (growth_view g) hosts.new) }
+    ensures homes { SameHomes hosts.old hosts.new }
 {
     let count = hosts.ends();
     let arrived = hosts.deliver(alloc, host, bytes, now)?;

@@ -1,7 +1,7 @@
 //! What an event does, with the book as it is: what is to be added to that.
 
 ghost use Rattle.std.specs.Prelude.{◌≡◌, ◌++◌, None, IfOk, slice_get};
-ghost use Rattle.ipx_hosts.specs.Hosts.{FitTogether};
+ghost use Rattle.ipx_hosts.specs.Hosts.{FitTogether, SameHomes};
 ghost use Rattle.ipx_net.specs.GrowthView.{growth_view};
 ghost use Rattle.ipx_net.specs.NetEvents.{DeliversTo, Happens, IsOwed, PollsOf, injected};
 ghost use Rattle.ipx_net.specs.NetFaults.{fault_before, network_at, place_fault, poll_fault};
@@ -61,10 +61,11 @@ fn poll(
     now: u64,
 ) -> Result<Growth, OutOfMemory>
     requires { poll_fault (net_of hosts.old routers.old book.now.parcels book.now.log now) member ≡ None }
-    ensures { IfOk result (λ g. PollsOf member (growth_view g).answer
+    ensures polls { IfOk result (λ g. PollsOf member (growth_view g).answer
         (net_of hosts.old routers.old book.now.parcels book.now.log now)
         (net_of hosts.new routers.new (book.now.parcels ++ (growth_view g).parcels)
         (book.now.log ++ (growth_view g).notes) now)) }
+    ensures homes { SameHomes hosts.old hosts.new }
 {
     let first = book.parcels().len();
     match member {
@@ -85,10 +86,11 @@ fn deliver(
 ) -> Result<Growth, OutOfMemory>
     requires { place_fault (slice_get book.now.parcels parcel)
         (network_at (net_of hosts.old routers.old book.now.parcels book.now.log now) place) ≡ None }
-    ensures { IfOk result (λ g. DeliversTo parcel place (growth_view g).answer
+    ensures delivers { IfOk result (λ g. DeliversTo parcel place (growth_view g).answer
         (net_of hosts.old routers.old book.now.parcels book.now.log now)
         (net_of hosts.new routers.new (book.now.parcels ++ (growth_view g).parcels)
         (book.now.log ++ (growth_view g).notes) now)) }
+    ensures homes { SameHomes hosts.old hosts.new }
 {
     let parcels = book.parcels();
     let bytes = &parcels[parcel].bytes;
@@ -122,10 +124,11 @@ pub fn happen(
     requires owed { IsOwed event }
     requires sound { fault_before
         (net_of hosts.old routers.old book.now.parcels book.now.log moment.old) event ≡ None }
-    ensures { IfOk result (λ g. Happens event (growth_view g).answer
+    ensures happens { IfOk result (λ g. Happens event (growth_view g).answer
         (net_of hosts.old routers.old book.now.parcels book.now.log moment.old)
         (net_of hosts.new routers.new (book.now.parcels ++ (growth_view g).parcels)
         (book.now.log ++ (growth_view g).notes) moment.new)) }
+    ensures homes { SameHomes hosts.old hosts.new }
 {
     let now = *moment;
     let first = book.parcels().len();

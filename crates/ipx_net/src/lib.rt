@@ -7,6 +7,7 @@
 mod answer;
 mod book;
 mod calling;
+mod course;
 mod delivering;
 mod endinfo;
 mod entry;
@@ -17,6 +18,7 @@ mod growth;
 mod handed;
 mod happening;
 mod host;
+mod making;
 mod mark;
 mod net;
 mod parcel;
@@ -29,6 +31,7 @@ mod role;
 mod routers;
 mod routing;
 mod scanned;
+mod told;
 
 pub use answer::Answer;
 pub use book::Book;

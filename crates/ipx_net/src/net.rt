@@ -1,6 +1,6 @@
 //! A network in memory, step by step.
 
-ghost use Rattle.std.specs.Prelude.{◌≡◌, ◌≢◌, ◌≤◌, Err, IfErr, IfOk, None, OnOk, Some, false, true};
+ghost use Rattle.std.specs.Prelude.{◌≡◌, ◌≢◌, ◌<◌, ◌↔◌, All, Err, IfErr, IfOk, IsTrue, None, OnOk, Some, false, length, true, unwrap_or};
 ghost use Rattle.ipx_log.specs.Addresses.{AddressesTellPeers};
 ghost use Rattle.ipx_log.specs.Allocation.{AloneReadsNothing, WithinAllocation};
 ghost use Rattle.ipx_log.specs.Carried.{RoutersAlterHopsAlone};
@@ -8,161 +8,136 @@ ghost use Rattle.ipx_log.specs.Close.{ConfirmedIsRead, EndTakenIsWhole};
 ghost use Rattle.ipx_log.specs.HandedOut.{HandsOutWhatItTook};
 ghost use Rattle.ipx_log.specs.InStep.{PeersAreInStep};
 ghost use Rattle.ipx_log.specs.InSteps.{PairsTakeSteps};
+ghost use Rattle.ipx_log.specs.Peers.{IsFresh, Premises};
+ghost use Rattle.ipx_log.specs.Scan.{scan};
 ghost use Rattle.ipx_log.specs.SentUnits.{LinksSendInOrder, UnitsAreSentInOrder};
 ghost use Rattle.ipx_steps.specs.World.{scene_of};
+ghost use Rattle.ipx_router.specs.declared.fault.NewFault.TheVariants as NewFaults;
 ghost use Rattle.ipx_net.specs.AnswerView.{answer_view};
+ghost use Rattle.ipx_net.specs.Beginnings.{ArePortsOwed, IsHostOwed, IsNewNet, first_refusal};
+ghost use Rattle.ipx_net.specs.Begins.{Begins};
+ghost use Rattle.ipx_net.specs.Ends.{TellsEnds, TellsNext};
+ghost use Rattle.ipx_net.specs.Entries.{entry_notes};
 ghost use Rattle.ipx_net.specs.NetEvents.{Happens, IsOwed};
 ghost use Rattle.ipx_net.specs.NetFaults.{first_fault};
+ghost use Rattle.ipx_net.specs.Parcels.{parcel_views};
 ghost use Rattle.ipx_net.specs.Theorems.{AloneHandsOutNothing, PeersHandOn};
 ghost use Rattle.ipx_net.specs.declared.fault.NetFault.TheVariants as NetFaults;
 
 use crate::answer::Answer;
-use crate::book::Book;
+use crate::course::Course;
+use crate::endinfo::EndInfo;
+use crate::entry::Entry;
 use crate::event::Event;
 use crate::fault::NetFault;
-use crate::faults::fault_of;
-use crate::growth::Growth;
-use crate::happening::happen;
-use crate::routers::RouterNow;
-use ipx_hosts::Hosts;
-use ipx_log::{
-    addresses_tell_peers, alone_reads_nothing, confirmed_is_read, end_taken_is_whole,
-    hands_out_what_it_took, links_send_in_order, pairs_take_steps, peers_are_in_step,
-    routers_alter_hops_alone, units_are_sent_in_order, within_allocation,
-};
-use ipx_steps::steps_are_deeds;
+use crate::host::Host;
+use crate::parcel::Parcel;
+use crate::told::EndsTold;
+use ipx_router::{NewFault, Port};
 use std::alloc::Global;
 use std::marker::Model;
 
-/// How many entries the log holds before no more steps are taken.
-const MOST_ENTRIES: usize = 1_000_000;
-
-/// A network in memory: its hosts and routers, the packets on their way, and the log.
+/// A network in memory: its hosts and routers, the packets on their way, and the log; and what is
+/// told of its ends.
 #[derive(Drop)]
 pub struct Net {
-    hosts: Hosts,
-    routers: Vec<RouterNow>,
-    book: Book,
-    moment: u64,
-    spent: bool,
+    course: Course,
+    told: EndsTold,
 }
 
 impl Model for Net {
-    ghost use Rattle.ipx_hosts.specs.Hosts.{world_of};
-    ghost use Rattle.ipx_net.specs.NetReach.{IsKept};
-    ghost use Rattle.ipx_net.specs.NetView.{NetView, net_of};
+    ghost use Rattle.ipx_net.specs.Ends.{TellsEnds};
+    ghost use Rattle.ipx_net.specs.NetView.{NetView};
 
     ghost Value = { NetView };
 
-    ghost view = { λ n. record {
-      now = net_of n.hosts n.routers.items n.book.parcels n.book.log n.moment;
-      spent = n.spent;
-    } };
+    ghost view = { λ n. n.course };
 
-    ghost invariant = { λ n. IsKept (world_of n.hosts n.book.parcels n.book.log n.moment) n.spent };
+    ghost invariant = { λ n. TellsEnds n.course n.told.infos.items };
+}
+
+/// What an event does that meets no fault before, and what is told of the ends after it.
+fn go_on(
+    course: &mut Course,
+    told: &mut EndsTold,
+    alloc: Global,
+    event: Event,
+) -> Result<Answer, NetFault>
+    requires owed { IsOwed event }
+    requires sound { first_fault course.old event ≡ None }
+    requires tells { TellsEnds course.old told.old.infos.items }
+    ensures ok { IfOk result (λ a. Happens event (answer_view a) course.old.now course.new.now) }
+    ensures going { OnOk result (course.new.spent ≡ false) }
+    ensures fault { IfErr result (λ f. f ≡ NetFaults.OutOfMemory) }
+    ensures log { IfErr result (λ f. course.new.now.world.log ≡ course.old.now.world.log) }
+    ensures parcels { IfErr result (λ f. course.new.now.world.parcels ≡ course.old.now.world.parcels) }
+    ensures spent { IfErr result (λ f. course.new.spent ≡ true) }
+    ensures tells { TellsEnds course.new told.new.infos.items }
+{
+    let from = course.log().len();
+    let host = course.touched(&event);
+    course.orders();
+    course.stand(told, host, true);
+    match course.go_on(told, alloc, event) {
+        Ok(answer) => {
+            course.tell(told, from);
+            course.orders();
+            course.stand(told, host, false);
+            Ok(answer)
+        }
+        Err(fault) => Err(fault),
+    }
+}
+
+/// Takes one event, and answers what became of it.
+fn take_in(
+    course: &mut Course,
+    told: &mut EndsTold,
+    alloc: Global,
+    event: Event,
+) -> Result<Answer, NetFault>
+    requires owed { IsOwed event }
+    requires tells { TellsEnds course.old told.old.infos.items }
+    ensures ok { IfOk result (λ a. Happens event (answer_view a) course.old.now course.new.now) }
+    ensures sound { OnOk result (first_fault course.old event ≡ None) }
+    ensures going { OnOk result (course.new.spent ≡ false) }
+    ensures fault { IfErr result (λ f. f ≢ NetFaults.OutOfMemory
+        → (first_fault course.old event ≡ Some f) × (course.new ≡ course.old)) }
+    ensures memory { result ≡ Err NetFaults.OutOfMemory
+        → (first_fault course.old event ≡ None) × (course.new.spent ≡ true) }
+    ensures log { result ≡ Err NetFaults.OutOfMemory
+        → course.new.now.world.log ≡ course.old.now.world.log }
+    ensures parcels { result ≡ Err NetFaults.OutOfMemory
+        → course.new.now.world.parcels ≡ course.old.now.world.parcels }
+    ensures tells { TellsEnds course.new told.new.infos.items }
+{
+    if let Some(fault) = course.first_fault(&event) {
+        return Err(fault);
+    }
+    go_on(course, told, alloc, event)
 }
 
 impl Net {
-    /// The fault that an event meets before anything is done, if it meets one.
-    fn first_fault(&self, event: &Event) -> Option<NetFault>
-        ensures { result ≡ first_fault self.now event.now }
+    /// A network of these hosts and routers, numbered from 0 in their order, at moment 0. Nothing
+    /// happened in it, its routers know nothing, and its hosts have no connections.
+    ///
+    /// The caller owes networks other than 0 and FFFFFFFF, of hosts and of ports, and 1 to 8,192
+    /// buffers where a host listens. It is refused with the fault of the first router that is
+    /// refused, else for want of memory.
+    pub fn new(alloc: Global, hosts: Vec<Host>, routers: Vec<Vec<Port>>) -> Result<Net, NewFault>
+        requires hosts { All IsHostOwed hosts.items }
+        requires ports { All ArePortsOwed routers.items }
+        ensures new { IfOk result (λ n. IsNewNet hosts.items routers.items n) }
+        ensures sound { OnOk result (first_refusal routers.items ≡ None) }
+        ensures fault { IfErr result (λ f. f ≡ unwrap_or (first_refusal routers.items) NewFaults.OutOfMemory) }
     {
-        if self.spent {
-            return Some(NetFault::Spent);
+        match Course::new(alloc, hosts, routers) {
+            Ok(course) => Ok(Net {
+                course,
+                told: EndsTold::new(alloc),
+            }),
+            Err(fault) => Err(fault),
         }
-        if self.book.log().len() >= MOST_ENTRIES {
-            return Some(NetFault::Full);
-        }
-        fault_of(&self.hosts, &self.routers, &self.book, event)
-    }
-
-    /// What an event does that meets no fault before. Where memory is refused, the network gives up.
-    fn go_on(&mut self, alloc: Global, event: Event) -> Result<Answer, NetFault>
-        requires owed { IsOwed event }
-        requires sound { first_fault self.old event ≡ None }
-        ensures ok { IfOk result (λ a. Happens event (answer_view a) self.old.now self.new.now) }
-        ensures going { OnOk result (self.new.spent ≡ false) }
-        ensures fault { IfErr result (λ f. f ≡ NetFaults.OutOfMemory) }
-        ensures log { IfErr result (λ f. self.new.now.world.log ≡ self.old.now.world.log) }
-        ensures parcels { IfErr result (λ f. self.new.now.world.parcels ≡ self.old.now.world.parcels) }
-        ensures spent { IfErr result (λ f. self.new.spent ≡ true) }
-    {
-        steps_are_deeds();
-        let grown = happen(
-            alloc,
-            &mut self.hosts,
-            &mut self.routers,
-            &self.book,
-            &mut self.moment,
-            event,
-        );
-        let Ok(growth) = grown else {
-            self.spent = true;
-            return Err(NetFault::OutOfMemory);
-        };
-        let Growth {
-            parcels,
-            entries,
-            answer,
-        } = growth;
-        if self.book.append(parcels, entries).is_err() {
-            self.spent = true;
-            return Err(NetFault::OutOfMemory);
-        }
-        Ok(answer)
-    }
-
-    /// Takes one event, and answers what became of it.
-    fn take_in(&mut self, alloc: Global, event: Event) -> Result<Answer, NetFault>
-        requires { IsOwed event }
-        ensures ok { IfOk result (λ a. Happens event (answer_view a) self.old.now self.new.now) }
-        ensures sound { OnOk result (first_fault self.old event ≡ None) }
-        ensures going { OnOk result (self.new.spent ≡ false) }
-        ensures fault { IfErr result (λ f. f ≢ NetFaults.OutOfMemory
-            → (first_fault self.old event ≡ Some f) × (self.new ≡ self.old)) }
-        ensures memory { result ≡ Err NetFaults.OutOfMemory
-            → (first_fault self.old event ≡ None) × (self.new.spent ≡ true) }
-        ensures log { result ≡ Err NetFaults.OutOfMemory
-            → self.new.now.world.log ≡ self.old.now.world.log }
-        ensures parcels { result ≡ Err NetFaults.OutOfMemory
-            → self.new.now.world.parcels ≡ self.old.now.world.parcels }
-    {
-        if let Some(fault) = self.first_fault(&event) {
-            return Err(fault);
-        }
-        self.go_on(alloc, event)
-    }
-
-    /// What is so of every network.
-    fn holds(&self)
-        // Of the log and the parcels, also after want of memory.
-        ensures alters { RoutersAlterHopsAlone (scene_of self.now.now.world) }
-        ensures in_order { UnitsAreSentInOrder (scene_of self.now.now.world) }
-        ensures allowed { WithinAllocation (scene_of self.now.now.world) }
-        ensures hands_on { PeersHandOn (scene_of self.now.now.world) }
-        ensures alone_hands { AloneHandsOutNothing (scene_of self.now.now.world) }
-        // Of links and log, while the network goes on.
-        ensures in_step { self.now.spent ≡ false → PeersAreInStep (scene_of self.now.now.world) }
-        ensures machine { self.now.spent ≡ false → PairsTakeSteps (scene_of self.now.now.world) }
-        ensures joined { self.now.spent ≡ false → HandsOutWhatItTook (scene_of self.now.now.world) }
-        ensures alone { self.now.spent ≡ false → AloneReadsNothing (scene_of self.now.now.world) }
-        ensures addresses { self.now.spent ≡ false → AddressesTellPeers (scene_of self.now.now.world) }
-        ensures confirmed { self.now.spent ≡ false → ConfirmedIsRead (scene_of self.now.now.world) }
-        ensures end_taken { self.now.spent ≡ false → EndTakenIsWhole (scene_of self.now.now.world) }
-        ensures sends { self.now.spent ≡ false → LinksSendInOrder (scene_of self.now.now.world) }
-    {
-        let _spent = &self.spent;
-        peers_are_in_step();
-        pairs_take_steps();
-        within_allocation();
-        alone_reads_nothing();
-        confirmed_is_read();
-        end_taken_is_whole();
-        addresses_tell_peers();
-        units_are_sent_in_order();
-        links_send_in_order();
-        routers_alter_hops_alone();
-        hands_out_what_it_took();
     }
 
     /// Takes one event, and answers what became of it.
@@ -184,24 +159,69 @@ impl Net {
             → self.new.now.world.log ≡ self.old.now.world.log }
         ensures parcels { result ≡ Err NetFaults.OutOfMemory
             → self.new.now.world.parcels ≡ self.old.now.world.parcels }
-        // Of the log and the parcels, also after want of memory.
+        // Of the log, the parcels and the addresses of hosts, also after want of memory.
         ensures alters { RoutersAlterHopsAlone (scene_of self.new.now.world) }
         ensures in_order { UnitsAreSentInOrder (scene_of self.new.now.world) }
         ensures allowed { WithinAllocation (scene_of self.new.now.world) }
         ensures hands_on { PeersHandOn (scene_of self.new.now.world) }
         ensures alone_hands { AloneHandsOutNothing (scene_of self.new.now.world) }
+        ensures addresses { AddressesTellPeers (scene_of self.new.now.world) }
         // Of links and log, while the network goes on.
         ensures in_step { self.new.spent ≡ false → PeersAreInStep (scene_of self.new.now.world) }
         ensures machine { self.new.spent ≡ false → PairsTakeSteps (scene_of self.new.now.world) }
         ensures joined { self.new.spent ≡ false → HandsOutWhatItTook (scene_of self.new.now.world) }
         ensures alone { self.new.spent ≡ false → AloneReadsNothing (scene_of self.new.now.world) }
-        ensures addresses { self.new.spent ≡ false → AddressesTellPeers (scene_of self.new.now.world) }
         ensures confirmed { self.new.spent ≡ false → ConfirmedIsRead (scene_of self.new.now.world) }
         ensures end_taken { self.new.spent ≡ false → EndTakenIsWhole (scene_of self.new.now.world) }
         ensures sends { self.new.spent ≡ false → LinksSendInOrder (scene_of self.new.now.world) }
     {
-        let result = self.take_in(alloc, event);
-        self.holds();
+        let result = take_in(&mut self.course, &mut self.told, alloc, event);
+        self.course.holds();
         result
+    }
+
+    /// The log: what happened, from the beginning on.
+    pub fn log(&self) -> &[Entry]
+        ensures { entry_notes result.now ≡ self.now.now.world.log }
+    {
+        self.course.log()
+    }
+
+    /// The parcels, by their numbers from 0.
+    pub fn parcels(&self) -> &[Parcel]
+        ensures { parcel_views result.now ≡ self.now.now.world.parcels }
+    {
+        self.course.parcels()
+    }
+
+    /// Whether what an end handed out is a beginning of what its peer handed in. Without a peer: it
+    /// handed out nothing. It is false for a number of no end.
+    pub fn begins(&self, end: usize) -> bool
+        ensures begins { IsTrue result ↔ Begins self.now.now.world.log end }
+        // The headline, also after want of memory: under its premises each end that there is begins.
+        ensures headline { Premises self.now.now.world.log
+            → end < length (scan self.now.now.world.log).roles → IsTrue result }
+    {
+        self.course.holds();
+        self.course.begins(end)
+    }
+
+    /// Whether each packet that an end read of its peer was sent fewer than 32,768 units of each of
+    /// the two before.
+    pub fn fresh(&self) -> bool
+        ensures { IsTrue result ↔ IsFresh self.now.now.world.log }
+    {
+        self.course.fresh()
+    }
+
+    /// What is told of each end, by its number. A released end keeps what it had, and has no state.
+    /// After want of memory hosts and states may be those of before.
+    pub fn ends(&self) -> &[EndInfo]
+        ensures told { TellsEnds self.now result.now }
+        ensures count { self.now.spent ≡ false → length result.now ≡ length self.now.now.world.ends }
+        ensures next { self.now.spent ≡ false → TellsNext self.now.now.world result.now }
+    {
+        self.course.orders();
+        &self.told.infos
     }
 }

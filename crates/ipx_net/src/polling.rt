@@ -2,6 +2,7 @@
 
 ghost use Rattle.std.specs.Prelude.{◌≡◌, ◌<◌, ◌∷◌, [], IfOk, length};
 ghost use Rattle.ipx_log.specs.Packets.{note_of};
+ghost use Rattle.ipx_hosts.specs.Hosts.{SameHomes};
 ghost use Rattle.ipx_net.specs.AnswerView as views;
 ghost use Rattle.ipx_net.specs.Entries.{entry_note, entry_notes};
 ghost use Rattle.ipx_net.specs.GrowthView.{Grows, growth_view};
@@ -81,8 +82,9 @@ pub fn poll_host(
     now: u64,
 ) -> Result<Growth, OutOfMemory>
     requires { host < length hosts.old.stations }
-    ensures { IfOk result (λ g. Grows hosts.old hosts.new first now (growth_view g)
+    ensures grows { IfOk result (λ g. Grows hosts.old hosts.new first now (growth_view g)
         (PollingHost host)) }
+    ensures homes { SameHomes hosts.old hosts.new }
 {
     let segment = hosts.network(host).unwrap();
     let mut bytes = vec![in alloc; 0; MOST_BYTES]?;

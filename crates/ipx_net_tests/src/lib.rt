@@ -5,4 +5,6 @@
 #[cfg(test)]
 mod book;
 #[cfg(test)]
+mod made;
+#[cfg(test)]
 mod refused;

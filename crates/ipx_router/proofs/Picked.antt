@@ -1,71 +1,65 @@
--- From what is picked of the list of what is told to what was asked for.
-use Rattle.std.proofs.Common.{◌≡◌, ◌≢◌, ◌⊎◌, ℕ, zero, suc, ◌<◌, Bool, true, false, cond, List, [], ◌∷◌, length, get_or, Option, Some, None, Result, Ok, Err, refl, sym, subst, ap, ◌∙◌, inl, inr, arith}
-use Rattle.std.specs.Prelude.{Contains, IfOk, MatchBool, MatchOption, find, ◌==◌, ◌||◌, ◌↔◌}
-use Rattle.std.specs.List.{cons_option, filter, filter_map}
+-- From what is picked of what is told to what was asked for.
+use Rattle.std.proofs.Common.{◌≡◌, ◌≢◌, ℕ, Bool, true, false, cond, List, [], ◌∷◌, ◌++◌, Option, Some, None, Result, Ok, Err, refl, sym, subst, ap, ◌∙◌, inl, inr}
+use mathlib.Core.Bool.{true≢false}
+use Rattle.std.specs.Prelude.{IfOk, MatchOption, ◌==◌, ◌||◌}
+use Rattle.std.specs.List.{cons_option, filter}
 use Rattle.std.specs.declared.cmp.Ordering.{Ordering}
 use Rattle.std.specs.declared.cmp.Ordering.TheVariants.{Less}
-use borrow.Author.Tests.{eqb-true, eqb-false}
-use Rattle.std.proofs.lemmas.List.Elements.{Contains-append_right}
 use Rattle.std.proofs.lemmas.List.Kept.{AllPairs-filter}
+use Rattle.std.proofs.lemmas.List.Folds.{list_any-append}
+use Rattle.ipx_wire.specs.Assigned.{all_networks}
 use Rattle.ipx_wire.specs.declared.address.Network.{Network}
 use Rattle.ipx_control.specs.declared.rip.packet.RipEntry.{RipEntry}
 use Rattle.ipx_control.specs.declared.sap.packet.ServiceEntry.{ServiceEntry}
 use Rattle.ipx_tables.specs.Service.{service_key_cmp}
 use Rattle.ipx_router.specs.declared.port.Port.{Port}
 use Rattle.ipx_router.specs.declared.port.PortNow.{PortNow}
+use Rattle.ipx_router.specs.declared.route.Route.{Route}
 use Rattle.ipx_router.specs.Knowledge.{Routes, Services}
-use Rattle.ipx_router.specs.Told.{AreToldRoutes, AreToldServices, IsListOf, IsToldRoute, IsToldService, key_of_service}
-use Rattle.ipx_router.specs.Replying.{AreRoutesAsked, AreServicesAsked, AreToldOf, asks_all, is_of_kind}
-use Rattle.ipx_router.specs.Picking.{routes_asked}
+use Rattle.ipx_router.specs.Route.{IsHeardRoute, IsRouteOrNone, IsRouteTo, over_port}
+use Rattle.ipx_router.specs.Told.{AreToldServices, IsListOf, IsToldRoute, IsToldService, key_of_service, told_route}
+use Rattle.ipx_router.specs.Replying.{AreServicesAsked, AreToldOf, asks_all, is_of_kind}
+use Rattle.ipx_router.specs.Picking.{IsToldOf}
 use Rattle.ipx_router.proofs.Members.{filter_has, filter_only}
-use Rattle.ipx_router.proofs.ToldRoutes.{network_from}
-
-first_or_later : {X : Type 0} (x : X) (xs : List X) (t : X) (k : ℕ) → k < length (x ∷ xs) → get_or (x ∷ xs) k t ≡ t → (x ≡ t) ⊎ Contains xs t
-first_or_later x xs t zero lt is = inl is
-first_or_later x xs t (suc k) lt is = inr (k, omega arith, is)
+use Rattle.ipx_router.proofs.ToldRoutes.{OneBest, one_route}
 
 -- ---- routes
 
--- the first entry of a network, or none is of it
-abbrev IsFound : Network → List RipEntry → Option RipEntry → Type 0
-IsFound network told o = MatchOption o ((t : RipEntry) → Contains told t → t.network ≢ network) (λ t. Contains told t × (t.network ≡ network))
+-- one more network is asked for, of which this or nothing is told
+pub asked_more : (IsTold : RipEntry → Type 0) (asked entries : List RipEntry) (e : RipEntry) (o : Option RipEntry) → AreToldOf IsTold asked entries → IsToldOf IsTold e.network o
+    → AreToldOf IsTold (asked ++ e ∷ []) (entries ++ cons_option o [])
+asked_more IsTold [] entries e None none nothing = inr (nothing, rw none refl)
+asked_more IsTold [] entries e (Some t) none told = inl (t, [], rw none refl, told.0, told.1, refl)
+asked_more IsTold (x ∷ asked) entries e o are told = elim are [
+  | inl first ↦
+      let rest : List RipEntry = first.1 in
+      inl (first.0, rest ++ cons_option o [], ap (λ (es : List RipEntry). es ++ cons_option o []) first.2, first.3, first.4, asked_more IsTold asked rest e o first.5 told)
+  | inr none ↦ inr (none.0, asked_more IsTold asked entries e o none.1 told)
+]
 
-module _ (network : Network) (x : RipEntry) (xs : List RipEntry) where
-  found_later : (o : Option RipEntry) → (x.network.0 == network.0) ≡ false → IsFound network xs o → IsFound network (x ∷ xs) o
-  found_later None other none = λ t c e. elim (first_or_later x xs t c.0 c.1 c.2) [
-    | inl first ↦ eqb-false x.network.0 network.0 other (ap (λ (r : RipEntry). r.network.0) first ∙ ap (λ (n : Network). n.0) e)
-    | inr later ↦ none t later e
-  ]
-  found_later (Some t) other h = (Contains-append_right (x ∷ []) xs t h.0, h.1)
+-- one more entry that names a network
+pub named_more : (ys : List RipEntry) (e : RipEntry) → asks_all ys ≡ false → (e.network.0 == all_networks) ≡ false → asks_all (ys ++ e ∷ []) ≡ false
+named_more ys e before other =
+    list_any-append (λ (x : RipEntry). x.network.0 == all_networks) ys (e ∷ []) ∙ rw (before, other) refl
 
-  found_by : (b : Bool) (o : Option RipEntry) → (x.network.0 == network.0) ≡ b → IsFound network xs o → IsFound network (x ∷ xs) (cond b (Some x) o)
-  found_by true o same rest = ((0, omega arith, refl), network_from x.network network (eqb-true x.network.0 network.0 same))
-  found_by false o other rest = found_later o other rest
+module _ (one : OneBest) (ports : List Port) (routes : Routes) (at : PortNow) (network : Network) where
+  -- nothing is told of a network that has no route
+  pub no_route_told : IsRouteOrNone ports routes at.now network None → IsToldOf (IsToldRoute ports routes at) network None
+  no_route_told none t told same =
+      let leads = subst (λ (n : Network). IsRouteTo ports routes at.now n told.route) same told.leads in
+      let best = subst (λ (o : Option ℕ). MatchOption o (IsHeardRoute routes at.now network told.route) (λ place. told.route ≡ over_port place)) none.0 leads in
+      let is = best.1 in
+      true≢false (sym is.counts ∙ none.1 best.0.0 best.0.1 is.moment is.stands)
 
-found_of : (network : Network) (told : List RipEntry) → IsFound network told (find (λ t. t.network.0 == network.0) told)
-found_of network [] = λ t c. absurd (omega (arith, c.1))
-found_of network (x ∷ xs) = found_by network x xs (x.network.0 == network.0) (find (λ t. t.network.0 == network.0) xs) refl (found_of network xs)
+  -- nor of one whose route leaves by the port
+  pub itself_untold : (route : Route) → IsRouteTo ports routes at.now network route → route.port ≡ at.number → IsToldOf (IsToldRoute ports routes at) network None
+  itself_untold route leads here t told same =
+      let way = one_route one ports routes at.now network told.route route (subst (λ (n : Network). IsRouteTo ports routes at.now n told.route) same told.leads) leads in
+      told.elsewhere (ap (λ (r : Route). r.port) way ∙ here)
 
-module _ (IsTold : RipEntry → Type 0) (told : List RipEntry) (stands : (x : RipEntry) → Contains told x ↔ IsTold x) where
-  one_picked : (e : RipEntry) (asked rest : List RipEntry) (o : Option RipEntry) → IsFound e.network told o → AreToldOf IsTold asked rest → AreToldOf IsTold (e ∷ asked) (cons_option o rest)
-  one_picked e asked rest None none later = inr ((λ t is. none t ((stands t).1 is)), later)
-  one_picked e asked rest (Some t) found later = inl (t, rest, refl, (stands t).0 found.0, found.1, later)
-
-  ones_picked : (asked : List RipEntry) → AreToldOf IsTold asked (filter_map (λ e. find (λ t. t.network.0 == e.network.0) told) asked)
-  ones_picked [] = refl
-  ones_picked (e ∷ asked) =
-      one_picked e asked (filter_map (λ e. find (λ t. t.network.0 == e.network.0) told) asked) (find (λ t. t.network.0 == e.network.0) told) (found_of e.network told) (ones_picked asked)
-
-module _ (ports : List Port) (routes : Routes) (at : PortNow) (told asked : List RipEntry) (are : AreToldRoutes ports routes at told) where
-  routes_by : (all : Bool) → MatchBool all
-      (AreToldRoutes ports routes at (cond all told (filter_map (λ e. find (λ t. t.network.0 == e.network.0) told) asked)))
-      (AreToldOf (IsToldRoute ports routes at) asked (cond all told (filter_map (λ e. find (λ t. t.network.0 == e.network.0) told) asked)))
-  routes_by true = are
-  routes_by false = ones_picked (IsToldRoute ports routes at) told are.stands asked
-
-  -- the routes that a request asks for
-  pub routes_picked : AreRoutesAsked ports routes at asked (routes_asked told asked)
-  routes_picked = routes_by (asks_all asked)
+  -- a route that leaves by another port is told
+  pub elsewhere_told : (route : Route) → IsRouteTo ports routes at.now network route → route.port ≢ at.number → IsToldOf (IsToldRoute ports routes at) network (Some (told_route network route.metric at))
+  elsewhere_told route leads other = (record { route = route; leads = leads; elsewhere = other; is = refl }, refl)
 
 -- ---- services
 

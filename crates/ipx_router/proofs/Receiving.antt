@@ -1,17 +1,13 @@
 -- From what is answered once old offers have gone to what the router answers.
-use Rattle.std.proofs.Common.{◌≡◌, ℕ, ◌-◌, ◌<◌, Bool, true, false, ltb, List, [], ◌∷◌, length, Option, Some, None, Result, Ok, Err, refl, sym, subst, inl, inr, arith}
-use Rattle.std.specs.Prelude.{IfOk, IfErr, OnErr, IsOk, MatchOption, MatchResult, count_by, ◌⊎◌, ◌==◌, ◌||◌, ◌/◌, if◌then◌else◌}
+use Rattle.std.proofs.Common.{◌≡◌, ℕ, Bool, List, length, Option, None, Result, Ok, Err, refl, sym, subst}
+use Rattle.std.specs.Prelude.{IfOk, IfErr, OnErr, MatchOption, MatchResult, count_by}
 use Rattle.std.proofs.Math.Path.{fun_ext}
-use Rattle.std.proofs.lemmas.Bool.{false≢true}
 use Rattle.ipx_wire.specs.declared.address.Network.{Network}
 use Rattle.ipx_wire.specs.declared.memory.OutOfMemory.{OutOfMemory}
-use Rattle.ipx_wire.specs.Ipx.{PacketView, number}
+use Rattle.ipx_wire.specs.Ipx.{PacketView}
 use Rattle.ipx_control.specs.declared.fault.ControlFault.{ControlFault}
-use Rattle.ipx_control.specs.declared.fault.ControlFault.TheVariants.{NoOperation, UnknownOperation, TooManyEntries, QueryShort, OutOfMemory as out_of_memory_fault}
 use Rattle.ipx_control.specs.declared.rip.packet.RipEntry.{RipEntry}
-use Rattle.ipx_control.specs.declared.rip.packet.Rip.{Rip}
 use Rattle.ipx_control.specs.declared.sap.packet.ServiceEntry.{ServiceEntry}
-use Rattle.ipx_control.specs.declared.sap.packet.Sap.{Sap}
 use Rattle.ipx_control.specs.Rip.{RipView, IsRip, rip_entries, rip_fault}
 use Rattle.ipx_control.specs.Rip as rip
 use Rattle.ipx_control.specs.Sap.{SapView, IsSap, sap_fault, sap_services}
@@ -33,7 +29,7 @@ use Rattle.ipx_router.specs.Hearing.{AtEntry, GrowsByRoute, GrowsByService, Hear
 use Rattle.ipx_router.specs.Ports.{IsPort}
 use Rattle.ipx_router.specs.OutcomeView.{OutcomeView, Heard, Dropped, view}
 use Rattle.ipx_router.specs.Answer.{AnswersBytes, AnswersRip, AnswersRipMessage, AnswersSap, AnswersSapMessage, HearsRoutes, HearsServices, Receives}
-use Rattle.ipx_router.specs.WantOfMemory.{BytesWantMemory, HearingRoutesWantsMemory, HearingServicesWantsMemory, RipMessageWantsMemory, RipWantsMemory, SapMessageWantsMemory, SapWantsMemory, WantsMemory}
+use Rattle.ipx_router.specs.WantOfMemory.{BytesWantMemory, HearingRoutesWantsMemory, HearingServicesWantsMemory, RipWantsMemory, SapWantsMemory, WantsMemory}
 use Rattle.ipx_router.specs.Forwarded.{ForwardsEachReading, ForwardsOneHopOn, ForwardsPacket}
 
 -- what tables say once old offers have gone is what is known then
@@ -87,7 +83,7 @@ module _ (ports : List Port) (routes : Routes) (at : PortNow) (d : PacketView) (
   rip_wants (Ok n) (Err e) err says = cc
   rip_wants (Err f) (Err e) err says =
       let wants : f ≡ out_of_memory = cc in
-      (rip.Response entries, tail, is, subst (λ (s : Source). HearingRoutesWantsMemory ports routes s at.now entries new) from (inr (err.0, err.1, err.3 wants)))
+      (rip.Response entries, tail, is, subst (λ (s : Source). HearingRoutesWantsMemory ports routes s at.now entries new) from (err.0, err.1, err.3 wants))
 
 module _ (services : Services) (at : PortNow) (d : PacketView) (tail : List ℕ) (nearest : Bool) (entries : List ServiceEntry) (source : Source) (from : source ≡ source_of at d.header)
     (none : sap_fault d.body ≡ None) (is : IsSap (sap.Response nearest entries) d.body tail) (new : Table ServiceKey ServiceMetric) where
@@ -113,58 +109,4 @@ module _ (services : Services) (at : PortNow) (d : PacketView) (tail : List ℕ)
   sap_wants (Ok n) (Err e) err says = cc
   sap_wants (Err f) (Err e) err says =
       let wants : f ≡ out_of_memory = cc in
-      (sap.Response nearest entries, tail, is, subst (λ (s : Source). HearingServicesWantsMemory services s at.now entries new) from (inr (err.0, err.1, err.3 wants)))
-
--- ---- want of memory for the entries of a body
-
-rip_want_by : (a b c : Bool) (n operation : ℕ)
-    → (if a then Some NoOperation else if b then (if c then Some (TooManyEntries n) else None) else Some (UnknownOperation operation)) ≡ Some out_of_memory_fault → ⊥
-rip_want_by true b c n operation h = cc
-rip_want_by false true true n operation h = cc
-rip_want_by false true false n operation h = cc
-rip_want_by false false c n operation h = cc
-
-sap_want_by : (a b c d e : Bool) (n size operation : ℕ)
-    → (if a then Some NoOperation else if b then (if c then Some (QueryShort size) else None) else if d then (if e then Some (TooManyEntries n) else None) else Some (UnknownOperation operation)) ≡ Some out_of_memory_fault → ⊥
-sap_want_by true b c d e n size operation h = cc
-sap_want_by false true true d e n size operation h = cc
-sap_want_by false true false d e n size operation h = cc
-sap_want_by false false c true true n size operation h = cc
-sap_want_by false false c true false n size operation h = cc
-sap_want_by false false c false e n size operation h = cc
-
--- where the reading of a body wants memory, the body has no fault
-pub rip_wanted : (bytes : List ℕ) → ((out_of_memory_fault ≡ out_of_memory_fault) × (rip_fault bytes ≡ None)) ⊎ (rip_fault bytes ≡ Some out_of_memory_fault) → rip_fault bytes ≡ None
-rip_wanted bytes (inl h) = h.1
-rip_wanted bytes (inr h) = absurd (rip_want_by (ltb (length bytes) 2) _ _ _ _ h)
-
-pub sap_wanted : (bytes : List ℕ) → ((out_of_memory_fault ≡ out_of_memory_fault) × (sap_fault bytes ≡ None)) ⊎ (sap_fault bytes ≡ Some out_of_memory_fault) → sap_fault bytes ≡ None
-sap_wanted bytes (inl h) = h.1
-sap_wanted bytes (inr h) =
-    let size = length bytes in
-    let operation = number 2 0 bytes in
-    absurd (sap_want_by (ltb size 2) ((operation == 1) || (operation == 3)) (ltb size 4) ((operation == 2) || (operation == 4)) (ltb 7 ((size - 2) / 64)) ((size - 2) / 64) size operation h)
-
-some_entry : {E : Type 0} (entries : List E) → (entries ≡ [] → ⊥) → 0 < length entries
-some_entry [] none = absurd (none refl)
-some_entry (e ∷ es) none = omega arith
-
-module _ (ports : List Port) (routes : Routes) (at : PortNow) (d : PacketView) (f : ControlFault)
-    (no_memory : (m : RipView) (tail : List ℕ) → IsRip m d.body tail → rip_entries m ≡ [] → IsOk {T = Rip} (Err f)) (new : Table Network RouteMetric) (same : HoldsRoutes new routes) where
-  rip_unread_by : (m : RipView) → (rip_entries m ≡ [] → ⊥) → RipMessageWantsMemory ports routes at d.header m new
-  rip_unread_by (rip.Request asked) some = (some_entry asked some, same)
-  rip_unread_by (rip.Response entries) some = inl (some_entry entries some, same)
-
-  pub rip_unread : (m : RipView) × (tail : List ℕ) × IsRip m d.body tail → RipWantsMemory ports routes at d new
-  rip_unread found =
-      (found.0, found.1, found.2, rip_unread_by found.0 (λ none. false≢true (no_memory found.0 found.1 found.2 none)))
-
-module _ (services : Services) (at : PortNow) (d : PacketView) (f : ControlFault)
-    (no_memory : (m : SapView) (tail : List ℕ) → IsSap m d.body tail → sap_services m ≡ [] → IsOk {T = Sap} (Err f)) (new : Table ServiceKey ServiceMetric) (same : HoldsServices new services) where
-  sap_unread_by : (m : SapView) → (sap_services m ≡ [] → ⊥) → SapMessageWantsMemory services at d.header m new
-  sap_unread_by (sap.Query nearest kind) some = absurd (some refl)
-  sap_unread_by (sap.Response nearest entries) some = inl (some_entry entries some, same)
-
-  pub sap_unread : (m : SapView) × (tail : List ℕ) × IsSap m d.body tail → SapWantsMemory services at d new
-  sap_unread found =
-      (found.0, found.1, found.2, sap_unread_by found.0 (λ none. false≢true (no_memory found.0 found.1 found.2 none)))
+      (sap.Response nearest entries, tail, is, subst (λ (s : Source). HearingServicesWantsMemory services s at.now entries new) from (err.0, err.1, err.3 wants))

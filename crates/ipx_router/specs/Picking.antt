@@ -1,6 +1,6 @@
--- Words of the private functions that pick from the list of what is told.
-use Rattle.std.specs.Prelude.{◌≡◌, ℕ, ◌==◌, ◌&&◌, Bool, false, not, List, Option, Some, None, find, if◌then◌else◌}
-use Rattle.std.specs.List.{filter_map}
+-- Words of the private functions that pick from what is told.
+use Rattle.std.specs.Prelude.{◌≡◌, ◌≢◌, ℕ, ◌==◌, ◌&&◌, Bool, false, not, Option, Some, None, if◌then◌else◌}
+use Rattle.ipx_wire.specs.declared.address.Network.{Network}
 use Rattle.ipx_control.specs.declared.rip.packet.RipEntry.{RipEntry}
 use Rattle.ipx_control.specs.declared.sap.packet.ServiceEntry.{ServiceEntry}
 use Rattle.ipx_tables.specs.declared.service.ServiceKey.{ServiceKey}
@@ -9,13 +9,12 @@ use Rattle.ipx_tables.specs.declared.source.Source.{Source}
 use Rattle.ipx_router.specs.declared.port.PortNow.{PortNow}
 use Rattle.ipx_router.specs.Knowledge.{Services}
 use Rattle.ipx_router.specs.Told.{IsToldService, told_service}
-use Rattle.ipx_router.specs.Replying.{asks_all, is_asked, is_nearer}
+use Rattle.ipx_router.specs.Replying.{is_asked, is_nearer}
 
--- all that are told where all are asked for, else those of the asked networks that are told
-abbrev pub routes_asked : List RipEntry → List RipEntry → List RipEntry
-routes_asked told asked =
-    if asks_all asked then told
-    else filter_map (λ e. find (λ t. t.network.0 == e.network.0) told) asked
+-- what is told of a network, or that nothing is
+abbrev pub IsToldOf : (RipEntry → Type 0) → Network → Option RipEntry → Type 0
+IsToldOf IsTold network None = (t : RipEntry) → IsTold t → t.network ≢ network
+IsToldOf IsTold network (Some t) = IsTold t × (t.network ≡ network)
 
 -- the nearer of a service and the one that is held, if there is one
 abbrev pub nearer : Option ServiceEntry → ServiceEntry → ServiceEntry

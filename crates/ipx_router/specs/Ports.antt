@@ -23,8 +23,9 @@ abbrev pub AreFromPorts : {K M : Type 0} → ℕ → Content K M → Type 0
 AreFromPorts {K} {M} count c =
     (p : K × Source) (v : M × ℕ) → c p ≡ Some v → IsPortNumber count p.1.port
 
--- at most 16 ports on networks of their own, and tables of offers that came by those ports alone
+-- 1 to 16 ports on networks of their own, and tables of offers that came by those ports alone
 pub record IsSound (ports : List Port) (t : Tables) : Type 0 where
+  pub some : 1 ≤ length ports
   pub count : length ports ≤ 16
   pub networks : All IsOwnNetwork ports
   pub routes_from : AreFromPorts (length ports) (routes_in t.0)

@@ -1,5 +1,5 @@
 -- What a router tells its neighbours of itself, and when.
-use Rattle.std.specs.Prelude.{◌≡◌, ◌⊎◌, ℕ, ◌+◌, ◌-◌, Bool, true, false, List, [], ◌∷◌, ◌++◌, Option, Some, None, nat_le, MatchBool}
+use Rattle.std.specs.Prelude.{◌≡◌, ◌⊎◌, ℕ, ◌+◌, ◌-◌, ◌^◌, ◌<◌, Bool, true, false, List, [], ◌∷◌, ◌++◌, Option, Some, None, nat_le, MatchBool}
 use Rattle.ipx_wire.specs.Assigned.{rip_socket, sap_socket}
 use Rattle.ipx_control.specs.declared.rip.packet.RipEntry.{RipEntry}
 use Rattle.ipx_control.specs.declared.sap.packet.ServiceEntry.{ServiceEntry}
@@ -38,6 +38,12 @@ AreTellings ports routes services now number (port ∷ later) sent =
 abbrev pub is_due : Option ℕ → ℕ → Bool
 is_due None now = true
 is_due (Some last) now = nat_le 60000 (now - last)
+
+-- it is time from this moment on, and not before. Where there is none, it is never time at a moment
+-- that a clock can show
+abbrev pub IsNextTelling : Option ℕ → Option ℕ → Type 0
+IsNextTelling last None = (now : ℕ) → now < 2 ^ 64 → is_due last now ≡ false
+IsNextTelling last (Some t) = (now : ℕ) → is_due last now ≡ nat_le t now
 
 -- the packets by which a router tells what it knows, if it is time, and when it told last then
 abbrev pub Tells : Known → Option ℕ → ℕ → List SendingView → Option ℕ → Type 0

@@ -1,6 +1,6 @@
 -- When a router may want memory for the bytes that come in on a port, and what it holds then.
 -- The entry point is `WantsMemory`, at the end.
-use Rattle.std.specs.Prelude.{◌≡◌, ◌<◌, ◌⊎◌, ℕ, Bool, true, List, length}
+use Rattle.std.specs.Prelude.{◌≡◌, ◌<◌, ℕ, Bool, true, List, length}
 use Rattle.ipx_wire.specs.declared.address.Network.{Network}
 use Rattle.ipx_wire.specs.declared.ipx.packet.IpxHeader.{IpxHeader}
 use Rattle.ipx_wire.specs.Ipx.{PacketView, IsIpx}
@@ -29,23 +29,21 @@ use Rattle.ipx_router.specs.Classify.{concern_of}
 use Rattle.ipx_router.specs.Replying.{is_asked}
 use Rattle.ipx_router.specs.Hearing.{AtEntry, GrowsByRoute, GrowsByService, HeardRoutes, HeardServices, source_of}
 
--- the entries of a response could not be read, or one of them could not be heard: those before it
--- were, and the others were not
+-- an entry of a response could not be heard, since the table had to grow by it: those before it were
+-- heard, and the others were not
 abbrev pub HearingRoutesWantsMemory : List Port → Routes → Source → ℕ → List RipEntry
     → Table Network RouteMetric → Type 0
 HearingRoutesWantsMemory ports routes source now entries new =
-    ((0 < length entries) × HoldsRoutes new routes)
-    ⊎ ((n : ℕ) × HeardRoutes ports source now entries routes n new
-    × AtEntry entries n (GrowsByRoute ports source new))
+    (n : ℕ) × HeardRoutes ports source now entries routes n new
+    × AtEntry entries n (GrowsByRoute ports source new)
 
 abbrev pub HearingServicesWantsMemory : Services → Source → ℕ → List ServiceEntry
     → Table ServiceKey ServiceMetric → Type 0
 HearingServicesWantsMemory services source now entries new =
-    ((0 < length entries) × HoldsServices new services)
-    ⊎ ((n : ℕ) × HeardServices source now entries services n new
-    × AtEntry entries n (GrowsByService source new))
+    (n : ℕ) × HeardServices source now entries services n new
+    × AtEntry entries n (GrowsByService source new)
 
--- a request has entries that had to be read
+-- a request asks for something, and the answer was to be made
 abbrev pub RipMessageWantsMemory : List Port → Routes → PortNow → IpxHeader → RipView
     → Table Network RouteMetric → Type 0
 RipMessageWantsMemory ports routes at h (rip.Request asked) new =

@@ -21,9 +21,7 @@ use crate::packets::recipient_of;
 use crate::port::{Port, PortNow};
 use crate::reason::Reason;
 use crate::replying::{reply_routes, reply_services};
-use ipx_control::{
-    ControlFault, Rip, Sap, decode_rip, decode_sap, rip_fault_is_of_no_rip, sap_fault_is_of_no_sap,
-};
+use ipx_control::{RipBody, SapBody, read_rip, read_sap};
 use ipx_tables::{RouteTable, ServiceTable, TableFault};
 use ipx_wire::{OutOfMemory, Packet, decode};
 use std::alloc::Global;
@@ -49,7 +47,8 @@ fn answer_rip(
     at: PortNow,
     packet: Packet<'_>,
 ) -> Result<Outcome, OutOfMemory>
-    requires { IsTable network_cmp routes.old }
+    requires ports { length ports.now ≤ 16 }
+    requires table { IsTable network_cmp routes.old }
     ensures answer { IfOk result (λ o.
         AnswersRip ports.now (routes_in routes.old) at (packet_view packet.entry) (view o)
         routes.new) }
@@ -60,18 +59,16 @@ fn answer_rip(
     ensures sources { (count : ℕ) → IsPortNumber count at.number
         → AreFromPorts count (routes_in routes.old) → AreFromPorts count (routes_in routes.new) }
 {
-    rip_fault_is_of_no_rip();
-    match decode_rip(alloc, packet.body) {
-        Err(ControlFault::OutOfMemory) => return Err(OutOfMemory),
+    match read_rip(packet.body) {
         Err(fault) => return Ok(Outcome::Dropped(Reason::BadControl(fault))),
-        Ok(Rip::Request(asked)) => {
+        Ok(RipBody::Request(asked)) => {
             let to = recipient_of(at, packet.header);
-            let replies = reply_routes(alloc, ports, routes, at, to, &asked)?;
+            let replies = reply_routes(alloc, ports, routes, at, to, asked)?;
             return Ok(Outcome::Replies(replies));
         }
-        Ok(Rip::Response(entries)) => {
+        Ok(RipBody::Response(entries)) => {
             let source = neighbour_of(at, packet.header);
-            let heard = hear_routes(alloc, ports, routes, source, &entries, at.now);
+            let heard = hear_routes(alloc, ports, routes, source, entries, at.now);
             return outcome_of_hearing(heard);
         }
     }
@@ -97,23 +94,21 @@ fn answer_sap(
         → AreFromPorts count (services_in services.old)
         → AreFromPorts count (services_in services.new) }
 {
-    sap_fault_is_of_no_sap();
-    match decode_sap(alloc, packet.body) {
-        Err(ControlFault::OutOfMemory) => return Err(OutOfMemory),
+    match read_sap(packet.body) {
         Err(fault) => return Ok(Outcome::Dropped(Reason::BadControl(fault))),
-        Ok(Sap::Query { nearest, kind }) => {
+        Ok(SapBody::Query { nearest, kind }) => {
             let to = recipient_of(at, packet.header);
             let replies = reply_services(alloc, services, at, to, nearest, kind)?;
             return Ok(Outcome::Replies(replies));
         }
         Ok(
-            Sap::Response {
+            SapBody::Response {
                 nearest: _,
                 services: entries,
             },
         ) => {
             let source = neighbour_of(at, packet.header);
-            let heard = hear_services(alloc, services, source, &entries, at.now);
+            let heard = hear_services(alloc, services, source, entries, at.now);
             return outcome_of_hearing(heard);
         }
     }

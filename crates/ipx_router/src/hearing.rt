@@ -11,7 +11,7 @@ ghost use Rattle.ipx_router.specs.Ports.{AreFromPorts, IsPortNumber};
 
 use crate::networks::has_network;
 use crate::port::{Port, PortNow};
-use ipx_control::{RipEntry, ServiceEntry};
+use ipx_control::{RipEntries, RipEntry, ServiceEntries};
 use ipx_tables::{
     RouteMetric, RouteTable, ServiceKey, ServiceMetric, ServiceTable, Source, TableFault,
 };
@@ -35,26 +35,26 @@ fn is_route_heard(ports: &[Port], entry: &RipEntry) -> bool
     !(network == Network::LOCAL || network == Network::ALL || has_network(ports, network))
 }
 
-/// Hears the entries in order, and answers how many: none of the networks that a router does not
-/// learn. At the first that the table refuses it stops.
+/// Hears the entries in order, each read where it stands, and answers how many: none of the networks
+/// that a router does not learn. At the first that the table refuses it stops.
 pub fn hear_routes(
     alloc: Global,
     ports: &[Port],
     routes: &mut RouteTable,
     source: Source,
-    entries: &[RipEntry],
+    entries: RipEntries<'_>,
     now: u64,
 ) -> Result<u16, TableFault>
-    requires few { length entries.now ≤ 50 }
+    requires few { length entries ≤ 50 }
     requires table { IsTable network_cmp routes.old }
-    ensures heard { IfOk result (λ n. (n ≡ count_by (is_heard ports.now) entries.now)
-        × HeardRoutes ports.now source now entries.now (routes_in routes.old)
-        (length entries.now) routes.new) }
+    ensures heard { IfOk result (λ n. (n ≡ count_by (is_heard ports.now) entries.entry)
+        × HeardRoutes ports.now source now entries.entry (routes_in routes.old)
+        (length entries.entry) routes.new) }
     ensures refused { IfErr result (λ f. (n : ℕ)
-        × HeardRoutes ports.now source now entries.now (routes_in routes.old) n routes.new
-        × (f ≡ TableFault.Full → AtEntry entries.now n (IsFullForRoute ports.now source routes.new))
+        × HeardRoutes ports.now source now entries.entry (routes_in routes.old) n routes.new
+        × (f ≡ TableFault.Full → AtEntry entries.entry n (IsFullForRoute ports.now source routes.new))
         × (f ≡ TableFault.OutOfMemory
-        → AtEntry entries.now n (GrowsByRoute ports.now source routes.new))) }
+        → AtEntry entries.entry n (GrowsByRoute ports.now source routes.new))) }
     ensures most { routes.new.most ≡ routes.old.most }
     ensures valid { IsTable network_cmp routes.new }
     ensures sources { (count : ℕ) → IsPortNumber count source.port
@@ -62,7 +62,7 @@ pub fn hear_routes(
 {
     let mut heard = 0;
     for entry in entries {
-        if is_route_heard(ports, entry) {
+        if is_route_heard(ports, &entry) {
             let metric = RouteMetric {
                 ticks: entry.ticks,
                 hops: entry.hops,
@@ -74,24 +74,24 @@ pub fn hear_routes(
     Ok(heard)
 }
 
-/// Hears the services in order, and answers how many. At the first that the table refuses it stops.
+/// Hears the services in order, each read where it stands, and answers how many. At the first that the table refuses it stops.
 pub fn hear_services(
     alloc: Global,
     services: &mut ServiceTable,
     source: Source,
-    entries: &[ServiceEntry],
+    entries: ServiceEntries<'_>,
     now: u64,
 ) -> Result<u16, TableFault>
-    requires few { length entries.now ≤ 7 }
+    requires few { length entries ≤ 7 }
     requires table { IsTable service_key_cmp services.old }
-    ensures heard { IfOk result (λ n. (n ≡ length entries.now)
-        × HeardServices source now entries.now (services_in services.old)
-        (length entries.now) services.new) }
+    ensures heard { IfOk result (λ n. (n ≡ length entries.entry)
+        × HeardServices source now entries.entry (services_in services.old)
+        (length entries.entry) services.new) }
     ensures refused { IfErr result (λ f. (n : ℕ)
-        × HeardServices source now entries.now (services_in services.old) n services.new
-        × (f ≡ TableFault.Full → AtEntry entries.now n (IsFullForService source services.new))
+        × HeardServices source now entries.entry (services_in services.old) n services.new
+        × (f ≡ TableFault.Full → AtEntry entries.entry n (IsFullForService source services.new))
         × (f ≡ TableFault.OutOfMemory
-        → AtEntry entries.now n (GrowsByService source services.new))) }
+        → AtEntry entries.entry n (GrowsByService source services.new))) }
     ensures most { services.new.most ≡ services.old.most }
     ensures valid { IsTable service_key_cmp services.new }
     ensures sources { (count : ℕ) → IsPortNumber count source.port
@@ -100,9 +100,10 @@ pub fn hear_services(
 {
     let mut heard = 0;
     for entry in entries {
+        let name = entry.name;
         let key = ServiceKey {
             kind: entry.kind,
-            name: entry.name,
+            name,
         };
         let metric = ServiceMetric {
             hops: entry.hops,

@@ -1,64 +1,46 @@
 //! What a router answers to a request for routes, and to a query for services.
 
-ghost use Rattle.std.specs.Prelude.{◌≡◌, ◌<◌, Bool, Contains, IfNone, IfOk, IfSome, OnErr, filter, find, length, ◌==◌};
+ghost use Rattle.std.specs.Prelude.{◌≡◌, ◌<◌, ◌≤◌, Bool, Contains, IfNone, IfOk, IfSome, OnErr, filter, length};
 ghost use Rattle.std.specs.Bool.{OnFalse, OnTrue};
-ghost use Rattle.std.specs.List.{filter_map};
 ghost use Rattle.ipx_router.specs.Knowledge.{routes_in, services_in};
 ghost use Rattle.ipx_router.specs.Packets.{sendings};
 ghost use Rattle.ipx_router.specs.Told.{IsToldService};
-ghost use Rattle.ipx_router.specs.Replying.{IsNearest, NoneIsNear, AreNearest, AreServicesAsked, RepliesRoutes, RepliesServices, asks_all, is_asked, is_near, is_nearer, is_of_kind};
-ghost use Rattle.ipx_router.specs.Picking.{NoneIsAsked, is_item_asked, nearer, routes_asked};
+ghost use Rattle.ipx_router.specs.Replying.{IsNearest, NoneIsNear, AreNearest, AreRoutesAsked, AreServicesAsked, RepliesRoutes, RepliesServices, is_asked, is_near, is_nearer, is_of_kind};
+ghost use Rattle.ipx_router.specs.Picking.{NoneIsAsked, is_item_asked, nearer};
 ghost use Rattle.ipx_router.specs.WantOfMemory.{HasToReply};
 
 use crate::outcome::Reply;
 use crate::packets::{Recipient, add_route_packets, add_service_packets};
 use crate::port::{Port, PortNow};
-use crate::told::{told_routes, told_service_of, told_services};
-use ipx_control::{RipEntry, ServiceEntry};
+use crate::told::{told_of, told_routes, told_service_of, told_services};
+use ipx_control::{RipEntries, RipEntry, ServiceEntry};
 use ipx_tables::{RouteTable, ServiceKey, ServiceMetric, ServiceTable, Source, one_best};
 use ipx_wire::{Network, OutOfMemory};
 use std::alloc::Global;
 
-fn is_for_all(asked: &[RipEntry]) -> bool
-    ensures { result ≡ asks_all asked.now }
-{
-    asked.iter().any(|entry| entry.network == Network::ALL)
-}
-
-fn told_of(told: &[RipEntry], network: Network) -> Option<RipEntry>
-    ensures { result ≡ find (λ t. t.network.0 == network.0) told.now }
-{
-    told.iter().copied().find(|entry| entry.network == network)
-}
-
-/// The asked networks that are told, in the order asked.
-fn told_ones(
-    alloc: Global,
-    told: &[RipEntry],
-    asked: &[RipEntry],
-) -> Result<Vec<RipEntry>, OutOfMemory>
-    ensures { IfOk result (λ v. v.items
-        ≡ filter_map (λ e. find (λ t. t.network.0 == e.network.0) told.now) asked.now) }
-{
-    let found = asked
-        .iter()
-        .filter_map(|entry| told_of(told, entry.network))
-        .collect::<Vec<RipEntry>>(alloc)?;
-    Ok(found)
-}
-
-/// The told routes that a request asks for.
+/// The told routes that a request asks for: all of them, or those of the named networks, in the
+/// order asked. Each of those is looked up, and none is listed.
 fn asked_routes(
     alloc: Global,
-    told: Vec<RipEntry>,
-    asked: &[RipEntry],
+    ports: &[Port],
+    routes: &RouteTable,
+    at: PortNow,
+    asked: RipEntries<'_>,
 ) -> Result<Vec<RipEntry>, OutOfMemory>
-    ensures { IfOk result (λ v. v.items ≡ routes_asked told.items asked.now) }
+    requires { length ports.now ≤ 16 }
+    ensures { IfOk result (λ v.
+        AreRoutesAsked ports.now (routes_in routes.now) at asked.entry v.items) }
 {
-    if is_for_all(asked) {
-        return Ok(told);
+    let mut told = Vec::new(alloc);
+    for entry in asked {
+        if entry.network == Network::ALL {
+            return told_routes(alloc, ports, routes, at);
+        }
+        if let Some(route) = told_of(ports, routes, entry.network, at) {
+            told.push(route)?;
+        }
     }
-    told_ones(alloc, &told, asked)
+    Ok(told)
 }
 
 fn is_of_kind_asked(kind: u16, service: &ServiceEntry) -> bool
@@ -176,18 +158,18 @@ pub fn reply_routes(
     routes: &RouteTable,
     at: PortNow,
     to: Recipient,
-    asked: &[RipEntry],
+    asked: RipEntries<'_>,
 ) -> Result<Vec<Reply>, OutOfMemory>
+    requires { length ports.now ≤ 16 }
     ensures replies { IfOk result (λ v.
-        RepliesRoutes ports.now (routes_in routes.now) at to asked.now (sendings v.items)) }
-    ensures refused { OnErr result (0 < length asked.now) }
+        RepliesRoutes ports.now (routes_in routes.now) at to asked.entry (sendings v.items)) }
+    ensures refused { OnErr result (0 < length asked.entry) }
 {
     let mut replies = Vec::new(alloc);
-    if asked.is_empty() {
+    if asked.len() == 0 {
         return Ok(replies);
     }
-    let told = told_routes(alloc, ports, routes, at)?;
-    let entries = asked_routes(alloc, told, asked)?;
+    let entries = asked_routes(alloc, ports, routes, at, asked)?;
     add_route_packets(alloc, &mut replies, to, &entries)?;
     Ok(replies)
 }

@@ -10,7 +10,7 @@ ghost use Rattle.ipx_router.specs.Answer.{Receives};
 ghost use Rattle.ipx_router.specs.WantOfMemory.{WantsMemory};
 ghost use Rattle.ipx_router.specs.Forwarded.{ForwardsOneHopOn};
 ghost use Rattle.ipx_router.specs.Starting.{AreStarts};
-ghost use Rattle.ipx_router.specs.Telling.{HasToTell, Tells, is_due};
+ghost use Rattle.ipx_router.specs.Telling.{HasToTell, IsNextTelling, Tells, is_due};
 
 use crate::answering::receive_at;
 use crate::fault::NewFault;
@@ -18,7 +18,7 @@ use crate::networks::twin_of;
 use crate::outcome::{Outcome, Reply};
 use crate::port::{Port, PortNow};
 use crate::starting::ask_all;
-use crate::telling::tell_at;
+use crate::telling::{next_time, tell_at};
 use ipx_tables::{RouteTable, ServiceTable, route_table, service_table};
 use ipx_wire::OutOfMemory;
 use std::alloc::Global;
@@ -82,9 +82,11 @@ impl Router {
         })
     }
 
-    /// Its ports. The first is port 1. A caller counts them before it names a port to `receive`.
+    /// Its ports, 1 to 16. The first is port 1. A caller counts them before it names a port to
+    /// `receive`.
     pub fn ports(&self) -> &[Port]
         ensures ports { result.now ≡ self.now.ports }
+        ensures count { (1 ≤ length self.now.ports) × (length self.now.ports ≤ 16) }
         ensures valid { AreTables (tables self.now) }
         ensures networks { All IsOwnNetwork self.now.ports }
     {
@@ -169,5 +171,15 @@ impl Router {
             &mut self.told,
             now,
         )
+    }
+
+    /// The moment, in milliseconds, from which on `tell` finds that it is time; before it `tell`
+    /// gives nothing. None where no clock can show that moment.
+    ///
+    /// Whoever waits for datagrams wakes by then, and calls `tell`.
+    pub fn next_telling(&self) -> Option<u64>
+        ensures { IsNextTelling self.now.told result }
+    {
+        next_time(self.told)
     }
 }

@@ -4,7 +4,7 @@ ghost use Rattle.std.specs.Prelude.{◌≡◌, ◌≤◌, true, length, OnErr, O
 ghost use Rattle.ipx_tables.specs.Listing.{IsListing};
 ghost use Rattle.ipx_tables.specs.Route.{network_cmp, route_before};
 ghost use Rattle.ipx_tables.specs.Service.{service_before, service_key_cmp};
-ghost use Rattle.ipx_router.specs.Telling.{AreTellings, AreTold, HasToTell, Tells, is_due};
+ghost use Rattle.ipx_router.specs.Telling.{AreTellings, AreTold, HasToTell, IsNextTelling, Tells, is_due};
 ghost use Rattle.ipx_router.specs.Knowledge.{HoldsKnown, Routes, Services, known_aged, known_in, routes_in, services_in};
 ghost use Rattle.ipx_router.specs.Ports.{AreOnPorts, IsSound};
 ghost use Rattle.ipx_router.specs.Packets.{sendings};
@@ -28,6 +28,16 @@ fn is_time(told: Option<u64>, now: u64) -> bool
     match told {
         None => true,
         Some(last) => now.saturating_sub(last) >= PERIOD,
+    }
+}
+
+/// The moment from which on it is time to tell.
+pub fn next_time(told: Option<u64>) -> Option<u64>
+    ensures { IsNextTelling told result }
+{
+    match told {
+        None => Some(0),
+        Some(last) => last.checked_add(PERIOD),
     }
 }
 

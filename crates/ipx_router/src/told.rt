@@ -1,17 +1,19 @@
 //! What a router tells on a port.
 
-ghost use Rattle.std.specs.Prelude.{◌≡◌, ◌≢◌, ◌⊎◌, ◌<◌, ℕ, List, Contains, OnOk, IfErr, IfOk, Some, None, length, slice_index_or, filter, map, not, ◌==◌};
+ghost use Rattle.std.specs.Prelude.{◌≡◌, ◌≢◌, ◌⊎◌, ◌<◌, ◌≤◌, ℕ, List, Contains, OnOk, IfErr, IfOk, Some, None, length, slice_index_or, filter, map, not, ◌==◌};
 ghost use Rattle.ipx_tables.specs.Sorted.{IsAtKey, IsGapFor, IsRising};
 ghost use Rattle.ipx_tables.specs.Listing.{IsListing};
 ghost use Rattle.ipx_tables.specs.Route.{network_cmp, route_before};
 ghost use Rattle.ipx_tables.specs.Service.{service_before, service_key_cmp};
 ghost use Rattle.ipx_router.specs.Knowledge.{Routes, Services, routes_in, services_in};
 ghost use Rattle.ipx_router.specs.Route.{direct_route};
-ghost use Rattle.ipx_router.specs.Told.{AreToldRoutes, AreToldServices, route_key, told_route, told_service};
+ghost use Rattle.ipx_router.specs.Told.{AreToldRoutes, AreToldServices, IsToldRoute, route_key, told_route, told_service};
 ghost use Rattle.ipx_router.specs.Placing.{AddsHeard, AreToldPorts, PutsEntry, is_told_item, is_told_port};
+ghost use Rattle.ipx_router.specs.Picking.{IsToldOf};
 
 use crate::networks::direct_port;
 use crate::port::{Port, PortNow};
+use crate::route::route_to;
 use ipx_control::{RipEntry, ServiceEntry};
 use ipx_tables::{
     Metric, RouteMetric, RouteTable, ServiceKey, ServiceMetric, ServiceTable, Source, one_best,
@@ -136,6 +138,26 @@ pub fn told_routes(
     };
     let told = routes_as_told(alloc, ports, &heard, at)?;
     Ok(told)
+}
+
+/// What is told on a port of a network: its route, unless that leaves by the port.
+pub fn told_of(
+    ports: &[Port],
+    routes: &RouteTable,
+    network: Network,
+    at: PortNow,
+) -> Option<RipEntry>
+    requires { length ports.now ≤ 16 }
+    ensures { IsToldOf (IsToldRoute ports.now (routes_in routes.now) at) network result }
+{
+    one_best::<Network, RouteMetric>();
+    let Some(route) = route_to(ports, routes, network, at.now) else {
+        return None;
+    };
+    if route.port == at.number {
+        return None;
+    }
+    Some(told_entry(network, route.metric, at))
 }
 
 /// A service as it is told.

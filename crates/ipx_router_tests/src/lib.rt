@@ -21,6 +21,8 @@ mod order;
 #[cfg(test)]
 mod prefixes;
 #[cfg(test)]
+mod refusals;
+#[cfg(test)]
 mod refused;
 #[cfg(test)]
 mod rip;

@@ -47,6 +47,31 @@ fn refused_memory_where_nothing_is_asked(rt: HostRuntime) -> Result<(), Fail> {
     Ok(())
 }
 
+/// A response of networks 44 and 55, of 1 and 2 hops, from node 00007f000009 of network 22.
+const NETWORKS_44_AND_55: &str =
+    "ffff0030000100000022ffffffffffff04530000002200007f0000090453000200000044000100030000005500020004";
+
+/// Whether both networks are heard on port 2 once more, asked once alone.
+fn are_heard_again(alloc: Global, router: &mut Router, now: u64) -> Result<bool, Fail> {
+    let bytes = bytes_at_last(alloc, NETWORKS_44_AND_55)?;
+    if router.ports().len() < 2 {
+        return Ok(false);
+    }
+    let outcome = router.receive(alloc, 2, &bytes, now)?;
+    Ok(matches!(outcome, Outcome::Heard(2)))
+}
+
+#[test]
+fn refused_memory_where_no_table_grows(rt: HostRuntime) -> Result<(), Fail> {
+    let alloc = rt.alloc();
+    let mut router = ports_at_last(alloc)?;
+    let heard = answer_at_last(alloc, &mut router, 2, NETWORKS_44_AND_55)?;
+    assert!(rt; matches!(heard, Outcome::Heard(2)));
+    assert!(rt; are_heard_again(alloc, &mut router, 0)?);
+    assert!(rt; are_heard_again(alloc, &mut router, 60_000)?);
+    Ok(())
+}
+
 fn one_port(alloc: Global) -> Result<Router, NewFault> {
     let Ok(ports) = vec![in alloc; port(0x11, 1, 1)] else {
         return Err(NewFault::OutOfMemory);

@@ -217,7 +217,7 @@ impl Layout {
             routers,
             map,
         } = self;
-        match Net::new(alloc, &hosts, routers) {
+        match Net::new(alloc, hosts, routers) {
             Ok(net) => Ok(Simulation::new(alloc, net, map)),
             Err(_) => Err(Halt::Memory),
         }

@@ -79,12 +79,14 @@ pub record ReleasesOf (old : World) (who : ℕ) (new : World) : Type 0 where
   pub log : new.log ≡ old.log ++ Notes.Released who ∷ []
   pub moment : new.moment ≡ old.moment
 
--- a call on an end of a host is refused: nothing changes but what its endpoint said and heard last
+-- a call on a host, or on an end of it, is refused: nothing changes
 pub record RefusesAt (old : World) (host : ℕ) (new : World) : Type 0 where
   pub before : Station
   pub there : slice_get old.hosts host ≡ Some before
   pub after : Station
   pub same : SameBut before.endpoint after.endpoint
+  pub said : after.endpoint.said ≡ before.endpoint.said
+  pub heard : after.endpoint.heard ≡ before.endpoint.heard
   pub here : after.here ≡ before.here
   pub hosts : new.hosts ≡ set old.hosts host after
   pub ends : new.ends ≡ old.ends

@@ -19,6 +19,8 @@ mod messages;
 #[cfg(test)]
 mod no_memory;
 #[cfg(test)]
+mod refusals;
+#[cfg(test)]
 mod refused;
 #[cfg(test)]
 mod rows;

@@ -11,6 +11,8 @@ mod hosts;
 #[cfg(test)]
 mod no_memory;
 #[cfg(test)]
+mod refusals;
+#[cfg(test)]
 mod refused;
 #[cfg(test)]
 mod refused_calls;

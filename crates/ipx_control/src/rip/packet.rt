@@ -1,5 +1,6 @@
 //! RIP packets: which networks are asked for, and which are reached at what cost.
 
+use crate::rip::entries::RipEntries;
 use ipx_wire::Network;
 
 /// The bytes of an entry of a RIP packet.
@@ -26,4 +27,13 @@ pub enum Rip {
     Request(Vec<RipEntry>),
     /// Operation 2: which networks are reached, and at what cost.
     Response(Vec<RipEntry>),
+}
+
+/// What a RIP packet says, with its entries in the bytes that they came in.
+#[derive(Drop)]
+pub enum RipBody<'a> {
+    /// Operation 1: which networks are asked for.
+    Request(RipEntries<'a>),
+    /// Operation 2: which networks are reached, and at what cost.
+    Response(RipEntries<'a>),
 }

@@ -1,5 +1,6 @@
 //! SAP packets: which services are asked for, and where they are.
 
+use crate::sap::entries::ServiceEntries;
 use ipx_wire::Address;
 
 /// The bytes of a service of a SAP packet.
@@ -35,5 +36,21 @@ pub enum Sap {
     Response {
         nearest: bool,
         services: Vec<ServiceEntry>,
+    },
+}
+
+/// What a SAP packet says, with its services in the bytes that they came in.
+#[derive(Drop)]
+pub enum SapBody<'a> {
+    /// Operation 1 asks for services, operation 3 for the nearest: of a type, or of every type by
+    /// FFFF.
+    Query {
+        nearest: bool,
+        kind: u16,
+    },
+    /// Operation 2 tells services, operation 4 the nearest.
+    Response {
+        nearest: bool,
+        services: ServiceEntries<'a>,
     },
 }

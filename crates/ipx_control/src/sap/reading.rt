@@ -1,55 +1,75 @@
 //! SAP packets out of bytes.
 
-ghost use Rattle.std.specs.Prelude.{◌≡◌, ◌≤◌, ◌<◌, ◌⊎◌, List, [], ℕ, length, take, IfOk, IfErr, IsOk, IsOkAnd, Some, None};
-ghost use Rattle.ipx_control.specs.Entries.{AreEntries};
-ghost use Rattle.ipx_control.specs.Sap.{IsSap, IsServiceEntry, SapView, sap_fault, sap_services, sap_view, service_size};
+ghost use Rattle.std.specs.Prelude.{◌≡◌, ◌⊎◌, List, [], ℕ, IfOk, IfErr, IsOk, IsOkAnd, Some, None};
+ghost use Rattle.ipx_control.specs.Sap.{IsSap, SapView, sap_body_view, sap_fault, sap_services, sap_view};
 
 use crate::fault::ControlFault;
+use crate::sap::entries::{ServiceEntries, services_of};
 use crate::sap::laws::bytes_are_one_sap;
-use crate::sap::packet::{SAP_MAX_SERVICES, SERVICE_SIZE, Sap, ServiceEntry};
+use crate::sap::packet::{SAP_MAX_SERVICES, SERVICE_SIZE, Sap, SapBody, ServiceEntry};
 use byteorder::{BigEndian, ByteOrder};
-use ipx_wire::{OutOfMemory, address_at};
+use ipx_wire::OutOfMemory;
 use std::alloc::Global;
 
-fn name_at(bytes: &[u8]) -> [u8; 48]
-    requires { 48 ≤ length bytes.now }
-    ensures { take 48 bytes.now ≡ result }
+/// The SAP packet that bytes are: the body of an IPX packet to socket 0452. Its services stay where
+/// they stand, and no memory is taken. Bytes behind a query, or behind the last whole service of a
+/// response, are ignored. The error is the first fault that holds.
+pub fn read_sap(bytes: &[u8]) -> Result<SapBody<'_>, ControlFault>
+    // What is read is what the bytes are.
+    ensures found { IfOk result (λ v. (tail : List ℕ) × IsSap (sap_body_view v) bytes.now tail) }
+    // Each packet is read.
+    ensures only { (m : SapView) (tail : List ℕ) → IsSap m bytes.now tail
+        → IsOkAnd result (λ v. sap_body_view v ≡ m) }
+    // Which fault it is, and that there is none.
+    ensures fault { IfErr result (λ f. sap_fault bytes.now ≡ Some f) }
+    ensures whole { IfOk result (λ _. sap_fault bytes.now ≡ None) }
 {
-    let mut name = [0; 48];
-    name.copy_from_slice(&bytes[..48]);
-    name
-}
-
-fn service_at(bytes: &[u8]) -> ServiceEntry
-    requires { service_size ≤ length bytes.now }
-    ensures { IsServiceEntry result bytes.now }
-{
-    ServiceEntry {
-        kind: BigEndian::read_u16(bytes),
-        name: name_at(&bytes[2..]),
-        at: address_at(&bytes[50..]),
-        hops: BigEndian::read_u16(&bytes[62..]),
+    if bytes.len() < 2 {
+        return Err(ControlFault::NoOperation);
     }
-}
-
-/// The services that fit into the bytes.
-fn services_in(alloc: Global, bytes: &[u8]) -> Result<Vec<ServiceEntry>, OutOfMemory>
-    ensures found { IfOk result (λ v. (tail : List ℕ)
-        × AreEntries IsServiceEntry service_size v.items bytes.now tail
-        × (length tail < service_size)) }
-    ensures no_memory { length bytes.now < service_size → IsOk result }
-{
-    let count = bytes.len() / SERVICE_SIZE;
-    let mut services = Vec::with_capacity(alloc, count)?;
-    for place in 0..count {
-        services.push(service_at(&bytes[SERVICE_SIZE * place..]))?;
+    let operation = BigEndian::read_u16(bytes);
+    if operation == 1 || operation == 3 {
+        if bytes.len() < 4 {
+            return Err(ControlFault::QueryShort(bytes.len()));
+        }
+        return Ok(SapBody::Query {
+            nearest: operation == 3,
+            kind: BigEndian::read_u16(&bytes[2..]),
+        });
     }
-    Ok(services)
+    if operation != 2 && operation != 4 {
+        return Err(ControlFault::UnknownOperation(operation));
+    }
+    let count = (bytes.len() - 2) / SERVICE_SIZE;
+    if count > SAP_MAX_SERVICES {
+        return Err(ControlFault::TooManyEntries(count));
+    }
+    let services = services_of(&bytes[2..]);
+    // A law for the proof of `only`: it does nothing.
+    bytes_are_one_sap();
+    Ok(SapBody::Response {
+        nearest: operation == 4,
+        services,
+    })
 }
 
-/// The SAP packet that bytes are: the body of an IPX packet to socket 0452. Bytes behind a query,
-/// or behind the last whole service of a response, are ignored. The error is the first fault that
-/// holds, or want of memory.
+/// The services in a list.
+fn services_listed(
+    alloc: Global,
+    services: ServiceEntries<'_>,
+) -> Result<Vec<ServiceEntry>, OutOfMemory>
+    ensures found { IfOk result (λ v. v.items ≡ services.entry) }
+    ensures no_memory { services.entry ≡ [] → IsOk result }
+{
+    let mut listed = Vec::with_capacity(alloc, services.len())?;
+    for service in services {
+        listed.push(service)?;
+    }
+    Ok(listed)
+}
+
+/// The SAP packet that bytes are, as `read_sap` reads it, with its services in a list. The error is
+/// the first fault that holds, or want of memory.
 pub fn decode_sap(alloc: Global, bytes: &[u8]) -> Result<Sap, ControlFault>
     // What is read is what the bytes are.
     ensures found { IfOk result (λ v. (tail : List ℕ) × IsSap (sap_view v) bytes.now tail) }
@@ -65,31 +85,13 @@ pub fn decode_sap(alloc: Global, bytes: &[u8]) -> Result<Sap, ControlFault>
     ensures no_memory { (m : SapView) (tail : List ℕ) → IsSap m bytes.now tail
         → sap_services m ≡ [] → IsOk result }
 {
-    if bytes.len() < 2 {
-        return Err(ControlFault::NoOperation);
-    }
-    let operation = BigEndian::read_u16(bytes);
-    if operation == 1 || operation == 3 {
-        if bytes.len() < 4 {
-            return Err(ControlFault::QueryShort(bytes.len()));
+    match read_sap(bytes)? {
+        SapBody::Query { nearest, kind } => {
+            return Ok(Sap::Query { nearest, kind });
         }
-        return Ok(Sap::Query {
-            nearest: operation == 3,
-            kind: BigEndian::read_u16(&bytes[2..]),
-        });
+        SapBody::Response { nearest, services } => {
+            let services = services_listed(alloc, services)?;
+            return Ok(Sap::Response { nearest, services });
+        }
     }
-    if operation != 2 && operation != 4 {
-        return Err(ControlFault::UnknownOperation(operation));
-    }
-    let count = (bytes.len() - 2) / SERVICE_SIZE;
-    if count > SAP_MAX_SERVICES {
-        return Err(ControlFault::TooManyEntries(count));
-    }
-    let services = services_in(alloc, &bytes[2..])?;
-    // A law for the proof of `only`: it does nothing.
-    bytes_are_one_sap();
-    Ok(Sap::Response {
-        nearest: operation == 4,
-        services,
-    })
 }

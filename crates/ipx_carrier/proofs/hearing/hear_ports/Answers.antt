@@ -7,8 +7,8 @@ use Rattle.ipx_carrier.proofs.hearing.hear_ports.Goals.{then-branch, else-branch
 pub returns-in_err-hear_port-clause-fault : goal.returns-in_err-hear_port-clause-fault
 returns-in_err-hear_port-clause-fault g c =
     let p = err_from_is_err_and c.from_residual.result c.from_residual.ensures.1 in
-    rw p.1
-    (asked_some g.C.Core.hears c.args.now c.loop-port.port _ _ _ _ _ _ c.loop-port.heard c.loop-port.invariant.asked c.in_err-hear_port.ensures.fault (omega arith))
+    rw (p.1, p.2)
+    (asked_some g.C.Core.hears g.C.Core.misses c.args.now c.loop-port.port _ _ _ _ _ _ _ c.loop-port.heard _ c.loop-port.invariant.asked c.in_err-hear_port.ensures.fault (omega arith))
 
 pub loop-port-preserved : goal.loop-port-preserved
 loop-port-preserved g c =

@@ -9,8 +9,8 @@ returns-in_err-turn-clause-fault g c =
     let p = err_from_is_err_and c.from_residual.result c.from_residual.ensures.1 in
     let ports = g.C.Core.port_count c.args.core.now in
     let here = g.C.Core.port_count c.loop-turn.core in
-    rw p.1
-    (ends_more g.C.Core.hears g.C.Core.gives g.K.Clock.tells ports (peers_of c.args.peers.now) here c.loop-turn._turn c.args.turns _ _ _ _ _ _ _ _ c.loop-turn.report c.loop-turn.invariant.core_ports (omega arith) c.loop-turn.invariant.ran c.in_err-turn.ensures.fault)
+    rw (p.1, p.2)
+    (ends_more g.C.Core.hears g.C.Core.misses g.C.Core.gives g.C.Core.withholds g.K.Clock.tells ports (peers_of c.args.peers.now) here c.loop-turn._turn c.args.turns _ _ _ _ _ _ _ _ _ _ c.loop-turn.report c.loop-turn.invariant.core_ports (omega arith) c.loop-turn.invariant.ran c.in_err-turn.ensures.fault)
 
 pub loop-turn-preserved : goal.loop-turn-preserved
 loop-turn-preserved g c =

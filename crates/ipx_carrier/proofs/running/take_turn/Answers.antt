@@ -6,14 +6,14 @@ use Rattle.ipx_carrier.proofs.running.take_turn.Goals as goal
 pub returns-in_err-heard-clause-fault : goal.returns-in_err-heard-clause-fault
 returns-in_err-heard-clause-fault g c =
     let p = err_from_is_err_and c.from_residual.result c.from_residual.ensures.1 in
-    rw p.1
-    (ends_hearing g.C.Core.hears g.C.Core.gives g.K.Clock.tells (g.C.Core.port_count c.args.core.now) (peers_of c.args.peers.now) c.now-now.result _ _ _ _ _ c.now-now.ensures c.in_err-heard.ensures.fault)
+    rw (p.1, p.2)
+    (ends_hearing g.C.Core.hears g.C.Core.misses g.C.Core.gives g.C.Core.withholds g.K.Clock.tells (g.C.Core.port_count c.args.core.now) (peers_of c.args.peers.now) c.now-now.result _ _ _ _ _ _ _ c.now-now.ensures c.in_err-heard.ensures.fault)
 
 pub returns-in_err-tally-clause-fault : goal.returns-in_err-tally-clause-fault
 returns-in_err-tally-clause-fault g c =
     let p = err_from_is_err_and c.from_residual-in_err-tally.result c.from_residual-in_err-tally.ensures.1 in
-    rw p.1
-    (ends_sending g.C.Core.hears g.C.Core.gives g.K.Clock.tells (g.C.Core.port_count c.args.core.now) (peers_of c.args.peers.now) c.now-now.result _ _ _ _ _ _ _ c.in_ok-heard.heard c.now-now.ensures c.in_ok-heard.ensures.heard c.in_err-tally.ensures.fault)
+    rw (p.1, p.2)
+    (ends_sending g.C.Core.hears g.C.Core.misses g.C.Core.gives g.C.Core.withholds g.K.Clock.tells (g.C.Core.port_count c.args.core.now) (peers_of c.args.peers.now) c.now-now.result _ _ _ _ _ _ _ _ _ c.in_ok-heard.heard c.now-now.ensures c.in_ok-heard.ensures.heard c.in_err-tally.ensures.fault)
 
 pub returns-clause-turn : goal.returns-clause-turn
 returns-clause-turn g c =

@@ -10,8 +10,8 @@ use Rattle.ipx_carrier.proofs.sending.send_all.Goals as goal
 pub returns-in_err-sending-clause-fault : goal.returns-in_err-sending-clause-fault
 returns-in_err-sending-clause-fault g c =
     let p = err_from_is_err_and c.from_residual.result c.from_residual.ensures.1 in
-    rw p.1
-    (sends_in_part g.C.Core.gives c.loop-asked._asked 64 c.args.now (peers_of c.args.peers.now) _ _ _ _ _ c.loop-asked.tally c.loop-asked.invariant.sent (omega arith) c.in_err-sending.ensures.fault)
+    rw (p.1, p.2)
+    (sends_in_part g.C.Core.gives g.C.Core.withholds c.loop-asked._asked 64 c.args.now (peers_of c.args.peers.now) _ _ _ _ _ _ c.loop-asked.tally _ c.loop-asked.invariant.sent (omega arith) c.in_err-sending.ensures.fault)
 
 pub loop-asked-preserved : goal.loop-asked-preserved
 loop-asked-preserved g c =

@@ -1,7 +1,7 @@
-use Rattle.std.proofs.Common.{rules, take, Some}
+use Rattle.std.proofs.Common.{refl, rules, take, Some}
 use Rattle.std.proofs.lemmas.Result.{err_from_is_err_and}
 use Rattle.ipx_carrier.specs.Turns.{Given, peers_of}
-use Rattle.ipx_carrier.proofs.Sends.{one_sent_in_part}
+use Rattle.ipx_carrier.proofs.Sends.{none_sent, one_sent_in_part}
 use Rattle.ipx_carrier.proofs.sending.send_next.Goals as goal
 
 pub returns-in_err-sending-clause-fault : goal.returns-in_err-sending-clause-fault
@@ -10,5 +10,11 @@ returns-in_err-sending-clause-fault g c =
     let i = c.in-Some in
     let given : Given = record { port = i.port; node = i.node; bytes = take i.count c.next.new.room } in
     let gave : g.C.Core.gives c.args.core.now c.args.now (Some given) c.next.new.self = search rules in
-    rw p.1
-    (one_sent_in_part g.C.Core.gives c.args.now (peers_of c.args.peers.now) given _ _ _ c.next.new.self gave c.in_err-sending.ensures.fault)
+    rw (p.1, p.2)
+    (one_sent_in_part g.C.Core.gives g.C.Core.withholds c.args.now (peers_of c.args.peers.now) given _ _ _ c.next.new.self gave c.in_err-sending.ensures.fault)
+
+pub returns-in_err-port-clause-fault : goal.returns-in_err-port-clause-fault
+returns-in_err-port-clause-fault g c =
+    let p = err_from_is_err_and c.from_residual.result c.from_residual.ensures.1 in
+    rw (p.1, p.2)
+    (none_sent g.C.Core.gives g.C.Core.withholds c.args.now (peers_of c.args.peers.now) _ _ _ _ c.in_err-port.ensures.refused refl)

@@ -9,8 +9,8 @@ use Rattle.ipx_net.specs.declared.place.Place.{Place}
 use Rattle.ipx_net.proofs.Happened.{after, before, counted, delivered_ok, letter_at, parcel_within, reached_ok}
 use Rattle.ipx_net.proofs.happening.deliver.Goals as goal
 
-pub returns-in-Host : goal.returns-in-Host
-returns-in-Host c =
+pub returns-in-Host-clause-delivers : goal.returns-in-Host-clause-delivers
+returns-in-Host-clause-delivers c =
     let b = c.args.book.now in
     let ps = c.parcels-parcels.result.now in
     let p = c.index-parcels-parcel.result in
@@ -19,10 +19,10 @@ returns-in-Host c =
     (delivered_ok c.deliver_host.result c.args.hosts.now c.deliver_host.new.hosts c.args.routers.now b c.in-Host.host c.args.parcel c.args.now (parcel_view p) c.deref.result.now (c.deref.ensures.value ∙ ap (λ (z : Parcel). z.bytes.items) (sym c.index-parcels-parcel.is))
     (letter_at ps b c.args.parcel p c.parcels-parcels.ensures within c.index-parcels-parcel.is)
     (subst (λ (pl : Place). place_fault (slice_get b.parcels c.args.parcel) (network_at (before c.args.hosts.now c.args.routers.now b c.args.now) pl) ≡ None) c.in-Host.is c.requires)
-    c.deliver_host.ensures)
+    c.deliver_host.ensures.delivers)
 
-pub returns-in-Port : goal.returns-in-Port
-returns-in-Port c =
+pub returns-in-Port-clause-delivers : goal.returns-in-Port-clause-delivers
+returns-in-Port-clause-delivers c =
     let b = c.args.book.now in
     let ps = c.parcels-parcels.result.now in
     let p = c.index-parcels-parcel.result in

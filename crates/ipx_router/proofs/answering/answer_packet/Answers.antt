@@ -5,8 +5,11 @@ use Rattle.ipx_router.proofs.Fits.{rip_there_ok, sap_there_ok}
 use Rattle.ipx_router.proofs.KeptTables.{sound_kept}
 use Rattle.ipx_router.proofs.answering.answer_packet.Goals as goal
 
-pub answer_rip-requires : goal.answer_rip-requires
-answer_rip-requires c = c.requires.sound.tables.routes
+pub answer_rip-requires-clause-ports : goal.answer_rip-requires-clause-ports
+answer_rip-requires-clause-ports c = c.requires.sound.count
+
+pub answer_rip-requires-clause-table : goal.answer_rip-requires-clause-table
+answer_rip-requires-clause-table c = c.requires.sound.tables.routes
 
 pub answer_sap-requires : goal.answer_sap-requires
 answer_sap-requires c = c.requires.sound.tables.services

@@ -1,29 +1,19 @@
-use Rattle.std.proofs.Common.{refl}
 use Rattle.ipx_wire.specs.Ipx.{view as packet_view}
 use Rattle.ipx_router.specs.Knowledge.{services_in}
-use Rattle.ipx_router.proofs.Receiving.{sap_heard, sap_wants, sap_unread, sap_wanted}
+use Rattle.ipx_router.proofs.Receiving.{sap_heard, sap_wants}
 use Rattle.ipx_router.proofs.answering.answer_sap.Goals as goal
 
 pub returns-in-Ok-Response-clause-answer : goal.returns-in-Ok-Response-clause-answer
 returns-in-Ok-Response-clause-answer c =
     let found = rw c.in-Ok-Response.field-0-is at c.in-Ok-Response.ensures.found in
-    let heard = rw c.deref.ensures.value at c.hear_services-heard.ensures.heard in
-    let refused = rw c.deref.ensures.value at c.hear_services-heard.ensures.refused in
-    sap_heard (services_in c.args.services.now) c.args.at (packet_view c.args.packet) found.0 c.in-Ok-Response.field-0-0 c.in-Ok-Response.entries.items c.neighbour_of-source.result c.neighbour_of-source.ensures c.in-Ok-Response.ensures.whole found.1 c.hear_services-heard.new.services
-    c.hear_services-heard.result c.outcome_of_hearing.result heard refused c.outcome_of_hearing.ensures.answer
+    sap_heard (services_in c.args.services.now) c.args.at (packet_view c.args.packet) found.0 c.in-Ok-Response.field-0-0 c.in-Ok-Response.entries c.neighbour_of-source.result c.neighbour_of-source.ensures c.in-Ok-Response.ensures.whole found.1 c.hear_services-heard.new.services
+    c.hear_services-heard.result c.outcome_of_hearing.result c.hear_services-heard.ensures.heard c.hear_services-heard.ensures.refused c.outcome_of_hearing.ensures.answer
 
 pub returns-in-Ok-Response-clause-refused : goal.returns-in-Ok-Response-clause-refused
 returns-in-Ok-Response-clause-refused c =
     let found = rw c.in-Ok-Response.field-0-is at c.in-Ok-Response.ensures.found in
-    let refused = rw c.deref.ensures.value at c.hear_services-heard.ensures.refused in
-    sap_wants (services_in c.args.services.now) c.args.at (packet_view c.args.packet) found.0 c.in-Ok-Response.field-0-0 c.in-Ok-Response.entries.items c.neighbour_of-source.result c.neighbour_of-source.ensures c.in-Ok-Response.ensures.whole found.1 c.hear_services-heard.new.services
-    c.hear_services-heard.result c.outcome_of_hearing.result refused c.outcome_of_hearing.ensures.refused
+    sap_wants (services_in c.args.services.now) c.args.at (packet_view c.args.packet) found.0 c.in-Ok-Response.field-0-0 c.in-Ok-Response.entries c.neighbour_of-source.result c.neighbour_of-source.ensures c.in-Ok-Response.ensures.whole found.1 c.hear_services-heard.new.services
+    c.hear_services-heard.result c.outcome_of_hearing.result c.hear_services-heard.ensures.refused c.outcome_of_hearing.ensures.refused
 
 pub returns-in-Ok-Response-clause-sources : goal.returns-in-Ok-Response-clause-sources
 returns-in-Ok-Response-clause-sources c = λ count port from. c.hear_services-heard.ensures.sources count (rw c.neighbour_of-source.ensures port) from
-
-pub returns-in-Err-OutOfMemory-clause-refused : goal.returns-in-Err-OutOfMemory-clause-refused
-returns-in-Err-OutOfMemory-clause-refused c =
-    let fault = rw c.in-Err-OutOfMemory.field-0-is at c.in-Err-OutOfMemory.ensures.fault in
-    let found = c.sap_fault_is_of_no_sap.ensures.packet c.args.packet.body.now (sap_wanted c.args.packet.body.now fault) in
-    sap_unread (services_in c.args.services.now) c.args.at (packet_view c.args.packet) c.in-Err-OutOfMemory.field-0 c.in-Err-OutOfMemory.ensures.no_memory c.args.services.now (λ p. refl) found

@@ -1,4 +1,4 @@
-use Rattle.std.proofs.Common.{◌≡◌, ℕ}
+use Rattle.std.proofs.Common.{◌≡◌, ◌++◌, ℕ, length}
 use Rattle.ipx_tables.specs.Content.{IsTable}
 use Rattle.ipx_tables.specs.Service.{service_key_cmp}
 use Rattle.ipx_router.specs.Knowledge.{services_in}
@@ -8,8 +8,9 @@ use Rattle.ipx_router.proofs.hearing.hear_services.Given as goal
 
 abbrev pub invariant-loop-entry : goal.invariant-loop-entry
 invariant-loop-entry l = record {
-  count : l.heard ≡ l.entry-index;
-  heard : HeardServices l.source l.now l.entries (services_in l.fn.services) l.entry-index l.services;
+  all : l.yielded ++ l.entry-iterator ≡ l.fn.entries;
+  count : l.heard ≡ length l.yielded;
+  heard : HeardServices l.source l.now l.fn.entries (services_in l.fn.services) (length l.yielded) l.services;
   most : l.services.most ≡ l.fn.services.most;
   valid : IsTable service_key_cmp l.services;
   sources : (count : ℕ) → IsPortNumber count l.source.port → AreFromPorts count (services_in l.fn.services) → AreFromPorts count (services_in l.services);

@@ -1,6 +1,6 @@
 use Rattle.std.proofs.Common.{◌≡◌, ◌<◌, length, arith, get_or, sym, subst}
 use Rattle.ipx_steps.specs.World.{EndNow}
-use Rattle.ipx_hosts.proofs.Placing.{end_within, known_held, released}
+use Rattle.ipx_hosts.proofs.Placing.{end_within, homes_set, known_held, released}
 use Rattle.ipx_hosts.proofs.hosts.Hosts.release.Goals as goal
 
 pub returns-in-Err-clause-done : goal.returns-in-Err-clause-done
@@ -18,3 +18,7 @@ returns-clause-ok c =
     let es = c.self.inside.ends.items in
     released c.args.self.now c.self.inside.stations.items es c.args.who c.place-host.result.0 c.place-host.result.1 c.index_mut.result.now c.release.new.self e c.args.now c.self.view_is c.index_mut.ensures.value
     (subst (λ (z : EndNow). z ≡ get_or es c.args.who z) (sym c.behind-self.view_is) c.index_mut-2.ensures.value) c.place-host.ensures c.in_default.ensures.ok
+
+pub returns-clause-homes : goal.returns-clause-homes
+returns-clause-homes c =
+    homes_set c.args.self.now c.self.inside.stations.items c.self.inside.ends.items c.place-host.result.0 c.index_mut.result.now c.release.new.self c.self.view_is c.index_mut.ensures.value c.in_default.ensures.home

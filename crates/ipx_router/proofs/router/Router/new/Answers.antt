@@ -4,6 +4,7 @@ use Rattle.ipx_router.proofs.router.Router.new.Goals as goal
 
 pub invariant_of-result : goal.invariant_of-result
 invariant_of-result c = record {
+  some = grind arith;
   count = omega arith;
   networks = c.requires;
   routes_from = λ p v h. (let none = rw c.route_table.ensures.empty at h in cc);

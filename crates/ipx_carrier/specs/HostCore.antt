@@ -1,0 +1,28 @@
+-- A host as a core: its endpoint hears, and gives by a poll.
+-- The entry points are `Hears` and `Gives`, and `Misses` where memory is refused.
+use Rattle.std.specs.Prelude.{◌≡◌, ℕ, List, Option, Some, None}
+use Rattle.ipx_wire.specs.declared.address.Node.{Node}
+use Rattle.spx_messages.specs.declared.arrived.Arrived.{Arrived}
+use Rattle.spx_messages.specs.Arrives.{Arrives, IsAcceptable, Unheard}
+use Rattle.spx_messages.specs.EndpointView.{EndpointView}
+use Rattle.spx_messages.specs.Polls.{Polls}
+use Rattle.ipx_carrier.specs.Turns.{Given}
+use Rattle.ipx_carrier.specs.Given.{given_in}
+
+-- the endpoint reads a datagram, whatever it answers
+abbrev pub Hears : EndpointView → List ℕ → ℕ → EndpointView → Type 0
+Hears old bytes now new = (answer : Arrived) × Arrives old bytes now answer new
+
+-- memory is refused only for a link that would be made; then nothing changes but who heard last
+abbrev pub Misses : EndpointView → List ℕ → EndpointView → Type 0
+Misses old bytes new = IsAcceptable old bytes × Unheard old new × (new.said ≡ old.said)
+
+-- a host has one port, of number 0
+abbrev pub at_port : Option (Node × ℕ) → Option (ℕ × Node × ℕ)
+at_port None = None
+at_port (Some r) = Some (0, r.0, r.1)
+
+-- what a poll writes into some room is given
+abbrev pub Gives : EndpointView → ℕ → Option Given → EndpointView → Type 0
+Gives old now given new = (polled : Option (Node × ℕ)) × (room written : List ℕ)
+    × Polls old now polled room written new × (given ≡ given_in written (at_port polled))

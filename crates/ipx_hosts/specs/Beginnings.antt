@@ -1,0 +1,34 @@
+-- A host as a network is made with it: an address, no links, and one socket that listens at most.
+use Rattle.std.specs.Prelude.{ℕ, ◌≡◌, ◌==◌, List, [], ◌∷◌, ◌++◌, Option, Some, None, if◌then◌else◌}
+use Rattle.ipx_wire.specs.declared.address.Network.{Network}
+use Rattle.ipx_wire.specs.declared.address.Node.{Node}
+use Rattle.ipx_wire.specs.declared.address.Socket.{Socket}
+use Rattle.spx_link.specs.Links.{count_of}
+use Rattle.spx_messages.specs.EndpointView.{buffers_at, held_at}
+use Rattle.ipx_steps.specs.World.{Station}
+
+-- the buffers of the links that are accepted at a socket
+abbrev pub listens_at : Option (Socket × ℕ) → Socket → Option ℕ
+listens_at None socket = None
+listens_at (Some l) socket = if l.0.0 == socket.0 then Some l.1 else None
+
+pub record BeginsAt (network : Network) (node router : Node) (listen : Option (Socket × ℕ))
+    (s : Station) : Type 0 where
+  pub network_is : s.endpoint.network ≡ network
+  pub node_is : s.endpoint.node ≡ node
+  pub router_is : s.endpoint.router ≡ router
+  pub none : (id : ℕ) → held_at s.endpoint id ≡ None
+  pub count : count_of s.endpoint.links ≡ 0
+  -- no id was given yet, no packet was given, and none was read
+  pub last : s.endpoint.links.last ≡ 0
+  pub said : s.endpoint.said ≡ None
+  pub heard : s.endpoint.heard ≡ None
+  pub here : s.here ≡ []
+  pub buffers : (socket : Socket) → buffers_at s.endpoint socket ≡ listens_at listen socket
+
+-- such a host comes behind the others
+pub record AddsHost (old new : List Station) (network : Network) (node router : Node)
+    (listen : Option (Socket × ℕ)) : Type 0 where
+  pub station : Station
+  pub begins : BeginsAt network node router listen station
+  pub stations : new ≡ old ++ station ∷ []

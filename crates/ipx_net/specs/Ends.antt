@@ -1,0 +1,53 @@
+-- What is told of the ends of a network, each by its number from 0.
+use Rattle.std.specs.Prelude.{ℕ, ◌≡◌, false, List, None, Some, length, slice_get, slice_index_or}
+use Rattle.spx_link.specs.LinkView.{LinkView}
+use Rattle.spx_link.specs.Marks.{mark}
+use Rattle.ipx_log.specs.EndsTold.{peer_of}
+use Rattle.ipx_log.specs.Handed.{handed_in, handed_out}
+use Rattle.ipx_log.specs.Note.{Note}
+use Rattle.ipx_log.specs.Scan.{scan}
+use Rattle.ipx_log.specs.Scene.{Stand, Stands}
+use Rattle.ipx_log.specs.SentUnits.{sent_by}
+use Rattle.ipx_steps.specs.World.{EndNow, Station, World, held_of, scene_of}
+use Rattle.ipx_hosts.specs.Telling.{state_of}
+use Rattle.ipx_net.specs.NetView.{NetView}
+use Rattle.ipx_net.specs.declared.endinfo.EndInfo.{EndInfo}
+
+-- a number of no end has this
+abbrev pub nobody : EndInfo
+nobody = record { host = 0; state = None; given = 0; out = 0; next = 0; peer = None }
+
+abbrev pub told_of : List EndInfo → ℕ → EndInfo
+told_of told who = slice_index_or told who nobody
+
+-- of an end, read off the log: how many messages it handed in and out, the number of the first unit that it did not send, and
+-- its peer
+pub record TellsEnd (log : List Note) (who : ℕ) (e : EndInfo) : Type 0 where
+  pub given : e.given ≡ length (handed_in who log)
+  pub out : e.out ≡ length (handed_out who log)
+  pub next : e.next ≡ mark (sent_by who log)
+  pub peer : e.peer ≡ peer_of log who
+
+-- as many as the log has ends, and of every number what the log says of it
+pub record TellsLog (log : List Note) (told : List EndInfo) : Type 0 where
+  pub count : length told ≡ length (scan log).roles
+  pub each : (who : ℕ) → TellsEnd log who (told_of told who)
+
+-- of an end, where it stands: its host, and the state of its link, which it has until it is released
+pub record TellsStand (hosts : List Station) (n : EndNow) (e : EndInfo) : Type 0 where
+  pub host : e.host ≡ n.host
+  pub state : e.state ≡ state_of (held_of hosts n)
+
+abbrev pub TellsStands : World → List EndInfo → Type 0
+TellsStands w told = (who : ℕ) (n : EndNow) → slice_get w.ends who ≡ Some n
+    → TellsStand w.hosts n (told_of told who)
+
+-- what the log says is told always; hosts and states while the network goes on
+pub record TellsEnds (v : NetView) (told : List EndInfo) : Type 0 where
+  pub log : TellsLog v.now.world.log told
+  pub stands : v.spent ≡ false → TellsStands v.now.world told
+
+-- the next number that is told is that of the link, where there is one
+abbrev pub TellsNext : World → List EndInfo → Type 0
+TellsNext w told = (who : ℕ) (s : Stand) (l : LinkView) → Stands (scene_of w) who s l
+    → (told_of told who).next ≡ l.next

@@ -1,0 +1,288 @@
+//! What is told of the ends of a network, kept as its log grows.
+
+ghost use Rattle.std.specs.Prelude.{◌≡◌, ◌≢◌, ◌<◌, ◌≤◌, ◌+◌, ◌-◌, ◌^◌, ℕ, [], OnOk, Some, length, set, slice_get, take, vec_capacity, vec_len};
+ghost use Rattle.ipx_hosts.specs.Hosts.{FitTogether};
+ghost use Rattle.ipx_hosts.specs.Telling.{here_at, state_at};
+ghost use Rattle.ipx_log.specs.EndsTold.{peer_of};
+ghost use Rattle.ipx_log.specs.Scan.{scan};
+ghost use Rattle.ipx_steps.specs.World.{end_at};
+ghost use Rattle.ipx_net.specs.Ends.{nobody, told_of};
+ghost use Rattle.ipx_net.specs.Entries.{entry_note, entry_notes};
+ghost use Rattle.ipx_net.specs.Told.{AreCounted, AreNumbered, StandsSo, StayAlone, StayAs, change, joins, logged, one_given, one_out, one_sent, paired, paired_by, settled, standing, state_by, stood, told_with, with_peer};
+
+use crate::book::Book;
+use crate::endinfo::EndInfo;
+use crate::entry::Entry;
+use ipx_hosts::Hosts;
+use ipx_log::peer_is_found;
+use spx_link::State;
+use std::alloc::{AllocError, Global};
+
+/// What is told of each end, by its number.
+#[derive(Drop)]
+pub struct EndsTold {
+    pub infos: Vec<EndInfo>,
+}
+
+/// An end of which nothing is known yet.
+fn nobody() -> EndInfo
+    ensures { result ≡ nobody }
+{
+    EndInfo {
+        host: 0,
+        state: None,
+        given: 0,
+        out: 0,
+        next: 0,
+        peer: None,
+    }
+}
+
+/// What is told of a number.
+fn told_of(infos: &[EndInfo], who: usize) -> EndInfo
+    ensures { result ≡ told_of infos.now who }
+{
+    match infos.get(who) {
+        Some(info) => *info,
+        None => nobody(),
+    }
+}
+
+/// Tells this of an end, if there is one of that number.
+fn put(infos: &mut [EndInfo], who: usize, info: EndInfo)
+    ensures { infos.new ≡ set infos.old who info }
+{
+    if who < infos.len() {
+        infos[who] = info;
+    }
+}
+
+/// An end handed in a message more.
+fn add_given(infos: &mut [EndInfo], who: usize)
+    requires { (told_of infos.old who).given + 1 < 2 ^ 64 }
+    ensures { infos.new ≡ change one_given who infos.old }
+{
+    let info = told_of(infos, who);
+    put(
+        infos,
+        who,
+        EndInfo {
+            given: info.given + 1,
+            ..info
+        },
+    );
+}
+
+/// An end handed out a message more.
+fn add_out(infos: &mut [EndInfo], who: usize)
+    requires { (told_of infos.old who).out + 1 < 2 ^ 64 }
+    ensures { infos.new ≡ change one_out who infos.old }
+{
+    let info = told_of(infos, who);
+    put(
+        infos,
+        who,
+        EndInfo {
+            out: info.out + 1,
+            ..info
+        },
+    );
+}
+
+/// An end sent a unit more for the first time.
+fn add_sent(infos: &mut [EndInfo], who: usize)
+    ensures { infos.new ≡ change one_sent who infos.old }
+{
+    let info = told_of(infos, who);
+    put(
+        infos,
+        who,
+        EndInfo {
+            next: info.next.wrapping_add(1),
+            ..info
+        },
+    );
+}
+
+/// An end has this peer.
+fn set_peer(infos: &mut [EndInfo], who: usize, peer: Option<usize>)
+    ensures { infos.new ≡ change (with_peer peer) who infos.old }
+{
+    let info = told_of(infos, who);
+    put(infos, who, EndInfo { peer, ..info });
+}
+
+/// An end stands at this host, and its link has that state.
+fn set_standing(infos: &mut [EndInfo], who: usize, host: usize, state: Option<State>)
+    ensures { infos.new ≡ change (standing host state) who infos.old }
+{
+    let info = told_of(infos, who);
+    put(
+        infos,
+        who,
+        EndInfo {
+            host,
+            state,
+            ..info
+        },
+    );
+}
+
+/// The end that an entry made by a request, or joined.
+fn joining(entry: &Entry) -> Option<usize>
+    ensures { result ≡ joins (entry_note entry.now) }
+{
+    match entry {
+        Entry::Accepted { who, .. } | Entry::Joined { who, .. } => Some(*who),
+        Entry::Opened { .. }
+        | Entry::HandIn { .. }
+        | Entry::HandOut { .. }
+        | Entry::UnitTaken { .. }
+        | Entry::EndAsked { .. }
+        | Entry::Got { .. }
+        | Entry::Released { .. }
+        | Entry::Unit { .. }
+        | Entry::Again { .. }
+        | Entry::System { .. }
+        | Entry::Told { .. }
+        | Entry::Carried { .. }
+        | Entry::Injected { .. } => None,
+    }
+}
+
+impl EndsTold {
+    /// Of no end yet.
+    pub fn new(alloc: Global) -> EndsTold
+        ensures { result.infos.items ≡ [] }
+    {
+        EndsTold {
+            infos: Vec::new(alloc),
+        }
+    }
+
+    /// Takes room for the ends that these entries make.
+    pub fn reserve(&mut self, entries: &[Entry]) -> Result<(), AllocError>
+        ensures same { self.new.infos.items ≡ self.old.infos.items }
+        ensures room { OnOk result
+            (vec_len self.new.infos + length entries.now ≤ vec_capacity self.new.infos) }
+    {
+        self.infos.reserve(entries.len())
+    }
+
+    /// One entry more.
+    fn read(&mut self, entry: &Entry)
+        requires room { vec_len self.old.infos + 1 ≤ vec_capacity self.old.infos }
+        requires few { (e : ℕ) → ((told_of self.old.infos.items e).given + 1 < 2 ^ 64)
+            × ((told_of self.old.infos.items e).out + 1 < 2 ^ 64) }
+        ensures told { self.new.infos.items ≡ told_with (entry_note entry.now) self.old.infos.items }
+        ensures room { (more : ℕ) → vec_len self.old.infos + (more + 1) ≤ vec_capacity self.old.infos
+            → vec_len self.new.infos + more ≤ vec_capacity self.new.infos }
+    {
+        match entry {
+            Entry::Opened { .. } | Entry::Accepted { .. } => self.infos.push_reserved(nobody()),
+            Entry::HandIn { who, .. } => add_given(&mut self.infos, *who),
+            Entry::HandOut { who, .. } => add_out(&mut self.infos, *who),
+            Entry::Unit { who, .. } => add_sent(&mut self.infos, *who),
+            Entry::Joined { .. }
+            | Entry::UnitTaken { .. }
+            | Entry::EndAsked { .. }
+            | Entry::Got { .. }
+            | Entry::Released { .. }
+            | Entry::Again { .. }
+            | Entry::System { .. }
+            | Entry::Told { .. }
+            | Entry::Carried { .. }
+            | Entry::Injected { .. } => {}
+        }
+    }
+
+    /// The entries of a log from a place on: new ends, and what ends handed in and out and sent.
+    pub fn read_from(&mut self, log: &[Entry], from: usize)
+        requires range { from ≤ length log.now }
+        requires room { vec_len self.old.infos + (length log.now - from) ≤ vec_capacity self.old.infos }
+        requires numbered { AreNumbered (entry_notes log.now) }
+        requires counted { AreCounted (entry_notes (take from log.now)) self.old.infos.items }
+        ensures counted { AreCounted (entry_notes log.now) self.new.infos.items }
+        ensures same { StayAs self.old.infos.items self.new.infos.items }
+    {
+        for at in from..log.len() {
+            self.read(&log[at]);
+        }
+    }
+
+    /// An end has this peer, or none, and its peer has this end.
+    fn pair(&mut self, who: usize, peer: Option<usize>)
+        ensures { self.new.infos.items ≡ paired who peer self.old.infos.items }
+    {
+        set_peer(&mut self.infos, who, peer);
+        if let Some(other) = peer {
+            set_peer(&mut self.infos, other, Some(who));
+        }
+    }
+
+    /// The peer of the end that an entry of a book made or joined.
+    fn pair_by(&mut self, entry: &Entry, book: &Book)
+        ensures { self.new.infos.items
+            ≡ paired_by (joins (entry_note entry.now)) book.now.log self.old.infos.items }
+    {
+        if let Some(who) = joining(entry) {
+            self.pair(who, book.peer(who));
+        }
+    }
+
+    /// The peers of the ends that the entries of a book from a place on made or joined.
+    pub fn pair_from(&mut self, book: &Book, from: usize)
+        requires range { from ≤ length book.now.log }
+        requires numbered { AreNumbered book.now.log }
+        requires made { length self.old.infos.items ≡ length (scan book.now.log).roles }
+        requires before { (e : ℕ) → (told_of self.old.infos.items e).peer
+            ≡ peer_of (take from book.now.log) e }
+        ensures peers { (e : ℕ) → (told_of self.new.infos.items e).peer ≡ peer_of book.now.log e }
+        ensures alone { StayAlone self.old.infos.items self.new.infos.items }
+        ensures count { length self.new.infos.items ≡ length self.old.infos.items }
+    {
+        peer_is_found();
+        let log = book.log();
+        for at in from..log.len() {
+            self.pair_by(&log[at], book);
+        }
+    }
+
+    /// The end of an id of a host is told as it stands, or as gone.
+    fn stand(&mut self, hosts: &Hosts, host: usize, id: u16, gone: bool)
+        ensures { self.new.infos.items ≡ stood (end_at (here_at hosts.now host) id) host
+            (state_by gone (state_at hosts.now host id)) self.old.infos.items }
+    {
+        if let Some(who) = hosts.known(host, id) {
+            let state = if gone { None } else { hosts.state(host, id) };
+            set_standing(&mut self.infos, who, host, state);
+        }
+    }
+
+    /// The end of a link of a host, by its place, is told as it stands, or as gone.
+    fn stand_at(&mut self, hosts: &Hosts, host: usize, place: usize, gone: bool)
+        ensures { self.new.infos.items ≡ settled hosts.now host gone
+            (slice_get (here_at hosts.now host) place) self.old.infos.items }
+    {
+        if let Some(id) = hosts.id(host, place) {
+            self.stand(hosts, host, id, gone);
+        }
+    }
+
+    /// The ends of a host are told as they stand, or all as gone.
+    pub fn settle(&mut self, hosts: &Hosts, host: usize, gone: bool)
+        requires { FitTogether hosts.now }
+        ensures count { length self.new.infos.items ≡ length self.old.infos.items }
+        ensures log { (who : ℕ) → logged (told_of self.new.infos.items who)
+            ≡ logged (told_of self.old.infos.items who) }
+        ensures here { (id who : ℕ) → end_at (here_at hosts.now host) id ≡ Some who
+            → who < length self.old.infos.items
+            → StandsSo host (state_by gone (state_at hosts.now host id)) (told_of self.new.infos.items who) }
+        ensures others { (who : ℕ) → ((id : ℕ) → end_at (here_at hosts.now host) id ≢ Some who)
+            → told_of self.new.infos.items who ≡ told_of self.old.infos.items who }
+    {
+        for place in 0..hosts.links(host) {
+            self.stand_at(hosts, host, place, gone);
+        }
+    }
+}

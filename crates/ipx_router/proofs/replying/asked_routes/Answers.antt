@@ -1,0 +1,38 @@
+use Rattle.std.proofs.Common.{◌∙◌, List, [], ◌∷◌, ◌++◌, Option, sym, subst, arith}
+use Rattle.std.specs.List.{cons_option}
+use Rattle.std.proofs.lemmas.Grind.{common_steps}
+use Rattle.std.proofs.lemmas.List.{append-nil}
+use Rattle.ipx_control.specs.declared.rip.packet.RipEntry.{RipEntry}
+use Rattle.ipx_router.specs.Knowledge.{routes_in}
+use Rattle.ipx_router.specs.Told.{IsToldRoute}
+use Rattle.ipx_router.specs.Replying.{AreToldOf}
+use Rattle.ipx_router.proofs.Picked.{asked_more, named_more}
+use Rattle.ipx_router.proofs.replying.asked_routes.Goals as goal
+
+pub loop-entry-preserved-in-Continue-1 : goal.loop-entry-preserved-in-Continue-1
+loop-entry-preserved-in-Continue-1 c =
+    let ys = c.loop-entry.yielded in
+    let e = c.in-Some.entry in
+    let told = c.loop-entry.told.items in
+    let IsTold : RipEntry → Type 0 = IsToldRoute c.args.ports.now (routes_in c.args.routes.now) c.args.at in
+    let more = asked_more IsTold ys told e c.told_of.result c.loop-entry.invariant.told c.told_of.ensures in
+    let one = subst (λ (o : Option RipEntry). AreToldOf IsTold (ys ++ e ∷ []) (told ++ cons_option o [])) c.in-Some-told_of.is more in
+    record {
+      all = grind (arith, common_steps);
+      named = named_more ys e c.loop-entry.invariant.named (sym c.eq.ensures ∙ c.if-eq.false);
+      told = rw c.in_ok-push.ensures.items one;
+    }
+
+pub loop-entry-preserved : goal.loop-entry-preserved
+loop-entry-preserved c =
+    let ys = c.loop-entry.yielded in
+    let e = c.in-Some.entry in
+    let told = c.loop-entry.told.items in
+    let IsTold : RipEntry → Type 0 = IsToldRoute c.args.ports.now (routes_in c.args.routes.now) c.args.at in
+    let more = asked_more IsTold ys told e c.told_of.result c.loop-entry.invariant.told c.told_of.ensures in
+    let none = subst (λ (o : Option RipEntry). AreToldOf IsTold (ys ++ e ∷ []) (told ++ cons_option o [])) c.in_default.is more in
+    record {
+      all = grind (arith, common_steps);
+      named = named_more ys e c.loop-entry.invariant.named (sym c.eq.ensures ∙ c.if-eq.false);
+      told = subst (λ (es : List RipEntry). AreToldOf IsTold (ys ++ e ∷ []) es) (append-nil told) none;
+    }

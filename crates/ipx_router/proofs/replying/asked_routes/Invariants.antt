@@ -1,0 +1,13 @@
+use Rattle.std.proofs.Common.{◌≡◌, ◌++◌, false}
+use Rattle.ipx_router.specs.Knowledge.{routes_in}
+use Rattle.ipx_router.specs.Told.{IsToldRoute}
+use Rattle.ipx_router.specs.Replying.{AreToldOf, asks_all}
+use Rattle.ipx_router.proofs.replying.asked_routes.Given as goal
+
+-- the entries so far each name a network, and what is told of those was found
+abbrev pub invariant-loop-entry : goal.invariant-loop-entry
+invariant-loop-entry l = record {
+  all : l.yielded ++ l.entry-iterator ≡ l.fn.asked;
+  named : asks_all l.yielded ≡ false;
+  told : AreToldOf (IsToldRoute l.ports (routes_in l.routes) l.at) l.yielded l.told.items;
+}

@@ -1,0 +1,70 @@
+-- how a fault of one part is the first fault of the whole
+use Rattle.std.proofs.Common.{String, ◌≡◌, ◌⊎◌, ℕ, suc, ◌+◌, List, [], ◌∷◌, ◌++◌, length, Option, Some, None, inl, inr, refl, ap}
+use Rattle.std.specs.Prelude.{MatchOption}
+use Rattle.std.specs.Global.{Global}
+use Rattle.toml.specs.Data.{Data, Items, item, Members, get_member}
+use Rattle.toml.specs.View.{items_view}
+use Rattle.toml.specs.declared.value.Value.{Value}
+use Rattle.ipx_site.specs.declared.fault.FileFault.{FileFault}
+use Rattle.ipx_site.specs.declared.fault.FileFault.TheVariants.{OutOfMemory}
+use Rattle.ipx_site.specs.declared.key.Key.{Key}
+use Rattle.ipx_site.specs.declared.site.SitePort.{SitePort}
+use Rattle.ipx_site.specs.declared.key.Key.TheVariants.{Status}
+use Rattle.ipx_site.specs.Keys.{key_text}
+use Rattle.ipx_site.specs.Values.{IsText}
+use Rattle.ipx_site.specs.Fields.{Holds, HoldsOr, IsRightOr}
+use Rattle.ipx_site.specs.Site.{ArePorts, IsFirstFault, IsPortItem, IsPortItemFault, IsTwin, item_count, twin_place}
+
+-- a fault of the whole comes of one of a part, or of want of memory
+pub or_memory : {A B : Type 0} (f : FileFault) → (A → B) → (f ≡ OutOfMemory) ⊎ A → (f ≡ OutOfMemory) ⊎ B
+or_memory f to (inl memory) = inl memory
+or_memory f to (inr a) = inr (to a)
+
+pub right_or : {A : Type 0} (Means : Data → A → Type 0) (key : Key) (ms : Members) (default a : A)
+    → HoldsOr Means key ms default a → IsRightOr Means key ms
+right_or Means key ms default a (inl absent) = inl absent.0
+right_or Means key ms default a (inr holds) = inr (a, holds)
+
+-- Of the items that are left the first is at fault. The ports seen so far are those before it, and
+-- they are counted.
+pub item_fault : (earlier : List SitePort) (i n : ℕ) → n ≡ i → (ds : Items) (d : Data) (left : Items)
+    → ds ≡ item d left → (f : FileFault) → IsPortItemFault (n + 1) d f → IsFirstFault earlier (i + 1) ds f
+item_fault earlier i n counted ds d left is f fault = rw (is, ← counted) (inl fault)
+
+pub twin_fault : (earlier seen : List SitePort) → seen ≡ earlier → (i n : ℕ) → n ≡ i
+    → (ds : Items) (d : Data) (left : Items) → ds ≡ item d left
+    → (p : SitePort) → IsPortItem d p → (f : FileFault) → IsTwin seen (n + 1) p f
+    → IsFirstFault earlier (i + 1) ds f
+twin_fault earlier seen same i n counted ds d left is p port f twin =
+    rw (is, ← counted, ← same) (inr (p, port, inl twin))
+
+-- or one behind it is
+pub later_fault : (earlier seen new : List SitePort) → seen ≡ earlier → (p : SitePort) → new ≡ earlier ++ p ∷ []
+    → (i : ℕ) (ds : Items) (d : Data) (left : Items) → ds ≡ item d left
+    → IsPortItem d p → twin_place seen p ≡ None
+    → (f : FileFault) → IsFirstFault new (i + 1 + 1) left f → IsFirstFault earlier (i + 1) ds f
+later_fault earlier seen new same p more i ds d left is port alone f fault =
+    let behind = rw more at fault in
+    let first = rw same at alone in
+    rw is (inr (p, port, inr (first, behind)))
+
+-- a port, and those behind it
+pub one_more_port : (earlier seen new : List SitePort) → seen ≡ earlier → (p : SitePort) → new ≡ earlier ++ p ∷ []
+    → (ds : Items) (d : Data) (left : Items) → ds ≡ item d left
+    → IsPortItem d p → twin_place seen p ≡ None
+    → (rest : List SitePort) → ArePorts new left rest → ArePorts earlier ds (p ∷ rest)
+one_more_port earlier seen new same p more ds d left is port alone rest are =
+    let behind = rw more at are in
+    let first = rw same at alone in
+    rw is (p, rest, refl, port, first, behind)
+
+-- a text that was read, or that is not there, has no fault
+pub status_right : (ms : Members) (found : Option (String Global))
+    → MatchOption found (get_member (key_text Status) ms ≡ None) (Holds IsText Status ms)
+    → IsRightOr IsText Status ms
+status_right ms None absent = inl absent
+status_right ms (Some text) holds = inr (text, holds)
+
+pub count_is : (vs : List Value) → item_count (items_view vs) ≡ length vs
+count_is [] = refl
+count_is (v ∷ vs) = ap (λ n. suc n) (count_is vs)

@@ -1,0 +1,4 @@
+pub mod Addresses
+pub mod Faults
+pub mod Found
+pub mod HexText

@@ -1,0 +1,18 @@
+use Rattle.std.proofs.Common.{inl, inr}
+use Rattle.std.proofs.lemmas.Result.{err_from_is_err_and}
+use Rattle.toml.specs.View.{items_view, table_view}
+use Rattle.ipx_site.proofs.Faults.{or_memory, status_right}
+use Rattle.ipx_site.proofs.reading.site_of.Goals as goal
+
+pub returns-in_err-values-clause-fault : goal.returns-in_err-values-clause-fault
+returns-in_err-values-clause-fault c =
+    let p = err_from_is_err_and c.from_residual-in_err-values.result c.from_residual-in_err-values.ensures.1 in
+    rw (p.1, p.2)
+    (inr (inr (c.in_ok-refuse_unknown.ensures.known, inr (status_right (table_view c.args.table.now) c.in_ok-status.status c.in_ok-status.ensures, inl c.in_err-values.ensures))))
+
+pub returns-in_err-ports-clause-fault : goal.returns-in_err-ports-clause-fault
+returns-in_err-ports-clause-fault c =
+    let p = err_from_is_err_and c.from_residual-in_err-ports.result c.from_residual-in_err-ports.ensures.1 in
+    rw (p.1, p.2)
+    (or_memory _ (λ fault. inr (c.in_ok-refuse_unknown.ensures.known, inr (status_right (table_view c.args.table.now) c.in_ok-status.status c.in_ok-status.ensures, inr (items_view c.in_ok-values.values.now, c.in_ok-values.ensures, fault))))
+    c.in_err-ports.ensures.fault)

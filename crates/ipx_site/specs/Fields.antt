@@ -1,0 +1,62 @@
+-- What a key of a table gives, and what is wrong with it.
+use Rattle.std.specs.Prelude.{String, string_bytes, ◌≡◌, ◌⊎◌, ℕ, List, Option, Some, None, Result, MatchOption, MatchResult}
+use Rattle.std.specs.Global.{Global}
+use Rattle.toml.specs.Data.{Data, Members, get_member}
+use Rattle.toml.specs.Parse.{parse_document}
+use Rattle.toml.specs.declared.de.error.Error.{Error}
+use Rattle.ipx_site.specs.declared.key.Key.{Key}
+use Rattle.ipx_site.specs.declared.fault.FileFault.{FileFault}
+use Rattle.ipx_site.specs.declared.fault.FileFault.TheVariants.{Missing, NotToml, OutOfMemory, Unknown, Wrong}
+use Rattle.ipx_site.specs.Keys.{first_unknown, key_text}
+
+-- a text is no TOML
+abbrev pub IsNoToml : List ℕ → FileFault → Type 0
+IsNoToml text f = (e : Error) × (f ≡ NotToml e) × (parse_document text ≡ None)
+
+-- a table has a name that is no key: the first one is told. A table has a number, for the line of
+-- the fault
+abbrev pub IsUnknown : List Key → Members → ℕ → FileFault → Type 0
+IsUnknown keys ms table f = (name : String Global) × (f ≡ Unknown table name)
+    × (first_unknown keys ms ≡ Some (string_bytes name))
+
+-- a key is not there
+abbrev pub IsMissing : Key → Members → ℕ → FileFault → Type 0
+IsMissing key ms table f = (f ≡ Missing table key) × (get_member (key_text key) ms ≡ None)
+
+module _ {A : Type 0} (Means : Data → A → Type 0) where
+  -- what a value means, or that it means nothing
+  abbrev pub Reads : Data → Option A → Type 0
+  Reads d found = MatchOption found ((a : A) → Means d a → ⊥) (Means d)
+
+  module _ (key : Key) (ms : Members) where
+    -- the key is there, and its value means this
+    abbrev pub Holds : A → Type 0
+    Holds a = (d : Data) × (get_member (key_text key) ms ≡ Some d) × Means d a
+
+    -- so it is, or the key is not there and this is the default
+    abbrev pub HoldsOr : A → A → Type 0
+    HoldsOr default a = ((get_member (key_text key) ms ≡ None) × (a ≡ default)) ⊎ Holds a
+
+    -- a fault of another key is told only where this one has none
+    abbrev pub IsRight : Type 0
+    IsRight = (a : A) × Holds a
+
+    abbrev pub IsRightOr : Type 0
+    IsRightOr = (get_member (key_text key) ms ≡ None) ⊎ IsRight
+
+    -- the key is there, and its value means nothing
+    abbrev pub IsWrong : ℕ → FileFault → Type 0
+    IsWrong table f = (f ≡ Wrong table key)
+        × ((d : Data) × (get_member (key_text key) ms ≡ Some d) × ((a : A) → Means d a → ⊥))
+
+    -- the fault of a key that must be there
+    abbrev pub IsFault : ℕ → FileFault → Type 0
+    IsFault table f = IsMissing key ms table f ⊎ IsWrong table f
+
+    -- what reading the key gives: of one that must be there, and of one with a default
+    abbrev pub Gives : ℕ → Result A FileFault → Type 0
+    Gives table r = MatchResult r Holds (λ f. (f ≡ OutOfMemory) ⊎ IsFault table f)
+
+    abbrev pub GivesOr : ℕ → A → Result A FileFault → Type 0
+    GivesOr table default r =
+        MatchResult r (HoldsOr default) (λ f. (f ≡ OutOfMemory) ⊎ IsWrong table f)

@@ -1,0 +1,40 @@
+-- The file of a host. All of it is own.
+use Rattle.std.specs.Prelude.{◌≡◌, ◌⊎◌, ℕ, List, None, Some}
+use Rattle.toml.specs.Data.{Members}
+use Rattle.toml.specs.Parse.{parse_document}
+use Rattle.ipx_site.specs.declared.fault.FileFault.{FileFault}
+use Rattle.ipx_site.specs.declared.key.Key.TheVariants as Key
+use Rattle.ipx_site.specs.declared.host.HostFile.{HostFile}
+use Rattle.ipx_site.specs.Keys.{first_unknown, host_keys}
+use Rattle.ipx_site.specs.Values.{IsAddress, IsCount, IsNetwork, IsSocket}
+use Rattle.ipx_site.specs.Fields.{Holds, HoldsOr, IsFault, IsNoToml, IsRight, IsRightOr, IsUnknown, IsWrong}
+
+-- a table is that of a host
+pub record IsHost (ms : Members) (h : HostFile) : Type 0 where
+  pub known : first_unknown host_keys ms ≡ None
+  pub network : Holds IsNetwork Key.Network ms h.network
+  pub address : Holds IsAddress Key.Address ms h.address
+  pub router : Holds IsAddress Key.Router ms h.router
+  pub udp_port : HoldsOr (IsCount 65535) Key.UdpPort ms 213 h.udp_port
+  pub socket : Holds IsSocket Key.Socket ms h.socket
+  pub buffers : HoldsOr (IsCount 8192) Key.Buffers ms 64 h.buffers
+
+-- its first fault: a name that is no key, and then the keys in order
+abbrev pub IsHostFault : Members → FileFault → Type 0
+IsHostFault ms f =
+    IsUnknown host_keys ms 0 f
+    ⊎ ((first_unknown host_keys ms ≡ None) × (IsFault IsNetwork Key.Network ms 0 f
+    ⊎ (IsRight IsNetwork Key.Network ms × (IsFault IsAddress Key.Address ms 0 f
+    ⊎ (IsRight IsAddress Key.Address ms × (IsFault IsAddress Key.Router ms 0 f
+    ⊎ (IsRight IsAddress Key.Router ms × (IsWrong (IsCount 65535) Key.UdpPort ms 0 f
+    ⊎ (IsRightOr (IsCount 65535) Key.UdpPort ms × (IsFault IsSocket Key.Socket ms 0 f
+    ⊎ (IsRight IsSocket Key.Socket ms × IsWrong (IsCount 8192) Key.Buffers ms 0 f)))))))))))
+
+-- a text is the file of a host
+abbrev pub IsHostText : List ℕ → HostFile → Type 0
+IsHostText text h = (ms : Members) × (parse_document text ≡ Some ms) × IsHost ms h
+
+-- the first fault of a text that is not
+abbrev pub IsHostTextFault : List ℕ → FileFault → Type 0
+IsHostTextFault text f = IsNoToml text f
+    ⊎ ((ms : Members) × (parse_document text ≡ Some ms) × IsHostFault ms f)

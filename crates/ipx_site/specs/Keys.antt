@@ -1,0 +1,41 @@
+-- The keys of the files that a site has, as they are written there. All of it is own.
+use Rattle.std.specs.Prelude.{codes, ℕ, List, [], ◌∷◌, Bool, Option, Some, None, if◌then◌else◌, nat_eq}
+use Rattle.std.specs.List.{list_any}
+use Rattle.std.specs.Cmp.Lexicographic.{pointwise}
+use Rattle.toml.specs.Data.{Members, no_members, member}
+use Rattle.ipx_site.specs.declared.key.Key.{Key}
+use Rattle.ipx_site.specs.declared.key.Key.TheVariants.{Status, Port, Network, Address, UdpPort, Cost, Peers, Accept, Router, Socket, Buffers}
+
+-- how a key is written
+abbrev pub key_text : Key → List ℕ
+key_text Status = codes "status"
+key_text Port = codes "port"
+key_text Network = codes "network"
+key_text Address = codes "address"
+key_text UdpPort = codes "udp_port"
+key_text Cost = codes "cost"
+key_text Peers = codes "peers"
+key_text Accept = codes "accept"
+key_text Router = codes "router"
+key_text Socket = codes "socket"
+key_text Buffers = codes "buffers"
+
+-- a text is one of these keys
+abbrev pub is_key : List Key → List ℕ → Bool
+is_key keys text = list_any (λ k. pointwise nat_eq (key_text k) text) keys
+
+-- the first name in a table that is none of these keys
+abbrev pub first_unknown : List Key → Members → Option (List ℕ)
+first_unknown keys no_members = None
+first_unknown keys (member name d ms) =
+    if is_key keys name then first_unknown keys ms else Some name
+
+-- the keys of the tables, in the order in which their faults are told
+abbrev pub port_keys : List Key
+port_keys = Network ∷ Address ∷ UdpPort ∷ Cost ∷ Peers ∷ Accept ∷ []
+
+abbrev pub site_keys : List Key
+site_keys = Status ∷ Port ∷ []
+
+abbrev pub host_keys : List Key
+host_keys = Network ∷ Address ∷ Router ∷ UdpPort ∷ Socket ∷ Buffers ∷ []

@@ -1,0 +1,31 @@
+-- A port of a router in its file: a table `[[port]]`. All of it is own.
+use Rattle.std.specs.Prelude.{◌≡◌, ◌⊎◌, ℕ, None}
+use Rattle.toml.specs.Data.{Members}
+use Rattle.ipx_site.specs.declared.fault.FileFault.{FileFault}
+use Rattle.ipx_site.specs.declared.key.Key.TheVariants as Key
+use Rattle.ipx_site.specs.declared.site.Accept.TheVariants as Accept
+use Rattle.ipx_site.specs.declared.site.SitePort.{SitePort}
+use Rattle.ipx_site.specs.Keys.{first_unknown, port_keys}
+use Rattle.ipx_site.specs.Values.{ArePeers, IsAccept, IsAddress, IsCount, IsNetwork}
+use Rattle.ipx_site.specs.Fields.{Holds, HoldsOr, IsFault, IsRight, IsRightOr, IsUnknown, IsWrong}
+
+-- a table is that of a port
+pub record IsPort (ms : Members) (p : SitePort) : Type 0 where
+  pub known : first_unknown port_keys ms ≡ None
+  pub network : Holds IsNetwork Key.Network ms p.network
+  pub address : Holds IsAddress Key.Address ms p.address
+  pub udp_port : HoldsOr (IsCount 65535) Key.UdpPort ms 213 p.udp_port
+  pub cost : HoldsOr (IsCount 65535) Key.Cost ms 1 p.cost
+  pub peers : Holds ArePeers Key.Peers ms p.peers
+  pub accept : HoldsOr IsAccept Key.Accept ms Accept.Peers p.accept
+
+-- the first fault of the table of a port: a name that is no key, and then the keys in order
+abbrev pub IsPortFault : ℕ → Members → FileFault → Type 0
+IsPortFault table ms f =
+    IsUnknown port_keys ms table f
+    ⊎ ((first_unknown port_keys ms ≡ None) × (IsFault IsNetwork Key.Network ms table f
+    ⊎ (IsRight IsNetwork Key.Network ms × (IsFault IsAddress Key.Address ms table f
+    ⊎ (IsRight IsAddress Key.Address ms × (IsWrong (IsCount 65535) Key.UdpPort ms table f
+    ⊎ (IsRightOr (IsCount 65535) Key.UdpPort ms × (IsWrong (IsCount 65535) Key.Cost ms table f
+    ⊎ (IsRightOr (IsCount 65535) Key.Cost ms × (IsFault ArePeers Key.Peers ms table f
+    ⊎ (IsRight ArePeers Key.Peers ms × IsWrong IsAccept Key.Accept ms table f)))))))))))

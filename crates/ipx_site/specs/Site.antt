@@ -1,0 +1,79 @@
+-- The file of a router. All of it is own.
+use Rattle.std.specs.Prelude.{◌≡◌, ◌⊎◌, ℕ, suc, ◌+◌, ◌==◌, ◌&&◌, Bool, true, not, nat_le, List, [], ◌∷◌, ◌++◌, Option, Some, None, position, MatchOption}
+use Rattle.toml.specs.Data.{Data, Items, no_items, item, Members, as_array, as_table, get_member}
+use Rattle.toml.specs.Parse.{parse_document}
+use Rattle.ipx_site.specs.declared.fault.FileFault.{FileFault}
+use Rattle.ipx_site.specs.declared.fault.FileFault.TheVariants.{Twin, Wrong}
+use Rattle.ipx_site.specs.declared.key.Key.TheVariants as Key
+use Rattle.ipx_site.specs.declared.site.SiteFile.{SiteFile}
+use Rattle.ipx_site.specs.declared.site.SitePort.{SitePort}
+use Rattle.ipx_site.specs.Keys.{first_unknown, key_text, site_keys}
+use Rattle.ipx_site.specs.Values.{IsText}
+use Rattle.ipx_site.specs.Port.{IsPort, IsPortFault}
+use Rattle.ipx_site.specs.Fields.{Holds, IsFault, IsNoToml, IsRightOr, IsUnknown, IsWrong}
+
+abbrev pub item_count : Items → ℕ
+item_count no_items = 0
+item_count (item d ds) = suc (item_count ds)
+
+-- one to sixteen of them
+abbrev pub is_few : Items → Bool
+is_few ds = not (item_count ds == 0) && nat_le (item_count ds) 16
+
+-- an array of one to sixteen values, which are to be tables
+abbrev pub IsPortList : Data → Items → Type 0
+IsPortList d ds = (as_array d ≡ Some ds) × (is_few ds ≡ true)
+
+-- the place among earlier ports of the first one on the same network
+abbrev pub twin_place : List SitePort → SitePort → Option ℕ
+twin_place earlier p = position (λ q. q.network.0 == p.network.0) earlier
+
+-- a port, by what stands in the array
+abbrev pub IsPortItem : Data → SitePort → Type 0
+IsPortItem d p = (ms : Members) × (as_table d ≡ Some ms) × IsPort ms p
+
+abbrev pub IsPortItemFault : ℕ → Data → FileFault → Type 0
+IsPortItemFault table d f = ((f ≡ Wrong table Key.Port) × (as_table d ≡ None))
+    ⊎ ((ms : Members) × (as_table d ≡ Some ms) × IsPortFault table ms f)
+
+-- a port's network is that of an earlier one: the fault names the first such port
+abbrev pub IsTwin : List SitePort → ℕ → SitePort → FileFault → Type 0
+IsTwin earlier table p f = (k : ℕ) × (twin_place earlier p ≡ Some k)
+    × (f ≡ Twin table p.network (k + 1))
+
+-- item by item, these ports, none on the network of an earlier one
+abbrev pub ArePorts : List SitePort → Items → List SitePort → Type 0
+ArePorts earlier no_items ps = ps ≡ []
+ArePorts earlier (item d ds) ps = (p : SitePort) × (rest : List SitePort) × (ps ≡ p ∷ rest)
+    × IsPortItem d p × (twin_place earlier p ≡ None) × ArePorts (earlier ++ p ∷ []) ds rest
+
+-- the first fault of the items, which are numbered: each before it is a port
+abbrev pub IsFirstFault : List SitePort → ℕ → Items → FileFault → Type 0
+IsFirstFault earlier table no_items f = ⊥
+IsFirstFault earlier table (item d ds) f = IsPortItemFault table d f
+    ⊎ ((p : SitePort) × IsPortItem d p × (IsTwin earlier table p f
+    ⊎ ((twin_place earlier p ≡ None) × IsFirstFault (earlier ++ p ∷ []) (table + 1) ds f)))
+
+-- a table is that of a router
+pub record IsSite (ms : Members) (s : SiteFile) : Type 0 where
+  pub known : first_unknown site_keys ms ≡ None
+  pub status : MatchOption s.status (get_member (key_text Key.Status) ms ≡ None)
+      (Holds IsText Key.Status ms)
+  pub ports : (ds : Items) × Holds IsPortList Key.Port ms ds × ArePorts [] ds s.ports.items
+
+-- its first fault: a name that is no key, the status file, and then the ports in order
+abbrev pub IsSiteFault : Members → FileFault → Type 0
+IsSiteFault ms f =
+    IsUnknown site_keys ms 0 f
+    ⊎ ((first_unknown site_keys ms ≡ None) × (IsWrong IsText Key.Status ms 0 f
+    ⊎ (IsRightOr IsText Key.Status ms × (IsFault IsPortList Key.Port ms 0 f
+    ⊎ ((ds : Items) × Holds IsPortList Key.Port ms ds × IsFirstFault [] 1 ds f)))))
+
+-- a text is the file of a router
+abbrev pub IsSiteText : List ℕ → SiteFile → Type 0
+IsSiteText text s = (ms : Members) × (parse_document text ≡ Some ms) × IsSite ms s
+
+-- the first fault of a text that is not
+abbrev pub IsSiteTextFault : List ℕ → FileFault → Type 0
+IsSiteTextFault text f = IsNoToml text f
+    ⊎ ((ms : Members) × (parse_document text ≡ Some ms) × IsSiteFault ms f)

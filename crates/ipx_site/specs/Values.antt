@@ -1,0 +1,65 @@
+-- What the value of a key means: a number of a network, an address, and so on.
+use Rattle.std.specs.Prelude.{String, Vec, string_bytes, ◌≡◌, ◌≢◌, ℕ, ◌^◌, ◌<◌, ◌≤◌, pos, List, [], ◌∷◌, length, Option, Some, codes, MatchOption}
+use Rattle.std.specs.Global.{Global}
+use Rattle.std.specs.Str.Parse.{IsNumeral, digits_value}
+use Rattle.std.specs.Net.Grammar.{IsDotted}
+use Rattle.toml.specs.Data.{Data, Items, no_items, item, as_str, as_integer, as_array}
+use Rattle.ipx_wire.specs.declared.address.Network.{Network}
+use Rattle.ipx_wire.specs.declared.address.Socket.{Socket}
+use Rattle.ipx_wire.specs.Assigned.{all_networks, local_network}
+use Rattle.ipx_site.specs.declared.site.Accept.{Accept}
+use Rattle.ipx_site.specs.declared.site.Accept.TheVariants.{Any, Peers}
+
+-- so many hex digits write a number
+abbrev pub IsHex : ℕ → List ℕ → ℕ → Type 0
+IsHex digits text n = (length text ≡ digits) × IsNumeral 16 text × (digits_value 16 text ≡ n)
+
+-- the number that they write, or that they write none
+abbrev pub Spells : ℕ → List ℕ → Option ℕ → Type 0
+Spells digits text found = MatchOption found ((n : ℕ) → IsHex digits text n → ⊥) (IsHex digits text)
+
+-- a string of eight hex digits: a network other than 0, which is the one at hand, and FFFFFFFF,
+-- which is all of them
+abbrev pub IsNetwork : Data → Network → Type 0
+IsNetwork d n = (text : List ℕ) × (as_str d ≡ Some text) × IsHex 8 text n.0
+    × (n.0 ≢ local_network) × (n.0 ≢ all_networks)
+
+-- a string of four hex digits: a socket other than 0
+abbrev pub IsSocket : Data → Socket → Type 0
+IsSocket d s = (text : List ℕ) × (as_str d ≡ Some text) × IsHex 4 text s.0 × (s.0 ≢ 0)
+
+-- a string that is an IP address: four decimal numbers below 256, with dots between them
+abbrev pub IsAddress : Data → List ℕ → Type 0
+IsAddress d ip = (text : List ℕ) × (as_str d ≡ Some text) × IsDotted text ip
+
+-- an integer from 1 to a greatest one
+abbrev pub IsCount : ℕ → Data → ℕ → Type 0
+IsCount most d n = (as_integer d ≡ Some (pos n)) × (1 ≤ n) × (n ≤ most)
+
+-- any string
+abbrev pub IsText : Data → String Global → Type 0
+IsText d text = as_str d ≡ Some (string_bytes text)
+
+abbrev pub accept_text : Accept → List ℕ
+accept_text Peers = codes "peers"
+accept_text Any = codes "any"
+
+-- the string "peers" or the string "any"
+abbrev pub IsAccept : Data → Accept → Type 0
+IsAccept d a = as_str d ≡ Some (accept_text a)
+
+-- item by item, these IP addresses
+abbrev pub AreAddresses : Items → List (List ℕ) → Type 0
+AreAddresses no_items ips = ips ≡ []
+AreAddresses (item d ds) ips = (ip : List ℕ) × (rest : List (List ℕ)) × (ips ≡ ip ∷ rest)
+    × IsAddress d ip × AreAddresses ds rest
+
+-- an array of strings that are IP addresses
+abbrev pub ArePeers : Data → Vec (List ℕ) Global → Type 0
+ArePeers d ips = (ds : Items) × (as_array d ≡ Some ds) × AreAddresses ds ips.items
+
+-- ---- words of the private functions
+
+abbrev pub ReadsAddresses : Items → Option (Vec (List ℕ) Global) → Type 0
+ReadsAddresses ds found = MatchOption found ((ips : List (List ℕ)) → AreAddresses ds ips → ⊥)
+    (λ v. AreAddresses ds v.items)

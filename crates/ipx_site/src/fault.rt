@@ -1,0 +1,46 @@
+//! What can be wrong with a file.
+
+use crate::key::Key;
+use ipx_wire::{Network, OutOfMemory};
+use std::alloc::AllocFailed;
+
+/// Why a file is not that of a router or of a host. The first fault is answered: ports in the
+/// order of the file, and in each table the keys in the order in which the documents list them.
+///
+/// `table` is 0 for the file itself, and else the number of a `[[port]]`, the first of which is 1.
+#[derive(Debug, Drop)]
+pub enum FileFault {
+    OutOfMemory,
+    /// The text is no TOML.
+    NotToml(toml::de::Error),
+    /// A name that is no key of this table.
+    Unknown(usize, String),
+    /// A key that must be there is not.
+    Missing(usize, Key),
+    /// The value of a key means nothing.
+    Wrong(usize, Key),
+    /// The network of a port is that of an earlier one, whose number comes last.
+    Twin(usize, Network, usize),
+}
+
+impl From<OutOfMemory> for FileFault {
+    ghost use Rattle.std.specs.Prelude.{◌≡◌};
+    ghost use Rattle.ipx_site.specs.declared.fault.FileFault.TheVariants as faults;
+
+    ghost from_gives = { λ _ f. f ≡ faults.OutOfMemory };
+
+    fn from(_error: OutOfMemory) -> FileFault {
+        FileFault::OutOfMemory
+    }
+}
+
+impl<T: Drop> From<AllocFailed<T>> for FileFault {
+    ghost use Rattle.std.specs.Prelude.{◌≡◌};
+    ghost use Rattle.ipx_site.specs.declared.fault.FileFault.TheVariants as faults;
+
+    ghost from_gives = { λ _ f. f ≡ faults.OutOfMemory };
+
+    fn from(_error: AllocFailed<T>) -> FileFault {
+        FileFault::OutOfMemory
+    }
+}

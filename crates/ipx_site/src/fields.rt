@@ -1,0 +1,152 @@
+//! The keys of a table, each with its value.
+
+ghost use Rattle.std.specs.Prelude.{String, string_bytes, ◌≡◌, ◌⊎◌, Some, None, IfErr, IfOk, OnOk, MatchOption, MatchResult};
+ghost use Rattle.std.specs.Global.{Global};
+ghost use Rattle.toml.specs.Data.{get_member};
+ghost use Rattle.toml.specs.View.{table_view, view};
+ghost use Rattle.ipx_site.specs.Keys.{first_unknown, key_text};
+ghost use Rattle.ipx_site.specs.Values.{ArePeers, IsAccept, IsAddress, IsCount, IsNetwork, IsSocket, IsText};
+ghost use Rattle.ipx_site.specs.Fields.{Gives, GivesOr, Holds, IsMissing, IsUnknown, IsWrong};
+
+use crate::fault::FileFault;
+use crate::key::{Key, is_one_of};
+use crate::site::Accept;
+use crate::values::{accept_of, address_of, count_of, network_of, peers_of, socket_of, text_of};
+use ipx_wire::{Network, OutOfMemory, Socket};
+use std::alloc::Global;
+use toml::{Table, Value};
+
+/// That a name in a table is no key of it.
+fn unknown(alloc: Global, number: usize, name: &str) -> Result<FileFault, OutOfMemory>
+    ensures { IfOk result (λ f. (copy : String Global) × (f ≡ FileFault.Unknown number copy)
+        × (string_bytes copy ≡ name.now)) }
+{
+    Ok(FileFault::Unknown(number, String::from_str(alloc, name)?))
+}
+
+/// Refuses a table with a name that is none of these keys.
+pub fn refuse_unknown(
+    alloc: Global,
+    table: &Table,
+    number: usize,
+    keys: &[Key],
+) -> Result<(), FileFault>
+    ensures known { OnOk result (first_unknown keys.now (table_view table.now) ≡ None) }
+    ensures unknown { IfErr result (λ f. (f ≡ FileFault.OutOfMemory)
+        ⊎ IsUnknown keys.now (table_view table.now) number f) }
+{
+    for name in table.keys() {
+        if !is_one_of(keys, name.as_str()) {
+            return Err(unknown(alloc, number, name.as_str())?);
+        }
+    }
+    Ok(())
+}
+
+/// The value of a key, if it is there.
+pub fn held(table: &Table, key: Key) -> Option<&Value>
+    ensures { MatchOption result (get_member (key_text key) (table_view table.now) ≡ None)
+        (λ v. get_member (key_text key) (table_view table.now) ≡ Some (view v.now)) }
+{
+    table.get(key.text())
+}
+
+/// The value of a key that must be there.
+pub fn required(table: &Table, number: usize, key: Key) -> Result<&Value, FileFault>
+    ensures { MatchResult result
+        (λ v. get_member (key_text key) (table_view table.now) ≡ Some (view v.now))
+        (IsMissing key (table_view table.now) number) }
+{
+    match held(table, key) {
+        Some(value) => Ok(value),
+        None => Err(FileFault::Missing(number, key)),
+    }
+}
+
+/// The network of a port or a host.
+pub fn network_in(table: &Table, number: usize) -> Result<Network, FileFault>
+    ensures { Gives IsNetwork Key.Network (table_view table.now) number result }
+{
+    match network_of(required(table, number, Key::Network)?) {
+        Some(network) => Ok(network),
+        None => Err(FileFault::Wrong(number, Key::Network)),
+    }
+}
+
+/// An IP address.
+pub fn address_in(table: &Table, number: usize, key: Key) -> Result<[u8; 4], FileFault>
+    ensures { Gives IsAddress key (table_view table.now) number result }
+{
+    match address_of(required(table, number, key)?) {
+        Some(ip) => Ok(ip),
+        None => Err(FileFault::Wrong(number, key)),
+    }
+}
+
+/// A number from 1 to a greatest one, or else the default.
+pub fn count_in(
+    table: &Table,
+    number: usize,
+    key: Key,
+    most: u16,
+    default: u16,
+) -> Result<u16, FileFault>
+    ensures { GivesOr (IsCount most) key (table_view table.now) number default result }
+{
+    let Some(value) = held(table, key) else {
+        return Ok(default);
+    };
+    match count_of(value, most) {
+        Some(count) => Ok(count),
+        None => Err(FileFault::Wrong(number, key)),
+    }
+}
+
+/// The peers of a port.
+pub fn peers_in(alloc: Global, table: &Table, number: usize) -> Result<Vec<[u8; 4]>, FileFault>
+    ensures { Gives ArePeers Key.Peers (table_view table.now) number result }
+{
+    match peers_of(alloc, required(table, number, Key::Peers)?)? {
+        Some(peers) => Ok(peers),
+        None => Err(FileFault::Wrong(number, Key::Peers)),
+    }
+}
+
+/// Who is heard at a port.
+pub fn accept_in(table: &Table, number: usize) -> Result<Accept, FileFault>
+    ensures { GivesOr IsAccept Key.Accept (table_view table.now) number Accept.Peers result }
+{
+    let Some(value) = held(table, Key::Accept) else {
+        return Ok(Accept::Peers);
+    };
+    match accept_of(value) {
+        Some(accept) => Ok(accept),
+        None => Err(FileFault::Wrong(number, Key::Accept)),
+    }
+}
+
+/// The socket of a host.
+pub fn socket_in(table: &Table, number: usize) -> Result<Socket, FileFault>
+    ensures { Gives IsSocket Key.Socket (table_view table.now) number result }
+{
+    match socket_of(required(table, number, Key::Socket)?) {
+        Some(socket) => Ok(socket),
+        None => Err(FileFault::Wrong(number, Key::Socket)),
+    }
+}
+
+/// The text of a key, if it is there.
+pub fn text_in(alloc: Global, table: &Table, key: Key) -> Result<Option<String>, FileFault>
+    ensures { MatchResult result
+        (λ found. MatchOption found (get_member (key_text key) (table_view table.now) ≡ None)
+        (Holds IsText key (table_view table.now)))
+        (λ f. (f ≡ FileFault.OutOfMemory) ⊎ IsWrong IsText key (table_view table.now) 0 f) }
+{
+    let Some(value) = held(table, key) else {
+        return Ok(None);
+    };
+    match text_of(alloc, value)? {
+        Some(text) => Ok(Some(text)),
+        None => Err(FileFault::Wrong(0, key)),
+    }
+}

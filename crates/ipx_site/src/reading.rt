@@ -1,0 +1,122 @@
+//! The file of a router is read.
+
+ghost use Rattle.std.specs.Prelude.{◌≡◌, ◌⊎◌, [], Option, Some, None, IfErr, IfOk, OnOk, MatchResult, ◌<◌, ◌^◌, length, option_map};
+ghost use Rattle.toml.specs.Data.{Data, Items};
+ghost use Rattle.toml.specs.View.{items_view, table_view, view};
+ghost use Rattle.ipx_site.specs.Fields.{Holds, IsFault, Reads};
+ghost use Rattle.ipx_site.specs.Site.{ArePorts, IsFirstFault, IsPortItem, IsPortItemFault, IsPortList, IsSite, IsSiteFault, IsSiteText, IsSiteTextFault, IsTwin, is_few, twin_place};
+
+use crate::fault::FileFault;
+use crate::fields::{refuse_unknown, required, text_in};
+use crate::key::Key;
+use crate::port::port_of;
+use crate::site::{SiteFile, SitePort};
+use crate::toml_text::table_of;
+use std::alloc::Global;
+use toml::{Table, Value};
+
+/// The keys of the file, in the order in which their faults are told.
+const KEYS: [Key; 2] = [Key::Status, Key::Port];
+
+/// The port that a value describes.
+fn item_of(alloc: Global, value: &Value, number: usize) -> Result<SitePort, FileFault>
+    ensures port { IfOk result (IsPortItem (view value.now)) }
+    ensures fault { IfErr result (λ f.
+        (f ≡ FileFault.OutOfMemory) ⊎ IsPortItemFault number (view value.now) f) }
+{
+    match value.as_table() {
+        Some(table) => port_of(alloc, table, number),
+        None => Err(FileFault::Wrong(number, Key::Port)),
+    }
+}
+
+/// The place of the first of these ports that is on the network of another.
+fn place_of_twin(earlier: &[SitePort], port: &SitePort) -> Option<usize>
+    ensures { result ≡ twin_place earlier.now port.now }
+{
+    let network = port.network;
+    earlier.iter().position(|other| other.network == network)
+}
+
+/// Refuses a port on the network of an earlier one.
+fn refuse_twin(earlier: &[SitePort], port: &SitePort, number: usize) -> Result<(), FileFault>
+    requires { length earlier.now < 2 ^ 63 }
+    ensures alone { OnOk result (twin_place earlier.now port.now ≡ None) }
+    ensures twin { IfErr result (IsTwin earlier.now number port.now) }
+{
+    match place_of_twin(earlier, port) {
+        Some(place) => Err(FileFault::Twin(number, port.network, place + 1)),
+        None => Ok(()),
+    }
+}
+
+/// The ports that values describe, in order.
+fn ports_of(alloc: Global, values: &[Value]) -> Result<Vec<SitePort>, FileFault>
+    ensures ports { IfOk result (λ v. ArePorts [] (items_view values.now) v.items) }
+    ensures fault { IfErr result (λ f.
+        (f ≡ FileFault.OutOfMemory) ⊎ IsFirstFault [] 1 (items_view values.now) f) }
+{
+    let mut ports = Vec::new(alloc);
+    for value in values {
+        let number = ports.len() + 1;
+        let port = item_of(alloc, value, number)?;
+        refuse_twin(&ports, &port, number)?;
+        ports.push(port)?;
+    }
+    Ok(ports)
+}
+
+/// Whether there are one to sixteen values.
+#[tactic(auto, using(crate::proofs::Faults::count_is))]
+fn are_few(values: &[Value]) -> bool
+    ensures { result ≡ is_few (items_view values.now) }
+{
+    !values.is_empty() && values.len() <= 16
+}
+
+/// The items of an array of one to sixteen.
+fn listed(value: &Value) -> Option<&[Value]>
+    ensures { Reads IsPortList (view value.now) (option_map (λ vs. items_view vs.now) result) }
+{
+    let values = value.as_array()?.as_slice();
+    if !are_few(values) {
+        return None;
+    }
+    Some(values)
+}
+
+/// The values that describe ports.
+fn port_values(table: &Table) -> Result<&[Value], FileFault>
+    ensures { MatchResult result
+        (λ vs. Holds IsPortList Key.Port (table_view table.now) (items_view vs.now))
+        (IsFault IsPortList Key.Port (table_view table.now) 0) }
+{
+    match listed(required(table, 0, Key::Port)?) {
+        Some(values) => Ok(values),
+        None => Err(FileFault::Wrong(0, Key::Port)),
+    }
+}
+
+fn site_of(alloc: Global, table: &Table) -> Result<SiteFile, FileFault>
+    ensures site { IfOk result (IsSite (table_view table.now)) }
+    ensures fault { IfErr result (λ f.
+        (f ≡ FileFault.OutOfMemory) ⊎ IsSiteFault (table_view table.now) f) }
+{
+    refuse_unknown(alloc, table, 0, &KEYS)?;
+    let status = text_in(alloc, table, Key::Status)?;
+    let values = port_values(table)?;
+    let ports = ports_of(alloc, values)?;
+    Ok(SiteFile { status, ports })
+}
+
+/// Reads the text of a router's file, or answers its first fault: ports are read in the order of
+/// the file, and of each table first a name that is no key is told, and then its keys in the order
+/// of the documents.
+pub fn read_site(alloc: Global, text: &str) -> Result<SiteFile, FileFault>
+    ensures site { IfOk result (IsSiteText text.now) }
+    ensures fault { IfErr result (λ f.
+        (f ≡ FileFault.OutOfMemory) ⊎ IsSiteTextFault text.now f) }
+{
+    let table = table_of(alloc, text)?;
+    site_of(alloc, &table)
+}

@@ -1,0 +1,115 @@
+//! What the value of a key means.
+
+ghost use Rattle.std.specs.Prelude.{◌≡◌, ◌≤◌, ◌<◌, ◌^◌, IfOk, IfSome};
+ghost use Rattle.toml.specs.View.{items_view, view};
+ghost use Rattle.ipx_site.specs.Values.{AreAddresses, ArePeers, IsAccept, IsAddress, IsCount, IsHex, IsNetwork, IsSocket, IsText, ReadsAddresses, Spells};
+ghost use Rattle.ipx_site.specs.Fields.{Reads};
+
+use crate::site::Accept;
+use ipx_wire::{Network, OutOfMemory, Socket};
+use std::alloc::Global;
+use std::net::Ipv4Addr;
+use toml::Value;
+
+/// The number that so many hex digits write.
+fn hex_number(text: &str, digits: usize) -> Option<u32>
+    requires some { 1 ≤ digits }
+    requires few { digits ≤ 8 }
+    ensures number { Spells digits text.now result }
+    ensures fits { IfSome result (λ n. n < 16 ^ digits) }
+{
+    if text.len() != digits || text.as_bytes()[0] == b'+' {
+        return None;
+    }
+    u32::from_str_radix(text, 16).ok()
+}
+
+/// The network that a value names.
+pub fn network_of(value: &Value) -> Option<Network>
+    ensures { Reads IsNetwork (view value.now) result }
+{
+    let number = hex_number(value.as_str()?, 8)?;
+    let network = Network(number);
+    if network == Network::LOCAL || network == Network::ALL {
+        return None;
+    }
+    Some(network)
+}
+
+/// The IP address that a value writes.
+pub fn address_of(value: &Value) -> Option<[u8; 4]>
+    ensures { Reads IsAddress (view value.now) result }
+{
+    let text = value.as_str()?;
+    match text.parse::<Ipv4Addr>() {
+        Ok(ip) => Some(ip.octets()),
+        Err(_) => None,
+    }
+}
+
+/// A number from 1 to a greatest one.
+pub fn count_of(value: &Value, most: u16) -> Option<u16>
+    ensures { Reads (IsCount most) (view value.now) result }
+{
+    let count = u16::try_from(value.as_integer()?).ok()?;
+    if count == 0 || count > most {
+        return None;
+    }
+    Some(count)
+}
+
+/// Who is heard.
+pub fn accept_of(value: &Value) -> Option<Accept>
+    ensures { Reads IsAccept (view value.now) result }
+{
+    match value.as_str()? {
+        "peers" => Some(Accept::Peers),
+        "any" => Some(Accept::Any),
+        _ => None,
+    }
+}
+
+/// The socket that a value names.
+pub fn socket_of(value: &Value) -> Option<Socket>
+    ensures { Reads IsSocket (view value.now) result }
+{
+    let number = hex_number(value.as_str()?, 4)?;
+    if number == 0 {
+        return None;
+    }
+    Some(Socket(number as u16))
+}
+
+/// A copy of the text that a value is.
+pub fn text_of(alloc: Global, value: &Value) -> Result<Option<String>, OutOfMemory>
+    ensures { IfOk result (Reads IsText (view value.now)) }
+{
+    match value.as_str() {
+        Some(text) => Ok(Some(String::from_str(alloc, text)?)),
+        None => Ok(None),
+    }
+}
+
+/// The IP addresses that values write, if each of them writes one.
+fn addresses_of(alloc: Global, values: &[Value]) -> Result<Option<Vec<[u8; 4]>>, OutOfMemory>
+    ensures { IfOk result (ReadsAddresses (items_view values.now)) }
+{
+    let mut ips = Vec::new(alloc);
+    for value in values {
+        let Some(ip) = address_of(value) else {
+            return Ok(None);
+        };
+        ips.push(ip)?;
+    }
+    Ok(Some(ips))
+}
+
+/// The peers that a value lists.
+pub fn peers_of(alloc: Global, value: &Value) -> Result<Option<Vec<[u8; 4]>>, OutOfMemory>
+    ensures { IfOk result (Reads ArePeers (view value.now)) }
+{
+    match value.as_array() {
+        Some(values) => addresses_of(alloc, values),
+        None => Ok(None),
+    }
+}
