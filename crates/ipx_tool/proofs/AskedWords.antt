@@ -36,3 +36,19 @@ pub asks_in_two : {A : Type 0} (text : A → List ℕ) (ws : List A) (b : A) (r 
 asks_in_two text ws b r most least second asks =
     let are = two_words ws b most least second in
     asks_alone r (text are.0) (text b) (map text ws) (λ i. map text (are.1 i)) asks
+
+some_words : {A : Type 0} (ws : List A) (b : A) → 2 ≤ length ws → b ≡ get_or ws 1 b → (a : A) × (rest : List A) × (a ∷ b ∷ rest ≡ ws)
+some_words [] b most second = absurd (omega arith)
+some_words (x ∷ []) b most second = absurd (omega arith)
+some_words (x ∷ y ∷ rest) b most second = (x, rest, λ i. x ∷ second i ∷ rest)
+
+asks_before : (r : Option Task) (first second : List ℕ) (rest words : List (List ℕ)) → first ∷ second ∷ rest ≡ words → IfSome r (λ t. (name : List ℕ) (behind : List (List ℕ)) → AsksFor (name ∷ second ∷ behind) t) → IfSome r (AsksFor words)
+asks_before None first second rest words are asks = tt
+asks_before (Some task) first second rest words are asks = subst (λ (ws : List (List ℕ)). AsksFor ws task) are (asks first rest)
+
+-- whatever stands behind the second word
+pub asks_in_some : {A : Type 0} (text : A → List ℕ) (ws : List A) (b : A) (r : Option Task) → 2 ≤ length ws → b ≡ get_or ws 1 b
+    → IfSome r (λ t. (name : List ℕ) (behind : List (List ℕ)) → AsksFor (name ∷ text b ∷ behind) t) → IfSome r (AsksFor (map text ws))
+asks_in_some text ws b r most second asks =
+    let are = some_words ws b most second in
+    asks_before r (text are.0) (text b) (map text are.1) (map text ws) (λ i. map text (are.2 i)) asks

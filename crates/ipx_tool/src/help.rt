@@ -1,5 +1,6 @@
 //! What the program says of itself.
 
+use clap::builder::ValueParser;
 use clap::{Arg, Command, Error};
 use std::alloc::Global;
 
@@ -160,6 +161,7 @@ fn udp_command<'a>(alloc: Global) -> Result<Command<'a>, Error> {
     let port = Arg::new(alloc, "port")
         .long("port")
         .value_name("P")
+        .value_parser(ValueParser::unsigned(1, 65_535))
         .help("The UDP port of every socket, 1 to 65535; 213 where none is given");
     let command = Command::new(alloc, "udp")
         .about("A script over UDP sockets of the loopback")

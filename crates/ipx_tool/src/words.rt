@@ -61,9 +61,6 @@ fn show_task<'a>(command: &str, packet: &'a str) -> Option<Task<'a>>
 
 /// A port from 1 to 65,535 in decimal digits.
 fn port_of(text: &str) -> Option<u16> {
-    if text.as_bytes().starts_with(b"+") {
-        return None;
-    }
     let port = text.parse::<u16>().ok()?;
     if port == 0 { None } else { Some(port) }
 }
