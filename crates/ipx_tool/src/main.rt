@@ -34,13 +34,7 @@ fn do_task(rt: &HostRuntime, task: Task<'_>) -> Result<u8, u8> {
         Task::Show(text) => do_show(rt.alloc(), text, &mut io::writer(rt)),
         Task::Check => do_check(rt.alloc(), &mut rt.stdin(), &mut io::writer(rt)),
         Task::Sim => do_sim(rt.alloc(), &mut rt.stdin(), &mut io::writer(rt)),
-        Task::Udp(port) => do_udp(
-            rt,
-            rt.alloc(),
-            &mut rt.stdin(),
-            &mut io::writer(rt),
-            port,
-        ),
+        Task::Udp(port) => do_udp(rt, rt.alloc(), &mut rt.stdin(), &mut io::writer(rt), port),
     }
 }
 
