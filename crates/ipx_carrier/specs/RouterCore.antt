@@ -1,6 +1,6 @@
 -- A router as a core: it hears datagrams and gives packets by a queue, which holds 16,384 of them.
 -- The entry points are `Hears` and `Gives`, and `Misses` and `Withholds` where memory is refused.
-use Rattle.std.specs.Prelude.{◌≡◌, ◌≤◌, ◌⊎◌, ℕ, ◌+◌, ◌-◌, ◌^◌, Bool, true, false, List, [], ◌∷◌, ◌++◌, All, length, drop, min, nat_le, Option, Some, None, if◌then◌else◌, MatchBool}
+use Rattle.std.specs.Prelude.{◌≡◌, ◌<◌, ◌≤◌, ◌⊎◌, ℕ, ◌+◌, ◌-◌, ◌^◌, Bool, true, false, List, [], ◌∷◌, ◌++◌, All, length, drop, min, nat_le, Option, Some, None, if◌then◌else◌, MatchBool}
 use Rattle.ipx_router.specs.RouterView.{RouterView}
 use Rattle.ipx_router.specs.Packets.{SendingView}
 use Rattle.ipx_router.specs.Ports.{IsPortNumber}
@@ -72,9 +72,9 @@ Gives old now given new = (first told : List SendingView) × (router : RouterVie
     × AreFirst old first × TellsNow old.router now told router
     × TakesFirst (put told (put first (record old { router = router; started = true }))) given new
 
--- packets would pass no limit of a queue
+-- there are packets to put into a queue, and they would pass no limit of it
 abbrev pub IsRoomFor : List SendingView → List SendingView → Type 0
-IsRoomFor queue sent = length queue + length sent ≤ most_queued
+IsRoomFor queue sent = (0 < length sent) × (length queue + length sent ≤ most_queued)
 
 -- memory is refused to a router for what comes in
 abbrev pub ReceivesInVain : RouterView → ℕ → List ℕ → ℕ → RouterView → Type 0

@@ -29,6 +29,9 @@ pub fn put_all(
     ensures lost { OnErr result
         (IsRoomFor (sendings queue.old.items) (sendings replies.items)) }
 {
+    if replies.is_empty() {
+        return Ok(());
+    }
     if replies.len() > MOST_QUEUED - queue.len() {
         *dropped = dropped.saturating_add(replies.len() as u64);
         return Ok(());

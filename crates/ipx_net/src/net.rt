@@ -215,7 +215,7 @@ impl Net {
     }
 
     /// What is told of each end, by its number. A released end keeps what it had, and has no state.
-    /// After want of memory hosts and states may be those of before.
+    /// After want of memory hosts and states tell nothing.
     pub fn ends(&self) -> &[EndInfo]
         ensures told { TellsEnds self.now result.now }
         ensures count { self.now.spent ≡ false → length result.now ≡ length self.now.now.world.ends }
