@@ -71,5 +71,6 @@ module _ {C : Type 0} (gives : C → ℕ → Option Given → C → Type 0)
   abbrev pub SendsSome : ℕ → ℕ → Peers → Option Traffic → Option Traffic → RunFault → C → C
       → Type 0
   SendsSome most now peers before after fault old new = (packets : List Given)
-      × (sent : List Datagram) × FailsAfter gives withholds most now peers packets sent fault old new
+      × (sent : List Datagram)
+      × FailsAfter gives withholds most now peers packets sent fault old new
       × Passes before after [] sent

@@ -1,7 +1,7 @@
 //! A network in memory: what happened in it, in order, and the packets on their way.
 //!
-//! A `Book` holds the log and the parcels. What is read off the log, as which packets an end read and
-//! who sent them, is kept beside it as it grows.
+//! A `Book` holds the log and the parcels. What is read off the log, as which packets an end read
+//! and who sent them, is kept beside it as it grows.
 #![tactic(auto)]
 
 mod answer;

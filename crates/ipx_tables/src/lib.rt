@@ -1,4 +1,5 @@
-//! What a router heard from its neighbours: offers of a way to a key, how old they are, and which is the best.
+//! What a router heard from its neighbours: offers of a way to a key, how old they are, and which
+//! is the best.
 #![tactic(auto)]
 
 mod fault;

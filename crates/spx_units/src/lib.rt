@@ -1,5 +1,5 @@
-//! Messages, how they are cut into units of a connection, and how units are joined to messages again
-//! (Novell SPX: the end of message bit).
+//! Messages, how they are cut into units of a connection, and how units are joined to messages
+//! again (Novell SPX: the end of message bit).
 #![tactic(auto)]
 
 mod cutting;
