@@ -1,4 +1,5 @@
--- The parts of a turn: what asking the ports, and what sending the core's packets, leave.
+-- Words of private functions: the parts of a turn. What asking the ports, and what
+-- sending the core's packets, leave.
 use Rattle.std.specs.Prelude.{◌≡◌, ◌<◌, ◌≤◌, ℕ, ◌+◌, Bool, List, [], ◌∷◌, ◌++◌, length, Option, Some, None, is_some, if◌then◌else◌}
 use Rattle.ipx_carrier.specs.declared.fault.RunFault.{RunFault}
 use Rattle.ipx_carrier.specs.declared.report.Tally.{Tally}

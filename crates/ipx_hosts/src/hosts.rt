@@ -13,7 +13,7 @@ ghost use Rattle.spx_messages.specs.Arrives.{IsAcceptable};
 ghost use Rattle.spx_messages.specs.Taking.{overlong, result_view};
 ghost use Rattle.ipx_hosts.specs.Stations.{reader_of, speaker};
 ghost use Rattle.ipx_hosts.specs.Telling.{here_at, state_at};
-ghost use Rattle.ipx_hosts.specs.Hosts.{DeliveredAt, FitTogether, LeavesSo, LeftAs, Noting, PolledAt, SameHomes, Standing, is_lost, stands};
+ghost use Rattle.ipx_hosts.specs.Hosts.{DeliveredAt, FitTogether, LeftAs, LeftBy, Noting, PolledAt, SameHomes, Standing, is_lost, stands};
 ghost use Rattle.ipx_hosts.specs.Refusing.{CloseIsRefused, DialIsLeft, Overruns, PushesTo, SendIsRefused, TakeIsRefused, close_fault, dial_fault, end_held, send_fault, want};
 
 use crate::end::EndNow;
@@ -110,7 +110,7 @@ impl Hosts {
             (λ w w'. DialsFrom w host socket to buffers id w')) }
         ensures room { OnOk result (dial_fault (slice_get self.old.stations host) ≡ None) }
         ensures fault { IfErr result (DialIsLeft (slice_get self.old.stations host)) }
-        ensures refused { IfErr result (λ f. LeavesSo f host self.old self.new now) }
+        ensures refused { IfErr result (λ f. LeftBy f host self.old self.new now) }
         ensures homes { SameHomes self.old self.new }
     {
         let who = self.ends.len();
