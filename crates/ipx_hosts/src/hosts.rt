@@ -1,6 +1,7 @@
 //! The hosts of a network, and their ends.
 
 ghost use Rattle.std.specs.Prelude.{◌≡◌, ◌≢◌, ◌<◌, ◌≤◌, ◌↔◌, ◌++◌, ◌∷◌, ℕ, [], Err, IfErr, IfNone, IfOk, IfSome, IsOk, None, OnErr, OnOk, length, option_map, slice_get, true};
+ghost use Rattle.ipx_wire.specs.Assigned.{spx_max_packet_size};
 ghost use Rattle.spx_link.specs.Limits.{most_units};
 ghost use Rattle.spx_units.specs.Message.{message_view};
 ghost use Rattle.ipx_log.specs.Note.{AsksEnd, HandsIn, Opened, Released};
@@ -222,7 +223,7 @@ impl Hosts {
     /// room of 576 bytes.
     pub fn poll(&mut self, host: usize, now: u64, room: &mut [u8]) -> Option<(Node, usize)>
         requires there { host < length self.old.stations }
-        requires room { 576 ≤ length room.old }
+        requires room { spx_max_packet_size ≤ length room.old }
         ensures polled { PolledAt self.old host now result room.old room.new self.new }
         ensures homes { SameHomes self.old self.new }
     {

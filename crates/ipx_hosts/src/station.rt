@@ -1,6 +1,7 @@
 //! A host, and which end each of its links is.
 
 ghost use Rattle.std.specs.Prelude.{◌≡◌, ◌≢◌, ◌≤◌, ◌↔◌, ◌++◌, ◌∷◌, ◌==◌, ℕ, [], Err, IfErr, IfOk, IfSome, IsOk, None, OnErr, OnOk, Some, filter, find, length, not, option_map, slice_get};
+ghost use Rattle.ipx_wire.specs.Assigned.{spx_max_packet_size};
 ghost use Rattle.spx_link.specs.Offer.{end_link, first_of, offer_link, refusal};
 ghost use Rattle.spx_messages.specs.Arrives.{Arrives, IsAcceptable};
 ghost use Rattle.spx_messages.specs.Polls.{Polls, home_of};
@@ -221,7 +222,7 @@ impl Station {
 
     /// A host is asked what it has to send.
     pub fn poll(&mut self, now: u64, room: &mut [u8]) -> Option<(Node, usize)>
-        requires { 576 ≤ length room.old }
+        requires { spx_max_packet_size ≤ length room.old }
         ensures polls { Polls self.old.endpoint now result room.old room.new self.new.endpoint }
         ensures here { self.new.here ≡ self.old.here }
         ensures home { home_of self.new.endpoint ≡ home_of self.old.endpoint }
