@@ -1,7 +1,7 @@
 //! Two hosts that pass a message: one asks for a connection, the other listens.
 
 use anyhow::Result;
-use ipx_wire::{Address, Network, Node, Socket};
+use ipx_wire::{Address, Network, Node, SPX_MAX_PACKET_SIZE, Socket};
 use spx_messages::{Arrived, Endpoint, Message, Taken};
 use std::alloc::{AllocError, Global};
 
@@ -29,7 +29,7 @@ fn pass(
     from: &mut Endpoint,
     to: &mut Endpoint,
 ) -> Result<Option<Arrived>> {
-    let mut room = [0; 576];
+    let mut room = [0; SPX_MAX_PACKET_SIZE];
     let Some((_next, count)) = from.poll(0, &mut room) else {
         return Ok(None);
     };
