@@ -1,5 +1,5 @@
-//! A pair of links that is called as a script says, written out as bytes, to be held against another
-//! pair's answers.
+//! A pair of links that is called as a script says, written out as bytes, to be held against
+//! another pair's answers.
 
 ghost use Rattle.std.specs.Prelude.{◌≤◌, ◌<◌, ◌+◌, length};
 ghost use Rattle.spx_link.specs.Limits.{end_stream};

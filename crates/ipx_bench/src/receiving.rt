@@ -41,8 +41,9 @@ pub fn fed_digests(
     digest
 }
 
-/// Hands each heard record to a new router, and then each timed one, again and again: a record comes
-/// `apart` milliseconds after the one before it, and a round begins `period` after the one before.
+/// Hands each heard record to a new router, and then each timed one, again and again: a record
+/// comes `apart` milliseconds after the one before it, and a round begins `period` after the one
+/// before.
 ///
 /// Answers the digest of what became of the timed ones. Both kinds of records have one size each.
 #[unsafe(no_mangle)]

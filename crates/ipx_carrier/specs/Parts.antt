@@ -1,4 +1,5 @@
--- The parts of a turn: what asking the ports, and what sending the core's packets, leave.
+-- Words of private functions: the parts of a turn. What asking the ports, and what
+-- sending the core's packets, leave.
 use Rattle.std.specs.Prelude.{◌≡◌, ◌<◌, ◌≤◌, ℕ, ◌+◌, Bool, List, [], ◌∷◌, ◌++◌, length, Option, Some, None, is_some, if◌then◌else◌}
 use Rattle.ipx_carrier.specs.declared.fault.RunFault.{RunFault}
 use Rattle.ipx_carrier.specs.declared.report.Tally.{Tally}
@@ -71,5 +72,6 @@ module _ {C : Type 0} (gives : C → ℕ → Option Given → C → Type 0)
   abbrev pub SendsSome : ℕ → ℕ → Peers → Option Traffic → Option Traffic → RunFault → C → C
       → Type 0
   SendsSome most now peers before after fault old new = (packets : List Given)
-      × (sent : List Datagram) × FailsAfter gives withholds most now peers packets sent fault old new
+      × (sent : List Datagram)
+      × FailsAfter gives withholds most now peers packets sent fault old new
       × Passes before after [] sent

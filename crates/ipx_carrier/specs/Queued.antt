@@ -1,4 +1,4 @@
--- What putting packets into a queue leaves.
+-- Words of private functions: what putting packets into a queue leaves.
 use Rattle.std.specs.Prelude.{◌≡◌, ℕ, ◌+◌, ◌-◌, ◌^◌, Bool, List, [], ◌++◌, length, min, nat_le, MatchBool}
 use Rattle.ipx_router.specs.RouterView.{RouterView}
 use Rattle.ipx_router.specs.Packets.{SendingView}

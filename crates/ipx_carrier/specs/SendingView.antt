@@ -1,4 +1,4 @@
--- What became of a packet that a core gave.
+-- Words of private functions: what became of a packet that a core gave.
 use Rattle.std.specs.Prelude.{ℕ, ◌+◌, Option, Some, None}
 use Rattle.ipx_carrier.specs.declared.report.Tally.{Tally}
 use Rattle.ipx_carrier.specs.declared.sending.Sending.{Sending}

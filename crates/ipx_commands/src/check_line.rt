@@ -70,6 +70,7 @@ fn bad_vector_in(alloc: Global, rest: &[u8]) -> Result<Line, OutOfMemory>
     }
 }
 
+/// What a line of vectors says: it is skipped, holds a vector, or has another form.
 pub fn read_line(alloc: Global, line: &[u8]) -> Result<Line, OutOfMemory>
     ensures { IfOk result (λ l. line_view l ≡ line_form line.now) }
 {

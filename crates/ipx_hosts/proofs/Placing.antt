@@ -22,7 +22,7 @@ use Rattle.ipx_log.specs.Note.{Opened, Released}
 use Rattle.ipx_steps.specs.Calls.{DialsFrom, ReleasesOf}
 use Rattle.ipx_steps.specs.Steps.{TakesOf, ends_after, here_after, marked_over, unit_notes, whole_notes}
 use Rattle.ipx_steps.specs.World.{EndNow, Station, StandsAt, end_at, held_in, held_of, home_at}
-use Rattle.ipx_hosts.specs.Hosts.{DeliveredAt, FitTogether, HostsView, LeavesSo, LeftAs, LeftAt, Noting, Standing, is_lost, stands, stands_now}
+use Rattle.ipx_hosts.specs.Hosts.{DeliveredAt, FitTogether, HostsView, LeftBy, LeftAs, LeftAt, Noting, Standing, is_lost, stands, stands_now}
 use Rattle.ipx_hosts.specs.Refusing.{end_held, held_by, want}
 use Rattle.ipx_hosts.specs.Stations.{ChangesAt, DialsAt, ReleasesAt, Stays, StaysAt}
 use Rattle.ipx_hosts.specs.declared.refusal.Refusal.{Refusal}
@@ -254,7 +254,7 @@ taken v ss es es' who host id x y r u t view read s unit takes not_want ends =
 -- ---- refusals
 
 pub left_so : (f : Refusal) (v : HostsView) (ss : List Station) (es : List EndNow) (host : ℕ) (x y : Station) (t : ℕ) → made ss es ≡ v → x ≡ get_or ss host x → host < length ss
-    → Stays f x y → LeavesSo f host v (made (set ss host y) es) t
+    → Stays f x y → LeftBy f host v (made (set ss host y) es) t
 left_so (Refusals.ByEnd f) v ss es host x y t view read within same = left_at v ss es host x y t view read within same
 left_so Refusals.OutOfMemory v ss es host x y t view read within same = tt
 

@@ -72,9 +72,9 @@ pub record LeftAs (who : ℕ) (old new : HostsView) (now : ℕ) : Type 0 where
   pub left : LeftAt end'.host old new now
 
 -- a refusal by a host leaves the world as it was. Of want of memory nothing is said
-abbrev pub LeavesSo : Refusal → ℕ → HostsView → HostsView → ℕ → Type 0
-LeavesSo (Refusals.ByEnd f) host old new now = LeftAt host old new now
-LeavesSo Refusals.OutOfMemory host old new now = Unit {0}
+abbrev pub LeftBy : Refusal → ℕ → HostsView → HostsView → ℕ → Type 0
+LeftBy (Refusals.ByEnd f) host old new now = LeftAt host old new now
+LeftBy Refusals.OutOfMemory host old new now = Unit {0}
 
 -- a take was refused, and not for want of memory
 abbrev pub is_lost : Result TakenView EndFault → Bool

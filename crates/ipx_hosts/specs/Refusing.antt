@@ -75,8 +75,8 @@ message_fault (Some h) m = option_map EndFaults.Message (cut_fault m)
 abbrev pub send_fault : Option Held → MessageView → Option EndFault
 send_fault h m = option_or (message_fault h m) (close_fault h)
 
--- the message is cut before the state is looked at: so want of memory for that may come in the place
--- of the state's fault
+-- the message is cut before the state is looked at: so want of memory for that may come in the
+-- place of the state's fault
 abbrev pub SendIsRefused : Option Held → MessageView → EndFault → Type 0
 SendIsRefused h m f = (send_fault h m ≡ Some f)
     ⊎ ((f ≡ want) × (message_fault h m ≡ None))

@@ -17,5 +17,6 @@ impl Model for EndNow {
 
     ghost Value = { EndNow };
 
-    ghost view = { λ e. record { host = e.host; id = e.id; released = e.released; overlong = e.overlong } };
+    ghost view = { λ e.
+        record { host = e.host; id = e.id; released = e.released; overlong = e.overlong } };
 }

@@ -1,6 +1,7 @@
 //! The hosts of a network, and their ends.
 
 ghost use Rattle.std.specs.Prelude.{◌≡◌, ◌≢◌, ◌<◌, ◌≤◌, ◌↔◌, ◌++◌, ◌∷◌, ℕ, [], Err, IfErr, IfNone, IfOk, IfSome, IsOk, None, OnErr, OnOk, length, option_map, slice_get, true};
+ghost use Rattle.ipx_wire.specs.Assigned.{spx_max_packet_size};
 ghost use Rattle.spx_link.specs.Limits.{most_units};
 ghost use Rattle.spx_units.specs.Message.{message_view};
 ghost use Rattle.ipx_log.specs.Note.{AsksEnd, HandsIn, Opened, Released};
@@ -13,7 +14,7 @@ ghost use Rattle.spx_messages.specs.Arrives.{IsAcceptable};
 ghost use Rattle.spx_messages.specs.Taking.{overlong, result_view};
 ghost use Rattle.ipx_hosts.specs.Stations.{reader_of, speaker};
 ghost use Rattle.ipx_hosts.specs.Telling.{here_at, state_at};
-ghost use Rattle.ipx_hosts.specs.Hosts.{DeliveredAt, FitTogether, LeavesSo, LeftAs, Noting, PolledAt, SameHomes, Standing, is_lost, stands};
+ghost use Rattle.ipx_hosts.specs.Hosts.{DeliveredAt, FitTogether, LeftAs, LeftBy, Noting, PolledAt, SameHomes, Standing, is_lost, stands};
 ghost use Rattle.ipx_hosts.specs.Refusing.{CloseIsRefused, DialIsLeft, Overruns, PushesTo, SendIsRefused, TakeIsRefused, close_fault, dial_fault, end_held, send_fault, want};
 
 use crate::end::EndNow;
@@ -61,7 +62,8 @@ impl Hosts {
         router: Node,
         listen: Option<(Socket, u16)>,
     ) -> Result<(), OutOfMemory>
-        ensures ok { OnOk result (AddsHost self.old.stations self.new.stations network node router listen) }
+        ensures ok { OnOk result
+            (AddsHost self.old.stations self.new.stations network node router listen) }
         ensures unchanged { OnErr result (self.new.stations ≡ self.old.stations) }
         ensures ends { self.new.ends ≡ self.old.ends }
     {
@@ -109,7 +111,7 @@ impl Hosts {
             (λ w w'. DialsFrom w host socket to buffers id w')) }
         ensures room { OnOk result (dial_fault (slice_get self.old.stations host) ≡ None) }
         ensures fault { IfErr result (DialIsLeft (slice_get self.old.stations host)) }
-        ensures refused { IfErr result (λ f. LeavesSo f host self.old self.new now) }
+        ensures refused { IfErr result (λ f. LeftBy f host self.old self.new now) }
         ensures homes { SameHomes self.old self.new }
     {
         let who = self.ends.len();
@@ -126,9 +128,9 @@ impl Hosts {
         Ok(who)
     }
 
-    /// A message is handed in at an end that stands. It is refused where the message is not cut, else
-    /// by the state of the link. Want of memory may refuse it in the place of the latter, or where
-    /// neither holds.
+    /// A message is handed in at an end that stands. It is refused where the message is not cut,
+    /// else by the state of the link. Want of memory may refuse it in the place of the latter, or
+    /// where neither holds.
     pub fn send(
         &mut self,
         alloc: Global,
@@ -152,15 +154,17 @@ impl Hosts {
         self.stations[host].send(alloc, id, message)
     }
 
-    /// An end that stands is asked to end its connection. It is refused by the state of the link, else
-    /// only for want of memory.
+    /// An end that stands is asked to end its connection. It is refused by the state of the link,
+    /// else only for want of memory.
     pub fn close(&mut self, alloc: Global, who: usize, now: u64) -> Result<(), EndFault>
         requires order { FitTogether self.old }
         requires stands { stands self.old who ≡ true }
         ensures ok { OnOk result (Noting self.old self.new now (AsksEnd who ∷ [])
             (λ w w'. Closes w who w')) }
-        ensures sound { OnOk result (close_fault (end_held self.old.stations self.old.ends who) ≡ None) }
-        ensures fault { IfErr result (CloseIsRefused (end_held self.old.stations self.old.ends who)) }
+        ensures sound { OnOk result
+            (close_fault (end_held self.old.stations self.old.ends who) ≡ None) }
+        ensures fault { IfErr result
+            (CloseIsRefused (end_held self.old.stations self.old.ends who)) }
         ensures refused { OnErr result (LeftAs who self.old self.new now) }
         ensures homes { SameHomes self.old self.new }
     {
@@ -185,8 +189,8 @@ impl Hosts {
         Ok(())
     }
 
-    /// A unit is taken from an end that stands, and told with what came of it. It is refused where the
-    /// message grew too long; and for want of memory, only where the unit joins a message.
+    /// A unit is taken from an end that stands, and told with what came of it. It is refused where
+    /// the message grew too long; and for want of memory, only where the unit joins a message.
     pub fn take(
         &mut self,
         alloc: Global,
@@ -196,11 +200,14 @@ impl Hosts {
         requires order { FitTogether self.old }
         requires stands { stands self.old who ≡ true }
         ensures takes { result.1 ≢ Err want → Noting self.old self.new now
-            (unit_notes (result_view result.1) result.0 who ++ whole_notes (result_view result.1) who)
+            (unit_notes (result_view result.1) result.0 who
+            ++ whole_notes (result_view result.1) who)
             (λ w w'. TakesOf w who (result_view result.1) w') }
-        ensures overlong { (result.1 ≡ Err overlong) ↔ Overruns (end_held self.old.stations self.old.ends who) }
+        ensures overlong { (result.1 ≡ Err overlong)
+            ↔ Overruns (end_held self.old.stations self.old.ends who) }
         ensures fault { IfErr result.1 TakeIsRefused }
-        ensures memory { result.1 ≡ Err want → PushesTo (end_held self.old.stations self.old.ends who) }
+        ensures memory { result.1 ≡ Err want
+            → PushesTo (end_held self.old.stations self.old.ends who) }
         ensures refused { result.1 ≡ Err want → LeftAs who self.old self.new now }
         ensures homes { SameHomes self.old self.new }
     {
@@ -216,15 +223,15 @@ impl Hosts {
     /// room of 576 bytes.
     pub fn poll(&mut self, host: usize, now: u64, room: &mut [u8]) -> Option<(Node, usize)>
         requires there { host < length self.old.stations }
-        requires room { 576 ≤ length room.old }
+        requires room { spx_max_packet_size ≤ length room.old }
         ensures polled { PolledAt self.old host now result room.old room.new self.new }
         ensures homes { SameHomes self.old self.new }
     {
         self.stations[host].poll(now, room)
     }
 
-    /// A datagram comes to a host. Memory is wanted only where it asks for a connection that would be
-    /// accepted.
+    /// A datagram comes to a host. Memory is wanted only where it asks for a connection that would
+    /// be accepted.
     pub fn deliver(
         &mut self,
         alloc: Global,
@@ -273,10 +280,12 @@ impl Hosts {
         Some(station.network())
     }
 
-    /// The end that gave the last packet of a host, and what that is. None where there is no such host.
+    /// The end that gave the last packet of a host, and what that is. None where there is no such
+    /// host.
     pub fn spoke(&self, host: usize) -> Option<(usize, Sent)>
         ensures absent { IfNone (slice_get self.now.stations host) (result ≡ None) }
-        ensures there { IfSome (slice_get self.now.stations host) (λ s. result ≡ speaker s.here s.endpoint.said) }
+        ensures there { IfSome (slice_get self.now.stations host) (λ s.
+            result ≡ speaker s.here s.endpoint.said) }
     {
         self.stations.get(host)?.spoke()
     }
@@ -284,7 +293,8 @@ impl Hosts {
     /// The end that read the last datagram of a host. None where there is no such host.
     pub fn reader(&self, host: usize) -> Option<usize>
         ensures absent { IfNone (slice_get self.now.stations host) (result ≡ None) }
-        ensures there { IfSome (slice_get self.now.stations host) (λ s. result ≡ reader_of s.here s.endpoint.heard) }
+        ensures there { IfSome (slice_get self.now.stations host) (λ s.
+            result ≡ reader_of s.here s.endpoint.heard) }
     {
         self.stations.get(host)?.reader()
     }
@@ -300,7 +310,8 @@ impl Hosts {
     /// The buffers of a link of a host; 0 where there is no such link or host.
     pub fn buffers(&self, host: usize, id: u16) -> u16
         ensures absent { IfNone (slice_get self.now.stations host) (result ≡ 0) }
-        ensures there { IfSome (slice_get self.now.stations host) (λ s. result ≡ buffers_of (held_at s.endpoint id)) }
+        ensures there { IfSome (slice_get self.now.stations host) (λ s.
+            result ≡ buffers_of (held_at s.endpoint id)) }
     {
         match self.stations.get(host) {
             Some(station) => station.buffers(id),

@@ -1,6 +1,7 @@
 //! A host, and which end each of its links is.
 
 ghost use Rattle.std.specs.Prelude.{◌≡◌, ◌≢◌, ◌≤◌, ◌↔◌, ◌++◌, ◌∷◌, ◌==◌, ℕ, [], Err, IfErr, IfOk, IfSome, IsOk, None, OnErr, OnOk, Some, filter, find, length, not, option_map, slice_get};
+ghost use Rattle.ipx_wire.specs.Assigned.{spx_max_packet_size};
 ghost use Rattle.spx_link.specs.Offer.{end_link, first_of, offer_link, refusal};
 ghost use Rattle.spx_messages.specs.Arrives.{Arrives, IsAcceptable};
 ghost use Rattle.spx_messages.specs.Polls.{Polls, home_of};
@@ -143,8 +144,8 @@ impl Station {
         Ok(id)
     }
 
-    /// A message is handed in. It is refused where no link has the id, else where the message is not
-    /// cut, else by the state of the link.
+    /// A message is handed in. It is refused where no link has the id, else where the message is
+    /// not cut, else by the state of the link.
     pub fn send(&mut self, alloc: Global, id: u16, message: &Message) -> Result<(), EndFault>
         ensures ok { IfSome (held_at self.old.endpoint id) (λ h. OnOk result (ChangesAt self.old id
             (record h { link = offer_link h.link (cut_of (message_view message.now)) }) self.new)) }
@@ -160,12 +161,13 @@ impl Station {
         self.endpoint.send(alloc, id, message)
     }
 
-    /// The end of a connection is asked for. It is refused where no link has the id, else by the state
-    /// of the link.
+    /// The end of a connection is asked for. It is refused where no link has the id, else by the
+    /// state of the link.
     pub fn close(&mut self, alloc: Global, id: u16) -> Result<(), EndFault>
         ensures ok { IfSome (held_at self.old.endpoint id) (λ h. OnOk result
             (ChangesAt self.old id (record h { link = end_link h.link }) self.new)) }
-        ensures open { IfSome (held_at self.old.endpoint id) (λ h. OnOk result (refusal h.link.state ≡ None)) }
+        ensures open { IfSome (held_at self.old.endpoint id)
+            (λ h. OnOk result (refusal h.link.state ≡ None)) }
         ensures sound { OnOk result (close_fault (held_at self.old.endpoint id) ≡ None) }
         ensures fault { IfErr result (CloseIsRefused (held_at self.old.endpoint id)) }
         ensures refused { OnErr result (StaysAt self.old self.new) }
@@ -201,10 +203,12 @@ impl Station {
 
     /// A unit is taken, and told with what came of it.
     pub fn take(&mut self, alloc: Global, id: u16) -> (Option<Unit>, Result<Taken, EndFault>)
-        ensures unit { IfSome (held_at self.old.endpoint id) (λ h. result.0 ≡ first_of h.link.held) }
+        ensures unit { IfSome (held_at self.old.endpoint id)
+            (λ h. result.0 ≡ first_of h.link.held) }
         ensures takes { IfSome (held_at self.old.endpoint id) (λ h.
             result.1 ≢ Err (EndFaults.Message MessageFaults.OutOfMemory)
-            → (result_view result.1 ≡ (take_end h).0) × ChangesAt self.old id (take_end h).1 self.new) }
+            → (result_view result.1 ≡ (take_end h).0)
+            × ChangesAt self.old id (take_end h).1 self.new) }
         ensures overlong { (result.1 ≡ Err overlong) ↔ Overruns (held_at self.old.endpoint id) }
         ensures fault { IfSome (held_at self.old.endpoint id) (λ _. IfErr result.1 TakeIsRefused) }
         ensures memory { result.1 ≡ Err want → PushesTo (held_at self.old.endpoint id) }
@@ -218,7 +222,7 @@ impl Station {
 
     /// A host is asked what it has to send.
     pub fn poll(&mut self, now: u64, room: &mut [u8]) -> Option<(Node, usize)>
-        requires { 576 ≤ length room.old }
+        requires { spx_max_packet_size ≤ length room.old }
         ensures polls { Polls self.old.endpoint now result room.old room.new self.new.endpoint }
         ensures here { self.new.here ≡ self.old.here }
         ensures home { home_of self.new.endpoint ≡ home_of self.old.endpoint }
@@ -243,7 +247,8 @@ impl Station {
         now: u64,
         who: usize,
     ) -> Result<Arrived, OutOfMemory>
-        ensures arrives { IfOk result (λ a. Arrives self.old.endpoint bytes.now now a self.new.endpoint) }
+        ensures arrives { IfOk result
+            (λ a. Arrives self.old.endpoint bytes.now now a self.new.endpoint) }
         ensures here { IfOk result (λ a. self.new.here ≡ here_after a who self.old.here) }
         ensures memory { OnErr result (IsAcceptable self.old.endpoint bytes.now) }
         ensures home { home_of self.new.endpoint ≡ home_of self.old.endpoint }

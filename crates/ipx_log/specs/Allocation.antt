@@ -15,8 +15,7 @@ IsMadeBy n f parcel =
     (n ≡ SendsUnit f parcel) ⊎ (n ≡ SendsAgain f parcel) ⊎ (n ≡ SendsSystem f parcel)
 
 -- before this the end read a packet whose sender had, before its origin's entry, taken so many
--- units that with its
--- buffers they are more than n
+-- units that with its buffers they are more than n
 pub record IsAllowed (before : List Note) (who n : ℕ) : Type 0 where
   pub parcel : ℕ
   pub sender : ℕ

@@ -1,6 +1,5 @@
 -- What is proved below of bytes, of the machine and of one link, as the proofs here are given it:
--- each field is a clause of
--- a public function of `ipx_wire`, `spx_link` or `ipx_pairs`.
+-- each field is a clause of a public function of `ipx_wire`, `spx_link` or `ipx_pairs`.
 use Rattle.std.specs.Prelude.{ℕ, ◌≡◌, List}
 use Rattle.ipx_wire.specs.Connection.{IsConnectionPacket, sequence_in}
 use Rattle.ipx_wire.specs.Ipx.{PacketView, IsIpx}

@@ -1,6 +1,5 @@
 -- The close of a connection (Novell SPX: end of connection and its confirmation): who is confirmed
--- was read to the end, and
--- who took the end took everything.
+-- was read to the end, and who took the end took everything.
 use Rattle.std.specs.Prelude.{ℕ, ◌≡◌, ◌⊎◌, [], ◌++◌, length, Contains}
 use Rattle.spx_link.specs.declared.unit.Unit.{Unit}
 use Rattle.spx_link.specs.declared.state.State.TheVariants.{Confirmed}
@@ -22,8 +21,7 @@ HoldsAll s c d = (e : Stand) (l : LinkView) → Stands s d e l
     ≡ handed_out d s.log ++ (join_all (record { messages = []; rest = e.rest }) l.held).messages)
 
 -- c has the peer d, whose end of the machine is `two`: c's end was asked for, d read all units of c
--- and has all its
--- messages
+-- and has all its messages
 pub record IsClosed (s : Scene) (c d : ℕ) (two : End) : Type 0 where
   pub peers : ArePeers s.log c d
   pub asked : Contains s.log (AsksEnd c)

@@ -11,8 +11,7 @@ use Rattle.ipx_log.specs.Deeds.{Deed, Does}
 use Rattle.ipx_log.specs.SentUnits.{sent_by}
 
 -- ends are numbered as their roles are, the next number of each is that of the unit after those
--- that it sent, and it has
--- the buffers that it was made with
+-- that it sent, and it has the buffers that it was made with
 pub record EndsAreTold (s : Scene) : Type 0 where
   pub count : length (scan s.log).roles ≡ length s.ends
   pub next : (who : ℕ) (e : Stand) (l : LinkView)

@@ -1,6 +1,5 @@
 -- What ends hand in and out, and the units of an end: those of its messages, cut, and the end of
--- the connection where it was
--- asked for.
+-- the connection where it was asked for.
 use Rattle.std.specs.Prelude.{ℕ, ◌≡◌, ◌==◌, List, [], ◌∷◌, ◌++◌, if◌then◌else◌}
 use Rattle.spx_link.specs.declared.unit.Unit.{Unit}
 use Rattle.spx_link.specs.Offer.{the_end}

@@ -1,6 +1,5 @@
 -- The links of two peers are the machine of the log, in 16 bits, and what each handed out begins
--- what the other handed in
--- (Novell SPX: sequence, acknowledge and allocation numbers).
+-- what the other handed in (Novell SPX: sequence, acknowledge and allocation numbers).
 use Rattle.std.specs.Prelude.{ℕ, ◌≡◌, ◌≤◌, ◌+◌, ◌++◌, false, length, take, Some, slice_get}
 use Rattle.spx_link.specs.LinkView.{LinkView}
 use Rattle.spx_link.specs.Marks.{mark}
@@ -31,10 +30,9 @@ abbrev pub IfStands : Scene → ℕ → (LinkView → Type 0) → Type 0
 IfStands s who P = (e : Stand) (l : LinkView) → Stands s who e l → P l
 
 -- of an end c, whose peer is d, and their ends of the machine: while c has a link it is its end;
--- the units that c took
--- are the first ones of d, and with those that it holds they are as many as it read; what c handed
--- out begins what d handed in; no take of c answered that a message grew too long;
--- and only what d read counts as acknowledged
+-- the units that c took are the first ones of d, and with those that it holds they are as many as
+-- it read; what c handed out begins what d handed in; no take of c answered that a message grew too
+-- long; and only what d read counts as acknowledged
 pub record IsInStep (s : Scene) (c d : ℕ) (one two : End) : Type 0 where
   pub machine : IfStands s c (λ l. Mirrors l one)
   pub units : taken_of c s.log ≡ take one.taken (units_of d s.log)

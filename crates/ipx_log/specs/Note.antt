@@ -4,8 +4,8 @@ use Rattle.spx_link.specs.declared.unit.Unit.{Unit}
 use Rattle.spx_units.specs.Message.{MessageView}
 
 -- ends, parcels, hosts and routers by their numbers. The last six make a parcel: an end sends a
--- unit, one again, or a
--- packet without a unit; a router sends a packet of its own or carries one; somebody injects one
+-- unit, one again, or a packet without a unit; a router sends a packet of its own or carries one;
+-- somebody injects one
 pub data Note : Type 0 where
   Opened : (who host buffers : ℕ) → Note
   Accepted : (who parcel buffers : ℕ) → Note

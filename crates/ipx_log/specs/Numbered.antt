@@ -1,6 +1,5 @@
 -- Ends and parcels are numbered in the order of the entries that make them, and each entry of the
--- log names those that
--- are there.
+-- log names those that are there.
 use Rattle.std.specs.Prelude.{◌≡◌, ◌<◌, List, ◌∷◌, ◌++◌, length}
 use Rattle.ipx_log.specs.Note.{Note, Opened, Accepted, Joined, HandsIn, HandsOut, TakesUnit, AsksEnd, Got, Released, SendsUnit, SendsAgain, SendsSystem, Told, Carried, Injected}
 use Rattle.ipx_log.specs.Scan.{Scan, scan}

@@ -1,6 +1,5 @@
 -- Packets of connections on their way (Novell IPX and SPX): which are for a host, what an end
--- writes, what a router makes
--- of one; and the entries that tell of them.
+-- writes, what a router makes of one; and the entries that tell of them.
 use Rattle.std.specs.Prelude.{ℕ, ◌≡◌, ◌≢◌, ◌+◌, ◌<◌, ◌==◌, ◌⊎◌, List, [], ◌∷◌, if◌then◌else◌}
 use Rattle.ipx_wire.specs.declared.address.Network.{Network}
 use Rattle.ipx_wire.specs.declared.address.Socket.{Socket}

@@ -1,6 +1,5 @@
 -- Which ends are peers, and the premises of the headline: nothing injected is read, each end reads
--- its own peer alone, and
--- what it reads is recent.
+-- its own peer alone, and what it reads is recent.
 use Rattle.std.specs.Prelude.{ℕ, ◌≡◌, ◌≢◌, ◌<◌, ◌⊎◌, true, false, List, take, drop, Option, Some, None, slice_get}
 use Rattle.ipx_log.specs.Note.{Note}
 use Rattle.ipx_log.specs.Scan.{Each, times, Scan, Reading, Role, Maker, ByUnit, BySystem, ByRouter, FromOutside, scan}

@@ -21,8 +21,7 @@ pub data Maker : Type 0 where
   FromOutside : Maker
 
 -- of a parcel: its origin, who made that, how many routers it passed, and how many units all ends
--- had sent for the first
--- time when its origin was made, it among them
+-- had sent for the first time when its origin was made, it among them
 pub record Mark : Type 0 where
   pub origin : ℕ
   pub maker : Maker
@@ -40,8 +39,7 @@ pub record Reading : Type 0 where
   pub first : Bool
 
 -- of an end: its buffers, whether it called, whether it was made by a request or joined, and the
--- end whose packet without
--- a unit did that
+-- end whose packet without a unit did that
 pub record Role : Type 0 where
   pub buffers : ℕ
   pub called : Bool

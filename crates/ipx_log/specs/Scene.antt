@@ -7,8 +7,7 @@ use Rattle.spx_units.specs.Packets.{Home}
 use Rattle.ipx_log.specs.Note.{Note}
 
 -- an end: its host, its link until it is released, the message that it has in part, and whether a
--- take of it answered
--- that the message grew too long
+-- take of it answered that the message grew too long
 pub record Stand : Type 0 where
   pub host : ℕ
   pub link : Option LinkView

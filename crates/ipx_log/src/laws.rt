@@ -13,16 +13,16 @@ ghost use Rattle.ipx_log.specs.SentUnits.{LinksSendInOrder, PositionsAreGreatest
 
 use crate::below::laws_below;
 
-/// If nothing injected is read, and each end reads its own peer alone and lately, then the links of two
-/// peers are the machine of the log, and what each handed out begins what the other handed in.
+/// If nothing injected is read, and each end reads its own peer alone and lately, then the links of
+/// two peers are the machine of the log, and what each handed out begins what the other handed in.
 pub fn peers_are_in_step()
     ensures { (s : Scene) → Reached s → PeersAreInStep s }
 {
     laws_below();
 }
 
-/// Under the same premises the machine of the log of two peers came by steps of `spx_link`'s machine
-/// from two new ends with their buffers: so that all its laws speak of it.
+/// Under the same premises the machine of the log of two peers came by steps of `spx_link`'s
+/// machine from two new ends with their buffers: so that all its laws speak of it.
 pub fn pairs_take_steps()
     ensures { (s : Scene) → Reached s → PairsTakeSteps s }
 {
@@ -43,8 +43,9 @@ pub fn alone_reads_nothing()
     laws_below();
 }
 
-/// Under the same premises an end whose close is confirmed has a peer that read all its units: every
-/// message handed in at the end was handed out at the peer, or stands whole in what the peer holds.
+/// Under the same premises an end whose close is confirmed has a peer that read all its units:
+/// every message handed in at the end was handed out at the peer, or stands whole in what the peer
+/// holds.
 pub fn confirmed_is_read()
     ensures { (s : Scene) → Reached s → ConfirmedIsRead s }
 {
@@ -74,16 +75,16 @@ pub fn units_are_sent_in_order()
     laws_below();
 }
 
-/// The next number of an end is that of the first unit that it did not send, and its queue holds its
-/// last units, from the first that is not acknowledged on.
+/// The next number of an end is that of the first unit that it did not send, and its queue holds
+/// its last units, from the first that is not acknowledged on.
 pub fn links_send_in_order()
     ensures { (s : Scene) → Reached s → LinksSendInOrder s }
 {
     laws_below();
 }
 
-/// The position of a unit that is sent again is the greatest below the number of those sent that has
-/// its number, wherever there is one.
+/// The position of a unit that is sent again is the greatest below the number of those sent that
+/// has its number, wherever there is one.
 pub fn positions_are_greatest()
     ensures { PositionsAreGreatest }
 {}

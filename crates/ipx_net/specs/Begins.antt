@@ -5,8 +5,8 @@ use Rattle.ipx_log.specs.Scan.{scan}
 use Rattle.ipx_log.specs.Peers.{ArePeers}
 use Rattle.ipx_log.specs.Handed.{handed_in, handed_out, IsBeginning}
 
--- there is an end of this number, and what it handed out begins what its peer handed in; without a peer it handed out
--- nothing
+-- there is an end of this number, and what it handed out begins what its peer handed in; without a
+-- peer it handed out nothing
 pub record Begins (log : List Note) (end : ℕ) : Type 0 where
   pub made : end < length (scan log).roles
   pub begins : (peer : ℕ) → ArePeers log end peer

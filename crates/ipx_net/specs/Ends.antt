@@ -20,8 +20,8 @@ nobody = record { host = 0; state = None; given = 0; out = 0; next = 0; peer = N
 abbrev pub told_of : List EndInfo → ℕ → EndInfo
 told_of told who = slice_index_or told who nobody
 
--- of an end, read off the log: how many messages it handed in and out, the number of the first unit that it did not send, and
--- its peer
+-- of an end, read off the log: how many messages it handed in and out, the number of the first unit
+-- that it did not send, and its peer
 pub record TellsEnd (log : List Note) (who : ℕ) (e : EndInfo) : Type 0 where
   pub given : e.given ≡ length (handed_in who log)
   pub out : e.out ≡ length (handed_out who log)
@@ -33,7 +33,8 @@ pub record TellsLog (log : List Note) (told : List EndInfo) : Type 0 where
   pub count : length told ≡ length (scan log).roles
   pub each : (who : ℕ) → TellsEnd log who (told_of told who)
 
--- of an end, where it stands: its host, and the state of its link, which it has until it is released
+-- of an end, where it stands: its host, and the state of its link, which it has until it is
+-- released
 pub record TellsStand (hosts : List Station) (n : EndNow) (e : EndInfo) : Type 0 where
   pub host : e.host ≡ n.host
   pub state : e.state ≡ state_of (held_of hosts n)

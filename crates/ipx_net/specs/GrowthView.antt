@@ -21,7 +21,8 @@ growth_view g =
       answer = answer_view g.answer;
     }
 
--- with so many parcels before, whichever they are, and whatever the log is: a relation of the worlds before and after
+-- with so many parcels before, whichever they are, and whatever the log is: a relation of the
+-- worlds before and after
 abbrev pub Grows : HostsView → HostsView → (first now : ℕ) → GrowthView
     → (AnswerView → World → World → Type 0) → Type 0
 Grows old new first now g P = (parcels : List ParcelView) (log : List Note)

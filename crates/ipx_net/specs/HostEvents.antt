@@ -30,8 +30,8 @@ RefusedOf who f a old new = (end' : EndNow) × (slice_get old.ends who ≡ Some 
 abbrev pub held_under : World → ℕ → Option Held
 held_under w who = end_held w.hosts w.ends who
 
--- it was done, where it meets no fault; or an end refused, with the fault that it meets or for want of
--- memory
+-- it was done, where it meets no fault; or an end refused, with the fault that it meets or for want
+-- of memory
 abbrev pub IsDone : (World → World → Type 0) → (World → Option EndFault)
     → (World → EndFault → Type 0) → ℕ → AnswerView → World → World → Type 0
 IsDone P fault IsRefused who a old new =
@@ -56,8 +56,8 @@ Closing who = IsDone (λ old new. Closes old who new) (λ w. close_fault (held_u
 abbrev pub Releasing : ℕ → AnswerView → World → World → Type 0
 Releasing who a old new = (a ≡ Done) × ReleasesOf old who new
 
--- a unit was taken; or the message grew too long; or memory was wanted for the message that the unit
--- joins, and nothing changed
+-- a unit was taken; or the message grew too long; or memory was wanted for the message that the
+-- unit joins, and nothing changed
 abbrev pub TakingFrom : ℕ → AnswerView → World → World → Type 0
 TakingFrom who a old new =
     ((t : TakenView) × (a ≡ Taken t) × TakesOf old who (Ok t) new)
@@ -84,8 +84,8 @@ end_for Arriveds.Stranger s count = None
 end_for (Arriveds.Accepted id) s count = Some count
 end_for (Arriveds.Link id r) s count = end_at s.here id
 
--- what a delivery to a host is answered: what the host made of the datagram, and the end that it was
--- for. The host is the one after it, and so many ends there were before
+-- what a delivery to a host is answered: what the host made of the datagram, and the end that it
+-- was for. The host is the one after it, and so many ends there were before
 abbrev pub arrival_answer : Arrived → Station → ℕ → AnswerView
 arrival_answer r s count = ArrivedAt (end_for r s count) r
 

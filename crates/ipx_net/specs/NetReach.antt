@@ -1,5 +1,5 @@
--- What is always so of a network: while it goes on, its scene is one that is reached; once memory was
--- refused, its log and its parcels are those of one, and the addresses of its hosts.
+-- What is always so of a network: while it goes on, its scene is one that is reached; once memory
+-- was refused, its log and its parcels are those of one, and the addresses of its hosts.
 use Rattle.std.specs.Prelude.{ℕ, ◌≡◌, Bool, true, false, map}
 use Rattle.ipx_log.specs.Deeds.{Reached}
 use Rattle.ipx_log.specs.Scene.{Scene}

@@ -1,4 +1,5 @@
--- A network as its contracts see it: hosts, ends, parcels, log and moment, its routers, and whether it gave up.
+-- A network as its contracts see it: hosts, ends, parcels, log and moment, its routers, and whether
+-- it gave up.
 use Rattle.std.specs.Prelude.{ℕ, Bool, List}
 use Rattle.ipx_log.specs.Note.{Note}
 use Rattle.ipx_steps.specs.World.{ParcelView, World}

@@ -38,7 +38,8 @@ routed_growth router ports parcel first (Outcomes.Forward port next bytes) =
       notes = Notes.Carried parcel first ∷ [];
       answer = Parcels (first ∷ []);
     }
-routed_growth router ports parcel first (Outcomes.Replies sent) = told_growth router ports first sent
+routed_growth router ports parcel first (Outcomes.Replies sent) =
+    told_growth router ports first sent
 routed_growth router ports parcel first (Outcomes.Heard n) =
     record { parcels = []; notes = []; answer = Heard n }
 routed_growth router ports parcel first (Outcomes.Dropped reason) =

@@ -1,5 +1,5 @@
--- A router as a member of a network: what it gives where it is polled, and as which parcels its packets lie
--- (Novell IPX Router Specification).
+-- A router as a member of a network: what it gives where it is polled, and as which parcels its
+-- packets lie (Novell IPX Router Specification).
 use Rattle.std.specs.Prelude.{ℕ, zero, suc, ◌≡◌, ◌++◌, true, List, [], MatchBool, Option, None, Some, map, slice_get}
 use Rattle.ipx_wire.specs.declared.address.Network.{Network}
 use Rattle.ipx_router.specs.declared.port.Port.{Port}

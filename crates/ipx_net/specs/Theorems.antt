@@ -6,8 +6,8 @@ use Rattle.ipx_log.specs.Peers.{AreJoined, Premises}
 use Rattle.ipx_log.specs.Scan.{scan}
 use Rattle.ipx_log.specs.Scene.{Scene}
 
--- if nothing injected is read, and each end reads its own peer alone and lately, then what an end handed out begins what its
--- peer handed in, either way
+-- if nothing injected is read, and each end reads its own peer alone and lately, then what an end
+-- handed out begins what its peer handed in, either way
 abbrev pub PeersHandOn : Scene → Type 0
 PeersHandOn s = Premises s.log → (c d : ℕ) → AreJoined (scan s.log) c d
     → IsBeginning (handed_out c s.log) (handed_in d s.log)

@@ -131,7 +131,8 @@ paired_by (Some who) log told = paired who (peer_of log who) told
 -- ---- the ends of a host, before and after an event
 
 -- what the ends of a host are told as, gone or as they stand; all else stays
-pub record Resettled (v : HostsView) (host : ℕ) (gone : Bool) (old new : List EndInfo) : Type 0 where
+pub record Resettled (v : HostsView) (host : ℕ) (gone : Bool) (old new : List EndInfo)
+    : Type 0 where
   pub count : length new ≡ length old
   pub log : (who : ℕ) → logged (told_of new who) ≡ logged (told_of old who)
   pub here : (id who : ℕ) → end_at (here_at v host) id ≡ Some who → who < length old

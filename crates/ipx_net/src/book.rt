@@ -35,7 +35,8 @@ impl Model for Book {
 
     ghost Value = { BookView };
 
-    ghost view = { λ b. record { parcels = parcel_views b.parcels.items; log = entry_notes b.entries.items } };
+    ghost view = { λ b.
+        record { parcels = parcel_views b.parcels.items; log = entry_notes b.entries.items } };
 
     ghost invariant = { λ b. scan (entry_notes b.entries.items) ≡ scan_of b.scanned };
 }

@@ -78,7 +78,8 @@ pub fn close(
 ) -> Result<Growth, OutOfMemory>
     requires order { FitTogether hosts.old }
     requires stands { stands hosts.old who ≡ true }
-    ensures grows { IfOk result (λ g. Grows hosts.old hosts.new first now (growth_view g) (Closing who)) }
+    ensures grows { IfOk result
+        (λ g. Grows hosts.old hosts.new first now (growth_view g) (Closing who)) }
     ensures homes { SameHomes hosts.old hosts.new }
 {
     match hosts.close(alloc, who, now) {
@@ -97,7 +98,8 @@ pub fn release(
 ) -> Result<Growth, OutOfMemory>
     requires order { FitTogether hosts.old }
     requires stands { stands hosts.old who ≡ true }
-    ensures grows { IfOk result (λ g. Grows hosts.old hosts.new first now (growth_view g) (Releasing who)) }
+    ensures grows { IfOk result
+        (λ g. Grows hosts.old hosts.new first now (growth_view g) (Releasing who)) }
     ensures homes { SameHomes hosts.old hosts.new }
 {
     hosts.release(who, now).unwrap();
@@ -115,11 +117,13 @@ fn copy_of(alloc: Global, message: &Message) -> Result<Message, OutOfMemory>
     })
 }
 
-/// What is told of a take that was not refused: the unit that was held, and the message that it ended.
+/// What is told of a take that was not refused: the unit that was held, and the message that it
+/// ended.
 fn taken(alloc: Global, who: usize, unit: Option<Unit>, taken: Taken) -> Result<Growth, OutOfMemory>
     ensures { IfOk result (λ g. growth_view g ≡ record {
       parcels = [];
-      notes = unit_notes (Ok (taken_view taken)) unit who ++ whole_notes (Ok (taken_view taken)) who;
+      notes = unit_notes (Ok (taken_view taken)) unit who
+          ++ whole_notes (Ok (taken_view taken)) who;
       answer = views.Taken (taken_view taken);
     }) }
 {
@@ -149,7 +153,8 @@ pub fn take(
 ) -> Result<Growth, OutOfMemory>
     requires order { FitTogether hosts.old }
     requires stands { stands hosts.old who ≡ true }
-    ensures grows { IfOk result (λ g. Grows hosts.old hosts.new first now (growth_view g) (TakingFrom who)) }
+    ensures grows { IfOk result
+        (λ g. Grows hosts.old hosts.new first now (growth_view g) (TakingFrom who)) }
     ensures homes { SameHomes hosts.old hosts.new }
 {
     let (unit, result) = hosts.take(alloc, who, now);

@@ -101,8 +101,9 @@ fn reached_host(place: Place) -> Option<usize>
 }
 
 impl Course {
-    /// The course of a network of these hosts and routers, numbered from 0 in their order, at moment
-    /// 0. Nothing happened in it, its routers know nothing, and its hosts have no connections.
+    /// The course of a network of these hosts and routers, numbered from 0 in their order, at
+    /// moment 0. Nothing happened in it, its routers know nothing, and its hosts have no
+    /// connections.
     ///
     /// The caller owes networks other than 0 and FFFFFFFF, of hosts and of ports, and 1 to 8,192
     /// buffers where a host listens. It is refused with the fault of the first router that is
@@ -112,7 +113,8 @@ impl Course {
         requires ports { All ArePortsOwed routers.items }
         ensures new { IfOk result (λ n. IsNewNet hosts.items routers.items n) }
         ensures sound { OnOk result (first_refusal routers.items ≡ None) }
-        ensures fault { IfErr result (λ f. f ≡ unwrap_or (first_refusal routers.items) NewFaults.OutOfMemory) }
+        ensures fault { IfErr result
+            (λ f. f ≡ unwrap_or (first_refusal routers.items) NewFaults.OutOfMemory) }
     {
         peers_of_worlds_are_in_step();
         let routers = routers_of(alloc, routers)?;
@@ -141,8 +143,8 @@ impl Course {
         fault_of(&self.hosts, &self.routers, &self.book, event)
     }
 
-    /// What an event does that meets no fault before. Where memory is refused, the network gives up.
-    /// Room is taken for what is told of the ends that it makes.
+    /// What an event does that meets no fault before. Where memory is refused, the network gives
+    /// up. Room is taken for what is told of the ends that it makes.
     pub fn go_on(
         &mut self,
         told: &mut EndsTold,
@@ -155,13 +157,15 @@ impl Course {
         ensures going { OnOk result (self.new.spent ≡ false) }
         ensures fault { IfErr result (λ f. f ≡ NetFaults.OutOfMemory) }
         ensures log { IfErr result (λ f. self.new.now.world.log ≡ self.old.now.world.log) }
-        ensures parcels { IfErr result (λ f. self.new.now.world.parcels ≡ self.old.now.world.parcels) }
+        ensures parcels { IfErr result
+            (λ f. self.new.now.world.parcels ≡ self.old.now.world.parcels) }
         ensures spent { IfErr result (λ f. self.new.spent ≡ true) }
         ensures behind { OnOk result (take (length self.old.now.world.log) self.new.now.world.log
             ≡ self.old.now.world.log) }
         ensures told { told.new.infos.items ≡ told.old.infos.items }
         ensures room { OnOk result (vec_len told.new.infos
-            + (length self.new.now.world.log - length self.old.now.world.log) ≤ vec_capacity told.new.infos) }
+            + (length self.new.now.world.log - length self.old.now.world.log)
+            ≤ vec_capacity told.new.infos) }
     {
         steps_are_deeds();
         let grown = happen(
@@ -283,7 +287,8 @@ impl Course {
     /// The ends of a host are told as they stand, or all as gone.
     pub fn stand(&self, told: &mut EndsTold, host: Option<usize>, gone: bool)
         requires { self.now.spent ≡ false }
-        ensures { Restood (hosts_of self.now.now.world) host gone told.old.infos.items told.new.infos.items }
+        ensures { Restood (hosts_of self.now.now.world) host gone
+            told.old.infos.items told.new.infos.items }
     {
         if let Some(host) = host {
             told.settle(&self.hosts, host, gone);

@@ -84,7 +84,8 @@ fn told_of(
     parcel: usize,
 ) -> Result<(Option<usize>, Vec<Entry>), OutOfMemory>
     ensures { IfSome (slice_get hosts.now.stations host) (λ s. IfOk result (λ p.
-        (p.0 ≡ end_for arrived s who) × (entry_notes p.1.items ≡ arrival_notes arrived s who parcel))) }
+        (p.0 ≡ end_for arrived s who)
+        × (entry_notes p.1.items ≡ arrival_notes arrived s who parcel))) }
 {
     match arrived {
         Arrived::Accepted(id) => {

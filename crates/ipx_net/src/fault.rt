@@ -11,22 +11,23 @@ use thiserror::Error;
 /// Why a step of a network was refused.
 #[derive(Clone, Copy, Debug, PartialEq, Eq, Error)]
 pub enum NetFault {
-    #[error("no such parcel")]
+    /// There is no parcel of this number.
+    #[error("no parcel has this number")]
     NoSuchParcel,
     /// The place is not on the parcel's network, or there is no such host, router or port.
-    #[error("not on that network")]
+    #[error("the place is not there, or not on the network of the parcel")]
     NotOnSegment,
     /// There is no such end, or it was released.
-    #[error("no such end")]
+    #[error("no end of this number stands")]
     NoSuchEnd,
     /// The log holds 1,000,000 entries.
-    #[error("the log is full")]
+    #[error("the log is full, at most 1000000 entries")]
     Full,
     /// The log stands, and no further step is taken.
     #[error("out of memory")]
     OutOfMemory,
     /// Memory was refused before.
-    #[error("memory was refused before")]
+    #[error("memory was refused before, no step is taken")]
     Spent,
 }
 

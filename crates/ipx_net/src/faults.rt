@@ -41,7 +41,8 @@ fn member_fault(count: usize, number: usize) -> Option<NetFault>
 /// The network of a place, if that is there.
 fn network_of(hosts: &Hosts, routers: &[RouterNow], place: &Place) -> Option<Network>
     ensures { (book : BookView) (moment : ℕ)
-        → result ≡ network_at (net_of hosts.now routers.now book.parcels book.log moment) place.now }
+        → result
+        ≡ network_at (net_of hosts.now routers.now book.parcels book.log moment) place.now }
 {
     match place {
         Place::Host(host) => hosts.network(*host),

@@ -21,7 +21,8 @@ pub struct Growth {
 
 /// An answer alone.
 pub fn quiet(alloc: Global, answer: Answer) -> Growth
-    ensures { growth_view result ≡ record { parcels = []; notes = []; answer = answer_view answer } }
+    ensures { growth_view result
+        ≡ record { parcels = []; notes = []; answer = answer_view answer } }
 {
     Growth {
         parcels: Vec::new(alloc),

@@ -42,7 +42,8 @@ fn next_in(log: &[Entry], from: usize, end: usize) -> Option<(usize, &Message)>
     requires { from ≤ length log.now }
     ensures { MatchOption result (handed_in end (entry_notes (drop from log.now)) ≡ []) (λ r.
         (r.0 ≤ length log.now)
-        × (handed_in end (entry_notes (drop from log.now)) ≡ message_view r.1.now ∷ handed_in end (entry_notes (drop r.0 log.now)))) }
+        × (handed_in end (entry_notes (drop from log.now))
+        ≡ message_view r.1.now ∷ handed_in end (entry_notes (drop r.0 log.now)))) }
 {
     let mut at = from;
     while at < log.len() {
@@ -57,7 +58,8 @@ fn next_in(log: &[Entry], from: usize, end: usize) -> Option<(usize, &Message)>
 /// Whether what an end handed out begins what another one handed in. Both are gone through once.
 pub fn is_beginning(log: &[Entry], end: usize, peer: usize) -> bool
     ensures { IsTrue result
-        ↔ IsBeginning (handed_out end (entry_notes log.now)) (handed_in peer (entry_notes log.now)) }
+        ↔ IsBeginning (handed_out end (entry_notes log.now))
+        (handed_in peer (entry_notes log.now)) }
 {
     let mut next = 0;
     for entry in log {

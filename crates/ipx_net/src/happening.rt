@@ -60,7 +60,8 @@ fn poll(
     member: Member,
     now: u64,
 ) -> Result<Growth, OutOfMemory>
-    requires { poll_fault (net_of hosts.old routers.old book.now.parcels book.now.log now) member ≡ None }
+    requires { poll_fault (net_of hosts.old routers.old book.now.parcels book.now.log now) member
+        ≡ None }
     ensures polls { IfOk result (λ g. PollsOf member (growth_view g).answer
         (net_of hosts.old routers.old book.now.parcels book.now.log now)
         (net_of hosts.new routers.new (book.now.parcels ++ (growth_view g).parcels)

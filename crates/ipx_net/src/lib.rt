@@ -1,7 +1,11 @@
 //! A network in memory: what happened in it, in order, and the packets on their way.
 //!
-//! A `Book` holds the log and the parcels. What is read off the log, as which packets an end read and
-//! who sent them, is kept beside it as it grows.
+//! One makes a [`Net`] of hosts and of the ports of routers, hands it one [`Event`] after another
+//! by [`Net::step`], and reads `log`, `parcels` and `ends`. No packet goes on by itself, and no
+//! time passes.
+//!
+//! A [`Book`] holds the log and the parcels. What is read off the log, as which packets an end read
+//! and who sent them, is kept beside it as it grows.
 #![tactic(auto)]
 
 mod answer;

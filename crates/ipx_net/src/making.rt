@@ -41,7 +41,8 @@ pub fn routers_of(alloc: Global, routers: Vec<Vec<Port>>) -> Result<Vec<RouterNo
     requires { All ArePortsOwed routers.items }
     ensures are { IfOk result (λ v. AreRouters routers.items v.items) }
     ensures sound { OnOk result (first_refusal routers.items ≡ None) }
-    ensures fault { IfErr result (λ f. f ≡ unwrap_or (first_refusal routers.items) NewFaults.OutOfMemory) }
+    ensures fault { IfErr result
+        (λ f. f ≡ unwrap_or (first_refusal routers.items) NewFaults.OutOfMemory) }
 {
     let mut made = Vec::new(alloc);
     // It is told last: the routers behind may be refused for their ports.

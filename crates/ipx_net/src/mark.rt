@@ -40,9 +40,9 @@ impl Maker {
     }
 }
 
-/// Of a parcel: its origin, which is the parcel that routers carried on and on to this one; who made
-/// that; how many routers it passed; and how many units all ends had sent for the first time when
-/// its origin was made, it among them.
+/// Of a parcel: its origin, which is the parcel that routers carried on and on to this one; who
+/// made that; how many routers it passed; and how many units all ends had sent for the first time
+/// when its origin was made, it among them.
 #[derive(Clone, Copy, Debug, PartialEq, Eq)]
 pub struct Mark {
     pub origin: usize,

@@ -70,7 +70,8 @@ fn go_on(
     ensures going { OnOk result (course.new.spent ≡ false) }
     ensures fault { IfErr result (λ f. f ≡ NetFaults.OutOfMemory) }
     ensures log { IfErr result (λ f. course.new.now.world.log ≡ course.old.now.world.log) }
-    ensures parcels { IfErr result (λ f. course.new.now.world.parcels ≡ course.old.now.world.parcels) }
+    ensures parcels { IfErr result
+        (λ f. course.new.now.world.parcels ≡ course.old.now.world.parcels) }
     ensures spent { IfErr result (λ f. course.new.spent ≡ true) }
     ensures tells { TellsEnds course.new told.new.infos.items }
 {
@@ -129,7 +130,8 @@ impl Net {
         requires ports { All ArePortsOwed routers.items }
         ensures new { IfOk result (λ n. IsNewNet hosts.items routers.items n) }
         ensures sound { OnOk result (first_refusal routers.items ≡ None) }
-        ensures fault { IfErr result (λ f. f ≡ unwrap_or (first_refusal routers.items) NewFaults.OutOfMemory) }
+        ensures fault { IfErr result
+            (λ f. f ≡ unwrap_or (first_refusal routers.items) NewFaults.OutOfMemory) }
     {
         match Course::new(alloc, hosts, routers) {
             Ok(course) => Ok(Net {
@@ -143,8 +145,8 @@ impl Net {
     /// Takes one event, and answers what became of it.
     ///
     /// The caller owes 1 to 8,192 buffers of what is dialled. It is refused as `Spent` where memory
-    /// was refused before, else as `Full` where the log holds 1,000,000 entries, else where it names
-    /// what is not there, else for want of memory. Then the log and the parcels stand, and no
+    /// was refused before, else as `Full` where the log holds 1,000,000 entries, else where it
+    /// names what is not there, else for want of memory. Then the log and the parcels stand, and no
     /// further step is taken; any other refusal leaves all as it was.
     pub fn step(&mut self, alloc: Global, event: Event) -> Result<Answer, NetFault>
         requires { IsOwed event }
@@ -198,7 +200,8 @@ impl Net {
     /// handed out nothing. It is false for a number of no end.
     pub fn begins(&self, end: usize) -> bool
         ensures begins { IsTrue result ↔ Begins self.now.now.world.log end }
-        // The headline, also after want of memory: under its premises each end that there is begins.
+        // The headline, also after want of memory: under its premises each end that there is
+        // begins.
         ensures headline { Premises self.now.now.world.log
             → end < length (scan self.now.now.world.log).roles → IsTrue result }
     {
@@ -218,7 +221,8 @@ impl Net {
     /// After want of memory hosts and states tell nothing.
     pub fn ends(&self) -> &[EndInfo]
         ensures told { TellsEnds self.now result.now }
-        ensures count { self.now.spent ≡ false → length result.now ≡ length self.now.now.world.ends }
+        ensures count { self.now.spent ≡ false
+            → length result.now ≡ length self.now.now.world.ends }
         ensures next { self.now.spent ≡ false → TellsNext self.now.now.world result.now }
     {
         self.course.orders();

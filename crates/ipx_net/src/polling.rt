@@ -16,12 +16,9 @@ use crate::growth::{Growth, quiet};
 use crate::parcel::Parcel;
 use crate::place::Place;
 use ipx_hosts::Hosts;
-use ipx_wire::OutOfMemory;
+use ipx_wire::{OutOfMemory, SPX_MAX_PACKET_SIZE};
 use spx_link::Sent;
 use std::alloc::Global;
-
-/// The bytes that a packet of a connection has at most.
-const MOST_BYTES: usize = 576;
 
 /// The entry of a packet that an end gave.
 fn entry_of(sent: Sent, who: usize, parcel: usize) -> Entry
@@ -87,7 +84,7 @@ pub fn poll_host(
     ensures homes { SameHomes hosts.old hosts.new }
 {
     let segment = hosts.network(host).unwrap();
-    let mut bytes = vec![in alloc; 0; MOST_BYTES]?;
+    let mut bytes = vec![in alloc; 0; SPX_MAX_PACKET_SIZE]?;
     let Some((next, length)) = hosts.poll(host, now, &mut bytes) else {
         return Ok(quiet(alloc, Answer::Parcels(Vec::new(alloc))));
     };

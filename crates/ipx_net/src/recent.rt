@@ -5,8 +5,8 @@ use crate::role::Role;
 use crate::scanned::Scanned;
 use ipx_log::peer_is_found;
 
-/// So many units an end may have sent between the sending of a packet and its reading, less one: half
-/// of all sequence numbers.
+/// So many units an end may have sent between the sending of a packet and its reading, less one:
+/// half of all sequence numbers.
 const TOO_MANY: usize = 32_768;
 
 impl Scanned {
@@ -22,7 +22,8 @@ impl Scanned {
         self.roles.get(end).copied()
     }
 
-    /// The peer of an end: each was made or joined by a packet of the other, and one of them called.
+    /// The peer of an end: each was made or joined by a packet of the other, and one of them
+    /// called.
     pub fn peer(&self, end: usize) -> Option<usize>
         ensures { result ≡ peer_in (scan_of self.now) end }
     {

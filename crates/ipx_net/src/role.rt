@@ -33,7 +33,12 @@ impl Role {
     /// Of an end that a request made, whose maker this is.
     pub fn accepted(buffers: u16, maker: Maker) -> Role
         ensures { role_view result
-            ≡ record { buffers = buffers; called = false; joined = true; partner = asker (maker_view maker) } }
+            ≡ record {
+              buffers = buffers;
+              called = false;
+              joined = true;
+              partner = asker (maker_view maker);
+            } }
     {
         Role {
             buffers,
@@ -61,7 +66,8 @@ impl Role {
 /// A packet of this maker joins an end, by its number, if there is one.
 pub fn join_role(roles: &mut [Role], who: usize, maker: Maker)
     ensures { map role_view roles.new
-        ≡ set (map role_view roles.old) who (joined_by (maker_view maker) (slice_index_or (map role_view roles.old) who no_role)) }
+        ≡ set (map role_view roles.old) who (joined_by (maker_view maker)
+        (slice_index_or (map role_view roles.old) who no_role)) }
 {
     if who < roles.len() {
         let role = roles[who];

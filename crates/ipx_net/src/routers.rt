@@ -37,7 +37,8 @@ pub fn network_at(ports: &[Port], port: u8) -> Option<Network>
 fn questions(alloc: Global, member: &RouterNow) -> Result<Vec<Reply>, OutOfMemory>
     ensures asks { IfOk result (λ v. MatchBool member.now.started (sendings v.items ≡ [])
         (AreStarts 1 member.now.router.ports (sendings v.items))) }
-    ensures there { IfOk result (λ v. AreOnPorts (length member.now.router.ports) (sendings v.items)) }
+    ensures there { IfOk result
+        (λ v. AreOnPorts (length member.now.router.ports) (sendings v.items)) }
     ensures own { IfOk result (λ v. AreOwn (sendings v.items)) }
 {
     if member.started {
@@ -54,7 +55,8 @@ pub fn poll_router(
     now: u64,
 ) -> Result<Vec<Reply>, OutOfMemory>
     ensures polled { IfOk result (λ v. IsPolled member.old member.new now (sendings v.items)) }
-    ensures there { IfOk result (λ v. AreOnPorts (length member.old.router.ports) (sendings v.items)) }
+    ensures there { IfOk result
+        (λ v. AreOnPorts (length member.old.router.ports) (sendings v.items)) }
     ensures own { IfOk result (λ v. AreOwn (sendings v.items)) }
     ensures ports { member.new.router.ports ≡ member.old.router.ports }
 {

@@ -37,7 +37,8 @@ fn told(
     replies: Vec<Reply>,
     first: usize,
 ) -> Result<Growth, OutOfMemory>
-    ensures { IfOk result (λ g. growth_view g ≡ told_growth router ports.now first (sendings replies.items)) }
+    ensures { IfOk result
+        (λ g. growth_view g ≡ told_growth router ports.now first (sendings replies.items)) }
 {
     let count = replies.len();
     if count > usize::MAX - first {
@@ -62,7 +63,9 @@ fn carried(
     reply: Reply,
     first: usize,
 ) -> Result<Growth, OutOfMemory>
-    ensures { IfOk result (λ g. growth_view g ≡ routed_growth router ports.now parcel first (view (Outcomes.Forward reply))) }
+    ensures { IfOk result (λ g.
+        growth_view g
+        ≡ routed_growth router ports.now parcel first (view (Outcomes.Forward reply))) }
 {
     let mut numbers = Vec::new(alloc);
     numbers.push(first)?;
@@ -90,7 +93,8 @@ pub fn poll_member(
     now: u64,
 ) -> Result<Growth, OutOfMemory>
     requires { router < length routers.old }
-    ensures { IfOk result (λ g. MemberPolled routers.old router first now (growth_view g) routers.new) }
+    ensures { IfOk result
+        (λ g. MemberPolled routers.old router first now (growth_view g) routers.new) }
 {
     let member = &mut routers[router];
     let replies = poll_router(alloc, member, now)?;
@@ -107,7 +111,8 @@ fn routed(
     outcome: Outcome,
     first: usize,
 ) -> Result<Growth, OutOfMemory>
-    ensures { IfOk result (λ g. growth_view g ≡ routed_growth router ports.now parcel first (view outcome)) }
+    ensures { IfOk result
+        (λ g. growth_view g ≡ routed_growth router ports.now parcel first (view outcome)) }
 {
     match outcome {
         Outcome::Forward(reply) => carried(alloc, router, ports, parcel, reply, first),
@@ -129,8 +134,11 @@ pub fn deliver_member(
     now: u64,
 ) -> Result<Growth, OutOfMemory>
     requires there { router < length routers.old }
-    requires port { IfSome (slice_get routers.old router) (λ r. (1 ≤ port) × (port ≤ length r.router.ports)) }
-    ensures { IfOk result (λ g. MemberReached routers.old router port parcel bytes.now first now (growth_view g) routers.new) }
+    requires port { IfSome (slice_get routers.old router)
+        (λ r. (1 ≤ port) × (port ≤ length r.router.ports)) }
+    ensures { IfOk result (λ g.
+        MemberReached routers.old router port parcel bytes.now first now
+        (growth_view g) routers.new) }
 {
     let member = &mut routers[router];
     let outcome = member.router.receive(alloc, port, bytes, now)?;

@@ -10,8 +10,8 @@ use crate::reading::Reading;
 use crate::role::{Role, join_role};
 use std::alloc::{AllocError, Global};
 
-/// What is read off a log: of each parcel, of each unit in order (the end that sent it for the first
-/// time), of each packet read, and of each end.
+/// What is read off a log: of each parcel, of each unit in order (the end that sent it for the
+/// first time), of each packet read, and of each end.
 #[derive(Drop)]
 pub struct Scanned {
     pub marks: Vec<Mark>,
@@ -74,7 +74,8 @@ impl Scanned {
     /// An end sends a unit for the first time.
     fn add_unit(&mut self, who: usize)
         requires { HasRoom 1 self.old }
-        ensures scan { (parcel : ℕ) → scan_of self.new ≡ seen (scan_of self.old) (SendsUnit who parcel) }
+        ensures scan { (parcel : ℕ)
+            → scan_of self.new ≡ seen (scan_of self.old) (SendsUnit who parcel) }
         ensures room { (more : ℕ) → HasRoom (more + 1) self.old → HasRoom more self.new }
     {
         self.places.add(who, self.sent.len());
@@ -87,7 +88,8 @@ impl Scanned {
     /// A router carries a parcel on.
     fn carry(&mut self, from: usize)
         requires { HasRoom 1 self.old }
-        ensures scan { (parcel : ℕ) → scan_of self.new ≡ seen (scan_of self.old) (Carried from parcel) }
+        ensures scan { (parcel : ℕ)
+            → scan_of self.new ≡ seen (scan_of self.old) (Carried from parcel) }
         ensures room { (more : ℕ) → HasRoom (more + 1) self.old → HasRoom more self.new }
     {
         let mark = mark_at(&self.marks, from);
@@ -119,7 +121,8 @@ impl Scanned {
     /// An end is opened.
     fn open(&mut self, buffers: u16)
         requires { HasRoom 1 self.old }
-        ensures scan { (who host : ℕ) → scan_of self.new ≡ seen (scan_of self.old) (Opened who host buffers) }
+        ensures scan { (who host : ℕ)
+            → scan_of self.new ≡ seen (scan_of self.old) (Opened who host buffers) }
         ensures room { (more : ℕ) → HasRoom (more + 1) self.old → HasRoom more self.new }
     {
         self.roles.push_reserved(Role::opened(buffers));

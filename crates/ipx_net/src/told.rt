@@ -174,8 +174,10 @@ impl EndsTold {
         requires room { vec_len self.old.infos + 1 ≤ vec_capacity self.old.infos }
         requires few { (e : ℕ) → ((told_of self.old.infos.items e).given + 1 < 2 ^ 64)
             × ((told_of self.old.infos.items e).out + 1 < 2 ^ 64) }
-        ensures told { self.new.infos.items ≡ told_with (entry_note entry.now) self.old.infos.items }
-        ensures room { (more : ℕ) → vec_len self.old.infos + (more + 1) ≤ vec_capacity self.old.infos
+        ensures told { self.new.infos.items
+            ≡ told_with (entry_note entry.now) self.old.infos.items }
+        ensures room { (more : ℕ)
+            → vec_len self.old.infos + (more + 1) ≤ vec_capacity self.old.infos
             → vec_len self.new.infos + more ≤ vec_capacity self.new.infos }
     {
         match entry {
@@ -199,7 +201,8 @@ impl EndsTold {
     /// The entries of a log from a place on: new ends, and what ends handed in and out and sent.
     pub fn read_from(&mut self, log: &[Entry], from: usize)
         requires range { from ≤ length log.now }
-        requires room { vec_len self.old.infos + (length log.now - from) ≤ vec_capacity self.old.infos }
+        requires room { vec_len self.old.infos + (length log.now - from)
+            ≤ vec_capacity self.old.infos }
         requires numbered { AreNumbered (entry_notes log.now) }
         requires counted { AreCounted (entry_notes (take from log.now)) self.old.infos.items }
         ensures counted { AreCounted (entry_notes log.now) self.new.infos.items }
@@ -277,7 +280,8 @@ impl EndsTold {
             ≡ logged (told_of self.old.infos.items who) }
         ensures here { (id who : ℕ) → end_at (here_at hosts.now host) id ≡ Some who
             → who < length self.old.infos.items
-            → StandsSo host (state_by gone (state_at hosts.now host id)) (told_of self.new.infos.items who) }
+            → StandsSo host (state_by gone (state_at hosts.now host id))
+            (told_of self.new.infos.items who) }
         ensures others { (who : ℕ) → ((id : ℕ) → end_at (here_at hosts.now host) id ≢ Some who)
             → told_of self.new.infos.items who ≡ told_of self.old.infos.items who }
     {

@@ -14,63 +14,63 @@ use Rattle.spx_link.specs.Poll.{OutgoingView, lost, requests, requests_or_lost, 
 use Rattle.spx_link.specs.Receive.{read_numbers, read_system, read_unit, read_packet, is_system, is_own, is_reply, joined, receive_at, receive_link, beyond_expected, put, is_taken, leading, any_end, keep_end, keep_units, settle, keep, in_turn, not_behind, repeated, may_confirm, with_ack_owed}
 use Rattle.spx_link.specs.declared.received.Received.TheVariants as R
 use Rattle.spx_link.specs.declared.state.State.TheVariants as S
-use Rattle.ipx_pairs.specs.Allowances.{SameReceived, Leaves, HasTaken, JoinsBy, Took, AllowanceLaws}
+use Rattle.ipx_pairs.specs.Allowances.{SameReceived, AfterPoll, HasTaken, JoinsBy, Took, AllowanceLaws}
 
 -- ---- a poll
 
 same_link : (l : LinkView) → SameReceived l l
 same_link l = record { expected = refl; held = refl; ahead = refl; buffers = refl }
 
-nothing : (l k : LinkView) → SameReceived l k → k.room ≡ l.room → k.next ≡ l.next → Leaves l (None, k)
+nothing : (l k : LinkView) → SameReceived l k → k.room ≡ l.room → k.next ≡ l.next → AfterPoll l (None, k)
 nothing l k same room next = record { same = same; gives = (room, next) }
 
-again_leaves : (l : LinkView) (now k : ℕ) (o : Option Queued) → Leaves l (sends_again_or_lost l now k o)
+again_leaves : (l : LinkView) (now k : ℕ) (o : Option Queued) → AfterPoll l (sends_again_or_lost l now k o)
 again_leaves l now k None = nothing l l (same_link l) refl refl
 again_leaves l now k (Some q) =
-    cond_both {A = Option OutgoingView × LinkView} (nat_le most_sends q.count) (None, lost l) (sends_again l now k q) (Leaves l)
+    cond_both {A = Option OutgoingView × LinkView} (nat_le most_sends q.count) (None, lost l) (sends_again l now k q) (AfterPoll l)
     (λ y. nothing l (lost l) (record { expected = refl; held = refl; ahead = refl; buffers = refl }) refl refl) (λ n. record { same = record { expected = refl; held = refl; ahead = refl; buffers = refl }; gives = (refl, (refl, refl)) })
 
-sends_leaves : (l : LinkView) (now : ℕ) (o : Option Queued) → 0 < l.room → Leaves l (sends l now o)
+sends_leaves : (l : LinkView) (now : ℕ) (o : Option Queued) → 0 < l.room → AfterPoll l (sends l now o)
 sends_leaves l now None some = nothing l l (same_link l) refl refl
 sends_leaves l now (Some q) some = record { same = record { expected = refl; held = refl; ahead = refl; buffers = refl }; gives = (refl, omega (arith, some)) }
 
-probe_leaves : (l : LinkView) (now : ℕ) → Leaves l (poll_probe l now)
+probe_leaves : (l : LinkView) (now : ℕ) → AfterPoll l (poll_probe l now)
 probe_leaves l now =
-    cond_both {A = Option OutgoingView × LinkView} (may_probe l now) (probes_or_lost l now) (None, l) (Leaves l)
-    (λ y. cond_both {A = Option OutgoingView × LinkView} (nat_le most_sends l.probes) (None, lost l) (probes_once l now) (Leaves l)
+    cond_both {A = Option OutgoingView × LinkView} (may_probe l now) (probes_or_lost l now) (None, l) (AfterPoll l)
+    (λ y. cond_both {A = Option OutgoingView × LinkView} (nat_le most_sends l.probes) (None, lost l) (probes_once l now) (AfterPoll l)
     (λ t. nothing l (lost l) (record { expected = refl; held = refl; ahead = refl; buffers = refl }) refl refl) (λ f. record { same = record { expected = refl; held = refl; ahead = refl; buffers = refl }; gives = (refl, (refl, refl)) }))
     (λ n. nothing l l (same_link l) refl refl)
 
-ack_leaves : (l : LinkView) (now : ℕ) → Leaves l (poll_ack l now)
+ack_leaves : (l : LinkView) (now : ℕ) → AfterPoll l (poll_ack l now)
 ack_leaves l now =
-    cond_both {A = Option OutgoingView × LinkView} l.owes_ack (acknowledges l now) (poll_probe l now) (Leaves l)
+    cond_both {A = Option OutgoingView × LinkView} l.owes_ack (acknowledges l now) (poll_probe l now) (AfterPoll l)
     (λ y. record { same = record { expected = refl; held = refl; ahead = refl; buffers = refl }; gives = (refl, (refl, refl)) }) (λ n. probe_leaves l now)
 
-late_leaves : (l : LinkView) (now : ℕ) (o : Option ℕ) → Leaves l (poll_late l now o)
+late_leaves : (l : LinkView) (now : ℕ) (o : Option ℕ) → AfterPoll l (poll_late l now o)
 late_leaves l now None = ack_leaves l now
 late_leaves l now (Some k) = again_leaves l now k (slice_get l.queue k)
 
-unit_leaves : (l : LinkView) (now : ℕ) → Leaves l (poll_unit l now)
+unit_leaves : (l : LinkView) (now : ℕ) → AfterPoll l (poll_unit l now)
 unit_leaves l now =
-    cond_both {A = Option OutgoingView × LinkView} (may_send l) (sends l now (slice_get l.queue l.out)) (poll_again l now) (Leaves l)
+    cond_both {A = Option OutgoingView × LinkView} (may_send l) (sends l now (slice_get l.queue l.out)) (poll_again l now) (AfterPoll l)
     (λ y. sends_leaves l now (slice_get l.queue l.out) (ltb-true _ _ (and_parts _ _ (and_parts _ _ (and_parts _ _ y).1).1).0))
     (λ n. late_leaves l now (late_if_working l now))
 
-reply_leaves : (l : LinkView) (now : ℕ) → Leaves l (poll_reply l now)
+reply_leaves : (l : LinkView) (now : ℕ) → AfterPoll l (poll_reply l now)
 reply_leaves l now =
-    cond_both {A = Option OutgoingView × LinkView} l.owes_reply (replies l now) (poll_confirm l now) (Leaves l)
+    cond_both {A = Option OutgoingView × LinkView} l.owes_reply (replies l now) (poll_confirm l now) (AfterPoll l)
     (λ y. record { same = record { expected = refl; held = refl; ahead = refl; buffers = refl }; gives = (refl, (refl, refl)) })
-    (λ n. cond_both {A = Option OutgoingView × LinkView} l.owes_confirm (confirms l now) (poll_unit l now) (Leaves l)
+    (λ n. cond_both {A = Option OutgoingView × LinkView} l.owes_confirm (confirms l now) (poll_unit l now) (AfterPoll l)
     (λ y. record { same = record { expected = refl; held = refl; ahead = refl; buffers = refl }; gives = (refl, (refl, refl)) }) (λ m. unit_leaves l now))
 
-request_leaves : (l : LinkView) (now : ℕ) → Leaves l (poll_request l now)
+request_leaves : (l : LinkView) (now : ℕ) → AfterPoll l (poll_request l now)
 request_leaves l now =
-    cond_both {A = Option OutgoingView × LinkView} ((l.asked_count == 0) || due l.asked_at now) (requests_or_lost l now) (None, l) (Leaves l)
-    (λ y. cond_both {A = Option OutgoingView × LinkView} (nat_le most_sends l.asked_count) (None, lost l) (requests l now) (Leaves l)
+    cond_both {A = Option OutgoingView × LinkView} ((l.asked_count == 0) || due l.asked_at now) (requests_or_lost l now) (None, l) (AfterPoll l)
+    (λ y. cond_both {A = Option OutgoingView × LinkView} (nat_le most_sends l.asked_count) (None, lost l) (requests l now) (AfterPoll l)
     (λ t. nothing l (lost l) (record { expected = refl; held = refl; ahead = refl; buffers = refl }) refl refl) (λ f. record { same = record { expected = refl; held = refl; ahead = refl; buffers = refl }; gives = (refl, (refl, refl)) }))
     (λ n. nothing l l (same_link l) refl refl)
 
-leaves_at : (st : State) (l : LinkView) (now : ℕ) → Leaves l (poll_at st l now)
+leaves_at : (st : State) (l : LinkView) (now : ℕ) → AfterPoll l (poll_at st l now)
 leaves_at S.Opening l now = request_leaves l now
 leaves_at S.Live l now = reply_leaves l now
 leaves_at S.Ending l now = reply_leaves l now
@@ -78,7 +78,7 @@ leaves_at S.PeerEnded l now = reply_leaves l now
 leaves_at S.Confirmed l now = reply_leaves l now
 leaves_at S.Lost l now = nothing l l (same_link l) refl refl
 
-pub leaves : (l : LinkView) (now : ℕ) → Leaves l (poll_link l now)
+pub leaves : (l : LinkView) (now : ℕ) → AfterPoll l (poll_link l now)
 leaves l now = leaves_at l.state l now
 
 -- a lost link gives nothing and stays lost

@@ -1,6 +1,5 @@
 -- What the calls of a link leave of what it received, of what it may send, and what its packets
--- allow (Novell SPX: the
--- allocation number).
+-- allow (Novell SPX: the allocation number).
 use Rattle.std.specs.Prelude.{ℕ, ◌+◌, ◌≤◌, ◌≡◌, ◌≢◌, List, ◌∷◌, length, Option, Some, None}
 use Rattle.ipx_wire.specs.declared.spx.packet.SpxHeader.{SpxHeader}
 use Rattle.spx_link.specs.declared.unit.Unit.{Unit}
@@ -36,7 +35,7 @@ GivesAs l None k = (k.room ≡ l.room) × (k.next ≡ l.next)
 GivesAs l (Some g) k = (g.header.limit ≡ allocation l) × SendsAs g.what l k
 
 -- what a poll leaves
-pub record Leaves (l : LinkView) (r : Option OutgoingView × LinkView) : Type 0 where
+pub record AfterPoll (l : LinkView) (r : Option OutgoingView × LinkView) : Type 0 where
   pub same : SameReceived l r.1
   pub gives : GivesAs l r.0 r.1
 
@@ -61,7 +60,7 @@ pub record Took (l : LinkView) (u : Unit) (k : LinkView) : Type 0 where
   pub state : k.state ≡ l.state
 
 pub record AllowanceLaws : Type 0 where
-  pub polls : (l : LinkView) (now : ℕ) → Leaves l (poll_link l now)
+  pub polls : (l : LinkView) (now : ℕ) → AfterPoll l (poll_link l now)
   pub receives : (l : LinkView) (h : SpxHeader) (body : List ℕ) (taken : ℕ)
       → HasTaken taken l → HasTaken taken (receive_link l h body).1
   pub buffers : (l : LinkView) (h : SpxHeader) (body : List ℕ)

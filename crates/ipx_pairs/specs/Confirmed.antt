@@ -1,6 +1,6 @@
 -- A link that is confirmed (Novell SPX: the end of a connection and its confirmation) has queued
--- its end, and nothing is
--- left in its queue: what the calls of a link leave of that, and of what it holds.
+-- its end, and nothing is left in its queue: what the calls of a link leave of that, and of what it
+-- holds.
 use Rattle.std.specs.Prelude.{ℕ, ◌≡◌, ◌≢◌, ◌⊎◌, true, List, [], length, Option, Some}
 use Rattle.ipx_wire.specs.declared.spx.packet.SpxHeader.{SpxHeader}
 use Rattle.spx_link.specs.declared.unit.Unit.{Unit}

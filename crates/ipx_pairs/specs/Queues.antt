@@ -1,6 +1,5 @@
 -- What the calls of a link do to the units that it has to send, beside how many of them it sent.
--- (No premise: whatever
--- was read.)
+-- (No premise: whatever was read.)
 use Rattle.std.specs.Prelude.{ℕ, ◌≡◌, ◌<◌, ◌≤◌, ◌+◌, ◌++◌, false, List, [], ◌∷◌, length, drop, Option, None, Some, slice_get}
 use Rattle.ipx_wire.specs.declared.address.Socket.{Socket}
 use Rattle.ipx_wire.specs.declared.address.Address.{Address}

@@ -1,6 +1,5 @@
 -- What the fields of an SPX packet say, as positions of the machine: those of a packet that is
--- read, and those of a
--- packet that a link gives.
+-- read, and those of a packet that a link gives.
 use Rattle.std.specs.Prelude.{ℕ, ◌+◌, ◌<◌, ◌≤◌, ◌≡◌, true, false, List, length, Option, None, Some, slice_get}
 use Rattle.ipx_wire.specs.declared.spx.packet.SpxHeader.{SpxHeader}
 use Rattle.spx_link.specs.declared.unit.Unit.{Unit}

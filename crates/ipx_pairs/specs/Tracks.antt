@@ -51,8 +51,7 @@ pub record Counts (l : Core) (c : End) : Type 0 where
   pub small : c.buffers ≤ most_units
 
 -- the units of an end: none of stream FF; one of stream FE stands last, is the end of the
--- connection that was asked
--- for, and is there where `closed`
+-- connection that was asked for, and is there where `closed`
 pub record Formed (units : List Unit) (closed : Bool) : Type 0 where
   pub stream : (k : ℕ) (u : Unit) → slice_get units k ≡ Some u → u.stream ≤ end_stream
   pub end : (k : ℕ) (u : Unit) → slice_get units k ≡ Some u → u.stream ≡ end_stream
@@ -60,8 +59,7 @@ pub record Formed (units : List Unit) (closed : Bool) : Type 0 where
   pub there : closed ≡ true → (k : ℕ) × (slice_get units k ≡ Some the_end)
 
 -- the link is the end c, whose peer is d: it queues c's units from the base on, holds those of d
--- that are read and not
--- taken, and keeps those of d that the machine keeps
+-- that are read and not taken, and keeps those of d that the machine keeps
 pub record Tracks (l : Core) (c d : End) : Type 0 where
   pub counts : Counts l c
   pub queue : l.queue ≡ drop c.base c.units

@@ -14,8 +14,8 @@ pub fn calls_are_steps()
     ensures { StepLaws }
 {}
 
-/// No call makes a link open, and one that is opening or lost gives requests alone, reads nothing but
-/// a reply and is offered nothing.
+/// No call makes a link open, and one that is opening or lost gives requests alone, reads nothing
+/// but a reply and is offered nothing.
 pub fn states_go_on()
     ensures { StateLaws }
 {}
@@ -26,13 +26,14 @@ pub fn links_send_their_queue()
     ensures { QueueLaws }
 {}
 
-/// A link keeps its ids, its socket and the far address, except that joining gives it its peer's id;
-/// its packets are from its own id, and to its peer's.
+/// A link keeps its ids, its socket and the far address, except that joining gives it its peer's
+/// id; its packets are from its own id, and to its peer's.
 pub fn calls_keep_names()
     ensures { NameLaws }
 {}
 
-/// What a link is made with stays, and its next number changes where a unit is sent for the first time.
+/// What a link is made with stays, and its next number changes where a unit is sent for the first
+/// time.
 pub fn calls_keep_what_lasts()
     ensures { LastingLaws }
 {}

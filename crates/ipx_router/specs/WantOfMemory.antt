@@ -29,8 +29,8 @@ use Rattle.ipx_router.specs.Classify.{concern_of}
 use Rattle.ipx_router.specs.Replying.{is_asked}
 use Rattle.ipx_router.specs.Hearing.{AtEntry, GrowsByRoute, GrowsByService, HeardRoutes, HeardServices, source_of}
 
--- an entry of a response could not be heard, since the table had to grow by it: those before it were
--- heard, and the others were not
+-- an entry of a response could not be heard, since the table had to grow by it: those before it
+-- were heard, and the others were not
 abbrev pub HearingRoutesWantsMemory : List Port → Routes → Source → ℕ → List RipEntry
     → Table Network RouteMetric → Type 0
 HearingRoutesWantsMemory ports routes source now entries new =

@@ -41,6 +41,7 @@ fn on_network(arrived: Port, header: IpxHeader) -> Concern
     Concern::Dropped(Reason::NotOurs)
 }
 
+/// What a packet is to the router, by the port that it came in on and its header.
 pub fn concern_with(arrived: Port, header: IpxHeader) -> Concern
     ensures { result ≡ concern_of arrived header }
 {

@@ -35,8 +35,8 @@ fn is_route_heard(ports: &[Port], entry: &RipEntry) -> bool
     !(network == Network::LOCAL || network == Network::ALL || has_network(ports, network))
 }
 
-/// Hears the entries in order, each read where it stands, and answers how many: none of the networks
-/// that a router does not learn. At the first that the table refuses it stops.
+/// Hears the entries in order, each read where it stands, and answers how many: none of the
+/// networks that a router does not learn. At the first that the table refuses it stops.
 pub fn hear_routes(
     alloc: Global,
     ports: &[Port],
@@ -52,7 +52,8 @@ pub fn hear_routes(
         (length entries.entry) routes.new) }
     ensures refused { IfErr result (λ f. (n : ℕ)
         × HeardRoutes ports.now source now entries.entry (routes_in routes.old) n routes.new
-        × (f ≡ TableFault.Full → AtEntry entries.entry n (IsFullForRoute ports.now source routes.new))
+        × (f ≡ TableFault.Full
+        → AtEntry entries.entry n (IsFullForRoute ports.now source routes.new))
         × (f ≡ TableFault.OutOfMemory
         → AtEntry entries.entry n (GrowsByRoute ports.now source routes.new))) }
     ensures most { routes.new.most ≡ routes.old.most }
@@ -74,7 +75,8 @@ pub fn hear_routes(
     Ok(heard)
 }
 
-/// Hears the services in order, each read where it stands, and answers how many. At the first that the table refuses it stops.
+/// Hears the services in order, each read where it stands, and answers how many. At the first that
+/// the table refuses it stops.
 pub fn hear_services(
     alloc: Global,
     services: &mut ServiceTable,

@@ -8,6 +8,7 @@ ghost use Rattle.ipx_router.specs.Route.{direct_route};
 use crate::port::Port;
 use ipx_wire::Network;
 
+/// Whether a port stands on the network.
 pub fn has_network(ports: &[Port], network: Network) -> bool
     ensures { result ≡ list_any (λ p. p.network.0 == network.0) ports.now }
 {

@@ -100,6 +100,7 @@ fn header_to(to: Recipient, kind: u8, socket: Socket) -> IpxHeader
     }
 }
 
+/// A RIP packet of the router's own, to a recipient.
 pub fn rip_packet(alloc: Global, to: Recipient, message: &Rip) -> Result<Reply, OutOfMemory>
     requires { length (rip_entries (rip_view message.now)) ≤ 50 }
     ensures { IfOk result (λ r. IsRipPacket to (rip_view message.now) (sending_of r)) }
@@ -118,6 +119,7 @@ pub fn rip_packet(alloc: Global, to: Recipient, message: &Rip) -> Result<Reply, 
     })
 }
 
+/// A SAP packet of the router's own, to a recipient.
 pub fn sap_packet(alloc: Global, to: Recipient, message: &Sap) -> Result<Reply, OutOfMemory>
     requires { IsSapWithinLimit (sap_view message.now) }
     ensures { IfOk result (λ r. IsSapPacket to (sap_view message.now) (sending_of r)) }

@@ -145,9 +145,8 @@ impl Router {
     }
 
     /// The packets by which it tells its neighbours routes and services, if it is time: at first,
-    /// and
-    /// then when 60,000 milliseconds have passed since the last time. It is called every so often;
-    /// `now` is a moment in milliseconds.
+    /// and then when 60,000 milliseconds have passed since the last time. It is called every so
+    /// often; `now` is a moment in milliseconds.
     ///
     /// Offers that are three minutes old go first, for good, whatever is answered. Memory is wanted
     /// only where it is time and something is to be told, and then it is still time.

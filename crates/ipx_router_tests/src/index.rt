@@ -1,4 +1,5 @@
-//! Worked rows of the two orders in which a table keeps its offers: by key, and by the moment heard.
+//! Worked rows of the two orders in which a table keeps its offers: by key, and by the moment
+//! heard.
 
 use crate::metrics::route;
 use ipx_tables::{RouteTable, Source, TableFault, route_table};

@@ -1,4 +1,5 @@
--- The lines at the end of a script: what became of each end, and whether all that was read of peers was fresh.
+-- The lines at the end of a script: what became of each end, and whether all that was read of peers
+-- was fresh.
 use Rattle.std.specs.Prelude.{ℕ, ◌≡◌, ◌+◌, ◌↔◌, Bool, IsTrue, List, [], ◌∷◌, ◌++◌, codes, slice_get, Option, Some, None, if◌then◌else◌}
 use Rattle.std.specs.Fmt.{decimal}
 use Rattle.std.specs.Int.{w16, to_be_bytes}

@@ -34,11 +34,11 @@ fn step(alloc: Global, net: &mut Net, event: Event) -> Result<Answer, NetFault>
 /// Does one event at a network and writes the lines that tell of it: of its answer, or of the fault
 /// that refused it.
 ///
-/// The caller owes what the caller of `Net::step` owes, and an event other than `Take`, which has no
-/// line. `Ok` is the status of the line: 1 where an end refused, or the network met a fault, else 0.
-/// `Err` is the status 1 with which the command ends: a write fault, after which nothing more is
-/// written, or want of memory in printing, which writes `fault (14) OutOfMemory`. The event took
-/// place then too.
+/// The caller owes what the caller of `Net::step` owes, and an event other than `Take`, which has
+/// no line. `Ok` is the status of the line: 1 where an end refused, or the network met a fault,
+/// else 0. `Err` is the status 1 with which the command ends: a write fault, after which nothing
+/// more is written, or want of memory in printing, which writes `fault (14) OutOfMemory`. The event
+/// took place then too.
 pub fn act<W: Write>(alloc: Global, net: &mut Net, event: Event, writer: &mut W) -> Result<u8, u8>
     requires { IsActOwed event }
     ensures written { (outcome : Result AnswerView NetFault) × Stepped net.old event outcome net.new

@@ -2,16 +2,15 @@
 
 ghost use Rattle.std.specs.Prelude.{◌≢◌, ◌<◌, ◌≤◌, IfSome};
 ghost use Rattle.ipx_wire.specs.Assigned.{all_networks, local_network};
+ghost use Rattle.spx_link.specs.Limits.{most_units};
 
 use hex::FromHexError;
 use ipx_wire::{Address, Network, Node, OutOfMemory, Socket};
+use spx_link::MOST_UNITS;
 use std::alloc::{AllocError, Global};
 
 /// The greatest number of a script.
 const MOST_NUMBER: u32 = 1_000_000_000;
-
-/// The most buffers of a link.
-const MOST_BUFFERS: u16 = 8192;
 
 /// Whether a line holds nothing but blanks.
 pub fn is_blank(line: &[u8]) -> bool {
@@ -67,10 +66,10 @@ pub fn short_of(field: &[u8]) -> Option<u16> {
 
 /// Buffers of a link: 1 to 8,192.
 pub fn buffers_of(field: &[u8]) -> Option<u16>
-    ensures { IfSome result (λ b. (0 < b) × (b ≤ 8192)) }
+    ensures { IfSome result (λ b. (0 < b) × (b ≤ most_units)) }
 {
     let buffers = short_of(field)?;
-    if buffers == 0 || buffers > MOST_BUFFERS {
+    if buffers == 0 || buffers > MOST_UNITS {
         return None;
     }
     Some(buffers)
@@ -109,7 +108,7 @@ pub fn own_network_of(field: &[u8]) -> Option<Network>
     ensures { IfSome result (λ n. (n.0 ≢ local_network) × (n.0 ≢ all_networks)) }
 {
     let network = network_of(field)?;
-    if network.0 == 0 || network.0 == 0xffff_ffff {
+    if network.0 == Network::LOCAL.0 || network.0 == Network::ALL.0 {
         return None;
     }
     Some(network)

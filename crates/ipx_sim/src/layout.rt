@@ -1,6 +1,7 @@
 //! The lines that lay a network out.
 
 ghost use Rattle.std.specs.Prelude.{◌<◌, ◌≤◌, All, IfOk, IfSome};
+ghost use Rattle.spx_link.specs.Limits.{most_units};
 ghost use Rattle.ipx_net.specs.Beginnings.{ArePortsOwed, IsHostOwed};
 ghost use Rattle.ipx_router.specs.NewRouter.{IsOwnNetwork};
 
@@ -40,7 +41,7 @@ impl Model for Layout {
 
 /// `listen SOCKET BUFFERS`, or nothing.
 fn listen_of(args: &[&[u8]]) -> Option<Option<(Socket, u16)>>
-    ensures { IfSome result (λ o. IfSome o (λ l. (0 < l.1) × (l.1 ≤ 8192))) }
+    ensures { IfSome result (λ o. IfSome o (λ l. (0 < l.1) × (l.1 ≤ most_units))) }
 {
     let [word, socket, buffers] = args else {
         return if args.is_empty() { Some(None) } else { None };

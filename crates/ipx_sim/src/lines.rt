@@ -80,7 +80,8 @@ fn parcels_to_lines(
 
 /// The parcels that were made, or that there were none.
 fn made_to_lines(alloc: Global, parcels: &[Parcel], numbers: &[usize]) -> Result<String, AllocError>
-    ensures { IfOk result (λ t. string_bytes t ≡ made_lines (parcel_views parcels.now) numbers.now) }
+    ensures { IfOk result
+        (λ t. string_bytes t ≡ made_lines (parcel_views parcels.now) numbers.now) }
 {
     if numbers.is_empty() {
         return String::from_str(alloc, "quiet\n");
@@ -152,7 +153,8 @@ fn arrived_to_line(
 }
 
 fn dropped_to_line(alloc: Global, reason: Reason) -> Result<String, AllocError>
-    ensures { IfOk result (λ t. string_bytes t ≡ codes "dropped " ++ (reason_text reason ++ 10 ∷ [])) }
+    ensures { IfOk result
+        (λ t. string_bytes t ≡ codes "dropped " ++ (reason_text reason ++ 10 ∷ [])) }
 {
     let text = reason_to_text(alloc, reason)?;
     format!(in alloc; "dropped {text}\n")

@@ -118,8 +118,8 @@ fn tell_too_long<W: Write>(alloc: Global, writer: &mut W) -> Result<u8, u8>
     write_lines(writer, too_long(alloc))
 }
 
-/// The command `sim`: reads a script of at most 1,000,000 bytes, lays the network out, and runs line
-/// by line. Each line writes what it came to; a summary follows the last one.
+/// The command `sim`: reads a script of at most 1,000,000 bytes, lays the network out, and runs
+/// line by line. Each line writes what it came to; a summary follows the last one.
 ///
 /// `Ok` is the status that goes with the lines that were written: 0; 1 where an end refused or the
 /// network met a fault; 2 for a bad line, behind which nothing is read and no summary written, and

@@ -115,7 +115,8 @@ fn write_summary<W: Write>(writer: &mut W, net: &Net, names: &[String]) -> Writt
 ///
 /// `Err` is the status 1 of a write fault, after which nothing more is written.
 pub fn summary<W: Write>(net: &Net, names: &[String], writer: &mut W) -> Result<(), u8>
-    ensures written { OnOk result ((text : List ℕ) × Summarizes net.now (map string_bytes names.now) text
+    ensures written { OnOk result ((text : List ℕ)
+        × Summarizes net.now (map string_bytes names.now) text
         × Appends (W.contents writer.old) (W.contents writer.new) text) }
     ensures fault { IfErr result (λ status. status ≡ 1) }
 {

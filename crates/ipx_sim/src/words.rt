@@ -98,6 +98,7 @@ pub fn state_word(state: Option<State>) -> &'static str
     }
 }
 
+/// The last word of a line that says whether something is so.
 pub fn yes_no(yes: bool) -> &'static str
     ensures { result.now ≡ yes_no yes }
 {

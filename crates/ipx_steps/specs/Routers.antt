@@ -1,6 +1,5 @@
 -- What a router does to a world: it carries a parcel on, or tells (Novell router specification).
--- What it holds itself is
--- no part of a world here.
+-- What it holds itself is no part of a world here.
 use Rattle.std.specs.Prelude.{ℕ, ◌≡◌, ◌≢◌, ◌+◌, List, [], ◌∷◌, ◌++◌, length, Some, slice_get}
 use Rattle.ipx_wire.specs.declared.address.Network.{Network}
 use Rattle.ipx_wire.specs.declared.address.Node.{Node}

@@ -9,8 +9,8 @@ ghost use Rattle.ipx_log.specs.InStep.{PeersAreInStep};
 
 use ipx_log::peers_are_in_step;
 
-/// Each step of a network makes of its scene another one by deeds, and leaves the world in order; so its
-/// scene stays one that is reached.
+/// Each step of a network makes of its scene another one by deeds, and leaves the world in order;
+/// so its scene stays one that is reached.
 pub fn steps_are_deeds()
     ensures deeds { (old new : World) → InOrder old → Step old new
         → Deeds (scene_of old) (scene_of new) }

@@ -1,4 +1,4 @@
--- Until when offers count.
+-- Words of private functions: until when offers count.
 use Rattle.std.specs.Prelude.{◌≡◌, ℕ, ◌+◌, ◌≤◌, ◌<◌, List, length, slice_index_or}
 use Rattle.std.specs.List.{All}
 use Rattle.ipx_tables.specs.declared.offer.Offer.{Offer}

@@ -1,4 +1,5 @@
--- Offers beside the moments of their marks, which may be earlier than the moments heard last.
+-- Words of private functions: offers beside the moments of their marks, which may be
+-- earlier than the moments heard last.
 use Rattle.std.specs.Prelude.{ℕ, ◌≤◌}
 use Rattle.ipx_tables.specs.declared.offer.Offer.{Offer}
 use Rattle.ipx_tables.specs.declared.rack.Heard.{Heard}

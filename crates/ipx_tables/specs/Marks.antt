@@ -1,4 +1,5 @@
--- Offers by key and source, beside marks by the moment heard: each sequence has what the other has.
+-- Words of private functions: offers by key and source, beside marks by the moment
+-- heard. Each sequence has what the other has.
 use Rattle.std.specs.Prelude.{◌≡◌, ℕ, Bool, false, ◌==◌, List, Option, Some, None}
 use Rattle.std.specs.List.{list_any}
 use Rattle.std.specs.declared.cmp.Ordering.{Ordering}

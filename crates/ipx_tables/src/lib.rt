@@ -1,4 +1,10 @@
-//! What a router heard from its neighbours: offers of a way to a key, how old they are, and which is the best.
+//! What a router heard from its neighbours: offers of a way to a key, how old they are, and which
+//! is the best.
+//!
+//! An *offer* here is a route or a service that a neighbour advertised; `offer` of `spx_link`
+//! queues units, and is another thing. [`route_table`] and [`service_table`] make a table,
+//! [`Offers::hear`] says what a neighbour says, [`Offers::best`] and [`Offers::list`] answer for a
+//! moment.
 #![tactic(auto)]
 
 mod fault;

@@ -152,8 +152,8 @@ impl<K: Ord + Copy, M: Metric + Copy> Offers<K, M> {
         self.best_steps(key, now).0
     }
 
-    /// The best, and how many offers were read to find it: those of the key, at most one more, and at
-    /// most one for each binary digit of how many offers there are.
+    /// The best, and how many offers were read to find it: those of the key, at most one more, and
+    /// at most one for each binary digit of how many offers there are.
     pub fn best_steps(&self, key: &K, now: u64) -> (Option<(Source, M)>, usize)
         ensures least { IfSome result.0
             (IsBest M.before (content K.cmp self.now.offers) key.now now) }

@@ -12,4 +12,5 @@ AsksFor words (Show packet) = (name : List ℕ) × (words ≡ name ∷ codes "sh
     × (starts_with nat_eq packet.now (codes "-") ≡ false)
 AsksFor words Check = (name : List ℕ) × (words ≡ name ∷ codes "check" ∷ [])
 AsksFor words Sim = (name : List ℕ) × (words ≡ name ∷ codes "sim" ∷ [])
-AsksFor words (Udp port) = (name : List ℕ) × (rest : List (List ℕ)) × (words ≡ name ∷ codes "udp" ∷ rest)
+AsksFor words (Udp port) = (name : List ℕ) × (rest : List (List ℕ))
+    × (words ≡ name ∷ codes "udp" ∷ rest)

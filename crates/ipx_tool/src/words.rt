@@ -22,8 +22,8 @@ pub enum Task<'a> {
 const IPX_PORT: u16 = 213;
 
 /// The command that the words ask for, the program's own name first: just `hop`, `check`, `sim` or
-/// `udp`; `show` and one word that is no option; or `udp` and a port, as `--port P` or `--port=P`. No
-/// other words ask for one.
+/// `udp`; `show` and one word that is no option; or `udp` and a port, as `--port P` or `--port=P`.
+/// No other words ask for one.
 pub fn task_of(words: &[String]) -> Option<Task<'_>>
     ensures { IfSome result (AsksFor (map string_bytes words.now)) }
 {

@@ -1,4 +1,5 @@
--- The units that an end received and did not hand on, in one ring of its buffers.
+-- Words of private functions: the units that an end received and did not hand on, in
+-- one ring of its buffers.
 use Rattle.std.specs.Prelude.{◌≡◌, ℕ, ◌-◌, ◌≤◌, List, [], ◌∷◌, ◌++◌, map, length, take, drop}
 use Rattle.std.specs.Prelude.{Option, None, Some, if◌then◌else◌}
 use Rattle.spx_link.specs.declared.unit.Unit.{Unit}

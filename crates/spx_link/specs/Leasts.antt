@@ -1,4 +1,4 @@
--- The least id of the links of which a fact holds.
+-- Words of private functions: the least id of the links of which a fact holds.
 use Rattle.std.specs.Prelude.{◌≡◌, ℕ, ◌<◌, ◌≤◌, min, Bool, true, false, List, Option, Some, None}
 use Rattle.std.specs.Prelude.{All, Any}
 use Rattle.ipx_wire.specs.declared.address.Address.{Address}

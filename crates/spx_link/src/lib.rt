@@ -1,4 +1,9 @@
 //! One end of an SPX connection, as exact functions of its 16-bit numbers (Novell SPX).
+//!
+//! [`Link`] is one end, [`Links`] the ends of a host by their ids: [`Links::poll`] gives the
+//! packets to send, [`Links::receive`] reads those of the peer, [`Links::offer`] and
+//! [`Links::take`] are the application's. To *offer* here is to queue units to be sent; an offer of
+//! `ipx_tables` is an advertised route or service, and another thing.
 #![tactic(auto)]
 
 mod buffers;

@@ -1,6 +1,7 @@
 -- What a poll of an endpoint does: its links are asked in the order of their ids until one gives a
 -- packet, which is written.
 use Rattle.std.specs.Prelude.{ℕ, ◌≡◌, ◌<◌, ◌≤◌, List, take, drop, Option, Some, None, if◌then◌else◌, ◌==◌, ◌||◌}
+use Rattle.ipx_wire.specs.Assigned.{spx_max_packet_size}
 use Rattle.ipx_wire.specs.Spx.{HasFreeBitsClear}
 use Rattle.ipx_wire.specs.declared.address.Node.{Node}
 use Rattle.ipx_wire.specs.declared.address.Address.{Address}
@@ -39,7 +40,7 @@ pub record Gives (old : EndpointView) (now : ℕ) (node : Node) (n : ℕ) (room 
   pub below : (q : ℕ) → q < id → RestsAt old new now q
   pub above : (q : ℕ) → id < q → held_at new q ≡ held_at old q
   pub said : new.said ≡ Some (id, given.what)
-  pub short : n ≤ 576
+  pub short : n ≤ spx_max_packet_size
   pub is : IsWritten (home_of old) held.link given (take n written)
   pub clear : HasFreeBitsClear is.packet.body
   pub behind : drop n written ≡ drop n room

@@ -86,6 +86,9 @@ impl Endpoint {
     }
 
     /// Asks for the end of the link of an id: what was sent before goes out first.
+    ///
+    /// The first of these refuses it: no link has the id; the link is not open yet, or ends; memory
+    /// is wanted. Where it is refused nothing changes.
     pub fn close(&mut self, alloc: Global, id: u16) -> Result<(), EndFault>
         ensures unknown { (result ≡ Err EndFaults.NoSuchEnd) ↔ (held_at self.old id ≡ None) }
         ensures refused { IfSome (held_at self.old id) (λ h. (f : OfferFault)
@@ -123,7 +126,8 @@ impl Endpoint {
         take_from(alloc, &mut self.links, &mut self.parts, id)
     }
 
-    /// Forgets the link of an id, and what came of a message over it.
+    /// Forgets the link of an id, and what came of a message over it. Call it once the connection
+    /// is done or lost: the peer is told nothing. It is refused only where no link has the id.
     pub fn release(&mut self, id: u16) -> Result<(), EndFault>
         ensures unknown { (result ≡ Err EndFaults.NoSuchEnd) ↔ (held_at self.old id ≡ None) }
         ensures fault { IfErr result (λ f. f ≡ EndFaults.NoSuchEnd) }

@@ -1,4 +1,8 @@
 //! Whole messages in and out of a host: its connections, by their ids (Novell SPX).
+//!
+//! A host has one [`Endpoint`]. [`Endpoint::receive`] reads the datagrams that come to it,
+//! [`Endpoint::poll`] gives those that it sends; applications call `dial`, `listen`, `send`,
+//! `take`, `close` and `release`. Sockets and clocks are the caller's.
 #![tactic(auto)]
 
 mod address;

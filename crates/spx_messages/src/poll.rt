@@ -1,6 +1,7 @@
 //! The packets that an endpoint gives.
 
 ghost use Rattle.std.specs.Prelude.{◌≡◌, ◌≤◌, length};
+ghost use Rattle.ipx_wire.specs.Assigned.{spx_max_packet_size};
 ghost use Rattle.spx_messages.specs.Polls.{Polls};
 
 mod turn;
@@ -19,7 +20,7 @@ impl Endpoint {
     /// The links are asked in the order of their ids. None where none has anything to send at this
     /// moment. It takes no memory.
     pub fn poll(&mut self, now: u64, room: &mut [u8]) -> Option<(Node, usize)>
-        requires { 576 ≤ length room.old }
+        requires { spx_max_packet_size ≤ length room.old }
         ensures { Polls self.old now result room.old room.new self.new }
     {
         let place = Place {

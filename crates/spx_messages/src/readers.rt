@@ -13,7 +13,9 @@ use crate::links::link_of;
 use spx_link::{Numbers, Sent, State, Unit};
 
 impl Endpoint {
-    /// The state of the link of an id.
+    /// The state of the link of an id. It is refused where no link has the id, as are `numbers` and
+    /// `peek`. Ask it before `send`, which needs Live, and to see that a connection is done or
+    /// lost.
     pub fn state(&self, id: u16) -> Result<State, EndFault>
         ensures unknown { (result ≡ Err EndFaults.NoSuchEnd) ↔ (held_at self.now id ≡ None) }
         ensures known { IfSome (held_at self.now id) (λ h. result ≡ Ok h.link.state) }
@@ -22,7 +24,7 @@ impl Endpoint {
         Ok(link.state())
     }
 
-    /// The numbers of the link of an id.
+    /// The sequence numbers and counts of the link of an id, for whoever shows a connection.
     pub fn numbers(&self, id: u16) -> Result<Numbers, EndFault>
         ensures unknown { (result ≡ Err EndFaults.NoSuchEnd) ↔ (held_at self.now id ≡ None) }
         ensures known { IfSome (held_at self.now id) (λ h. result ≡ Ok (numbers_of h.link)) }

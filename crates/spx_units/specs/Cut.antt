@@ -13,8 +13,7 @@ pub record IsFull (u : Unit) : Type 0 where
   pub last : u.last ≡ false
 
 -- the units of a message: together they are its body, and each has its stream; the last one alone
--- ends it, and is
--- empty only where the body is; all others have 534 bytes
+-- ends it, and is empty only where the body is; all others have 534 bytes
 pub record IsCut (m : MessageView) (units : List Unit) : Type 0 where
   pub before : List Unit
   pub final : Unit

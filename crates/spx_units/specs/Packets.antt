@@ -1,6 +1,5 @@
 -- Packets of connections as hosts write them (Novell IPX and SPX): which asks for a connection, and
--- what a link's packet
--- is in bytes.
+-- what a link's packet is in bytes.
 use Rattle.std.specs.Prelude.{ℕ, ◌≡◌, ◌<◌, true, List, []}
 use Rattle.ipx_wire.specs.Assigned.{spx_type}
 use Rattle.ipx_wire.specs.Ipx.{IsIpx, PacketView}

@@ -21,7 +21,8 @@ const END_STREAM: u8 = 0xfe;
 /// Adds a unit with these bytes, built where it stands: they are copied once.
 fn push_unit(units: &mut Vec<Unit>, stream: u8, last: bool, bytes: &[u8]) -> Result<(), AllocError>
     requires { length bytes.now ≤ 534 }
-    ensures { OnOk result (units.new.items ≡ units.old.items ++ unit_with stream last bytes.now ∷ []) }
+    ensures { OnOk result
+        (units.new.items ≡ units.old.items ++ unit_with stream last bytes.now ∷ []) }
 {
     units.reserve(1)?;
     units.push_reserved(Unit {
@@ -44,7 +45,8 @@ pub fn cut(alloc: Global, message: &Message) -> Result<Vec<Unit>, MessageFault>
     ensures ok { IfOk result (λ v. v.items ≡ cut_of (message_view message.now)) }
     ensures units { IfOk result (λ v. IsCut (message_view message.now) v.items) }
     ensures streams { IfOk result (λ v. All (λ u. u.stream ≡ message.now.stream) v.items) }
-    ensures fault { (f : MessageFault) → cut_fault (message_view message.now) ≡ Some f → result ≡ Err f }
+    ensures fault { (f : MessageFault)
+        → cut_fault (message_view message.now) ≡ Some f → result ≡ Err f }
     ensures memory { cut_fault (message_view message.now) ≡ None
         → IsOkUnless result MessageFaults.OutOfMemory }
 {
@@ -59,7 +61,8 @@ pub fn cut(alloc: Global, message: &Message) -> Result<Vec<Unit>, MessageFault>
 
 /// The units of these bytes.
 fn cut_bytes(alloc: Global, stream: u8, bytes: &[u8]) -> Result<Vec<Unit>, MessageFault>
-    ensures ok { IfOk result (λ v. v.items ≡ cut_of (record { stream = stream; body = bytes.now })) }
+    ensures ok { IfOk result
+        (λ v. v.items ≡ cut_of (record { stream = stream; body = bytes.now })) }
     ensures memory { IsOkUnless result MessageFaults.OutOfMemory }
 {
     let mut units = Vec::with_capacity(alloc, bytes.len() / MOST_UNIT + 1)?;

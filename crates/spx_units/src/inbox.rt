@@ -44,16 +44,19 @@ impl Inbox {
     /// another stream than FE, which ends a connection and is of no message.
     ///
     /// The message has the stream of its first unit. Where more than 65,535 bytes came of it, it is
-    /// refused as `Overlong` and the inbox is empty. Where memory is refused, the inbox is as it was.
+    /// refused as `Overlong` and the inbox is empty. Where memory is refused, the inbox is as it
+    /// was.
     pub fn push(&mut self, alloc: Global, unit: &Unit) -> Result<Option<Message>, MessageFault>
         requires { unit.now.stream ≢ end_stream }
         ensures overlong { is_overlong self.old unit.now ≡ true
             → (result ≡ Err MessageFaults.Overlong) × (self.new ≡ None) }
         ensures whole { is_overlong self.old unit.now ≡ false → unit.now.last ≡ true
-            → IfOk result (λ m. (option_map message_view m ≡ Some (added self.old unit.now)) × (self.new ≡ None)) }
+            → IfOk result (λ m.
+            (option_map message_view m ≡ Some (added self.old unit.now)) × (self.new ≡ None)) }
         ensures part { is_overlong self.old unit.now ≡ false → unit.now.last ≡ false
             → IfOk result (λ m. (m ≡ None) × (self.new ≡ Some (added self.old unit.now))) }
-        ensures memory { is_overlong self.old unit.now ≡ false → IsOkUnless result MessageFaults.OutOfMemory }
+        ensures memory { is_overlong self.old unit.now ≡ false
+            → IsOkUnless result MessageFaults.OutOfMemory }
         ensures unchanged { result ≡ Err MessageFaults.OutOfMemory → self.new ≡ self.old }
     {
         if self.len() + unit.body.len() > MOST_BYTES {

@@ -25,7 +25,8 @@ pub fn units_join_to_their_messages()
 /// end of the connection behind them too.
 pub fn first_units_join_to_first_messages()
     ensures units { (ms : List MessageView) (count : ℕ) → AreSendable ms
-        → (later : List MessageView) × ((joined (take count (units_of ms))).messages ++ later ≡ ms) }
+        → (later : List MessageView)
+        × ((joined (take count (units_of ms))).messages ++ later ≡ ms) }
     ensures ended { (ms : List MessageView) (count : ℕ) → AreSendable ms
         → (later : List MessageView)
         × ((joined (take count (units_of ms ++ the_end ∷ []))).messages ++ later ≡ ms) }

@@ -1,6 +1,7 @@
 //! A turn over the links of a host, which asks them in the order of their ids.
 
 ghost use Rattle.std.specs.Prelude.{◌≡◌, ◌≤◌, IfNone, IfSome, None, drop, length, take};
+ghost use Rattle.ipx_wire.specs.Assigned.{spx_max_packet_size};
 ghost use Rattle.spx_link.specs.Links.{ChangesOnly, IsLive, link_at, polled};
 ghost use Rattle.spx_link.specs.Poll.{poll_link};
 ghost use Rattle.spx_messages.specs.Turns.{AllRest, GivesPacket, Turned};
@@ -22,7 +23,7 @@ pub struct Given {
 /// Asks the link of a live id, and writes the packet that it gives.
 fn poll_one(place: Place, links: &mut Links, id: u16, now: u64, room: &mut [u8]) -> Option<Given>
     requires live { IsLive links.old id }
-    requires room { 576 ≤ length room.old }
+    requires room { spx_max_packet_size ≤ length room.old }
     ensures leaves { IfSome (link_at links.old id) (λ l.
         ChangesOnly links.old links.new id (poll_link l now).1) }
     ensures rests { IfNone result ((polled (link_at links.old id) now ≡ None)
@@ -30,7 +31,7 @@ fn poll_one(place: Place, links: &mut Links, id: u16, now: u64, room: &mut [u8])
     ensures gives { IfSome result (λ g.
         GivesPacket place links.old id now g (take g.count room.new)) }
     ensures behind { IfSome result (λ g. drop g.count room.new ≡ drop g.count room.old) }
-    ensures short { IfSome result (λ g. g.count ≤ 576) }
+    ensures short { IfSome result (λ g. g.count ≤ spx_max_packet_size) }
 {
     let link = links.get(id)?;
     let from = place.at(link.local());
@@ -47,12 +48,12 @@ fn poll_one(place: Place, links: &mut Links, id: u16, now: u64, room: &mut [u8])
 
 /// Asks the links in the order of their ids, up to the first that gives a packet, and writes that.
 pub fn poll_links(place: Place, links: &mut Links, now: u64, room: &mut [u8]) -> Option<Given>
-    requires room { 576 ≤ length room.old }
+    requires room { spx_max_packet_size ≤ length room.old }
     ensures rests { IfNone result (AllRest links.old links.new now × (room.new ≡ room.old)) }
     ensures gives { IfSome result (λ g.
         Turned place links.old links.new now g (take g.count room.new)) }
     ensures behind { IfSome result (λ g. drop g.count room.new ≡ drop g.count room.old) }
-    ensures short { IfSome result (λ g. g.count ≤ 576) }
+    ensures short { IfSome result (λ g. g.count ≤ spx_max_packet_size) }
 {
     let mut id = 0;
     while let Some(next) = links.after(id) {

@@ -1,6 +1,7 @@
 //! A packet of a link in bytes, and where it goes first.
 
 ghost use Rattle.std.specs.Prelude.{◌≡◌, ◌≤◌, drop, length, take};
+ghost use Rattle.ipx_wire.specs.Assigned.{spx_max_data_size, spx_max_packet_size};
 ghost use Rattle.spx_link.specs.Poll.{outgoing_view};
 ghost use Rattle.spx_messages.specs.Turns as spec;
 ghost use Rattle.spx_messages.specs.Turns.{IsPacketBetween};
@@ -46,9 +47,9 @@ impl Place {
 /// Writes a packet between two addresses to the front of the room, and answers how many bytes it
 /// takes. Its body is copied once.
 pub fn write_packet(from: Address, to: Address, packet: &Outgoing<'_>, room: &mut [u8]) -> usize
-    requires room { 576 ≤ length room.old }
-    requires fits { length packet.now.body.now ≤ 534 }
-    ensures short { result ≤ 576 }
+    requires room { spx_max_packet_size ≤ length room.old }
+    requires fits { length packet.now.body.now ≤ spx_max_data_size }
+    ensures short { result ≤ spx_max_packet_size }
     ensures written { IsPacketBetween from to (outgoing_view packet.now) (take result room.new) }
     ensures behind { drop result room.new ≡ drop result room.old }
 {
