@@ -8,18 +8,27 @@ use crate::digest::{mixed, spx_digest, unit_digest};
 use crate::pair::{End, Pair, ROOM};
 use ipx_wire::{Fragment, OutOfMemory, decode_spx};
 use spx_link::Unit;
-use std::alloc::Global;
+use std::alloc::{AllocError, Global};
 
 /// The most data that a unit holds.
 const MOST_DATA: usize = 534;
 
-/// The unit of so many bytes. What is past its room is left out.
-fn unit_of(piece: &[u8], stream: u8, last: bool) -> Unit
-    ensures { result.stream ≡ stream }
+/// Adds a unit of so many bytes, built where it stands. What is past its room is left out.
+fn push_unit(units: &mut Vec<Unit>, piece: &[u8], stream: u8, last: bool) -> Result<(), AllocError>
+    requires { stream < end_stream }
+    ensures { All (λ u. u.stream < end_stream) units.old.items
+        → All (λ u. u.stream < end_stream) units.new.items }
 {
-    let mut body = Fragment::new();
-    let _ = body.try_extend_from_slice(piece);
-    Unit { stream, last, body }
+    units.reserve(1)?;
+    units.push_reserved(Unit {
+        stream,
+        last,
+        body: Fragment::new(),
+    });
+    if let Some(unit) = units.last_mut() {
+        let _ = unit.body.try_extend_from_slice(piece);
+    }
+    Ok(())
 }
 
 /// Bytes, cut into units of a size, each of this stream and with this mark.
@@ -36,7 +45,7 @@ pub fn cut(
 {
     let mut units = Vec::with_capacity(alloc, bytes.len().div_ceil(size))?;
     for piece in bytes.chunks(size) {
-        units.push(unit_of(piece, stream, last))?;
+        push_unit(&mut units, piece, stream, last)?;
     }
     Ok(units)
 }

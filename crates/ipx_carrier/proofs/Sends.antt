@@ -1,5 +1,6 @@
 -- Packets of a core, sent one after another.
-use Rattle.std.proofs.Common.{◌≡◌, ◌≤◌, ◌<◌, ℕ, zero, suc, ◌+◌, Bool, true, false, List, [], ◌∷◌, ◌++◌, length, map, Option, Some, None, refl, sym, ap, ◌∙◌, subst, append_assoc, append-nil, arith, cond, length-append, take, get_or, inl, inr, lit≤, lit<, add-zero, not, ◌&&◌, is_none, slice_get, unwrap_or}
+use Rattle.std.proofs.Common.{◌≡◌, ◌≤◌, ◌<◌, ℕ, zero, suc, ◌+◌, Bool, true, false, List, [], ◌∷◌, ◌++◌, length, map, Option, Some, None, Result, Ok, Err, refl, sym, ap, ◌∙◌, subst, append_assoc, append-nil, arith, cond, length-append, take, get_or, inl, inr, lit≤, lit<, add-zero, not, ◌&&◌, is_none, slice_get, unwrap_or}
+use Rattle.std.specs.Prelude.{OnErr}
 use Rattle.std.proofs.lemmas.Grind.{flat_map-append}
 use Rattle.ipx_router.specs.Packets.{broadcast}
 use Rattle.ipx_router.specs.Classify.{is_node}
@@ -8,7 +9,7 @@ use Rattle.ipx_carrier.specs.declared.fault.RunFault.{RunFault}
 use Rattle.ipx_carrier.specs.declared.fault.RunFault.TheVariants.{Device, OutOfMemory}
 use Rattle.ipx_carrier.specs.declared.report.Tally.{Tally}
 use Rattle.ipx_carrier.specs.Device.{Datagram, Passes, Traffic}
-use Rattle.ipx_carrier.specs.Turns.{FailsAfter, Given, GivesEach, datagram_to, IsFrontOf, Peers, datagrams_of, sent_of, to_node}
+use Rattle.ipx_carrier.specs.Turns.{FailsAfter, Given, GivesEach, datagram_to, FailsInLast, IsFrontOf, Peers, datagrams_of, sent_of, to_node}
 use Rattle.ipx_carrier.specs.SendingView.{added}
 use Rattle.ipx_carrier.specs.Counts.{is_unmapped, unmapped_in}
 use Rattle.ipx_carrier.specs.Mapping.{ip_at}
@@ -16,12 +17,12 @@ use Rattle.ipx_carrier.specs.Parts.{SendsAll, SendsEach, SendsFrontOf, SendsNext
 use Rattle.ipx_carrier.proofs.Passing.{count-append, passes_nothing, passes_sent}
 
 -- of what is sent to each, a front is sent to the first
-pub front_of_map : {A B : Type 0} (f : A → B) (xs : List A) (n : ℕ) → IsFrontOf (map f (take n xs)) (map f xs)
-front_of_map f xs zero = (map f xs, refl)
-front_of_map f [] (suc n) = ([], refl)
-front_of_map f (x ∷ xs) (suc n) =
-    let h = front_of_map f xs n in
-    (h.0, ap (λ ys. f x ∷ ys) h.1)
+pub front_of_map : {A B : Type 0} (f : A → B) (xs : List A) (n : ℕ) → n < length xs → IsFrontOf (map f (take n xs)) (map f xs)
+front_of_map f [] n lt = absurd (omega arith)
+front_of_map f (x ∷ xs) zero lt = (f x, map f xs, refl)
+front_of_map f (x ∷ xs) (suc n) lt =
+    let h = front_of_map f xs n (omega arith) in
+    (h.0, h.1, ap (λ ys. f x ∷ ys) h.2)
 
 pub sent_more : {A : Type 0} (f : A → Datagram) (xs : List A) (n : ℕ) (d : A) (s t u : Option Traffic) → n < length xs → Passes s t [] (map f (take n xs)) → Passes t u [] (f (get_or xs n d) ∷ []) → Passes s u [] (map f (take (n + 1) xs))
 sent_more f xs n d s t u lt h k =
@@ -29,14 +30,20 @@ sent_more f xs n d s t u lt h k =
     ap (map f) (take_more xs n d lt) ∙ map-append f (take n xs) (get_or xs n d ∷ []) in
     subst (λ (ds : List Datagram). Passes s u [] ds) (sym e) (passes_sent s t u (map f (take n xs)) (f (get_or xs n d) ∷ []) h k)
 
-pub first_sent : {A : Type 0} (f : A → Datagram) (xs : List A) (n : ℕ) (s t u : Option Traffic) → Passes s t [] (map f (take n xs)) → u ≡ t → SendsFrontOf (map f xs) s u
-first_sent f xs n s t u h e =
-    (map f (take n xs), front_of_map f xs n, subst (λ u. Passes s u [] (map f (take n xs))) (sym e) h)
+pub first_sent : {A : Type 0} (f : A → Datagram) (xs : List A) (n : ℕ) (s t u : Option Traffic) → n < length xs → Passes s t [] (map f (take n xs)) → u ≡ t → SendsFrontOf (map f xs) s u
+first_sent f xs n s t u lt h e =
+    (map f (take n xs), front_of_map f xs n lt, subst (λ u. Passes s u [] (map f (take n xs))) (sym e) h)
+
+-- a packet for one node that could not be sent
+pub one_unsent : {T E : Type 0} (r : Result T E) (peers : Peers) (p : Given) (to : List ℕ) (s t : Option Traffic) → is_node p.node broadcast ≡ false → ip_at p.node ≡ Some to → t ≡ s → OnErr r (SendsFrontOf (datagrams_of peers p) s t)
+one_unsent (Ok x) peers p to s t single found e = tt
+one_unsent (Err f) peers p to s t single found e =
+    rw (single, found) ([], (datagram_to p to, [], refl), passes_nothing s t e)
 
 -- a packet whose datagrams were sent in part
 pub one_sent_in_part : {C : Type 0} (gives : C → ℕ → Option Given → C → Type 0) (withholds : C → ℕ → C → Type 0) (now : ℕ) (peers : Peers) (p : Given) (s t : Option Traffic) (a b : C) → gives a now (Some p) b → SendsFrontOf (datagrams_of peers p) s t → SendsSome gives withholds 1 now peers s t Device a b
 one_sent_in_part gives withholds now peers p s t a b h k =
-    (p ∷ [], k.0, ((b, h, refl), lit≤ tt, subst (λ (all : List Datagram). IsFrontOf k.0 all) (sym (append-nil (datagrams_of peers p))) k.1), k.2)
+    (p ∷ [], k.0, ((b, h, refl), lit≤ tt, ([], p, k.0, refl, k.1, refl)), k.2)
 
 -- a packet that is withheld
 pub none_sent : {C : Type 0} (gives : C → ℕ → Option Given → C → Type 0) (withholds : C → ℕ → C → Type 0) (now : ℕ) (peers : Peers) (s t : Option Traffic) (a b : C) → withholds a now b → t ≡ s → SendsSome gives withholds 1 now peers s t OutOfMemory a b
@@ -47,8 +54,19 @@ pub gives_on : {C : Type 0} (gives : C → ℕ → Option Given → C → Type 0
 gives_on gives now [] qs a b c h k = subst (λ a. GivesEach gives now qs a c) h k
 gives_on gives now (p ∷ ps) qs a b c h k = (h.0, h.1, gives_on gives now ps qs h.0 b c h.2 k)
 
-pub front_on : {A : Type 0} (xs front whole : List A) → IsFrontOf front whole → IsFrontOf (xs ++ front) (xs ++ whole)
-front_on xs front whole h = (h.0, ap (λ ys. xs ++ ys) h.1 ∙ sym (append_assoc xs front h.0))
+-- the same where other packets were sent before
+fails_later : (peers : Peers) (ps qs : List Given) (sent : List Datagram) → FailsInLast peers qs sent → FailsInLast peers (ps ++ qs) (sent_of peers ps ++ sent)
+fails_later peers ps qs sent h =
+    let before : List Given = h.0 in
+    let front : List Datagram = h.2 in
+    let all : sent_of peers (ps ++ before) ≡ sent_of peers ps ++ sent_of peers before = flat_map-append (datagrams_of peers) ps before in (
+      ps ++ before,
+      h.1,
+      front,
+      ap (λ qs. ps ++ qs) h.3 ∙ sym (append_assoc ps before (h.1 ∷ [])),
+      h.4,
+      ap (λ ds. sent_of peers ps ++ ds) h.5 ∙ sym (append_assoc (sent_of peers ps) (sent_of peers before) front) ∙ ap (λ ds. ds ++ front) (sym all),
+    )
 
 abbrev record_of : ℕ → ℕ → Tally
 record_of sent unmapped = record { sent = sent; unmapped = unmapped }
@@ -96,9 +114,8 @@ sends_full gives n now peers s t a b tally h e = (h.0, inl (h.2, h.1 ∙ e), h.3
 
 fails_on : {C : Type 0} (gives : C → ℕ → Option Given → C → Type 0) (withholds : C → ℕ → C → Type 0) (n most now : ℕ) (peers : Peers) (ps qs : List Given) (sent : List Datagram) (f : RunFault) (a b c : C) → length ps ≡ n → n < most → GivesEach gives now ps a b → FailsAfter gives withholds 1 now peers qs sent f b c → FailsAfter gives withholds most now peers (ps ++ qs) (sent_of peers ps ++ sent) f a c
 fails_on gives withholds n most now peers ps qs sent Device a b c first lt h k =
-    let all : sent_of peers (ps ++ qs) ≡ sent_of peers ps ++ sent_of peers qs = flat_map-append (datagrams_of peers) ps qs in
     let last : length qs ≤ 1 = k.1 in
-    (gives_on gives now ps qs a b c h k.0, omega (arith, length-append ps qs), subst (λ (ds : List Datagram). IsFrontOf (sent_of peers ps ++ sent) ds) (sym all) (front_on (sent_of peers ps) sent (sent_of peers qs) k.2))
+    (gives_on gives now ps qs a b c h k.0, omega (arith, length-append ps qs), fails_later peers ps qs sent k.2)
 fails_on gives withholds n most now peers ps qs sent OutOfMemory a b c first lt h k =
     let all : sent_of peers (ps ++ qs) ≡ sent_of peers ps ++ sent_of peers qs = flat_map-append (datagrams_of peers) ps qs in
     let none : length qs < 1 = k.2 in

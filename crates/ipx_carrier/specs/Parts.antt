@@ -7,7 +7,7 @@ use Rattle.ipx_carrier.specs.Device.{Datagram, Passes, Reception, Traffic}
 use Rattle.ipx_carrier.specs.Turns.{FailsAfter, FailsAtPort, GivesAll, GivesEach, Given, HearsAnswer, HearsEach, IsFrontOf, Peers, datagrams_of, sent_of}
 use Rattle.ipx_carrier.specs.Counts.{heard_in, is_unmapped, unmapped_in}
 
--- the device sent some of these datagrams, the first ones
+-- the device sent the first of these datagrams, up to one that it failed to send
 abbrev pub SendsFrontOf : List Datagram → Option Traffic → Option Traffic → Type 0
 SendsFrontOf all before after =
     (sent : List Datagram) × IsFrontOf sent all × Passes before after [] sent

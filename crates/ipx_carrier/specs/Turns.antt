@@ -56,9 +56,16 @@ packets_of turns = flat_map (λ t. t.packets) turns
 abbrev pub sent_of : Peers → List Given → List Datagram
 sent_of peers packets = flat_map (datagrams_of peers) packets
 
--- what comes first in a list, up to some place
+-- what comes first in a list, up to some item of it
 abbrev pub IsFrontOf : {A : Type 0} → List A → List A → Type 0
-IsFrontOf {A} front whole = (rest : List A) × (whole ≡ front ++ rest)
+IsFrontOf {A} front whole = (next : A) × (rest : List A) × (whole ≡ front ++ next ∷ rest)
+
+-- packets were given, and the last of them could not be sent whole: all datagrams of those before
+-- it were sent, and its own up to the one that failed
+abbrev pub FailsInLast : Peers → List Given → List Datagram → Type 0
+FailsInLast peers packets sent = (before : List Given) × (last : Given) × (front : List Datagram)
+    × (packets ≡ before ++ last ∷ []) × IsFrontOf front (datagrams_of peers last)
+    × (sent ≡ sent_of peers before ++ front)
 
 module _ {C : Type 0} (hears : C → ℕ → List ℕ → ℕ → C → Type 0) where
   -- a core hears what a port answered, if that is a datagram
@@ -105,11 +112,11 @@ module _ {C : Type 0} (misses : C → ℕ → List ℕ → ℕ → C → Type 0)
 
 module _ {C : Type 0} (gives : C → ℕ → Option Given → C → Type 0)
     (withholds : C → ℕ → C → Type 0) where
-  -- what a fault ends the asking for packets with: the device fails, and the first of the packets'
-  -- datagrams were sent, or the core withholds a packet, and those before it were sent
+  -- what a fault ends the asking for packets with: the device fails in the last packet, or the core
+  -- withholds one more, and those before it were sent
   abbrev pub FailsAfter : ℕ → ℕ → Peers → List Given → List Datagram → RunFault → C → C → Type 0
   FailsAfter most now peers packets sent Device old new = GivesEach gives now packets old new
-      × (length packets ≤ most) × IsFrontOf sent (sent_of peers packets)
+      × (length packets ≤ most) × FailsInLast peers packets sent
   FailsAfter most now peers packets sent OutOfMemory old new = (last : C)
       × GivesEach gives now packets old last × (length packets < most)
       × (sent ≡ sent_of peers packets) × withholds last now new

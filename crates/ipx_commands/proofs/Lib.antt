@@ -1,4 +1,3 @@
-pub mod Known
 pub mod Ports
 pub mod Lines
 pub mod Tallies
@@ -9,3 +8,4 @@ pub mod VectorLines
 pub mod Readings
 pub mod Outputs
 pub mod HopOutputs
+pub mod Written

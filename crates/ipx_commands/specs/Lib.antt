@@ -7,3 +7,4 @@ pub mod Show
 pub mod CheckLine
 pub mod Check
 pub mod Tally
+pub mod Output

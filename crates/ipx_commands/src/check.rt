@@ -1,7 +1,8 @@
 //! `ipx check`: vectors against their outcomes.
 
-ghost use Rattle.std.specs.Prelude.{◌≡◌, ◌≤◌, ◌<◌, ◌+◌, ◌++◌, ◌∷◌, [], true, false, IfErr, IfOk, OnOk, MatchOption, ℕ, List, length, map, string_bytes};
+ghost use Rattle.std.specs.Prelude.{◌≡◌, ◌≤◌, ◌<◌, ◌+◌, ◌++◌, ◌∷◌, [], true, false, IfErr, IfOk, OnErr, OnOk, MatchOption, ℕ, List, length, map, string_bytes};
 ghost use Rattle.std.specs.Io.KnownBytes.{Appends};
+ghost use Rattle.ipx_commands.specs.Output.{LeavesWritten};
 ghost use Rattle.ipx_commands.specs.Text.{IsInput};
 ghost use Rattle.ipx_commands.specs.Reading.{reading_view};
 ghost use Rattle.ipx_commands.specs.CheckLine.{Malformed as no_line, Vector as vector, input_lines, line_form};
@@ -181,6 +182,10 @@ pub fn do_check<R: Read, W: Write>(alloc: Global, reader: &mut R, writer: &mut W
         × (lines : List ℕ) × CheckWrites input lines status
         × Appends (W.contents writer.old) (W.contents writer.new) lines) }
     ensures fault { IfErr result (λ status. status ≡ 1) }
+    ensures left { OnErr result
+        (LeavesWritten (W.contents writer.old) (W.contents writer.new) (λ lines.
+        (input : List ℕ) × IsInput (R.remaining reader.old) input
+        × (status : ℕ) × CheckWrites input lines status)) }
 {
     let input = match read_up_to(alloc, reader, MOST + 1) {
         Ok(input) => input,

@@ -1,15 +1,16 @@
 //! `ipx hop`: one packet through a router with two ports.
 
-ghost use Rattle.std.specs.Prelude.{◌≡◌, IfErr, IfOk, ℕ, List, string_bytes};
+ghost use Rattle.std.specs.Prelude.{◌≡◌, IfErr, IfOk, OnErr, ℕ, List, string_bytes};
 ghost use Rattle.std.specs.Option.{option_map};
 ghost use Rattle.std.specs.Io.KnownBytes.{Appends};
+ghost use Rattle.ipx_commands.specs.Output.{LeavesWritten};
 ghost use Rattle.ipx_commands.specs.Text.{IsInput, packet_of_text, without_line_end};
 ghost use Rattle.ipx_router.specs.OutcomeView.{view};
 ghost use Rattle.ipx_commands.specs.Hop.{HopAnswers, HopOutcome, HopWrites, hop_routing};
 
 use crate::input::{InputFault, read_up_to};
 use crate::line::{outcome_lines, outcome_status};
-use crate::output::tell_no_memory;
+use crate::output::{tell_no_memory, write_lines};
 use hex::FromHexError;
 use ipx_router::{Outcome, Port, Router};
 use ipx_wire::{Network, Node, OutOfMemory};
@@ -103,17 +104,15 @@ pub fn do_hop<R: Read, W: Write>(alloc: Global, reader: &mut R, writer: &mut W) 
         × (line : List ℕ) × HopWrites input line status
         × Appends (W.contents writer.old) (W.contents writer.new) line) }
     ensures fault { IfErr result (λ status. status ≡ 1) }
+    ensures left { OnErr result
+        (LeavesWritten (W.contents writer.old) (W.contents writer.new) (λ line.
+        (input : List ℕ) × IsInput (R.remaining reader.old) input
+        × (status : ℕ) × HopWrites input line status)) }
 {
     let text = match read_up_to(alloc, reader, MOST + 1) {
         Ok(text) => text,
         Err(InputFault::Read) => return Err(1),
         Err(InputFault::Memory) => return Err(tell_no_memory(writer)),
     };
-    let Ok((line, status)) = line_for_text(alloc, &text) else {
-        return Err(tell_no_memory(writer));
-    };
-    match writer.write_all(line.as_bytes()) {
-        Ok(()) => Ok(status),
-        Err(_) => Err(1),
-    }
+    write_lines(writer, line_for_text(alloc, &text))
 }

@@ -1,7 +1,8 @@
 //! `ipx show`: the fields of one packet.
 
-ghost use Rattle.std.specs.Prelude.{◌≡◌, IfErr, IfOk, ℕ, List, string_bytes};
+ghost use Rattle.std.specs.Prelude.{◌≡◌, IfErr, IfOk, OnErr, ℕ, List, string_bytes};
 ghost use Rattle.std.specs.Io.KnownBytes.{Appends};
+ghost use Rattle.ipx_commands.specs.Output.{LeavesWritten};
 ghost use Rattle.ipx_commands.specs.Show.{ShowWrites, Shows};
 
 use crate::output::write_lines;
@@ -42,6 +43,9 @@ pub fn do_show<W: Write>(alloc: Global, text: &str, writer: &mut W) -> Result<u8
         (lines : List ℕ) × ShowWrites text.now lines status
         × Appends (W.contents writer.old) (W.contents writer.new) lines) }
     ensures fault { IfErr result (λ status. status ≡ 1) }
+    ensures left { OnErr result
+        (LeavesWritten (W.contents writer.old) (W.contents writer.new) (λ lines.
+        (status : ℕ) × ShowWrites text.now lines status)) }
 {
     write_lines(writer, lines_for_text(alloc, text))
 }

@@ -77,7 +77,7 @@ module _ (one : OneBest) where
       p.is ∙ ap (λ (n : Network). told_route n p.route.metric at) e ∙ ap (λ (t : Route). told_route b.network t.metric at) r ∙ sym q.is
 
 module _ (ports : List Port) (routes : Routes) (at : PortNow) where
-  port_told : (x : RipEntry) → IsToldPort ports at x → IsToldRoute ports routes at x
+  pub port_told : (x : RipEntry) → IsToldPort ports at x → IsToldRoute ports routes at x
   port_told x t =
       let w = elsewhere (direct_route ports x.network) at.number t.0 in
       record {
@@ -87,8 +87,17 @@ module _ (ports : List Port) (routes : Routes) (at : PortNow) where
         is = t.1;
       }
 
+  -- a told network of a port leaves by another port
+  pub port_says : (x : RipEntry) (t : IsToldRoute ports routes at x) (place : ℕ) → direct_route ports x.network ≡ Some place → t.route ≡ over_port place
+      → (place < length ports) × ((get_or ports place no_port).network ≡ x.network) × (is_told_port ports at (get_or ports place no_port).network ≡ true)
+  port_says x t place there is =
+      let at_place = position-Some (λ (q : Port). q.network.0 == x.network.0) ports place no_port there in
+      let named : (get_or ports place no_port).network ≡ x.network = network_from _ _ (eqb-true _ _ at_place.1) in
+      let says : is_told_port ports at x.network ≡ true = subst (λ (o : Option ℕ). is_elsewhere o at.number ≡ true) (sym there) (not_itself (place + 1) at.number (λ e. t.elsewhere (ap (λ (r : Route). r.port) is ∙ e))) in
+      (at_place.0, named, subst (λ (n : Network). is_told_port ports at n ≡ true) (sym named) says)
+
   module _ (heard : List (Network × Source × RouteMetric)) (listing : IsListing network_cmp route_before routes at.now heard) where
-    item_told : (x : RipEntry) → IsToldItem ports at heard x → IsToldRoute ports routes at x
+    pub item_told : (x : RipEntry) → IsToldItem ports at heard x → IsToldRoute ports routes at x
     item_told x t =
         let item = t.0 in
         let parts = both _ _ t.2 in
@@ -104,6 +113,21 @@ module _ (ports : List Port) (routes : Routes) (at : PortNow) where
           is = t.3 ∙ ap (λ (n : Network). told_route n item.2 at) (sym named);
         }
 
+    -- a told network that is heard has a best offer that came by another port
+    pub item_says : (one : OneBest) (x : RipEntry) (t : IsToldRoute ports routes at x) → direct_route ports x.network ≡ None → IsHeardRoute routes at.now x.network t.route
+        → (i : ℕ) × (d : Network × Source × RouteMetric) × (i < length heard) × ((get_or heard i d).0 ≡ x.network) × (is_told_item ports at (get_or heard i d) ≡ true)
+    item_says one x t none r =
+        let best = r.0 in
+        let there = listing.no_other x.network best r.1 in
+        let d : Network × Source × RouteMetric = (x.network, best.0, best.1) in
+        let item = get_or heard there.0 d in
+        let named : item.0 ≡ x.network = network_exact _ _ (there.1.ties d) in
+        let of_item : IsBest route_before routes item.0 at.now (item.1, item.2) = listing.are_best there.0 d there.1.in_range in
+        let same : (item.1, item.2) ≡ best = one routes x.network at.now (item.1, item.2) best (subst (λ (n : Network). IsBest route_before routes n at.now (item.1, item.2)) named of_item) r.1 in
+        let port : t.route.port ≡ item.1.port = ap (λ (q : Route). q.port) r.2 ∙ sym (ap (λ (b : Source × RouteMetric). b.0.port) same) in
+        let no_port_there : is_none (direct_route ports item.0) ≡ true = subst (λ (n : Network). is_none (direct_route ports n) ≡ true) (sym named) (subst (λ (o : Option ℕ). is_none o ≡ true) (sym none) refl) in
+        (there.0, d, there.1.in_range, named, and_true _ _ no_port_there (not_itself item.1.port at.number (λ e. t.elsewhere (port ∙ e))))
+
     module _ (one : OneBest) (over told : List RipEntry) (p : AreToldPorts ports at (length ports) over) (h : AddsHeard ports at heard (length heard) over told) where
       told_is : (x : RipEntry) → Contains told x → IsToldRoute ports routes at x
       told_is x c = elim (h.only x c) [ inl old ↦ port_told x (p.only x old) | inr item ↦ item_told x item ]
@@ -114,26 +138,15 @@ module _ (ports : List Port) (routes : Routes) (at : PortNow) where
 
       over_port_stands : (x : RipEntry) (t : IsToldRoute ports routes at x) (place : ℕ) → direct_route ports x.network ≡ Some place → t.route ≡ over_port place → HasNetwork told x.network
       over_port_stands x t place there is =
-          let at_place = position-Some (λ (q : Port). q.network.0 == x.network.0) ports place no_port there in
-          let named : (get_or ports place no_port).network ≡ x.network = network_from _ _ (eqb-true _ _ at_place.1) in
-          let says : is_told_port ports at x.network ≡ true = subst (λ (o : Option ℕ). is_elsewhere o at.number ≡ true) (sym there) (not_itself (place + 1) at.number (λ e. t.elsewhere (ap (λ (r : Route). r.port) is ∙ e))) in
-          let y = p.all place no_port at_place.0 (subst (λ (n : Network). is_told_port ports at n ≡ true) (sym named) says) in
-          (y.0, h.keeps y.0 y.1, y.2 ∙ named)
+          let w = port_says x t place there is in
+          let y = p.all place no_port w.0 w.2 in
+          (y.0, h.keeps y.0 y.1, y.2 ∙ w.1)
 
       over_neighbour_stands : (x : RipEntry) (t : IsToldRoute ports routes at x) → direct_route ports x.network ≡ None → IsHeardRoute routes at.now x.network t.route → HasNetwork told x.network
       over_neighbour_stands x t none r =
-          let best = r.0 in
-          let there = listing.no_other x.network best r.1 in
-          let d : Network × Source × RouteMetric = (x.network, best.0, best.1) in
-          let item = get_or heard there.0 d in
-          let named : item.0 ≡ x.network = network_exact _ _ (there.1.ties d) in
-          let of_item : IsBest route_before routes item.0 at.now (item.1, item.2) = listing.are_best there.0 d there.1.in_range in
-          let same : (item.1, item.2) ≡ best = one routes x.network at.now (item.1, item.2) best (subst (λ (n : Network). IsBest route_before routes n at.now (item.1, item.2)) named of_item) r.1 in
-          let port : t.route.port ≡ item.1.port = ap (λ (q : Route). q.port) r.2 ∙ sym (ap (λ (b : Source × RouteMetric). b.0.port) same) in
-          let no_port_there : is_none (direct_route ports item.0) ≡ true = subst (λ (n : Network). is_none (direct_route ports n) ≡ true) (sym named) (subst (λ (o : Option ℕ). is_none o ≡ true) (sym none) refl) in
-          let says : is_told_item ports at item ≡ true = and_true _ _ no_port_there (not_itself item.1.port at.number (λ e. t.elsewhere (port ∙ e))) in
-          let y = h.all there.0 d there.1.in_range says in
-          (y.0, y.1, y.2 ∙ named)
+          let w = item_says one x t none r in
+          let y = h.all w.0 w.1 w.2 w.4 in
+          (y.0, y.1, y.2 ∙ w.3)
 
       stands_as : (x : RipEntry) (t : IsToldRoute ports routes at x) (o : Option ℕ) → direct_route ports x.network ≡ o → ByRoute routes at.now x.network t.route o → HasNetwork told x.network
       stands_as x t None e r = over_neighbour_stands x t e r

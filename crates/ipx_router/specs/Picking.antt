@@ -1,20 +1,25 @@
 -- Words of the private functions that pick from what is told.
-use Rattle.std.specs.Prelude.{◌≡◌, ◌≢◌, ℕ, ◌==◌, ◌&&◌, Bool, false, not, Option, Some, None, if◌then◌else◌}
+use Rattle.std.specs.Prelude.{◌≡◌, ◌≢◌, ℕ, ◌==◌, ◌&&◌, Bool, false, not, List, Option, Some, None, if◌then◌else◌}
 use Rattle.ipx_wire.specs.declared.address.Network.{Network}
 use Rattle.ipx_control.specs.declared.rip.packet.RipEntry.{RipEntry}
 use Rattle.ipx_control.specs.declared.sap.packet.ServiceEntry.{ServiceEntry}
 use Rattle.ipx_tables.specs.declared.service.ServiceKey.{ServiceKey}
 use Rattle.ipx_tables.specs.declared.service.ServiceMetric.{ServiceMetric}
 use Rattle.ipx_tables.specs.declared.source.Source.{Source}
+use Rattle.ipx_router.specs.declared.port.Port.{Port}
 use Rattle.ipx_router.specs.declared.port.PortNow.{PortNow}
-use Rattle.ipx_router.specs.Knowledge.{Services}
-use Rattle.ipx_router.specs.Told.{IsToldService, told_service}
+use Rattle.ipx_router.specs.Knowledge.{Routes, Services}
+use Rattle.ipx_router.specs.Told.{IsToldRoute, IsToldService, told_service}
 use Rattle.ipx_router.specs.Replying.{is_asked, is_nearer}
 
 -- what is told of a network, or that nothing is
 abbrev pub IsToldOf : (RipEntry → Type 0) → Network → Option RipEntry → Type 0
 IsToldOf IsTold network None = (t : RipEntry) → IsTold t → t.network ≢ network
 IsToldOf IsTold network (Some t) = IsTold t × (t.network ≡ network)
+
+-- no route is told on a port
+abbrev pub NoRouteIsTold : List Port → Routes → PortNow → Type 0
+NoRouteIsTold ports routes at = (t : RipEntry) → IsToldRoute ports routes at t → ⊥
 
 -- the nearer of a service and the one that is held, if there is one
 abbrev pub nearer : Option ServiceEntry → ServiceEntry → ServiceEntry

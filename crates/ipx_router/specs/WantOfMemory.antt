@@ -1,8 +1,9 @@
 -- When a router may want memory for the bytes that come in on a port, and what it holds then.
 -- The entry point is `WantsMemory`, at the end.
-use Rattle.std.specs.Prelude.{◌≡◌, ◌<◌, ℕ, Bool, true, List, length}
+use Rattle.std.specs.Prelude.{◌≡◌, ◌<◌, ◌⊎◌, ℕ, Bool, true, Contains, List}
 use Rattle.ipx_wire.specs.declared.address.Network.{Network}
 use Rattle.ipx_wire.specs.declared.ipx.packet.IpxHeader.{IpxHeader}
+use Rattle.ipx_wire.specs.Assigned.{all_networks}
 use Rattle.ipx_wire.specs.Ipx.{PacketView, IsIpx}
 use Rattle.ipx_control.specs.declared.rip.packet.RipEntry.{RipEntry}
 use Rattle.ipx_control.specs.declared.sap.packet.ServiceEntry.{ServiceEntry}
@@ -24,7 +25,7 @@ use Rattle.ipx_router.specs.RouterView.{RouterView}
 use Rattle.ipx_router.specs.Knowledge.{HoldsKnown, HoldsRoutes, HoldsServices, Known, Routes, Services, Tables, known_at, tables}
 use Rattle.ipx_router.specs.Ports.{IsPort}
 use Rattle.ipx_router.specs.Route.{IsRouteTo}
-use Rattle.ipx_router.specs.Told.{IsToldService}
+use Rattle.ipx_router.specs.Told.{IsToldRoute, IsToldService}
 use Rattle.ipx_router.specs.Classify.{concern_of}
 use Rattle.ipx_router.specs.Replying.{is_asked}
 use Rattle.ipx_router.specs.Hearing.{AtEntry, GrowsByRoute, GrowsByService, HeardRoutes, HeardServices, source_of}
@@ -43,11 +44,19 @@ HearingServicesWantsMemory services source now entries new =
     (n : ℕ) × HeardServices source now entries services n new
     × AtEntry entries n (GrowsByService source new)
 
--- a request asks for something, and the answer was to be made
+-- an entry asks for a route: for that of a network, or for each
+abbrev pub AsksForRoute : RipEntry → RipEntry → Type 0
+AsksForRoute asked told = (asked.network.0 ≡ all_networks) ⊎ (told.network ≡ asked.network)
+
+-- some route is to be sent: it is told on the port, and asked for
+abbrev pub HasRouteToReply : List Port → Routes → PortNow → List RipEntry → Type 0
+HasRouteToReply ports routes at asked = (e t : RipEntry) × Contains asked e
+    × IsToldRoute ports routes at t × AsksForRoute e t
+
 abbrev pub RipMessageWantsMemory : List Port → Routes → PortNow → IpxHeader → RipView
     → Table Network RouteMetric → Type 0
 RipMessageWantsMemory ports routes at h (rip.Request asked) new =
-    (0 < length asked) × HoldsRoutes new routes
+    HasRouteToReply ports routes at asked × HoldsRoutes new routes
 RipMessageWantsMemory ports routes at h (rip.Response entries) new =
     HearingRoutesWantsMemory ports routes (source_of at h) at.now entries new
 

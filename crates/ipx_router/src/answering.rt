@@ -8,6 +8,7 @@ ghost use Rattle.ipx_tables.specs.Service.{service_key_cmp};
 ghost use Rattle.ipx_router.specs.Knowledge.{known_aged, known_in, routes_in, services_in};
 ghost use Rattle.ipx_router.specs.Ports.{AreFromPorts, IsPortNumber, IsSound};
 ghost use Rattle.ipx_router.specs.Classify.{concern_of};
+ghost use Rattle.ipx_router.specs.Protocols.{concern_of_protocol};
 ghost use Rattle.ipx_router.specs.OutcomeView.{Dropped, Heard, IsOnPort, view};
 ghost use Rattle.ipx_router.specs.Answer.{AnswersByConcern, AnswersBytes, AnswersRip, AnswersSap};
 ghost use Rattle.ipx_router.specs.WantOfMemory.{BytesWantMemory, ConcernWantsMemory, RipWantsMemory, SapWantsMemory};
@@ -26,6 +27,12 @@ use ipx_tables::{RouteTable, ServiceTable, TableFault};
 use ipx_wire::{OutOfMemory, Packet, decode};
 use std::alloc::Global;
 
+/// A protocol that the router answers itself.
+enum Protocol {
+    Rip,
+    Sap,
+}
+
 fn outcome_of_hearing(heard: Result<u16, TableFault>) -> Result<Outcome, OutOfMemory>
     ensures answer { IfOk result (λ o. MatchResult heard (λ n. view o ≡ Heard n)
         (λ f. (f ≡ TableFault.Full) × (view o ≡ Dropped Reason.TableFull))) }
@@ -39,7 +46,6 @@ fn outcome_of_hearing(heard: Result<u16, TableFault>) -> Result<Outcome, OutOfMe
 }
 
 /// What becomes of a packet for socket 0453.
-#[inline(never)] // so that it is out of the way of forwarding
 fn answer_rip(
     alloc: Global,
     ports: &[Port],
@@ -75,7 +81,6 @@ fn answer_rip(
 }
 
 /// What becomes of a packet for socket 0452.
-#[inline(never)] // so that it is out of the way of forwarding
 fn answer_sap(
     alloc: Global,
     services: &mut ServiceTable,
@@ -114,6 +119,38 @@ fn answer_sap(
     }
 }
 
+/// What becomes of a packet for the router's RIP or SAP socket.
+#[inline(never)] // so that it is out of the way of forwarding
+fn answer_control(
+    alloc: Global,
+    ports: &[Port],
+    routes: &mut RouteTable,
+    services: &mut ServiceTable,
+    at: PortNow,
+    packet: Packet<'_>,
+    protocol: Protocol,
+) -> Result<Outcome, OutOfMemory>
+    requires sound { IsSound ports.now (routes.old, services.old) }
+    requires port { IsPortNumber (length ports.now) at.number }
+    ensures answer { IfOk result (λ o.
+        AnswersByConcern (known_in ports.now routes.old services.old) at (packet_view packet.entry)
+        (view o) (routes.new, services.new) (concern_of_protocol protocol)) }
+    ensures refused { OnErr result
+        (ConcernWantsMemory (known_in ports.now routes.old services.old) at
+        (packet_view packet.entry) (routes.new, services.new)
+        (concern_of_protocol protocol)) }
+    ensures one_hop_on { IfOk result (λ o.
+        IsForwardOf at.port (packet_view packet.entry) (view o)) }
+    ensures there { IfOk result (λ o. IsOnPort (length ports.now) (view o)) }
+    ensures most { (routes.new.most ≡ routes.old.most) × (services.new.most ≡ services.old.most) }
+    ensures sound { IsSound ports.now (routes.new, services.new) }
+{
+    match protocol {
+        Protocol::Rip => return answer_rip(alloc, ports, routes, at, packet),
+        Protocol::Sap => return answer_sap(alloc, services, at, packet),
+    }
+}
+
 fn answer_packet(
     alloc: Global,
     ports: &[Port],
@@ -141,8 +178,12 @@ fn answer_packet(
 {
     match concern_with(at.port, packet.header) {
         Concern::Dropped(reason) => return Ok(Outcome::Dropped(reason)),
-        Concern::Rip => return answer_rip(alloc, ports, routes, at, packet),
-        Concern::Sap => return answer_sap(alloc, services, at, packet),
+        Concern::Rip => {
+            return answer_control(alloc, ports, routes, services, at, packet, Protocol::Rip);
+        }
+        Concern::Sap => {
+            return answer_control(alloc, ports, routes, services, at, packet, Protocol::Sap);
+        }
         Concern::Forward => return forward(alloc, ports, routes, at, datagram, packet),
     }
 }

@@ -1,13 +1,13 @@
 //! What a router answers to a request for routes, and to a query for services.
 
-ghost use Rattle.std.specs.Prelude.{◌≡◌, ◌<◌, ◌≤◌, Bool, Contains, IfNone, IfOk, IfSome, OnErr, filter, length};
+ghost use Rattle.std.specs.Prelude.{◌≡◌, ◌≤◌, Bool, Contains, IfNone, IfOk, IfSome, OnErr, filter, length};
 ghost use Rattle.std.specs.Bool.{OnFalse, OnTrue};
 ghost use Rattle.ipx_router.specs.Knowledge.{routes_in, services_in};
 ghost use Rattle.ipx_router.specs.Packets.{sendings};
 ghost use Rattle.ipx_router.specs.Told.{IsToldService};
 ghost use Rattle.ipx_router.specs.Replying.{IsNearest, NoneIsNear, AreNearest, AreRoutesAsked, AreServicesAsked, RepliesRoutes, RepliesServices, is_asked, is_near, is_nearer, is_of_kind};
 ghost use Rattle.ipx_router.specs.Picking.{NoneIsAsked, is_item_asked, nearer};
-ghost use Rattle.ipx_router.specs.WantOfMemory.{HasToReply};
+ghost use Rattle.ipx_router.specs.WantOfMemory.{HasRouteToReply, HasToReply};
 
 use crate::outcome::Reply;
 use crate::packets::{Recipient, add_route_packets, add_service_packets};
@@ -28,8 +28,10 @@ fn asked_routes(
     asked: RipEntries<'_>,
 ) -> Result<Vec<RipEntry>, OutOfMemory>
     requires { length ports.now ≤ 16 }
-    ensures { IfOk result (λ v.
+    ensures asked { IfOk result (λ v.
         AreRoutesAsked ports.now (routes_in routes.now) at asked.entry v.items) }
+    ensures refused { OnErr result
+        (HasRouteToReply ports.now (routes_in routes.now) at asked.entry) }
 {
     let mut told = Vec::new(alloc);
     for entry in asked {
@@ -151,7 +153,8 @@ fn asked_services(
     services_of_kind(alloc, told, kind)
 }
 
-/// The packets that answer a request for routes. A request of no entries takes no memory.
+/// The packets that answer a request for routes. Where no route is to be sent, there are none, and
+/// that takes no memory.
 pub fn reply_routes(
     alloc: Global,
     ports: &[Port],
@@ -163,13 +166,14 @@ pub fn reply_routes(
     requires { length ports.now ≤ 16 }
     ensures replies { IfOk result (λ v.
         RepliesRoutes ports.now (routes_in routes.now) at to asked.entry (sendings v.items)) }
-    ensures refused { OnErr result (0 < length asked.entry) }
+    ensures refused { OnErr result
+        (HasRouteToReply ports.now (routes_in routes.now) at asked.entry) }
 {
+    let entries = asked_routes(alloc, ports, routes, at, asked)?;
     let mut replies = Vec::new(alloc);
-    if asked.len() == 0 {
+    if entries.is_empty() {
         return Ok(replies);
     }
-    let entries = asked_routes(alloc, ports, routes, at, asked)?;
     add_route_packets(alloc, &mut replies, to, &entries)?;
     Ok(replies)
 }

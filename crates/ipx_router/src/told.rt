@@ -1,6 +1,8 @@
 //! What a router tells on a port.
 
-ghost use Rattle.std.specs.Prelude.{◌≡◌, ◌≢◌, ◌⊎◌, ◌<◌, ◌≤◌, ℕ, List, Contains, OnOk, IfErr, IfOk, Some, None, length, slice_index_or, filter, map, not, ◌==◌};
+ghost use Rattle.std.specs.Prelude.{◌≡◌, ◌≢◌, ◌⊎◌, ◌<◌, ◌≤◌, ℕ, List, Contains, OnOk, OnErr, IfErr, IfOk, Some, None, length, slice_index_or, filter, map, not, ◌==◌};
+ghost use Rattle.std.specs.Bool.{OnFalse, OnTrue};
+ghost use Rattle.std.specs.List.{list_any};
 ghost use Rattle.ipx_tables.specs.Sorted.{IsAtKey, IsGapFor, IsRising};
 ghost use Rattle.ipx_tables.specs.Listing.{IsListing};
 ghost use Rattle.ipx_tables.specs.Route.{network_cmp, route_before};
@@ -9,7 +11,7 @@ ghost use Rattle.ipx_router.specs.Knowledge.{Routes, Services, routes_in, servic
 ghost use Rattle.ipx_router.specs.Route.{direct_route};
 ghost use Rattle.ipx_router.specs.Told.{AreToldRoutes, AreToldServices, IsToldRoute, route_key, told_route, told_service};
 ghost use Rattle.ipx_router.specs.Placing.{AddsHeard, AreToldPorts, PutsEntry, is_told_item, is_told_port};
-ghost use Rattle.ipx_router.specs.Picking.{IsToldOf};
+ghost use Rattle.ipx_router.specs.Picking.{IsToldOf, NoRouteIsTold};
 
 use crate::networks::direct_port;
 use crate::port::{Port, PortNow};
@@ -125,7 +127,7 @@ pub fn routes_as_told(
 }
 
 /// The routes that are told on a port, by network.
-pub fn told_routes(
+fn listed_routes(
     alloc: Global,
     ports: &[Port],
     routes: &RouteTable,
@@ -138,6 +140,54 @@ pub fn told_routes(
     };
     let told = routes_as_told(alloc, ports, &heard, at)?;
     Ok(told)
+}
+
+/// Whether the network of another port is told.
+fn is_some_port_told(ports: &[Port], at: PortNow) -> bool
+    ensures { result ≡ list_any (λ p. is_told_port ports.now at p.network) ports.now }
+{
+    ports
+        .iter()
+        .any(|port| is_over_other_port(ports, port.network, at))
+}
+
+/// Whether some route is told on a port. It takes no memory.
+fn is_some_route_told(ports: &[Port], routes: &RouteTable, at: PortNow) -> bool
+    ensures some { OnTrue result
+        ((t : RipEntry) × IsToldRoute ports.now (routes_in routes.now) at t) }
+    ensures none { OnFalse result (NoRouteIsTold ports.now (routes_in routes.now) at) }
+{
+    one_best::<Network, RouteMetric>();
+    if is_some_port_told(ports, at) {
+        return true;
+    }
+    for item in routes.bests(at.now) {
+        if is_over_other_neighbour(ports, item, at) {
+            return true;
+        }
+    }
+    false
+}
+
+/// The routes that are told on a port, by network. Where memory is wanted and no route is told,
+/// there are none.
+pub fn told_routes(
+    alloc: Global,
+    ports: &[Port],
+    routes: &RouteTable,
+    at: PortNow,
+) -> Result<Vec<RipEntry>, OutOfMemory>
+    ensures told { IfOk result (λ v. AreToldRoutes ports.now (routes_in routes.now) at v.items) }
+    ensures refused { OnErr result
+        ((t : RipEntry) × IsToldRoute ports.now (routes_in routes.now) at t) }
+{
+    if let Ok(told) = listed_routes(alloc, ports, routes, at) {
+        return Ok(told);
+    }
+    if is_some_route_told(ports, routes, at) {
+        return Err(OutOfMemory);
+    }
+    Ok(Vec::new(alloc))
 }
 
 /// What is told on a port of a network: its route, unless that leaves by the port.

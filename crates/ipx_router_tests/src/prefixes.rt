@@ -1,8 +1,9 @@
 //! Packets that are cut: what is read of each of their beginnings.
 
 use ipx_control::{ControlFault, Rip, Sap, decode_rip, decode_sap};
-use ipx_wire::{IpxFault, decode};
+use ipx_wire::{IpxFault, SpxFault, decode, decode_spx};
 use std::alloc::Global;
+use std::process::Abort;
 use std::test::Fail;
 
 /// A RIP response from port 00007f000002 of network 22: network 11, 1 hop, 2 ticks; network 33,
@@ -20,8 +21,8 @@ fn fault_of(bytes: &[u8]) -> Option<IpxFault> {
     }
 }
 
-#[test]
-fn prefixes_of_a_packet(rt: HostRuntime) -> Result<(), Fail> {
+/// The first n bytes of the packet.
+fn packet_rows(rt: &impl Abort) -> Result<(), Fail> {
     for length in 0..30 {
         assert_eq!(rt;
             fault_of(&TWO_ROUTES[..length]),
@@ -46,8 +47,8 @@ fn entries_in(alloc: Global, body: &[u8]) -> Result<usize, ControlFault> {
     }
 }
 
-#[test]
-fn prefixes_of_a_rip_body(rt: HostRuntime) {
+/// The first n bytes of its RIP body.
+fn rip_rows(rt: &impl Abort, alloc: Global) {
     for (length, read) in [
         (0, Err(ControlFault::NoOperation)),
         (1, Err(ControlFault::NoOperation)),
@@ -57,17 +58,17 @@ fn prefixes_of_a_rip_body(rt: HostRuntime) {
         (17, Ok(1)),
         (18, Ok(2)),
     ] {
-        assert_eq!(rt; entries_in(rt.alloc(), &TWO_ROUTES[30..30 + length]), read);
+        assert_eq!(rt; entries_in(alloc, &TWO_ROUTES[30..30 + length]), read);
     }
 }
 
-#[test]
-fn every_prefix_of_a_rip_body(rt: HostRuntime) {
+/// And all those between.
+fn more_rip_rows(rt: &impl Abort, alloc: Global) {
     for length in 2..10 {
-        assert_eq!(rt; entries_in(rt.alloc(), &TWO_ROUTES[30..30 + length]), Ok(0));
+        assert_eq!(rt; entries_in(alloc, &TWO_ROUTES[30..30 + length]), Ok(0));
     }
     for length in 10..18 {
-        assert_eq!(rt; entries_in(rt.alloc(), &TWO_ROUTES[30..30 + length]), Ok(1));
+        assert_eq!(rt; entries_in(alloc, &TWO_ROUTES[30..30 + length]), Ok(1));
     }
 }
 
@@ -82,8 +83,8 @@ fn asked_in(alloc: Global, body: &[u8]) -> Result<u16, ControlFault> {
     }
 }
 
-#[test]
-fn prefixes_of_a_sap_query(rt: HostRuntime) {
+/// A SAP query of n bytes.
+fn sap_rows(rt: &impl Abort, alloc: Global) {
     let query = [0, 1, 0, 4];
     for (length, read) in [
         (0, Err(ControlFault::NoOperation)),
@@ -92,8 +93,33 @@ fn prefixes_of_a_sap_query(rt: HostRuntime) {
         (3, Err(ControlFault::QueryShort(3))),
         (4, Ok(4)),
     ] {
-        assert_eq!(rt; asked_in(rt.alloc(), &query[..length]), read);
+        assert_eq!(rt; asked_in(alloc, &query[..length]), read);
     }
+}
+
+/// An SPX body of n bytes.
+fn spx_rows(rt: &impl Abort) {
+    let bytes = [0; 547];
+    for length in 0..548 {
+        let read = decode_spx(&bytes[..length]);
+        if length < 12 {
+            assert!(rt; matches!(read, Err(SpxFault::SpxShort(have)) if have == length));
+        } else if length < 547 {
+            assert!(rt; matches!(read, Ok((_, data)) if data.len() + 12 == length));
+        } else {
+            assert!(rt; matches!(read, Err(SpxFault::OverSize(547))));
+        }
+    }
+}
+
+#[test]
+fn cut_rows(rt: HostRuntime) -> Result<(), Fail> {
+    packet_rows(&rt)?;
+    rip_rows(&rt, rt.alloc());
+    more_rip_rows(&rt, rt.alloc());
+    sap_rows(&rt, rt.alloc());
+    spx_rows(&rt);
+    Ok(())
 }
 
 #[test]

@@ -1,5 +1,5 @@
 -- Gaps in front of a place of a ring.
-use Rattle.std.proofs.Common.{◌≡◌, ℕ, ◌+◌, ◌-◌, ◌<◌, ◌≤◌, List, ◌++◌, length, replicate, ap, ◌∙◌, Option, None, Some, slice_get, slice_set, get_or, ◌⊎◌, inl, inr, arith}
+use Rattle.std.proofs.Common.{Result, Ok, Err, IsOk, OnOk, ◌≡◌, ℕ, ◌+◌, ◌-◌, ◌<◌, ◌≤◌, List, [], ◌∷◌, ◌++◌, length, replicate, ap, refl, ◌∙◌, Option, None, Some, slice_get, slice_set, get_or, ◌⊎◌, inl, inr, arith}
 use Rattle.std.proofs.lemmas.List.{length-append, length-replicate}
 use Rattle.std.proofs.lemmas.Option.{slice_get_cases}
 use Rattle.circular_buffer.specs.Buffer.{buffer}
@@ -28,3 +28,22 @@ place_is {A} old now place count is least long none = by (slice_get_cases now pl
         let exact = length_now old now count is long in
         let never : ⊥ = omega arith in
         absurd never
+
+-- behind all others
+pub put_behind : (u : Unit) (xs : List (Option Unit)) → put (length xs) u xs ≡ xs ++ Some u ∷ []
+put_behind u [] = refl
+put_behind u (x ∷ xs) = ap (λ (ys : List (Option Unit)). x ∷ ys) (put_behind u xs)
+
+-- what stands behind all others, and another in its place
+pub last_read : (xs : List (Option Unit)) (y : Option Unit) → slice_get (xs ++ y ∷ []) (length xs) ≡ Some y
+last_read [] y = refl
+last_read (x ∷ xs) y = last_read xs y
+
+pub last_written : (xs : List (Option Unit)) (y z : Option Unit) → slice_set (xs ++ y ∷ []) (length xs) z ≡ xs ++ z ∷ []
+last_written [] y z = refl
+last_written (x ∷ xs) y z = ap (λ (ys : List (Option Unit)). x ∷ ys) (last_written xs y z)
+
+-- what came to a ring that had room
+pub came : {A : Type 0} {E : Type 0} (r : Result A E) (P : Type 0) → IsOk r → OnOk r P → P
+came (Ok a) P ok p = p
+came (Err e) P ok p = cc

@@ -1,6 +1,6 @@
 //! The buffers of a link: the units that came and were not taken.
 
-ghost use Rattle.std.specs.Prelude.{◌≡◌, ◌+◌, ◌≤◌, ◌<◌, [], drop, length, option_copied, slice_get};
+ghost use Rattle.std.specs.Prelude.{◌≡◌, ◌+◌, ◌++◌, ◌≤◌, ◌<◌, [], ◌∷◌, drop, length, option_copied, slice_get};
 ghost use Rattle.std.specs.Prelude.{take, IfOk, Some};
 ghost use Rattle.circular_buffer.specs.Buffer.{buffer};
 ghost use Rattle.spx_link.specs.Buffers as spec;
@@ -145,6 +145,17 @@ impl Buffers {
             None => None,
         }
     }
+
+    /// Drops it, without a copy of it.
+    pub fn drop_first(&mut self)
+        ensures { self.new ≡ record self.old { held = drop 1 self.old.held } }
+    {
+        if self.count == 0 {
+            return;
+        }
+        self.count -= 1;
+        self.ring.truncate_front(self.ring.len() - 1);
+    }
 }
 
 /// The unit at a place.
@@ -195,17 +206,25 @@ fn leading(ring: &HeapCircularBuffer<Option<Unit>>, from: usize) -> Risen
     }
 }
 
-/// The unit of a packet, built where it stands: its body is copied once, and that of an end not at
-/// all.
-fn fill(slot: &mut Option<Unit>, header: &SpxHeader, body: &[u8])
-    requires { length body.now ≤ 534 }
-    ensures { slot.new ≡ Some (unit_in header.now body.now) }
+/// The unit of a packet, without its body.
+#[inline]
+fn blank(header: &SpxHeader) -> Unit
+    ensures { result ≡ unit_in header.now [] }
 {
-    *slot = Some(Unit {
+    Unit {
         stream: header.stream,
         last: header.last,
         body: Fragment::new(),
-    });
+    }
+}
+
+/// Copies the body of a packet to where its unit stands. That of an end is left out.
+#[inline]
+fn copy_body(slot: &mut Option<Unit>, header: &SpxHeader, body: &[u8])
+    requires fits { length body.now ≤ 534 }
+    requires blank { slot.old ≡ Some (unit_in header.now []) }
+    ensures { slot.new ≡ Some (unit_in header.now body.now) }
+{
     if header.stream == END_STREAM {
         return;
     }
@@ -214,8 +233,51 @@ fn fill(slot: &mut Option<Unit>, header: &SpxHeader, body: &[u8])
     }
 }
 
+/// The unit of a packet, built where it stands: its body is copied once, and that of an end not at
+/// all.
+fn fill(slot: &mut Option<Unit>, header: &SpxHeader, body: &[u8])
+    requires { length body.now ≤ 534 }
+    ensures { slot.new ≡ Some (unit_in header.now body.now) }
+{
+    *slot = Some(blank(header));
+    copy_body(slot, header, body);
+}
+
+/// Puts the unit of a packet behind all others.
+fn push_packet(ring: &mut HeapCircularBuffer<Option<Unit>>, header: &SpxHeader, body: &[u8])
+    requires room { length ring.old.items < ring.old.capacity }
+    requires fits { length body.now ≤ 534 }
+    ensures { ring.new
+        ≡ buffer (ring.old.items ++ Some (unit_in header.now body.now) ∷ []) ring.old.capacity }
+{
+    let place = ring.len();
+    let _full = ring.try_push_back(Some(blank(header)));
+    if let Some(slot) = ring.get_mut(place) {
+        copy_body(slot, header, body);
+    }
+}
+
 /// Puts the unit of a packet at a place, with gaps before it where the ring is too short.
 fn put_packet(
+    ring: &mut HeapCircularBuffer<Option<Unit>>,
+    place: usize,
+    header: &SpxHeader,
+    body: &[u8],
+)
+    requires place { place < ring.old.capacity }
+    requires fits { length body.now ≤ 534 }
+    ensures { ring.new
+        ≡ buffer (R.put place (unit_in header.now body.now) ring.old.items) ring.old.capacity }
+{
+    if place == ring.len() {
+        push_packet(ring, header, body);
+    } else {
+        put_elsewhere(ring, place, header, body);
+    }
+}
+
+/// Puts the unit of a packet at a place that is there, or behind gaps.
+fn put_elsewhere(
     ring: &mut HeapCircularBuffer<Option<Unit>>,
     place: usize,
     header: &SpxHeader,

@@ -87,10 +87,23 @@ impl Link {
         ensures gives { result ≡ (spec.take_link self.old).0 }
         ensures leaves { self.new ≡ (spec.take_link self.old).1 }
     {
-        let unit = self.buffers.take()?;
+        if self.buffers.held() > 0 && self.is_working() {
+            self.owes_ack = true;
+        }
+        self.buffers.take()
+    }
+
+    /// Drops that unit, where there is one: `take` for whoever peeked at it, without a copy of it.
+    /// It takes no memory.
+    pub fn discard(&mut self)
+        ensures { self.new ≡ (spec.take_link self.old).1 }
+    {
+        if self.buffers.held() == 0 {
+            return;
+        }
+        self.buffers.drop_first();
         if self.is_working() {
             self.owes_ack = true;
         }
-        Some(unit)
     }
 }

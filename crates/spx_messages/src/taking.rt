@@ -44,7 +44,7 @@ pub fn take_from(
     match link_of(links, id)?.peek() {
         None => Ok(Taken::Nothing),
         Some(unit) if unit.stream == END_STREAM => {
-            links.take(id);
+            links.discard(id);
             Ok(Taken::PeerEnd)
         }
         Some(unit) => {
@@ -76,11 +76,11 @@ fn take_pushed(
 {
     match pushed {
         Ok(message) => {
-            links.take(id);
+            links.discard(id);
             Ok(message.map_or(Taken::Part, Taken::Whole))
         }
         Err(MessageFault::Overlong) => {
-            links.take(id);
+            links.discard(id);
             links.lose(id);
             Err(EndFault::Message(MessageFault::Overlong))
         }

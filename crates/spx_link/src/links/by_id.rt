@@ -130,6 +130,16 @@ impl Links {
         self.links[place].take()
     }
 
+    /// What `Link::discard` does, by a live id. It takes no memory.
+    pub fn discard(&mut self, id: u16)
+        requires { IsLive self.old id }
+        ensures { IfSome (link_at self.old id)
+            (λ l. ChangesOnly self.old self.new id (O.take_link l).1) }
+    {
+        let place = place_of(&self.links, id);
+        self.links[place].discard();
+    }
+
     /// What `Link::owe_reply` does, by a live id.
     pub fn owe_reply(&mut self, id: u16)
         requires { IsLive self.old id }

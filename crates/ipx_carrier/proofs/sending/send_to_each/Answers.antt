@@ -1,4 +1,4 @@
-use Rattle.std.proofs.Common.{List, ℕ}
+use Rattle.std.proofs.Common.{List, ℕ, arith}
 use Rattle.std.proofs.lemmas.Result.{err_from_is_err_and}
 use Rattle.ipx_carrier.specs.Device.{Datagram}
 use Rattle.ipx_carrier.proofs.Sends.{first_sent}
@@ -9,4 +9,4 @@ returns-in_err-send-clause-fault g c =
     let p = err_from_is_err_and c.from_residual.result c.from_residual.ensures.1 in
     let f : List ℕ → Datagram = λ to. record { port = c.args.port; to = to; bytes = c.args.bytes.now } in
     rw p.1
-    (first_sent f c.args.peers.now c.loop-to.to-index _ _ _ c.loop-to.invariant.sent c.in_err-send.ensures.refused)
+    (first_sent f c.args.peers.now c.loop-to.to-index _ _ _ (omega arith) c.loop-to.invariant.sent c.in_err-send.ensures.refused)

@@ -1,15 +1,27 @@
-use Rattle.std.proofs.Common.{subst, List, ℕ, string_bytes}
-use Rattle.std.specs.Io.KnownBytes.{Appends}
+use Rattle.std.proofs.Common.{subst, List, ℕ, inl, string_bytes}
+use Rattle.std.specs.Prelude.{IfOk}
+use Rattle.ipx_commands.specs.Output.{no_memory_line}
 use Rattle.ipx_commands.specs.Hop.{HopWrites}
-use Rattle.ipx_commands.proofs.Known.{writes_known}
+use Rattle.ipx_commands.proofs.Inputs.{HopWrites-take, input_left, input_written, lines_written}
+use Rattle.ipx_commands.proofs.Written.{lines_left, none_written}
 use Rattle.ipx_commands.proofs.hop.do_hop.Goals as goal
 
-pub returns-in-Ok-write_all-clause-written : goal.returns-in-Ok-write_all-clause-written
-returns-in-Ok-write_all-clause-written g c =
-    let line = string_bytes c.in-Ok-line_for_text.line in
-    let status = c.in-Ok-line_for_text.status in
-    let before = g.W.Write.contents c.args.writer.now in
-    let after = g.W.Write.contents c.write_all.new.self in
-    let writes = subst (λ (t : List ℕ). HopWrites t line status) c.deref.ensures.value c.in-Ok-line_for_text.ensures in
-    let appends = subst (λ (t : List ℕ). Appends before after t) c.as_bytes.ensures.value c.in-Ok-write_all.ensures.bytes in
-    writes_known (g.R.Read.remaining c.args.reader.now) before after c.in-Ok.text.items line status c.in-Ok.ensures writes appends
+pub returns-clause-written : goal.returns-clause-written
+returns-clause-written g c =
+    let text = c.in-Ok.text.items in
+    let known = g.R.Read.remaining c.args.reader.now in
+    let a = g.W.Write.contents c.args.writer.now in
+    let b = g.W.Write.contents c.write_lines.new.writer in
+    let lines = subst (λ (t : List ℕ). IfOk c.line_for_text.result (λ l. HopWrites t (string_bytes l.0) l.1)) c.deref.ensures.value c.line_for_text.ensures in
+    let wrote = lines_written c.line_for_text.result c.write_lines.result (λ l. string_bytes l.0) (λ l. l.1) (HopWrites text) a b lines c.write_lines.ensures.written in
+    input_written HopWrites 4097 HopWrites-take c.write_lines.result known a b text c.in-Ok.ensures wrote
+
+pub returns-clause-left : goal.returns-clause-left
+returns-clause-left g c =
+    let text = c.in-Ok.text.items in
+    let known = g.R.Read.remaining c.args.reader.now in
+    let a = g.W.Write.contents c.args.writer.now in
+    let b = g.W.Write.contents c.write_lines.new.writer in
+    let lines = subst (λ (t : List ℕ). IfOk c.line_for_text.result (λ l. HopWrites t (string_bytes l.0) l.1)) c.deref.ensures.value c.line_for_text.ensures in
+    let left = lines_left c.line_for_text.result c.write_lines.result (λ l. string_bytes l.0) (λ l. l.1) (HopWrites text) a b lines c.write_lines.ensures.left in
+    input_left HopWrites 4097 HopWrites-take c.write_lines.result known a b text c.in-Ok.ensures left
