@@ -11,8 +11,8 @@ AppendsFront before after whole =
 abbrev pub no_memory_line : List ℕ
 no_memory_line = codes "fault (14) OutOfMemory\n"
 
--- what was written when a command ended by an error: the first bytes of what it writes where nothing
--- fails, or of the line that tells that memory ran out; either can be none of them
+-- what was written when a command ended by an error: the first bytes of what it writes where
+-- nothing fails, or of the line that tells that memory ran out; either can be none of them
 abbrev pub LeavesWritten : Option (List ℕ) → Option (List ℕ) → (List ℕ → Type 0) → Type 0
 LeavesWritten before after IsWritten = AppendsFront before after no_memory_line
     ⊎ ((lines : List ℕ) × IsWritten lines × AppendsFront before after lines)

@@ -19,3 +19,4 @@ pub mod TellingSteps
 pub mod CourseTells
 pub mod NetTells
 pub mod Beginnings
+pub mod Wanting

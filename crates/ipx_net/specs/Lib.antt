@@ -15,6 +15,7 @@ pub mod Ends
 pub mod Told
 pub mod RouterEvents
 pub mod NetEvents
+pub mod WantOfMemory
 pub mod NetFaults
 pub mod NetReach
 pub mod Theorems

@@ -1,6 +1,6 @@
 //! The log of a network, and its parcels.
 
-ghost use Rattle.std.specs.Prelude.{◌≡◌, ◌+◌, ◌++◌, ◌≤◌, ◌↔◌, IsTrue, OnErr, OnOk, vec_capacity, vec_len};
+ghost use Rattle.std.specs.Prelude.{◌≡◌, ◌+◌, ◌++◌, ◌<◌, ◌≤◌, ◌↔◌, IsTrue, OnErr, OnOk, length, vec_capacity, vec_len};
 ghost use Rattle.ipx_log.specs.EndsTold.{peer_of};
 ghost use Rattle.ipx_log.specs.Peers.{IsFresh};
 ghost use Rattle.ipx_net.specs.Begins.{Begins};
@@ -63,11 +63,12 @@ impl Book {
     }
 
     /// Parcels come, and entries that tell of them or of what else happened. Where memory is
-    /// refused, the book is as it was.
+    /// refused, the book is as it was. Nothing takes no memory.
     pub fn append(&mut self, parcels: Vec<Parcel>, entries: Vec<Entry>) -> Result<(), OutOfMemory>
         ensures ok { OnOk result (self.new
             ≡ written_on self.old (parcel_views parcels.items) (entry_notes entries.items)) }
         ensures unchanged { OnErr result (self.new ≡ self.old) }
+        ensures refused { OnErr result (0 < length parcels.items + length entries.items) }
     {
         self.parcels.reserve(parcels.len())?;
         self.entries.reserve(entries.len())?;

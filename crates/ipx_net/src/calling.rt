@@ -1,14 +1,16 @@
 //! What users of ends do: each call adds its entry to the book.
 
-ghost use Rattle.std.specs.Prelude.{◌≡◌, ◌<◌, ◌≤◌, ◌++◌, [], IfOk, Ok, length, true};
+ghost use Rattle.std.specs.Prelude.{◌≡◌, ◌<◌, ◌≤◌, ◌++◌, [], IfOk, None, Ok, OnErr, length, slice_get, true};
 ghost use Rattle.spx_link.specs.Limits.{most_units};
 ghost use Rattle.spx_messages.specs.Taking.{taken_view};
 ghost use Rattle.spx_units.specs.Message.{message_view};
 ghost use Rattle.ipx_hosts.specs.Hosts.{FitTogether, SameHomes, stands};
+ghost use Rattle.ipx_hosts.specs.Refusing.{close_fault, dial_fault, end_held, send_fault};
 ghost use Rattle.ipx_steps.specs.Steps.{unit_notes, whole_notes};
 ghost use Rattle.ipx_net.specs.AnswerView as views;
 ghost use Rattle.ipx_net.specs.GrowthView.{Grows, growth_view};
 ghost use Rattle.ipx_net.specs.HostEvents.{Closing, Dialling, Releasing, Sending, TakingFrom};
+ghost use Rattle.ipx_net.specs.WantOfMemory.{IsMade, TakeIsTold};
 
 use crate::answer::Answer;
 use crate::entry::Entry;
@@ -34,6 +36,7 @@ pub fn dial(
     requires range { (0 < buffers) × (buffers ≤ most_units) }
     ensures grows { IfOk result (λ g. Grows hosts.old hosts.new first now (growth_view g)
         (Dialling host socket to buffers)) }
+    ensures memory { IsMade result → dial_fault (slice_get hosts.old.stations host) ≡ None }
     ensures homes { SameHomes hosts.old hosts.new }
 {
     match hosts.dial(alloc, host, socket, to, buffers, now) {
@@ -60,6 +63,8 @@ pub fn send(
     requires stands { stands hosts.old who ≡ true }
     ensures grows { IfOk result (λ g. Grows hosts.old hosts.new first now (growth_view g)
         (Sending who (message_view message))) }
+    ensures memory { IsMade result → send_fault
+        (end_held hosts.old.stations hosts.old.ends who) (message_view message) ≡ None }
     ensures homes { SameHomes hosts.old hosts.new }
 {
     match hosts.send(alloc, who, &message, now) {
@@ -80,6 +85,8 @@ pub fn close(
     requires stands { stands hosts.old who ≡ true }
     ensures grows { IfOk result
         (λ g. Grows hosts.old hosts.new first now (growth_view g) (Closing who)) }
+    ensures memory { IsMade result
+        → close_fault (end_held hosts.old.stations hosts.old.ends who) ≡ None }
     ensures homes { SameHomes hosts.old hosts.new }
 {
     match hosts.close(alloc, who, now) {
@@ -120,12 +127,14 @@ fn copy_of(alloc: Global, message: &Message) -> Result<Message, OutOfMemory>
 /// What is told of a take that was not refused: the unit that was held, and the message that it
 /// ended.
 fn taken(alloc: Global, who: usize, unit: Option<Unit>, taken: Taken) -> Result<Growth, OutOfMemory>
-    ensures { IfOk result (λ g. growth_view g ≡ record {
+    ensures grows { IfOk result (λ g. growth_view g ≡ record {
       parcels = [];
       notes = unit_notes (Ok (taken_view taken)) unit who
           ++ whole_notes (Ok (taken_view taken)) who;
       answer = views.Taken (taken_view taken);
     }) }
+    ensures refused { OnErr result (0 < length
+        (unit_notes (Ok (taken_view taken)) unit who ++ whole_notes (Ok (taken_view taken)) who)) }
 {
     let mut entries = Vec::new(alloc);
     if let Some(unit) = unit {
@@ -155,6 +164,8 @@ pub fn take(
     requires stands { stands hosts.old who ≡ true }
     ensures grows { IfOk result
         (λ g. Grows hosts.old hosts.new first now (growth_view g) (TakingFrom who)) }
+    ensures memory { IsMade result
+        → TakeIsTold (end_held hosts.old.stations hosts.old.ends who) who }
     ensures homes { SameHomes hosts.old hosts.new }
 {
     let (unit, result) = hosts.take(alloc, who, now);

@@ -24,6 +24,7 @@ ghost use Rattle.ipx_net.specs.NetFaults.{first_fault};
 ghost use Rattle.ipx_net.specs.Parcels.{parcel_views};
 ghost use Rattle.ipx_net.specs.Theorems.{AloneHandsOutNothing, PeersHandOn};
 ghost use Rattle.ipx_net.specs.Told.{AreNumbered, Restood, StandAs, hosts_of, polled_host, reached_host, touched_by};
+ghost use Rattle.ipx_net.specs.WantOfMemory.{EventWantsMemory};
 ghost use Rattle.ipx_net.specs.declared.fault.NetFault.TheVariants as NetFaults;
 
 use crate::answer::Answer;
@@ -160,6 +161,7 @@ impl Course {
         ensures parcels { IfErr result
             (λ f. self.new.now.world.parcels ≡ self.old.now.world.parcels) }
         ensures spent { IfErr result (λ f. self.new.spent ≡ true) }
+        ensures memory { IfErr result (λ f. EventWantsMemory self.old.now event) }
         ensures behind { OnOk result (take (length self.old.now.world.log) self.new.now.world.log
             ≡ self.old.now.world.log) }
         ensures told { told.new.infos.items ≡ told.old.infos.items }

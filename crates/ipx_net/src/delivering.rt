@@ -1,6 +1,6 @@
 //! A parcel is delivered to a host.
 
-ghost use Rattle.std.specs.Prelude.{◌≡◌, ◌<◌, ◌≤◌, ◌∷◌, [], IfOk, IfSome, Some, length, slice_get};
+ghost use Rattle.std.specs.Prelude.{◌≡◌, ◌<◌, ◌≤◌, ◌∷◌, [], IfOk, IfSome, OnErr, Some, length, slice_get};
 ghost use Rattle.ipx_log.specs.Note as Notes;
 ghost use Rattle.ipx_log.specs.Packets.{notes_of};
 ghost use Rattle.ipx_steps.specs.Steps.{arrival_notes, read_notes};
@@ -8,6 +8,7 @@ ghost use Rattle.ipx_hosts.specs.Hosts.{SameHomes};
 ghost use Rattle.ipx_net.specs.Entries.{entry_notes};
 ghost use Rattle.ipx_net.specs.GrowthView.{growth_view};
 ghost use Rattle.ipx_net.specs.HostEvents.{DeliversSo, end_for};
+ghost use Rattle.ipx_net.specs.WantOfMemory.{HostWantsMemory, IsMade};
 
 use crate::answer::Answer;
 use crate::entry::Entry;
@@ -25,12 +26,13 @@ fn read_by(
     received: Received,
     parcel: usize,
 ) -> Result<Vec<Entry>, OutOfMemory>
-    ensures { IfOk result (λ v. entry_notes v.items ≡ notes_of received who parcel) }
+    ensures read { IfOk result (λ v. entry_notes v.items ≡ notes_of received who parcel) }
+    ensures refused { OnErr result (0 < length (notes_of received who parcel)) }
 {
-    let mut entries = Vec::with_capacity(alloc, 2)?;
     if received == Received::Stranger {
-        return Ok(entries);
+        return Ok(Vec::new(alloc));
     }
+    let mut entries = Vec::with_capacity(alloc, 2)?;
     if received == Received::Joined {
         entries.push(Entry::Joined { who, parcel })?;
     }
@@ -45,7 +47,8 @@ fn heard_by(
     received: Received,
     parcel: usize,
 ) -> Result<Vec<Entry>, OutOfMemory>
-    ensures { IfOk result (λ v. entry_notes v.items ≡ read_notes reader received parcel) }
+    ensures read { IfOk result (λ v. entry_notes v.items ≡ read_notes reader received parcel) }
+    ensures refused { OnErr result (0 < length (read_notes reader received parcel)) }
 {
     match reader {
         Some(who) => read_by(alloc, who, received, parcel),
@@ -83,9 +86,11 @@ fn told_of(
     who: usize,
     parcel: usize,
 ) -> Result<(Option<usize>, Vec<Entry>), OutOfMemory>
-    ensures { IfSome (slice_get hosts.now.stations host) (λ s. IfOk result (λ p.
+    ensures told { IfSome (slice_get hosts.now.stations host) (λ s. IfOk result (λ p.
         (p.0 ≡ end_for arrived s who)
         × (entry_notes p.1.items ≡ arrival_notes arrived s who parcel))) }
+    ensures refused { IfSome (slice_get hosts.now.stations host) (λ s.
+        OnErr result (0 < length (arrival_notes arrived s who parcel))) }
 {
     match arrived {
         Arrived::Accepted(id) => {
@@ -119,6 +124,7 @@ pub fn deliver_host(
     requires { host < length hosts.old.stations }
     ensures delivers { IfOk result (λ g.
         DeliversSo hosts.old host parcel bytes.now now (growth_view g) hosts.new) }
+    ensures memory { IsMade result → HostWantsMemory hosts.old host parcel bytes.now now }
     ensures homes { SameHomes hosts.old hosts.new }
 {
     let count = hosts.ends();

@@ -6,6 +6,8 @@ ghost use Rattle.ipx_net.specs.GrowthView.{growth_view};
 ghost use Rattle.ipx_net.specs.NetEvents.{DeliversTo, Happens, IsOwed, PollsOf, injected};
 ghost use Rattle.ipx_net.specs.NetFaults.{fault_before, network_at, place_fault, poll_fault};
 ghost use Rattle.ipx_net.specs.NetView.{net_of};
+ghost use Rattle.ipx_net.specs.WantOfMemory.{EventWantsMemory, IsMade};
+ghost use Rattle.ipx_net.specs.declared.event.Event.TheVariants as Events;
 
 use crate::answer::Answer;
 use crate::book::Book;
@@ -91,6 +93,9 @@ fn deliver(
         (net_of hosts.old routers.old book.now.parcels book.now.log now)
         (net_of hosts.new routers.new (book.now.parcels ++ (growth_view g).parcels)
         (book.now.log ++ (growth_view g).notes) now)) }
+    ensures memory { IsMade result → EventWantsMemory
+        (net_of hosts.old routers.old book.now.parcels book.now.log now)
+        (Events.Deliver parcel place) }
     ensures homes { SameHomes hosts.old hosts.new }
 {
     let parcels = book.parcels();
@@ -129,6 +134,8 @@ pub fn happen(
         (net_of hosts.old routers.old book.now.parcels book.now.log moment.old)
         (net_of hosts.new routers.new (book.now.parcels ++ (growth_view g).parcels)
         (book.now.log ++ (growth_view g).notes) moment.new)) }
+    ensures memory { IsMade result → EventWantsMemory
+        (net_of hosts.old routers.old book.now.parcels book.now.log moment.old) event }
     ensures homes { SameHomes hosts.old hosts.new }
 {
     let now = *moment;

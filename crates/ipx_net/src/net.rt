@@ -21,6 +21,7 @@ ghost use Rattle.ipx_net.specs.Entries.{entry_notes};
 ghost use Rattle.ipx_net.specs.NetEvents.{Happens, IsOwed};
 ghost use Rattle.ipx_net.specs.NetFaults.{first_fault};
 ghost use Rattle.ipx_net.specs.Parcels.{parcel_views};
+ghost use Rattle.ipx_net.specs.WantOfMemory.{EventWantsMemory};
 ghost use Rattle.ipx_net.specs.Theorems.{AloneHandsOutNothing, PeersHandOn};
 ghost use Rattle.ipx_net.specs.declared.fault.NetFault.TheVariants as NetFaults;
 
@@ -73,6 +74,7 @@ fn go_on(
     ensures parcels { IfErr result
         (λ f. course.new.now.world.parcels ≡ course.old.now.world.parcels) }
     ensures spent { IfErr result (λ f. course.new.spent ≡ true) }
+    ensures memory { IfErr result (λ f. EventWantsMemory course.old.now event) }
     ensures tells { TellsEnds course.new told.new.infos.items }
 {
     let from = course.log().len();
@@ -106,6 +108,7 @@ fn take_in(
         → (first_fault course.old event ≡ Some f) × (course.new ≡ course.old)) }
     ensures memory { result ≡ Err NetFaults.OutOfMemory
         → (first_fault course.old event ≡ None) × (course.new.spent ≡ true) }
+    ensures wanted { result ≡ Err NetFaults.OutOfMemory → EventWantsMemory course.old.now event }
     ensures log { result ≡ Err NetFaults.OutOfMemory
         → course.new.now.world.log ≡ course.old.now.world.log }
     ensures parcels { result ≡ Err NetFaults.OutOfMemory
@@ -157,6 +160,9 @@ impl Net {
             → (first_fault self.old event ≡ Some f) × (self.new ≡ self.old)) }
         ensures memory { result ≡ Err NetFaults.OutOfMemory
             → (first_fault self.old event ≡ None) × (self.new.spent ≡ true) }
+        // Only what makes an entry or a parcel, or is answered with a list, wants memory.
+        ensures wanted { result ≡ Err NetFaults.OutOfMemory
+            → EventWantsMemory self.old.now event }
         ensures log { result ≡ Err NetFaults.OutOfMemory
             → self.new.now.world.log ≡ self.old.now.world.log }
         ensures parcels { result ≡ Err NetFaults.OutOfMemory

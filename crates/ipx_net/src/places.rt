@@ -1,6 +1,6 @@
 //! Where the units of each end stand among all units sent.
 
-ghost use Rattle.std.specs.Prelude.{◌≡◌, ◌==◌, ◌++◌, ℕ, List, [], ◌∷◌, count_by, drop, length, map, take};
+ghost use Rattle.std.specs.Prelude.{◌≡◌, ◌<◌, ◌==◌, ◌++◌, ℕ, List, [], ◌∷◌, OnErr, count_by, drop, length, map, take};
 ghost use Rattle.ipx_log.specs.Scan.{times};
 ghost use Rattle.ipx_net.specs.Places.{AreListed, list_of, places_from};
 
@@ -41,7 +41,8 @@ impl UnitPlaces {
 
     /// Takes room for the units and ends of these entries.
     pub fn reserve(&mut self, entries: &[Entry]) -> Result<(), AllocError>
-        ensures { self.new ≡ self.old }
+        ensures same { self.new ≡ self.old }
+        ensures refused { OnErr result (0 < length entries.now) }
     {
         self.lists.reserve(entries.len())?;
         for entry in entries {

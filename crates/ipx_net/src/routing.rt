@@ -7,6 +7,7 @@ ghost use Rattle.ipx_router.specs.declared.outcome.Outcome.TheVariants as Outcom
 ghost use Rattle.ipx_router.specs.Packets.{sending_of, sendings};
 ghost use Rattle.ipx_net.specs.GrowthView.{growth_view};
 ghost use Rattle.ipx_net.specs.RouterEvents.{MemberPolled, MemberReached, routed_growth, told_growth};
+ghost use Rattle.ipx_net.specs.WantOfMemory.{IsMade, IsSent, RouterWantsMemory};
 
 use crate::answer::Answer;
 use crate::entry::Entry;
@@ -111,8 +112,9 @@ fn routed(
     outcome: Outcome,
     first: usize,
 ) -> Result<Growth, OutOfMemory>
-    ensures { IfOk result
+    ensures grows { IfOk result
         (λ g. growth_view g ≡ routed_growth router ports.now parcel first (view outcome)) }
+    ensures memory { IsMade result → IsSent (view outcome) }
 {
     match outcome {
         Outcome::Forward(reply) => carried(alloc, router, ports, parcel, reply, first),
@@ -136,9 +138,10 @@ pub fn deliver_member(
     requires there { router < length routers.old }
     requires port { IfSome (slice_get routers.old router)
         (λ r. (1 ≤ port) × (port ≤ length r.router.ports)) }
-    ensures { IfOk result (λ g.
+    ensures reached { IfOk result (λ g.
         MemberReached routers.old router port parcel bytes.now first now
         (growth_view g) routers.new) }
+    ensures memory { IsMade result → RouterWantsMemory routers.old router port bytes.now now }
 {
     let member = &mut routers[router];
     let outcome = member.router.receive(alloc, port, bytes, now)?;

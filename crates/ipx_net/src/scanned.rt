@@ -1,6 +1,6 @@
 //! What is read off a log, entry by entry.
 
-ghost use Rattle.std.specs.Prelude.{◌≤◌, All, length};
+ghost use Rattle.std.specs.Prelude.{◌<◌, ◌≤◌, All, length};
 ghost use Rattle.ipx_net.specs.Places.{AreListed};
 
 use crate::entry::Entry;
@@ -27,7 +27,7 @@ pub struct Scanned {
 }
 
 impl Scanned {
-    ghost use Rattle.std.specs.Prelude.{◌≡◌, ◌+◌, ℕ, OnOk};
+    ghost use Rattle.std.specs.Prelude.{◌≡◌, ◌+◌, ℕ, OnErr, OnOk};
     ghost use Rattle.ipx_log.specs.Note.{Accepted, Carried, Got, Joined, Opened, SendsUnit};
     ghost use Rattle.ipx_log.specs.Scan.{marked, seen, seen_all, unread};
     ghost use Rattle.ipx_net.specs.Entries.{entry_note, entry_notes};
@@ -51,6 +51,7 @@ impl Scanned {
     pub fn reserve(&mut self, entries: &[Entry]) -> Result<(), AllocError>
         ensures same { scan_of self.new ≡ scan_of self.old }
         ensures room { OnOk result (HasRoom (length entries.now) self.new) }
+        ensures refused { OnErr result (0 < length entries.now) }
     {
         let more = entries.len();
         self.marks.reserve(more)?;

@@ -1,6 +1,6 @@
 //! What is told of the ends of a network, kept as its log grows.
 
-ghost use Rattle.std.specs.Prelude.{◌≡◌, ◌≢◌, ◌<◌, ◌≤◌, ◌+◌, ◌-◌, ◌^◌, ℕ, [], OnOk, Some, length, set, slice_get, take, vec_capacity, vec_len};
+ghost use Rattle.std.specs.Prelude.{◌≡◌, ◌≢◌, ◌<◌, ◌≤◌, ◌+◌, ◌-◌, ◌^◌, ℕ, [], OnErr, OnOk, Some, length, set, slice_get, take, vec_capacity, vec_len};
 ghost use Rattle.ipx_hosts.specs.Hosts.{FitTogether};
 ghost use Rattle.ipx_hosts.specs.Telling.{here_at, state_at};
 ghost use Rattle.ipx_log.specs.EndsTold.{peer_of};
@@ -165,6 +165,7 @@ impl EndsTold {
         ensures same { self.new.infos.items ≡ self.old.infos.items }
         ensures room { OnOk result
             (vec_len self.new.infos + length entries.now ≤ vec_capacity self.new.infos) }
+        ensures refused { OnErr result (0 < length entries.now) }
     {
         self.infos.reserve(entries.len())
     }

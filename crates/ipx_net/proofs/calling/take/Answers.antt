@@ -6,6 +6,7 @@ use Rattle.std.specs.Prelude.{IfErr}
 use Rattle.spx_messages.specs.Taking.{result_view, taken_view}
 use Rattle.ipx_net.specs.GrowthView.{growth_view}
 use Rattle.ipx_net.proofs.EventSteps.{if_ok_then, taking_err, taking_ok}
+use Rattle.ipx_net.proofs.Wanting.{made_or_refused, quiet_is_none, take_is_told}
 use Rattle.ipx_net.proofs.calling.take.Goals as goal
 
 pub returns-in-Ok-clause-grows : goal.returns-in-Ok-clause-grows
@@ -13,7 +14,7 @@ returns-in-Ok-clause-grows c =
     if_ok_then c.taken.result _ _
     (λ g same. taking_ok c.args.hosts.now c.take-unit.new.self c.args.first c.args.now c.args.who (taken_view c.in-Ok.answer) c.take-unit.result.0 (result_view c.take-unit.result.1) (growth_view g)
     (ap result_view c.in-Ok.is) (c.take-unit.ensures.takes (λ e. absurd (cc (sym c.in-Ok.is ∙ e)))) same)
-    c.taken.ensures
+    c.taken.ensures.grows
 
 pub returns-in-Err-clause-grows : goal.returns-in-Err-clause-grows
 returns-in-Err-clause-grows c =
@@ -26,3 +27,12 @@ returns-in-Err-clause-grows c =
     (subst (λ r. IfErr r TakeIsRefused) c.in-Err.is c.take-unit.ensures.fault)
     (λ is. c.take-unit.ensures.memory (c.in-Err.is ∙ ap Err is))
     c.quiet.ensures
+
+pub returns-in-Ok-clause-memory : goal.returns-in-Ok-clause-memory
+returns-in-Ok-clause-memory c =
+    let t = taken_view c.in-Ok.answer in
+    made_or_refused c.taken.result _ _ c.taken.ensures.grows c.taken.ensures.refused
+    (take_is_told c.args.hosts.now c.take-unit.new.self c.args.now c.args.who t c.take-unit.result.0 (result_view c.take-unit.result.1) (ap result_view c.in-Ok.is) (c.take-unit.ensures.takes (λ e. absurd (cc (sym c.in-Ok.is ∙ e)))))
+
+pub returns-in-Err-clause-memory : goal.returns-in-Err-clause-memory
+returns-in-Err-clause-memory c = λ made. absurd (quiet_is_none c.quiet.result _ c.quiet.ensures made)

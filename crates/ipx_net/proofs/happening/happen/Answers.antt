@@ -6,8 +6,10 @@ use Rattle.ipx_net.specs.HostEvents.{Dialling, TakingFrom}
 use Rattle.ipx_net.specs.NetEvents.{Happens}
 use Rattle.ipx_net.specs.NetView.{net_of}
 use Rattle.ipx_net.specs.Parcels.{parcel_view}
+use Rattle.ipx_net.specs.WantOfMemory.{EventWantsMemory, IsMade}
 use Rattle.ipx_net.specs.declared.event.Event.{Event}
 use Rattle.ipx_net.proofs.Happened.{after, before, counted, happened}
+use Rattle.ipx_net.proofs.Wanting.{quiet_is_none}
 use Rattle.ipx_net.proofs.happening.happen.Goals as goal
 
 pub returns-in-Dial-clause-happens : goal.returns-in-Dial-clause-happens
@@ -23,3 +25,38 @@ returns-in-Take-clause-happens c =
     subst (λ (e : Event). IfOk c.take.result (λ g. Happens e (growth_view g).answer (before c.args.hosts.now c.args.routers.now b c.args.moment.now) (after c.take.new.hosts c.args.routers.now b (growth_view g) c.args.moment.now))) (sym c.in-Take.is)
     (happened (TakingFrom c.in-Take.who) c.take.result c.args.hosts.now c.take.new.hosts c.args.routers.now b (length c.parcels-first.result.now) c.args.moment.now
     (counted c.parcels-first.result.now b c.parcels-first.ensures) c.take.ensures.grows)
+
+pub returns-in-Dial-clause-memory : goal.returns-in-Dial-clause-memory
+returns-in-Dial-clause-memory c =
+    subst (λ (e : Event). IsMade c.dial.result → EventWantsMemory (before c.args.hosts.now c.args.routers.now c.args.book.now c.args.moment.now) e) (sym c.in-Dial.is) c.dial.ensures.memory
+
+pub returns-in-Send-clause-memory : goal.returns-in-Send-clause-memory
+returns-in-Send-clause-memory c =
+    subst (λ (e : Event). IsMade c.send.result → EventWantsMemory (before c.args.hosts.now c.args.routers.now c.args.book.now c.args.moment.now) e) (sym c.in-Send.is) c.send.ensures.memory
+
+pub returns-in-Take-clause-memory : goal.returns-in-Take-clause-memory
+returns-in-Take-clause-memory c =
+    subst (λ (e : Event). IsMade c.take.result → EventWantsMemory (before c.args.hosts.now c.args.routers.now c.args.book.now c.args.moment.now) e) (sym c.in-Take.is) c.take.ensures.memory
+
+pub returns-in-Close-clause-memory : goal.returns-in-Close-clause-memory
+returns-in-Close-clause-memory c =
+    subst (λ (e : Event). IsMade c.close.result → EventWantsMemory (before c.args.hosts.now c.args.routers.now c.args.book.now c.args.moment.now) e) (sym c.in-Close.is) c.close.ensures.memory
+
+pub returns-in-Release-clause-memory : goal.returns-in-Release-clause-memory
+returns-in-Release-clause-memory c =
+    λ made. subst (EventWantsMemory (before c.args.hosts.now c.args.routers.now c.args.book.now c.args.moment.now)) (sym c.in-Release.is) tt
+
+pub returns-in-Tick-clause-memory : goal.returns-in-Tick-clause-memory
+returns-in-Tick-clause-memory c = λ made. absurd (quiet_is_none c.quiet.result _ c.quiet.ensures made)
+
+pub returns-in-Poll-clause-memory : goal.returns-in-Poll-clause-memory
+returns-in-Poll-clause-memory c =
+    λ made. subst (EventWantsMemory (before c.args.hosts.now c.args.routers.now c.args.book.now c.args.moment.now)) (sym c.in-Poll.is) tt
+
+pub returns-in-Deliver-clause-memory : goal.returns-in-Deliver-clause-memory
+returns-in-Deliver-clause-memory c =
+    subst (λ (e : Event). IsMade c.deliver.result → EventWantsMemory (before c.args.hosts.now c.args.routers.now c.args.book.now c.args.moment.now) e) (sym c.in-Deliver.is) c.deliver.ensures.memory
+
+pub returns-in-Inject-clause-memory : goal.returns-in-Inject-clause-memory
+returns-in-Inject-clause-memory c =
+    λ made. subst (EventWantsMemory (before c.args.hosts.now c.args.routers.now c.args.book.now c.args.moment.now)) (sym c.in-Inject.is) tt

@@ -1,0 +1,95 @@
+-- Which events may want memory, by what stands before them: those that make an entry or a parcel,
+-- or are answered with a list. The entry point is `EventWantsMemory`.
+use Rattle.std.specs.Prelude.{ℕ, ◌≡◌, ◌⊎◌, ◌<◌, ◌+◌, ◌++◌, List, length, Option, None, Some, Result, Ok, Err, slice_get}
+use Rattle.ipx_wire.specs.declared.memory.OutOfMemory.{OutOfMemory}
+use Rattle.spx_link.specs.Offer.{first_of}
+use Rattle.spx_units.specs.Message.{message_view}
+use Rattle.spx_messages.specs.Arrives.{IsAcceptable}
+use Rattle.spx_messages.specs.EndpointView.{Held}
+use Rattle.spx_messages.specs.Taking.{take_end}
+use Rattle.spx_messages.specs.declared.arrived.Arrived.{Arrived}
+use Rattle.ipx_router.specs.Answer.{Receives}
+use Rattle.ipx_router.specs.OutcomeView.{OutcomeView}
+use Rattle.ipx_router.specs.OutcomeView as Outcomes
+use Rattle.ipx_router.specs.RouterView.{RouterView}
+use Rattle.ipx_router.specs.WantOfMemory.{WantsMemory}
+use Rattle.ipx_log.specs.Note.{Note}
+use Rattle.ipx_steps.specs.Steps.{arrival_notes, unit_notes, whole_notes}
+use Rattle.ipx_steps.specs.World.{ParcelView, Station}
+use Rattle.ipx_hosts.specs.Hosts.{DeliveredAt, HostsView}
+use Rattle.ipx_hosts.specs.Refusing.{close_fault, dial_fault, send_fault}
+use Rattle.ipx_net.specs.GrowthView.{growth_view}
+use Rattle.ipx_net.specs.HostEvents.{held_under}
+use Rattle.ipx_net.specs.NetView.{NetNow}
+use Rattle.ipx_net.specs.declared.event.Event.{Event}
+use Rattle.ipx_net.specs.declared.event.Event.TheVariants as Events
+use Rattle.ipx_net.specs.declared.growth.Growth.{Growth}
+use Rattle.ipx_net.specs.declared.place.Place.{Place}
+use Rattle.ipx_net.specs.declared.place.Place.TheVariants as Places
+use Rattle.ipx_net.specs.declared.routers.RouterNow.{RouterNow}
+
+-- what a take of an end tells: the unit that was held, and the message that it ended
+abbrev pub taken_notes : Held → ℕ → List Note
+taken_notes h who =
+    unit_notes (take_end h).0 (first_of h.link.held) who ++ whole_notes (take_end h).0 who
+
+-- a take that tells something; one of nothing tells nothing
+abbrev pub TakeIsTold : Option Held → ℕ → Type 0
+TakeIsTold None who = ⊥
+TakeIsTold (Some h) who = 0 < length (taken_notes h who)
+
+-- a datagram that comes to a host makes a link there, or a link reads it
+abbrev pub ArrivalIsTold : HostsView → ℕ → ℕ → List ℕ → ℕ → Type 0
+ArrivalIsTold v host parcel bytes now = (r : Arrived) × (new : HostsView)
+    × (d : DeliveredAt v host bytes now r new)
+    × (0 < length (arrival_notes r d.after (length v.ends) parcel))
+
+abbrev pub HostWantsMemory : HostsView → ℕ → ℕ → List ℕ → ℕ → Type 0
+HostWantsMemory v host parcel bytes now =
+    ((s : Station) × (slice_get v.stations host ≡ Some s) × IsAcceptable s.endpoint bytes)
+    ⊎ ArrivalIsTold v host parcel bytes now
+
+-- a router forwards or replies
+abbrev pub IsSent : OutcomeView → Type 0
+IsSent (Outcomes.Forward port next bytes) = Unit {0}
+IsSent (Outcomes.Replies sent) = Unit {0}
+IsSent (Outcomes.Heard n) = ⊥
+IsSent (Outcomes.Dropped reason) = ⊥
+
+-- a router wants memory for bytes that come to its port, or does so for what it sends on
+abbrev pub RouterWantsMemory : List RouterNow → ℕ → ℕ → List ℕ → ℕ → Type 0
+RouterWantsMemory routers router port bytes now = (before : RouterNow)
+    × (slice_get routers router ≡ Some before) × (after : RouterView)
+    × (WantsMemory before.router port bytes now after
+    ⊎ ((o : OutcomeView) × Receives before.router port bytes now o after × IsSent o))
+
+abbrev pub DeliveryWantsMemory : NetNow → ℕ → List ℕ → Place → Type 0
+DeliveryWantsMemory n parcel bytes (Places.Host host) =
+    HostWantsMemory (record { stations = n.world.hosts; ends = n.world.ends }) host parcel bytes
+    n.world.moment
+DeliveryWantsMemory n parcel bytes (Places.Port router port) =
+    RouterWantsMemory n.routers router port bytes n.world.moment
+
+-- an event may want memory: a call that no end refuses, a take that is told, a delivery that is
+-- told or sent on, and each poll, release and packet from outside. A moment wants none
+abbrev pub EventWantsMemory : NetNow → Event → Type 0
+EventWantsMemory n (Events.Dial host socket to buffers) =
+    dial_fault (slice_get n.world.hosts host) ≡ None
+EventWantsMemory n (Events.Send who message) =
+    send_fault (held_under n.world who) (message_view message) ≡ None
+EventWantsMemory n (Events.Take who) = TakeIsTold (held_under n.world who) who
+EventWantsMemory n (Events.Close who) = close_fault (held_under n.world who) ≡ None
+EventWantsMemory n (Events.Release who) = Unit {0}
+EventWantsMemory n (Events.Tick now) = ⊥
+EventWantsMemory n (Events.Poll member) = Unit {0}
+EventWantsMemory n (Events.Deliver parcel place) = (letter : ParcelView)
+    × (slice_get n.world.parcels parcel ≡ Some letter)
+    × DeliveryWantsMemory n parcel letter.bytes place
+EventWantsMemory n (Events.Inject segment next bytes) = Unit {0}
+
+-- ---- words of the private functions
+
+-- an event made something, or memory was refused as it was to
+abbrev pub IsMade : Result Growth OutOfMemory → Type 0
+IsMade (Ok g) = 0 < length (growth_view g).parcels + length (growth_view g).notes
+IsMade (Err e) = Unit {0}
