@@ -2,7 +2,6 @@
 
 use ipx_router::Reason;
 use ipx_wire::SpxFault;
-use spx_link::OfferFault;
 
 /// The number of a reason, or that of the fault which it holds.
 pub fn reason_number(reason: Reason) -> u8 {
@@ -18,13 +17,5 @@ pub fn spx_number(fault: SpxFault) -> u8 {
     match fault {
         SpxFault::SpxShort(_) => 16,
         SpxFault::OverSize(_) => 17,
-    }
-}
-
-pub fn offer_number(fault: OfferFault) -> u8 {
-    match fault {
-        OfferFault::NotLive => 25,
-        OfferFault::Ended => 26,
-        OfferFault::OutOfMemory => 27,
     }
 }

@@ -5,7 +5,7 @@ ghost use Rattle.std.specs.Prelude.{◌≤◌, ◌<◌, ◌+◌, length};
 ghost use Rattle.spx_link.specs.Limits.{end_stream};
 ghost use Rattle.spx_link.specs.Links.{IsLive};
 
-use crate::faults::{offer_number, spx_number};
+use crate::faults::spx_number;
 use crate::pair::{End, Pair, ROOM};
 use crate::passing::cut;
 use ipx_wire::{OutOfMemory, decode_spx};
@@ -69,7 +69,7 @@ fn write_unit(out: &mut Vec<u8>, unit: Option<&Unit>) -> Result<(), OutOfMemory>
 fn write_offered(out: &mut Vec<u8>, offered: Result<(), OfferFault>) -> Result<(), OutOfMemory> {
     let number = match offered {
         Ok(()) => 0,
-        Err(fault) => offer_number(fault),
+        Err(fault) => fault.number(),
     };
     out.push(number)?;
     Ok(())

@@ -38,6 +38,7 @@ fn heard_route(routes: &RouteTable, network: Network, now: u64) -> Option<Route>
 }
 
 /// The route to a network: over a port on it, or else over the neighbour with the best offer.
+#[inline(always)] // a route is seven pieces, which else pass through memory at each packet
 pub fn route_to(ports: &[Port], routes: &RouteTable, network: Network, now: u64) -> Option<Route>
     requires { length ports.now ≤ 16 }
     ensures port { AreFromPorts (length ports.now) (routes_in routes.now)
