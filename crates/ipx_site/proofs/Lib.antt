@@ -2,3 +2,4 @@ pub mod Addresses
 pub mod Faults
 pub mod Found
 pub mod HexText
+pub mod Own

@@ -40,7 +40,7 @@ impl Key {
     }
 
     /// What its value is to be, with an example: what is right, for the line of a fault.
-    pub fn right(&self) -> &'static str {
+    pub(crate) fn right(&self) -> &'static str {
         match self {
             Key::Status => "the name of a file, as \"/run/ipx/site.prom\"",
             Key::Port => "one to sixteen tables, each begun by [[port]]",
