@@ -89,7 +89,7 @@ next_gives f router router' items items1 items2 items3 started started' d d1 d2 
       router',
       h.1,
       k.1,
-      (e ∙ ap (λ (c : CoreView). first_of c.queue) (sym x), after ∙ ap (λ (c : CoreView). core_of f c.router (drop 1 c.queue) c.started c.dropped) (sym x)),
+      (e ∙ ap (λ (c : CoreView). first_of c.queue) (sym x), after ∙ ap (λ (c : CoreView). core_of c.fates c.router (drop 1 c.queue) c.started c.dropped) (sym x)),
     )
 
 pub next_withholds : (f : Fates) (router router' : RouterView) (items items1 items2 : List Reply) (started started' : Bool) (d d1 d2 now : ℕ) → PutsStart router started (sendings items) d (sendings items1) d1 → started' ≡ true → (items2 ≡ items1) × (d2 ≡ d1) → IsNotTold router now (sendings items1) router' → Withholds (core_of f router (sendings items) started d) now (core_of f router' (sendings items2) started' d2)

@@ -23,6 +23,7 @@ mod readiness;
 mod reading;
 mod routing;
 mod senders;
+mod shown;
 mod site;
 mod sockets;
 mod station;

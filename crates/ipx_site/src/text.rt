@@ -2,15 +2,16 @@
 
 use crate::fault::FileFault;
 use crate::key::Key;
+use crate::shown::Shown;
 use std::fmt;
 
 /// The keys of a table, by its number.
 fn keys_of(table: usize) -> &'static str {
     if table == 0 {
-        return "a router's file has status and [[port]], a host's network, address, router, udp_port, \
-            socket and buffers";
+        return "a router has status and port, a host network, address, router, udp_port, socket and \
+            buffers";
     }
-    "a port has network, address, udp_port, cost, peers and accept"
+    "the keys are network, address, udp_port, cost, peers, accept"
 }
 
 /// Where a fault lies: nothing for the file itself, and else the port.
@@ -35,7 +36,8 @@ impl fmt::Display for FileFault {
             FileFault::NotToml(line, error) => { write!(f, "line {line}: {}", error.message()) }
             FileFault::Unknown(table, name) => {
                 write_place(f, *table)?;
-                write!(f, "{name} is no key here; {}", keys_of(*table))
+                let name = Shown(name.as_bytes());
+                write!(f, "{name} is no key here: {}", keys_of(*table))
             }
             FileFault::Missing(table, key) => {
                 write_place(f, *table)?;

@@ -1,11 +1,11 @@
 //! What a router knows of the networks and services of others, and what it knew before.
 
+use crate::shown::Shown;
 use ipx_router::Router;
 use ipx_tables::{RouteMetric, ServiceKey, ServiceMetric, Source};
 use ipx_wire::{Network, OutOfMemory};
 use log::{Log, info};
 use std::alloc::Global;
-use std::fmt;
 
 /// The most lines of networks, and of services, that are written at once; the others are counted.
 const MOST_LINES: usize = 64;
@@ -15,23 +15,6 @@ const MOST_LINES: usize = 64;
 pub struct Known {
     networks: Vec<Network>,
     services: Vec<ServiceKey>,
-}
-
-/// The name of a service, as it is printed: up to its first zero byte, and a dot for what is no
-/// printable ASCII.
-struct Name<'a>(&'a [u8]);
-
-impl fmt::Display for Name<'_> {
-    fn fmt<W: fmt::Write>(&self, f: &mut fmt::Formatter<W>) -> fmt::Result {
-        for byte in self.0 {
-            if *byte == 0 {
-                return Ok(());
-            }
-            let shown = if byte.is_ascii_graphic() || *byte == b' ' { *byte } else { b'.' };
-            f.write_char(char::from(shown))?;
-        }
-        Ok(())
-    }
 }
 
 fn tell_network<R: Log>(rt: &R, item: &(Network, Source, RouteMetric)) {
@@ -45,7 +28,7 @@ fn tell_network<R: Log>(rt: &R, item: &(Network, Source, RouteMetric)) {
 
 fn tell_service<R: Log>(rt: &R, item: &(ServiceKey, Source, ServiceMetric)) {
     let kind = item.0.kind;
-    let name = Name(&item.0.name);
+    let name = Shown(&item.0.name);
     let at = item.2.at;
     let port = item.1.port;
     let hops = item.2.hops;
@@ -54,7 +37,7 @@ fn tell_service<R: Log>(rt: &R, item: &(ServiceKey, Source, ServiceMetric)) {
 
 fn tell_lost_service<R: Log>(rt: &R, key: &ServiceKey) {
     let kind = key.kind;
-    let name = Name(&key.name);
+    let name = Shown(&key.name);
     info!(rt; target: "ipx", "service {kind:04x} {name} lost");
 }
 

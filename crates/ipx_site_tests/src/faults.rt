@@ -30,12 +30,18 @@ const SITES: [(&str, &str); 9] = [
         "port = [1]",
         "port 1: port is to be one to sixteen tables, each begun by [[port]]",
     ),
-    ("Status = \"a\"", "Status is no key here"),
+    (
+        "Status = \"a\"",
+        "Status is no key here: a router has status and port, a host network, address, router, udp_port, socket and buffers",
+    ),
     (
         "status = 1",
-        "status is to be the name of a file, as \"/run/ipx/site.prom\"",
+        "status is to be the name of a file, as \"/run/ipx/hq/hq.prom\"",
     ),
-    ("[[port]]\npeer = []", "port 1: peer is no key here"),
+    (
+        "[[port]]\npeer = []",
+        "port 1: peer is no key here: the keys are network, address, udp_port, cost, peers, accept",
+    ),
     (
         "[[port]]\nnetwork = \"ffffffff\"",
         "port 1: network is to be eight hex digits, neither all 0 nor all f, as \"00000011\"",
@@ -83,7 +89,10 @@ const HOSTS: [(&str, &str); 3] = [
         "network = \"+0000011\"",
         "network is to be eight hex digits, neither all 0 nor all f, as \"00000011\"",
     ),
-    ("port = 1", "port is no key here"),
+    (
+        "port = 1",
+        "port is no key here: a router has status and port, a host network, address, router, udp_port, socket and buffers",
+    ),
 ];
 
 #[test]

@@ -6,7 +6,7 @@ use ipx_wire::{Network, Socket};
 
 const SITE: &str = "\
 # the router of one site
-status = \"/run/ipx/hq.prom\"
+status = \"/run/ipx/hq/hq.prom\"
 
 [[port]]
 network = \"00000001\"
@@ -73,7 +73,7 @@ fn reads_a_status_file(rt: HostRuntime) {
     let Some(status) = site.status else {
         panic!(rt; "it has no status file");
     };
-    assert_eq!(rt; status.as_str(), "/run/ipx/hq.prom");
+    assert_eq!(rt; status.as_str(), "/run/ipx/hq/hq.prom");
 }
 
 #[test]
