@@ -1,6 +1,6 @@
 //! The command `route`.
 
-ghost use Rattle.std.specs.Prelude.{◌≡◌, All};
+ghost use Rattle.std.specs.Prelude.{◌≡◌, All, IfOk};
 ghost use Rattle.ipx_router.specs.NewRouter.{IsOwnNetwork};
 ghost use Rattle.ipx_site.specs.Ports.{router_port_of, router_ports};
 
@@ -68,10 +68,16 @@ fn router_port(port: &SitePort) -> Port
     }
 }
 
+fn own_ports(alloc: Global, ports: &[SitePort]) -> Result<Vec<Port>, AllocError>
+    ensures { IfOk result (λ v. v.items ≡ router_ports ports.now) }
+{
+    ports.iter().map(router_port).collect(alloc)
+}
+
 fn router_of(alloc: Global, ports: &[SitePort]) -> Result<Router, RouteFault>
     requires { All IsOwnNetwork (router_ports ports.now) }
 {
-    let ports = ports.iter().map(router_port).collect::<Vec<Port>>(alloc)?;
+    let ports = own_ports(alloc, ports)?;
     let router = Router::new(alloc, ports)?;
     Ok(router)
 }
