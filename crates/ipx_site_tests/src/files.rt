@@ -61,8 +61,8 @@ fn reads_peers(rt: HostRuntime) {
         panic!(rt; "the file has a fault");
     };
     assert_eq!(rt; site.ports.len(), 2);
-    assert!(rt; site.ports[0].peers.as_slice() == [[198, 51, 100, 7], [203, 0, 113, 9]]);
-    assert!(rt; site.ports[1].peers.as_slice() == [[10, 1, 0, 20]]);
+    assert!(rt; site.ports[0].peers.as_slice() == [[198, 51, 100, 7], [203, 0, 113, 9]].as_slice());
+    assert!(rt; site.ports[1].peers.as_slice() == [[10, 1, 0, 20]].as_slice());
 }
 
 #[test]
