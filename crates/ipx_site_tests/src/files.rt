@@ -70,7 +70,7 @@ fn reads_a_status_file(rt: HostRuntime) {
     let Some(site) = site(rt.alloc(), SITE) else {
         panic!(rt; "the file has a fault");
     };
-    let Some(status) = site.status else {
+    let Some(status) = &site.status else {
         panic!(rt; "it has no status file");
     };
     assert_eq!(rt; status.as_str(), "/run/ipx/hq/hq.prom");
