@@ -7,20 +7,21 @@ use borrow.Author.Tests.{leb-true}
 use Rattle.ipx_router.specs.RouterView.{RouterView}
 use Rattle.ipx_router.specs.declared.outcome.Reply.{Reply}
 use Rattle.ipx_router.specs.Packets.{SendingView, sending_of, sendings}
+use Rattle.ipx_carrier.specs.declared.fates.Fates.{Fates}
 use Rattle.ipx_carrier.specs.Turns.{Given}
 use Rattle.ipx_carrier.specs.RouterCore.{AreGivable, CoreView, Gives, IsGivable, IsNotTold, Withholds, first_of, most_queued, put}
 use Rattle.ipx_carrier.specs.Queued.{Puts, PutsStart, PutsTold}
 
-abbrev pub core_of : RouterView → List SendingView → Bool → ℕ → CoreView
-core_of router queue started dropped =
-    record { router = router; queue = queue; started = started; dropped = dropped }
+abbrev pub core_of : Fates → RouterView → List SendingView → Bool → ℕ → CoreView
+core_of f router queue started dropped =
+    record { router = router; queue = queue; started = started; dropped = dropped; fates = f }
 
-put_cases : (b : Bool) (sent q q' : List SendingView) (d d' : ℕ) (router : RouterView) (started : Bool) → MatchBool b ((q' ≡ q ++ sent) × (d' ≡ d)) ((q' ≡ q) × (d' ≡ min (d + length sent) (2 ^ 64 - 1))) → core_of router q' started d' ≡ cond b (core_of router (q ++ sent) started d) (core_of router q started (min (d + length sent) (2 ^ 64 - 1)))
-put_cases true sent q q' d d' router started h = ap (λ q. core_of router q started d') h.0 ∙ ap (λ d. core_of router (q ++ sent) started d) h.1
-put_cases false sent q q' d d' router started h = ap (λ q. core_of router q started d') h.0 ∙ ap (λ d. core_of router q started d) h.1
+put_cases : (f : Fates) (b : Bool) (sent q q' : List SendingView) (d d' : ℕ) (router : RouterView) (started : Bool) → MatchBool b ((q' ≡ q ++ sent) × (d' ≡ d)) ((q' ≡ q) × (d' ≡ min (d + length sent) (2 ^ 64 - 1))) → core_of f router q' started d' ≡ cond b (core_of f router (q ++ sent) started d) (core_of f router q started (min (d + length sent) (2 ^ 64 - 1)))
+put_cases f true sent q q' d d' router started h = ap (λ q. core_of f router q started d') h.0 ∙ ap (λ d. core_of f router (q ++ sent) started d) h.1
+put_cases f false sent q q' d d' router started h = ap (λ q. core_of f router q started d') h.0 ∙ ap (λ d. core_of f router q started d) h.1
 
-pub put_is : (sent q q' : List SendingView) (d d' : ℕ) (router : RouterView) (started : Bool) → Puts sent q d q' d' → core_of router q' started d' ≡ put sent (core_of router q started d)
-put_is sent q q' d d' router started h = put_cases (nat_le (length q + length sent) most_queued) sent q q' d d' router started h
+pub put_is : (f : Fates) (sent q q' : List SendingView) (d d' : ℕ) (router : RouterView) (started : Bool) → Puts sent q d q' d' → core_of f router q' started d' ≡ put sent (core_of f router q started d)
+put_is f sent q q' d d' router started h = put_cases f (nat_le (length q + length sent) most_queued) sent q q' d d' router started h
 
 few_cases : (b : Bool) (sent q q' : List SendingView) (d d' : ℕ) → b ≡ nat_le (length q + length sent) most_queued → length q ≤ most_queued → MatchBool b ((q' ≡ q ++ sent) × (d' ≡ d)) ((q' ≡ q) × (d' ≡ min (d + length sent) (2 ^ 64 - 1))) → length q' ≤ most_queued
 few_cases true sent q q' d d' e few h =
@@ -49,9 +50,9 @@ err_both (Ok x) P Q p q = tt
 err_both (Err e) P Q p q = (p, q)
 
 -- a queue that is as it was
-pub same_core : (router : RouterView) (items items' : List Reply) (started started' : Bool) (d d' : ℕ) → (items' ≡ items) × (d' ≡ d) → started' ≡ started → core_of router (sendings items') started' d' ≡ core_of router (sendings items) started d
-same_core router items items' started started' d d' h s =
-    ap (λ (xs : List Reply). core_of router (sendings xs) started' d') h.0 ∙ ap (λ d. core_of router (sendings items) started' d) h.1 ∙ ap (λ s. core_of router (sendings items) s d) s
+pub same_core : (f : Fates) (router : RouterView) (items items' : List Reply) (started started' : Bool) (d d' : ℕ) → (items' ≡ items) × (d' ≡ d) → started' ≡ started → core_of f router (sendings items') started' d' ≡ core_of f router (sendings items) started d
+same_core f router items items' started started' d d' h s =
+    ap (λ (xs : List Reply). core_of f router (sendings xs) started' d') h.0 ∙ ap (λ d. core_of f router (sendings items) started' d) h.1 ∙ ap (λ s. core_of f router (sendings items) s d) s
 
 -- what a queue keeps
 pub record IsKept (n : ℕ) (items : List Reply) : Type 0 where
@@ -77,26 +78,26 @@ pub rest_of : (items : List Reply) → sendings (drop 1 items) ≡ drop 1 (sendi
 rest_of [] = refl
 rest_of (r ∷ rs) = refl
 
-pub next_gives : (router router' : RouterView) (items items1 items2 items3 : List Reply) (started started' : Bool) (d d1 d2 now : ℕ) (given : Option Given) → PutsStart router started (sendings items) d (sendings items1) d1 → PutsTold router now router' (sendings items1) d1 (sendings items2) d2 → started' ≡ true → given ≡ first_of (sendings items2) → items3 ≡ drop 1 items2 → Gives (core_of router (sendings items) started d) now given (core_of router' (sendings items3) started' d2)
-next_gives router router' items items1 items2 items3 started started' d d1 d2 now given h k s e rest =
-    let x : put k.0 (put h.0 (core_of router' (sendings items) true d)) ≡ core_of router' (sendings items2) true d2 =
-    ap (put k.0) (sym (put_is h.0 (sendings items) (sendings items1) d d1 router' true h.2)) ∙ sym (put_is k.0 (sendings items1) (sendings items2) d1 d2 router' true k.2) in
-    let after : core_of router' (sendings items3) started' d2 ≡ core_of router' (drop 1 (sendings items2)) true d2 =
-    ap (λ s. core_of router' (sendings items3) s d2) s ∙ ap (λ (xs : List Reply). core_of router' (sendings xs) true d2) rest ∙ ap (λ q. core_of router' q true d2) (rest_of items2) in (
+pub next_gives : (f : Fates) (router router' : RouterView) (items items1 items2 items3 : List Reply) (started started' : Bool) (d d1 d2 now : ℕ) (given : Option Given) → PutsStart router started (sendings items) d (sendings items1) d1 → PutsTold router now router' (sendings items1) d1 (sendings items2) d2 → started' ≡ true → given ≡ first_of (sendings items2) → items3 ≡ drop 1 items2 → Gives (core_of f router (sendings items) started d) now given (core_of f router' (sendings items3) started' d2)
+next_gives f router router' items items1 items2 items3 started started' d d1 d2 now given h k s e rest =
+    let x : put k.0 (put h.0 (core_of f router' (sendings items) true d)) ≡ core_of f router' (sendings items2) true d2 =
+    ap (put k.0) (sym (put_is f h.0 (sendings items) (sendings items1) d d1 router' true h.2)) ∙ sym (put_is f k.0 (sendings items1) (sendings items2) d1 d2 router' true k.2) in
+    let after : core_of f router' (sendings items3) started' d2 ≡ core_of f router' (drop 1 (sendings items2)) true d2 =
+    ap (λ s. core_of f router' (sendings items3) s d2) s ∙ ap (λ (xs : List Reply). core_of f router' (sendings xs) true d2) rest ∙ ap (λ q. core_of f router' q true d2) (rest_of items2) in (
       h.0,
       k.0,
       router',
       h.1,
       k.1,
-      (e ∙ ap (λ (c : CoreView). first_of c.queue) (sym x), after ∙ ap (λ (c : CoreView). core_of c.router (drop 1 c.queue) c.started c.dropped) (sym x)),
+      (e ∙ ap (λ (c : CoreView). first_of c.queue) (sym x), after ∙ ap (λ (c : CoreView). core_of c.fates c.router (drop 1 c.queue) c.started c.dropped) (sym x)),
     )
 
-pub next_withholds : (router router' : RouterView) (items items1 items2 : List Reply) (started started' : Bool) (d d1 d2 now : ℕ) → PutsStart router started (sendings items) d (sendings items1) d1 → started' ≡ true → (items2 ≡ items1) × (d2 ≡ d1) → IsNotTold router now (sendings items1) router' → Withholds (core_of router (sendings items) started d) now (core_of router' (sendings items2) started' d2)
-next_withholds router router' items items1 items2 started started' d d1 d2 now h s same lost =
+pub next_withholds : (f : Fates) (router router' : RouterView) (items items1 items2 : List Reply) (started started' : Bool) (d d1 d2 now : ℕ) → PutsStart router started (sendings items) d (sendings items1) d1 → started' ≡ true → (items2 ≡ items1) × (d2 ≡ d1) → IsNotTold router now (sendings items1) router' → Withholds (core_of f router (sendings items) started d) now (core_of f router' (sendings items2) started' d2)
+next_withholds f router router' items items1 items2 started started' d d1 d2 now h s same lost =
     inr (
       h.0,
       router',
       h.1,
-      same_core router' items1 items2 true started' d1 d2 same s ∙ put_is h.0 (sendings items) (sendings items1) d d1 router' true h.2,
+      same_core f router' items1 items2 true started' d1 d2 same s ∙ put_is f h.0 (sendings items) (sendings items1) d d1 router' true h.2,
       subst (λ (xs : List Reply). IsNotTold router now (sendings xs) router') (sym same.0) lost,
     )

@@ -8,6 +8,7 @@ pub mod Parts
 pub mod SendingView
 pub mod Runs
 pub mod Stepped
+pub mod Fates
 pub mod RouterCore
 pub mod HostCore
 pub mod HostLends

@@ -10,6 +10,8 @@ use Rattle.ipx_router.specs.WantOfMemory.{WantsMemory}
 use Rattle.ipx_router.specs.Starting.{AreStarts}
 use Rattle.ipx_router.specs.Knowledge.{HoldsKnown, KeepsRest, known_at, tables}
 use Rattle.ipx_router.specs.Telling as telling
+use Rattle.ipx_carrier.specs.declared.fates.Fates.{Fates}
+use Rattle.ipx_carrier.specs.Fates.{fated}
 use Rattle.ipx_carrier.specs.Turns.{Given}
 
 pub record CoreView : Type 0 where
@@ -20,6 +22,8 @@ pub record CoreView : Type 0 where
   pub started : Bool
   -- how many packets found no room in the queue
   pub dropped : ℕ
+  -- what became of the datagrams that came in
+  pub fates : Fates
 
 abbrev pub most_queued : ℕ
 most_queued = 16384
@@ -43,7 +47,7 @@ sent_by (Dropped reason) = []
 abbrev pub Hears : CoreView → ℕ → List ℕ → ℕ → CoreView → Type 0
 Hears old port bytes now new = (a : OutcomeView) × (router : RouterView)
     × Receives old.router (port + 1) bytes now a router
-    × (new ≡ put (sent_by a) (record old { router = router }))
+    × (new ≡ put (sent_by a) (record old { router = router; fates = fated a old.fates }))
 
 abbrev pub given_of : SendingView → Given
 given_of s = record { port = s.port - 1; node = s.next; bytes = s.bytes }
@@ -83,10 +87,11 @@ ReceivesInVain old port bytes now new =
 
 -- memory is refused to the router, or to the queue for what the router answers, which is lost
 abbrev pub Misses : CoreView → ℕ → List ℕ → ℕ → CoreView → Type 0
-Misses old port bytes now new = (router : RouterView) × (new ≡ record old { router = router })
-    × (ReceivesInVain old.router (port + 1) bytes now router
-    ⊎ ((a : OutcomeView) × Receives old.router (port + 1) bytes now a router
-    × IsRoomFor old.queue (sent_by a)))
+Misses old port bytes now new = (router : RouterView)
+    × (((new ≡ record old { router = router })
+    × ReceivesInVain old.router (port + 1) bytes now router)
+    ⊎ ((a : OutcomeView) × (new ≡ record old { router = router; fates = fated a old.fates })
+    × Receives old.router (port + 1) bytes now a router × IsRoomFor old.queue (sent_by a)))
 
 -- memory is refused for the packets of the start, which are lost: they are asked for once
 abbrev pub StartsInVain : CoreView → CoreView → Type 0

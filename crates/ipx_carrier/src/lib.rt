@@ -8,6 +8,7 @@
 mod clock;
 mod cores;
 mod datagrams;
+mod fates;
 mod fault;
 mod hearing;
 mod host_core;
@@ -23,6 +24,7 @@ mod udp;
 pub use clock::{Clock, SteppedClock};
 pub use cores::Core;
 pub use datagrams::Datagrams;
+pub use fates::Fates;
 pub use fault::{CarrierFault, DeviceFault, RunFault};
 pub use host_core::HostCore;
 pub use mapping::{ip_of, node_of, node_of_ip_has_that_ip, node_with_ip_is_of_it};

@@ -1,8 +1,10 @@
 //! A router as a core.
 
 ghost use Rattle.std.specs.Prelude.{◌≡◌, ◌≤◌, [], false, length};
+ghost use Rattle.ipx_carrier.specs.Fates.{none};
 
 use crate::cores::Core;
+use crate::fates::Fates;
 use crate::queue::{put_outcome, put_start, put_told, take_first};
 use ipx_router::{Reply, Router};
 use ipx_wire::{Node, OutOfMemory};
@@ -20,6 +22,7 @@ pub struct RouterCore {
     queue: VecDeque<Reply>,
     started: bool,
     dropped: u64,
+    fates: Fates,
 }
 
 impl Model for RouterCore {
@@ -34,6 +37,7 @@ impl Model for RouterCore {
       queue = sendings c.queue.items;
       started = c.started;
       dropped = c.dropped;
+      fates = c.fates;
     } };
 
     ghost invariant = { λ c. (length c.router.ports ≤ 16)
@@ -46,6 +50,7 @@ impl RouterCore {
     pub fn new(alloc: Global, router: Router) -> RouterCore
         ensures router { result.router ≡ router }
         ensures fresh { (result.queue ≡ []) × (result.started ≡ false) × (result.dropped ≡ 0) }
+        ensures unheard { result.fates ≡ none }
     {
         // A router has at most 16 ports, as its ports' contract says.
         let _ports = router.ports();
@@ -54,6 +59,7 @@ impl RouterCore {
             queue: VecDeque::new(alloc),
             started: false,
             dropped: 0,
+            fates: Fates::new(),
         }
     }
 
@@ -63,6 +69,29 @@ impl RouterCore {
         ensures { result ≡ self.now.dropped }
     {
         self.dropped
+    }
+
+    /// The router, to be asked between two runs.
+    pub fn router(&self) -> &Router
+        ensures { result.now ≡ self.now.router }
+    {
+        &self.router
+    }
+
+    /// What became of the datagrams that it heard.
+    pub fn fates(&self) -> Fates
+        ensures { result ≡ self.now.fates }
+    {
+        self.fates
+    }
+
+    /// The router asks its neighbours for all routes and services once more, as when it started:
+    /// the packets of its start are given once again. It is called while a router is young, for
+    /// neighbours that weren't there yet or knew little.
+    pub fn ask_again(&mut self)
+        ensures { self.new ≡ record self.old { started = false } }
+    {
+        self.started = false;
     }
 }
 
@@ -92,6 +121,7 @@ impl Core for RouterCore {
         now: u64,
     ) -> Result<(), OutOfMemory> {
         let outcome = self.router.receive(alloc, port as u8 + 1, bytes, now)?;
+        self.fates.count(&outcome);
         put_outcome(&mut self.queue, &mut self.dropped, outcome)
     }
 

@@ -172,6 +172,21 @@ impl Router {
         )
     }
 
+    /// What it heard of routes. Offers that are old may still stand there: they count no more, and
+    /// what asks the table at a moment leaves them out.
+    pub fn routes(&self) -> &RouteTable
+        ensures { result.now ≡ self.now.routes }
+    {
+        &self.routes
+    }
+
+    /// What it heard of services, likewise.
+    pub fn services(&self) -> &ServiceTable
+        ensures { result.now ≡ self.now.services }
+    {
+        &self.services
+    }
+
     /// The moment, in milliseconds, from which on `tell` finds that it is time; before it `tell`
     /// gives nothing. None where no clock can show that moment.
     ///

@@ -2,3 +2,5 @@ pub mod Addresses
 pub mod Faults
 pub mod Found
 pub mod HexText
+pub mod Own
+pub mod Bursting

@@ -1,7 +1,8 @@
 -- What a key of a table gives, and what is wrong with it.
-use Rattle.std.specs.Prelude.{String, string_bytes, ◌≡◌, ◌⊎◌, ℕ, List, Option, Some, None, Result, MatchOption, MatchResult}
+use Rattle.std.specs.Prelude.{String, string_bytes, ◌≡◌, ◌⊎◌, ◌+◌, ◌==◌, ℕ, List, count_by, take, Option, Some, None, Result, MatchOption, MatchResult}
 use Rattle.std.specs.Global.{Global}
 use Rattle.toml.specs.Data.{Data, Members, get_member}
+use Rattle.toml.specs.Errors.{span_start}
 use Rattle.toml.specs.Parse.{parse_document}
 use Rattle.toml.specs.declared.de.error.Error.{Error}
 use Rattle.ipx_site.specs.declared.key.Key.{Key}
@@ -9,9 +10,14 @@ use Rattle.ipx_site.specs.declared.fault.FileFault.{FileFault}
 use Rattle.ipx_site.specs.declared.fault.FileFault.TheVariants.{Missing, NotToml, OutOfMemory, Unknown, Wrong}
 use Rattle.ipx_site.specs.Keys.{first_unknown, key_text}
 
--- a text is no TOML
+-- the number of the line of a place in a text: one more than the line ends before it
+abbrev pub line_number : List ℕ → ℕ → ℕ
+line_number text place = count_by (λ b. b == 10) (take place text) + 1
+
+-- a text is no TOML, and the fault has the line where that shows
 abbrev pub IsNoToml : List ℕ → FileFault → Type 0
-IsNoToml text f = (e : Error) × (f ≡ NotToml e) × (parse_document text ≡ None)
+IsNoToml text f = (e : Error) × (f ≡ NotToml (line_number text (span_start e)) e)
+    × (parse_document text ≡ None)
 
 -- a table has a name that is no key: the first one is told. A table has a number, for the line of
 -- the fault

@@ -3,4 +3,8 @@ pub mod Values
 pub mod Fields
 pub mod Port
 pub mod Site
+pub mod Ports
 pub mod Host
+pub mod Peers
+pub mod Moments
+pub mod Bursts

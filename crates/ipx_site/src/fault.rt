@@ -11,8 +11,8 @@ use std::alloc::AllocFailed;
 #[derive(Debug, Drop)]
 pub enum FileFault {
     OutOfMemory,
-    /// The text is no TOML.
-    NotToml(toml::de::Error),
+    /// The text is no TOML, from this line on. The first line is 1.
+    NotToml(usize, toml::de::Error),
     /// A name that is no key of this table.
     Unknown(usize, String),
     /// A key that must be there is not.

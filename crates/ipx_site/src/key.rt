@@ -40,9 +40,9 @@ impl Key {
     }
 
     /// What its value is to be, with an example: what is right, for the line of a fault.
-    pub fn right(&self) -> &'static str {
+    pub(crate) fn right(&self) -> &'static str {
         match self {
-            Key::Status => "the name of a file, as \"/run/ipx/site.prom\"",
+            Key::Status => "the name of a file, as \"/run/ipx/hq/hq.prom\"",
             Key::Port => "one to sixteen tables, each begun by [[port]]",
             Key::Network => "eight hex digits, neither all 0 nor all f, as \"00000011\"",
             Key::Address => "an IP address of this machine, as \"192.0.2.10\"",

@@ -1,20 +1,55 @@
 //! What one installs at a site: a router or a host, by a short file.
 //!
-//! [`read_site`] reads the file of a router, [`read_host`] that of a host.
+//! [`do_route`] is the command of a router. [`read_site`] reads the file of a router, [`read_host`]
+//! that of a host, and [`load_site`] and [`load_host`] where they lie. [`PeersOnly`] is a device that
+//! hears and sends to its peers alone, over any device that knows its [`Senders`], as
+//! [`SiteSockets`] are; [`Readiness`] waits for those, [`SteadyClock`] is the system's clock, and
+//! [`run_burst`] takes turns as long as there is something to do.
 #![tactic(auto)]
 
+mod asking;
+mod bind_fault;
+mod causes;
+mod clock;
 mod fault;
 mod fields;
+mod figures;
+mod files;
 mod host;
 mod key;
+mod peers;
 mod port;
+mod readiness;
 mod reading;
+mod routing;
+mod senders;
+mod shown;
 mod site;
+mod sockets;
+mod station;
+mod status;
+mod tally;
+mod text;
 mod toml_text;
+mod troubles;
+mod turns;
 mod values;
+mod watch;
 
+pub use asking::asking_moment;
+pub use bind_fault::{BindFault, Obstacle};
+pub use causes::Cause;
+pub use clock::SteadyClock;
 pub use fault::FileFault;
+pub use figures::Figures;
+pub use files::{load_host, load_site};
 pub use host::{HostFile, read_host};
 pub use key::Key;
+pub use peers::{Guard, PeersOnly};
+pub use readiness::{Readiness, WaitFault};
 pub use reading::read_site;
+pub use routing::do_route;
+pub use senders::Senders;
 pub use site::{Accept, SiteFile, SitePort};
+pub use sockets::SiteSockets;
+pub use turns::{Burst, run_burst};

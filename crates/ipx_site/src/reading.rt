@@ -1,9 +1,11 @@
 //! The file of a router is read.
 
-ghost use Rattle.std.specs.Prelude.{◌≡◌, ◌⊎◌, [], Option, Some, None, IfErr, IfOk, OnOk, MatchResult, ◌<◌, ◌^◌, length, option_map};
+ghost use Rattle.std.specs.Prelude.{◌≡◌, ◌⊎◌, [], All, Option, Some, None, IfErr, IfOk, OnOk, MatchResult, ◌<◌, ◌^◌, length, option_map};
 ghost use Rattle.toml.specs.Data.{Data, Items};
 ghost use Rattle.toml.specs.View.{items_view, table_view, view};
+ghost use Rattle.ipx_router.specs.NewRouter.{IsOwnNetwork};
 ghost use Rattle.ipx_site.specs.Fields.{Holds, IsFault, Reads};
+ghost use Rattle.ipx_site.specs.Ports.{router_ports};
 ghost use Rattle.ipx_site.specs.Site.{ArePorts, IsFirstFault, IsPortItem, IsPortItemFault, IsPortList, IsSite, IsSiteFault, IsSiteText, IsSiteTextFault, IsTwin, is_few, twin_place};
 
 use crate::fault::FileFault;
@@ -99,6 +101,7 @@ fn port_values(table: &Table) -> Result<&[Value], FileFault>
 
 fn site_of(alloc: Global, table: &Table) -> Result<SiteFile, FileFault>
     ensures site { IfOk result (IsSite (table_view table.now)) }
+    ensures own { IfOk result (λ s. All IsOwnNetwork (router_ports s.ports.items)) }
     ensures fault { IfErr result (λ f.
         (f ≡ FileFault.OutOfMemory) ⊎ IsSiteFault (table_view table.now) f) }
 {
@@ -114,6 +117,8 @@ fn site_of(alloc: Global, table: &Table) -> Result<SiteFile, FileFault>
 /// of the documents.
 pub fn read_site(alloc: Global, text: &str) -> Result<SiteFile, FileFault>
     ensures site { IfOk result (IsSiteText text.now) }
+    // What `Router::new` is owed of its ports.
+    ensures own { IfOk result (λ s. All IsOwnNetwork (router_ports s.ports.items)) }
     ensures fault { IfErr result (λ f.
         (f ≡ FileFault.OutOfMemory) ⊎ IsSiteTextFault text.now f) }
 {

@@ -1,13 +1,22 @@
 //! The table that a text is.
 
-ghost use Rattle.std.specs.Prelude.{◌≡◌, ◌⊎◌, Some, IfErr, IfOk};
+ghost use Rattle.std.specs.Prelude.{◌≡◌, ◌⊎◌, ◌≤◌, Some, IfErr, IfOk, length};
 ghost use Rattle.toml.specs.Parse.{parse_document};
 ghost use Rattle.toml.specs.View.{table_view};
-ghost use Rattle.ipx_site.specs.Fields.{IsNoToml};
+ghost use Rattle.ipx_site.specs.Fields.{IsNoToml, line_number};
 
 use crate::fault::FileFault;
 use std::alloc::Global;
 use toml::Table;
+
+/// The number of the line of a place in a text. The first line is 1.
+fn line_at(text: &str, place: usize) -> usize
+    requires { place ≤ length text.now }
+    ensures { result ≡ line_number text.now place }
+{
+    let before = &text.as_bytes()[..place];
+    before.iter().filter(|byte| **byte == b'\n').count() + 1
+}
 
 /// The table of a text in TOML.
 pub fn table_of(alloc: Global, text: &str) -> Result<Table, FileFault>
@@ -16,7 +25,9 @@ pub fn table_of(alloc: Global, text: &str) -> Result<Table, FileFault>
 {
     match toml::table_from_str(alloc, text) {
         Ok(table) => Ok(table),
-        Err(error) if error.is_memory() => Err(FileFault::OutOfMemory),
-        Err(error) => Err(FileFault::NotToml(error)),
+        Err(error) => match error.span() {
+            Some(range) => Err(FileFault::NotToml(line_at(text, range.start), error)),
+            None => Err(FileFault::OutOfMemory),
+        },
     }
 }

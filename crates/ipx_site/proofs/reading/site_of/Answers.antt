@@ -1,7 +1,8 @@
-use Rattle.std.proofs.Common.{inl, inr}
+use Rattle.std.proofs.Common.{inl, inr, []}
 use Rattle.std.proofs.lemmas.Result.{err_from_is_err_and}
 use Rattle.toml.specs.View.{items_view, table_view}
 use Rattle.ipx_site.proofs.Faults.{or_memory, status_right}
+use Rattle.ipx_site.proofs.Own.{own_of}
 use Rattle.ipx_site.proofs.reading.site_of.Goals as goal
 
 pub returns-in_err-values-clause-fault : goal.returns-in_err-values-clause-fault
@@ -16,3 +17,7 @@ returns-in_err-ports-clause-fault c =
     rw (p.1, p.2)
     (or_memory _ (λ fault. inr (c.in_ok-refuse_unknown.ensures.known, inr (status_right (table_view c.args.table.now) c.in_ok-status.status c.in_ok-status.ensures, inr (items_view c.in_ok-values.values.now, c.in_ok-values.ensures, fault))))
     c.in_err-ports.ensures.fault)
+
+pub returns-clause-own : goal.returns-clause-own
+returns-clause-own c =
+    own_of [] (items_view c.in_ok-values.values.now) c.in_ok-ports.ports.items c.in_ok-ports.ensures.ports

@@ -1,9 +1,9 @@
-use Rattle.std.proofs.Common.{◌≡◌, ap, arith, inl, inr, length, refl, subst, sym}
+use Rattle.std.proofs.Common.{◌≡◌, ◌∙◌, ap, arith, inl, inr, length, refl, subst, sym}
 use Rattle.std.specs.Result.{OnErr, OnOk}
 use Rattle.std.proofs.lemmas.Result.{err_from_is_err_and, on_err_weaker, on_ok_weaker}
 use Rattle.ipx_router.specs.Packets.{sendings}
 use Rattle.ipx_router.specs.OutcomeView.{view}
-use Rattle.ipx_carrier.specs.RouterCore.{AreGivable, CoreView, Hears, IsRoomFor, Misses, sent_by}
+use Rattle.ipx_carrier.specs.RouterCore.{AreGivable, CoreView, Hears, IsRoomFor, Misses, put, sent_by}
 use Rattle.ipx_carrier.specs.Queued.{Puts}
 use Rattle.ipx_carrier.proofs.Givable.{answer_is_givable}
 use Rattle.ipx_carrier.proofs.Putting.{IsKept, core_of, err_both, kept_by_result, put_is, same_core}
@@ -27,10 +27,11 @@ returns-clause-heard c =
     let q = sendings i.queue.items in
     let q' = sendings c.put_outcome.new.queue.items in
     let d' = c.put_outcome.new.dropped in
-    let seen : CoreView = core_of i.router q i.started i.dropped in
-    let after : CoreView = core_of c.receive.new.self q' i.started d' in
+    let seen : CoreView = core_of i.fates i.router q i.started i.dropped in
+    let after : CoreView = core_of c.count.new.self c.receive.new.self q' i.started d' in
+    let fated_is = ap (λ f. put (sent_by (view o)) (core_of f c.receive.new.self q i.started i.dropped)) c.count.ensures in
     let heard : OnOk c.put_outcome.result (Hears seen c.args.port c.args.bytes.now c.args.now after) =
-    on_ok_weaker c.put_outcome.result (λ (p : Puts (sent_by (view o)) q i.dropped q' d'). (view o, c.receive.new.self, c.in_ok-outcome.ensures.answer, put_is (sent_by (view o)) q q' i.dropped d' c.receive.new.self i.started p)) c.put_outcome.ensures.put in
+    on_ok_weaker c.put_outcome.result (λ (p : Puts (sent_by (view o)) q i.dropped q' d'). (view o, c.receive.new.self, c.in_ok-outcome.ensures.answer, put_is c.count.new.self (sent_by (view o)) q q' i.dropped d' c.receive.new.self i.started p ∙ fated_is)) c.put_outcome.ensures.put in
     subst (λ (v : CoreView). OnOk c.put_outcome.result (Hears v c.args.port c.args.bytes.now c.args.now after)) c.self.view_is heard
 
 pub returns-in_err-outcome-clause-refused : goal.returns-in_err-outcome-clause-refused
@@ -39,9 +40,9 @@ returns-in_err-outcome-clause-refused c =
     let i = c.self.inside in
     let q = sendings i.queue.items in
     let e = c.in_err-outcome.ensures in
-    let after : CoreView = core_of c.receive.new.self q i.started i.dropped in
-    let missed : Misses (core_of i.router q i.started i.dropped) c.args.port c.args.bytes.now c.args.now after =
-    (c.receive.new.self, refl, inl (e.refused, e.rest, e.told)) in
+    let after : CoreView = core_of i.fates c.receive.new.self q i.started i.dropped in
+    let missed : Misses (core_of i.fates i.router q i.started i.dropped) c.args.port c.args.bytes.now c.args.now after =
+    (c.receive.new.self, inl (refl, (e.refused, e.rest, e.told))) in
     rw p.1
     (subst (λ (v : CoreView). Misses v c.args.port c.args.bytes.now c.args.now after) c.self.view_is missed)
 
@@ -52,9 +53,10 @@ returns-clause-refused c =
     let q = sendings i.queue.items in
     let items' = c.put_outcome.new.queue.items in
     let d' = c.put_outcome.new.dropped in
-    let seen : CoreView = core_of i.router q i.started i.dropped in
-    let after : CoreView = core_of c.receive.new.self (sendings items') i.started d' in
+    let seen : CoreView = core_of i.fates i.router q i.started i.dropped in
+    let after : CoreView = core_of c.count.new.self c.receive.new.self (sendings items') i.started d' in
+    let fated_is = ap (λ f. core_of f c.receive.new.self q i.started i.dropped) c.count.ensures in
     let missed : OnErr c.put_outcome.result (Misses seen c.args.port c.args.bytes.now c.args.now after) =
-    on_err_weaker c.put_outcome.result (λ (p : ((items' ≡ i.queue.items) × (d' ≡ i.dropped)) × IsRoomFor q (sent_by (view o))). (c.receive.new.self, same_core c.receive.new.self i.queue.items items' i.started i.started i.dropped d' p.0 refl, inr (view o, c.in_ok-outcome.ensures.answer, p.1)))
+    on_err_weaker c.put_outcome.result (λ (p : ((items' ≡ i.queue.items) × (d' ≡ i.dropped)) × IsRoomFor q (sent_by (view o))). (c.receive.new.self, inr (view o, same_core c.count.new.self c.receive.new.self i.queue.items items' i.started i.started i.dropped d' p.0 refl ∙ fated_is, c.in_ok-outcome.ensures.answer, p.1)))
     (err_both c.put_outcome.result _ _ c.put_outcome.ensures.refused c.put_outcome.ensures.lost) in
     subst (λ (v : CoreView). OnErr c.put_outcome.result (Misses v c.args.port c.args.bytes.now c.args.now after)) c.self.view_is missed

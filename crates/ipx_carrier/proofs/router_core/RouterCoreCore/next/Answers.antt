@@ -33,9 +33,9 @@ pub returns-clause-given : goal.returns-clause-given
 returns-clause-given c =
     let i = c.self.inside in
     let given = given_in c.take_first.new.room c.take_first.result in
-    let after : CoreView = core_of c.put_told.new.router (sendings c.take_first.new.queue.items) c.put_start.new.started c.put_told.new.dropped in
+    let after : CoreView = core_of i.fates c.put_told.new.router (sendings c.take_first.new.queue.items) c.put_start.new.started c.put_told.new.dropped in
     subst (λ (v : CoreView). Gives v c.args.now given after) c.self.view_is
-    (next_gives i.router c.put_told.new.router i.queue.items c.put_start.new.queue.items c.put_told.new.queue.items c.take_first.new.queue.items i.started c.put_start.new.started i.dropped c.put_start.new.dropped c.put_told.new.dropped c.args.now given c.in_ok-put_start.ensures.put c.in_ok-put_told.ensures.put c.in_ok-put_start.ensures.started c.take_first.ensures.given c.take_first.ensures.rest)
+    (next_gives i.fates i.router c.put_told.new.router i.queue.items c.put_start.new.queue.items c.put_told.new.queue.items c.take_first.new.queue.items i.started c.put_start.new.started i.dropped c.put_start.new.dropped c.put_told.new.dropped c.args.now given c.in_ok-put_start.ensures.put c.in_ok-put_told.ensures.put c.in_ok-put_start.ensures.started c.take_first.ensures.given c.take_first.ensures.rest)
 
 pub returns-clause-there : goal.returns-clause-there
 returns-clause-there c =
@@ -50,9 +50,9 @@ returns-in_err-put_start-clause-refused c =
     let i = c.self.inside in
     let e = c.in_err-put_start.ensures in
     let new = c.put_start.new in
-    let after : CoreView = core_of i.router (sendings new.queue.items) new.started new.dropped in
-    let withheld : Withholds (core_of i.router (sendings i.queue.items) i.started i.dropped) c.args.now after =
-    inl (e.once, same_core i.router i.queue.items new.queue.items true new.started i.dropped new.dropped e.refused e.started) in
+    let after : CoreView = core_of i.fates i.router (sendings new.queue.items) new.started new.dropped in
+    let withheld : Withholds (core_of i.fates i.router (sendings i.queue.items) i.started i.dropped) c.args.now after =
+    inl (e.once, same_core i.fates i.router i.queue.items new.queue.items true new.started i.dropped new.dropped e.refused e.started) in
     rw p.1 (subst (λ (v : CoreView). Withholds v c.args.now after) c.self.view_is withheld)
 
 pub invariant_of-self-in_err-put_told : goal.invariant_of-self-in_err-put_told
@@ -75,7 +75,7 @@ returns-in_err-put_told-clause-refused c =
     let e = c.in_err-put_told.ensures in
     let s = c.put_start.new in
     let t = c.put_told.new in
-    let after : CoreView = core_of t.router (sendings t.queue.items) s.started t.dropped in
-    let withheld : Withholds (core_of i.router (sendings i.queue.items) i.started i.dropped) c.args.now after =
-    next_withholds i.router t.router i.queue.items s.queue.items t.queue.items i.started s.started i.dropped s.dropped t.dropped c.args.now c.in_ok-put_start.ensures.put c.in_ok-put_start.ensures.started e.refused e.lost in
+    let after : CoreView = core_of i.fates t.router (sendings t.queue.items) s.started t.dropped in
+    let withheld : Withholds (core_of i.fates i.router (sendings i.queue.items) i.started i.dropped) c.args.now after =
+    next_withholds i.fates i.router t.router i.queue.items s.queue.items t.queue.items i.started s.started i.dropped s.dropped t.dropped c.args.now c.in_ok-put_start.ensures.put c.in_ok-put_start.ensures.started e.refused e.lost in
     rw p.1 (subst (λ (v : CoreView). Withholds v c.args.now after) c.self.view_is withheld)

@@ -1,0 +1,77 @@
+//! What became of the datagrams that a router heard.
+
+ghost use Rattle.std.specs.Prelude.{◌≡◌};
+ghost use Rattle.ipx_router.specs.OutcomeView.{view};
+ghost use Rattle.ipx_carrier.specs.Fates.{fated, fated_by, none, raised};
+
+use ipx_router::{Outcome, Reason};
+
+/// How often a router forwarded a datagram, answered it, heard it, or dropped it for each of the
+/// reasons. Each count stays at the greatest u64.
+#[derive(Clone, Copy, Debug, PartialEq, Eq)]
+pub struct Fates {
+    pub forwarded: u64,
+    pub answered: u64,
+    pub heard: u64,
+    pub bad: u64,
+    pub propagated: u64,
+    pub not_ours: u64,
+    pub no_route: u64,
+    pub hop_limit: u64,
+    pub bad_control: u64,
+    pub table_full: u64,
+}
+
+/// A count goes up by one, and stays where it is the greatest.
+fn raise(count: &mut u64)
+    ensures { count.new ≡ raised count.old }
+{
+    *count = count.saturating_add(1);
+}
+
+impl Fates {
+    /// Nothing was heard yet.
+    pub fn new() -> Fates
+        ensures { result ≡ none }
+    {
+        Fates {
+            forwarded: 0,
+            answered: 0,
+            heard: 0,
+            bad: 0,
+            propagated: 0,
+            not_ours: 0,
+            no_route: 0,
+            hop_limit: 0,
+            bad_control: 0,
+            table_full: 0,
+        }
+    }
+
+    /// Counts a datagram that was dropped.
+    fn count_reason(&mut self, reason: Reason)
+        ensures { self.new ≡ fated_by reason self.old }
+    {
+        match reason {
+            Reason::Bad(_) => raise(&mut self.bad),
+            Reason::Propagated => raise(&mut self.propagated),
+            Reason::NotOurs => raise(&mut self.not_ours),
+            Reason::NoRoute(_) => raise(&mut self.no_route),
+            Reason::HopLimit => raise(&mut self.hop_limit),
+            Reason::BadControl(_) => raise(&mut self.bad_control),
+            Reason::TableFull => raise(&mut self.table_full),
+        }
+    }
+
+    /// Counts what became of a datagram.
+    pub fn count(&mut self, outcome: &Outcome)
+        ensures { self.new ≡ fated (view outcome.now) self.old }
+    {
+        match outcome {
+            Outcome::Forward(_) => raise(&mut self.forwarded),
+            Outcome::Replies(_) => raise(&mut self.answered),
+            Outcome::Heard(_) => raise(&mut self.heard),
+            Outcome::Dropped(reason) => self.count_reason(*reason),
+        }
+    }
+}

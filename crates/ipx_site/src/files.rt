@@ -1,0 +1,94 @@
+//! Files, read from where they lie.
+
+ghost use Rattle.std.specs.Prelude.{All, IfOk};
+ghost use Rattle.ipx_router.specs.NewRouter.{IsOwnNetwork};
+ghost use Rattle.ipx_site.specs.Ports.{router_ports};
+
+use crate::fault::FileFault;
+use crate::host::{HostFile, read_host};
+use crate::reading::read_site;
+use crate::site::SiteFile;
+use ipx_commands::{InputFault, read_up_to};
+use std::alloc::Global;
+use std::fs::File;
+use std::rt::Files;
+use std::{io, str};
+
+/// The longest file, in bytes.
+const MOST: usize = 65_536;
+
+/// Tells what is wrong with a file, and answers the status that goes with it.
+fn tell<R: Eprint>(rt: &R, path: &str, what: &str) -> u8 {
+    let _ = eprintln!(rt; "{path}: {what}");
+    2
+}
+
+fn tell_no_memory<R: Eprint>(rt: &R, path: &str) -> u8 {
+    let _ = eprintln!(rt; "{path}: out of memory");
+    1
+}
+
+/// Tells the fault of a file's text, and answers its status.
+fn tell_fault<R: Eprint>(rt: &R, path: &str, fault: &FileFault) -> u8 {
+    if let FileFault::OutOfMemory = fault {
+        return tell_no_memory(rt, path);
+    }
+    let _ = eprintln!(rt; "{path}: {fault}");
+    2
+}
+
+fn tell_unread<R: Eprint>(rt: &R, path: &str, kind: io::ErrorKind) -> u8 {
+    match kind {
+        io::ErrorKind::OutOfMemory => tell_no_memory(rt, path),
+        io::ErrorKind::NotFound => tell(rt, path, "there is no such file"),
+        io::ErrorKind::PermissionDenied => tell(rt, path, "the file is to be readable"),
+        _ => tell(rt, path, "the file can't be read"),
+    }
+}
+
+/// The bytes of a file.
+fn read_bytes<R: Files + Eprint>(rt: &R, alloc: Global, path: &str) -> Result<Vec<u8>, u8> {
+    let mut file = match File::open(rt, path) {
+        Ok(file) => file,
+        Err(error) => return Err(tell_unread(rt, path, error.kind())),
+    };
+    match read_up_to(alloc, &mut file, MOST + 1) {
+        Ok(bytes) => Ok(bytes),
+        Err(InputFault::Memory) => Err(tell_no_memory(rt, path)),
+        Err(InputFault::Read) => Err(tell(rt, path, "the file can't be read")),
+    }
+}
+
+/// The text of bytes that were read.
+fn text_of<'a, R: Eprint>(rt: &R, path: &str, bytes: &'a [u8]) -> Result<&'a str, u8> {
+    if bytes.len() > MOST {
+        return Err(tell(rt, path, "the file is to have 65536 bytes at most"));
+    }
+    match str::from_utf8(bytes) {
+        Ok(text) => Ok(text),
+        Err(_) => Err(tell(rt, path, "the file is to be text in UTF-8")),
+    }
+}
+
+/// Reads the file of a router. What is wrong is told in one line on standard error that begins with
+/// the path; the error is the status then: 2, or 1 for want of memory.
+pub fn load_site<R: Files + Eprint>(rt: &R, alloc: Global, path: &str) -> Result<SiteFile, u8>
+    ensures { IfOk result (λ s. All IsOwnNetwork (router_ports s.ports.items)) }
+{
+    let bytes = read_bytes(rt, alloc, path)?;
+    let text = text_of(rt, path, &bytes)?;
+    match read_site(alloc, text) {
+        Ok(site) => Ok(site),
+        Err(fault) => Err(tell_fault(rt, path, &fault)),
+    }
+}
+
+/// Reads the file of a host, likewise.
+pub fn load_host<R: Files + Eprint>(rt: &R, alloc: Global, path: &str) -> Result<HostFile, u8> {
+    let bytes = read_bytes(rt, alloc, path)?;
+    let text = text_of(rt, path, &bytes)?;
+    match read_host(alloc, text) {
+        Ok(host) => Ok(host),
+        Err(fault) => Err(tell_fault(rt, path, &fault)),
+    }
+}

@@ -1,0 +1,87 @@
+//! Waiting until something is to be read, or for some time.
+
+use crate::sockets::SiteSockets;
+use ipx_carrier::Datagrams;
+use mio::unix::SourceFd;
+use mio::{Events, Interest, Poll, Token};
+use std::alloc::Global;
+use std::net::Net;
+use std::os::fd::RawFd;
+use std::time::Duration;
+use thiserror::Error;
+
+/// Why one can't wait.
+#[derive(Clone, Copy, Debug, PartialEq, Eq, Error)]
+pub enum WaitFault {
+    #[error("out of memory")]
+    OutOfMemory,
+    #[error("the system can't wait for the sockets")]
+    System,
+}
+
+/// How many events one wait tells at most; more come with the next one.
+const EVENTS: usize = 32;
+
+/// Waits for sockets. It tells that something came once: before the next wait everything is read,
+/// until nothing is there.
+#[derive(Drop)]
+pub struct Readiness {
+    poll: Poll,
+    events: Events,
+    watched: usize,
+}
+
+impl Readiness {
+    /// Waits for each of the sockets.
+    pub fn new<R: Net>(
+        rt: &R,
+        alloc: Global,
+        sockets: &SiteSockets,
+    ) -> Result<Readiness, WaitFault> {
+        let Ok(poll) = Poll::new(rt) else {
+            return Err(WaitFault::System);
+        };
+        let Ok(events) = Events::with_capacity(alloc, EVENTS) else {
+            return Err(WaitFault::OutOfMemory);
+        };
+        let mut readiness = Readiness {
+            poll,
+            events,
+            watched: 0,
+        };
+        readiness.watch_sockets(sockets)?;
+        Ok(readiness)
+    }
+
+    fn watch_sockets(&mut self, sockets: &SiteSockets) -> Result<(), WaitFault> {
+        for port in 0..sockets.ports() {
+            if let Some(descriptor) = sockets.descriptor(port) {
+                if !self.watch_reading(descriptor) {
+                    return Err(WaitFault::System);
+                }
+            }
+        }
+        Ok(())
+    }
+
+    /// Waits for this descriptor too, until it is readable. False where the system can't: a file of
+    /// a disk always is.
+    pub fn watch_reading(&mut self, descriptor: RawFd) -> bool {
+        let token = Token(self.watched);
+        self.watched = self.watched.saturating_add(1);
+        self.poll
+            .registry()
+            .register(&mut SourceFd(&descriptor), token, Interest::READABLE)
+            .is_ok()
+    }
+
+    /// Waits until something is readable, a signal comes, or so many milliseconds are over. It
+    /// answers whether something is.
+    pub fn wait(&mut self, most: u64) -> Result<bool, WaitFault> {
+        let timeout = Duration::from_millis(most);
+        match self.poll.poll(&mut self.events, Some(timeout)) {
+            Ok(()) => Ok(!self.events.is_empty()),
+            Err(_) => Err(WaitFault::System),
+        }
+    }
+}

@@ -1,0 +1,181 @@
+//! Sockets of UDP, one for each port of a site.
+
+ghost use Rattle.std.specs.Prelude.{◌≡◌, IfOk, length};
+ghost use Rattle.ipx_site.specs.Peers.{raised};
+
+use crate::bind_fault::{BindFault, obstacle_of};
+use crate::peers::raise;
+use crate::senders::Senders;
+use crate::site::SitePort;
+use ipx_carrier::{Datagrams, DeviceFault};
+use std::alloc::Global;
+use std::io;
+use std::io::ErrorKind;
+use std::net::{Ipv4Addr, Net, SocketAddr, SocketAddrV4, UdpSocket};
+use std::os::fd::{AsRawFd, RawFd};
+
+/// The socket of a port, and the port of UDP of its peers.
+#[derive(Drop)]
+struct PortSocket {
+    socket: UdpSocket,
+    udp_port: u16,
+}
+
+/// A device that has a socket of UDP for each port of a site.
+///
+/// It tells who sent what it received last: which datagrams come and which arrive is the network's.
+/// A datagram that the system doesn't take is lost as one is on the way, and counted, so that a
+/// peer that can't be reached keeps nothing from the others; it never fails.
+#[derive(Drop)]
+pub struct SiteSockets {
+    sockets: Vec<PortSocket>,
+    faults: u64,
+    sender: Option<[u8; 4]>,
+}
+
+/// How often a port is asked again for a datagram where the system fails.
+const TRIES: u32 = 8;
+
+/// Where an IP address is reached by UDP.
+fn place_of(ip: [u8; 4], udp_port: u16) -> SocketAddrV4 {
+    SocketAddrV4::new(Ipv4Addr::new(ip[0], ip[1], ip[2], ip[3]), udp_port)
+}
+
+/// The IP address of a place.
+fn ip_of(place: SocketAddr) -> Option<[u8; 4]> {
+    match place {
+        SocketAddr::V4(place) => Some(place.ip().octets()),
+        SocketAddr::V6(_) => None,
+    }
+}
+
+/// A socket at an IP address, which does not wait. 0.0.0.0, which is every address of a machine, is
+/// none that its peers could name.
+fn bound_socket<R: Net>(rt: &R, ip: [u8; 4], udp_port: u16) -> io::Result<PortSocket> {
+    if ip == [0; 4] {
+        return Err(io::Error::from(ErrorKind::AddrNotAvailable));
+    }
+    let socket = UdpSocket::bind(rt, place_of(ip, udp_port))?;
+    socket.set_nonblocking(true)?;
+    Ok(PortSocket { socket, udp_port })
+}
+
+/// A device with these sockets.
+fn device_of(sockets: Vec<PortSocket>) -> SiteSockets
+    ensures ports { result.sockets.items ≡ sockets.items }
+{
+    SiteSockets {
+        sockets,
+        faults: 0,
+        sender: None,
+    }
+}
+
+impl SiteSockets {
+    /// A device with these ports in their order. At the first socket that can't be had it answers
+    /// that port, and nothing stays bound.
+    pub fn bind<R: Net>(rt: &R, alloc: Global, ports: &[SitePort]) -> Result<SiteSockets, BindFault>
+        ensures { IfOk result (λ d. length d.sockets.items ≡ length ports.now) }
+    {
+        let mut sockets = Vec::new(alloc);
+        for (place, port) in ports.iter().enumerate() {
+            match bound_socket(rt, port.address, port.udp_port) {
+                Ok(socket) => {
+                    if sockets.push(socket).is_err() {
+                        return Err(BindFault::OutOfMemory);
+                    }
+                }
+                Err(error) => return Err(BindFault::Port(place + 1, obstacle_of(error.kind()))),
+            }
+        }
+        Ok(device_of(sockets))
+    }
+
+    /// A device with one port, for a host.
+    pub fn bind_one<R: Net>(
+        rt: &R,
+        alloc: Global,
+        address: [u8; 4],
+        udp_port: u16,
+    ) -> Result<SiteSockets, BindFault>
+        ensures { IfOk result (λ d. length d.sockets.items ≡ 1) }
+    {
+        match bound_socket(rt, address, udp_port) {
+            Ok(socket) => match vec![in alloc; socket] {
+                Ok(sockets) => Ok(device_of(sockets)),
+                Err(_) => Err(BindFault::OutOfMemory),
+            },
+            Err(error) => Err(BindFault::Port(1, obstacle_of(error.kind()))),
+        }
+    }
+
+    /// How often the system refused to send or to receive a datagram. It stays at the greatest u64.
+    pub fn faults(&self) -> u64
+        ensures { result ≡ self.now.faults }
+    {
+        self.faults
+    }
+
+    /// The descriptor of the socket of a port, to wait for it. The first port is 0.
+    pub fn descriptor(&self, port: usize) -> Option<RawFd> {
+        let port = self.sockets.get(port)?;
+        Some(port.socket.as_raw_fd())
+    }
+
+    fn count_fault(&mut self)
+        ensures counted { self.new.faults ≡ raised self.old.faults }
+        ensures sockets { self.new.sockets ≡ self.old.sockets }
+        ensures sender { self.new.sender ≡ self.old.sender }
+    {
+        raise(&mut self.faults);
+    }
+}
+
+impl Datagrams for SiteSockets {
+    ghost use Rattle.std.specs.Prelude.{None, length};
+
+    ghost port_count = { λ d. length d.sockets.items };
+
+    ghost failed = { λ d. 0 };
+
+    ghost traffic = { λ d. None };
+
+    fn ports(&self) -> usize {
+        self.sockets.len()
+    }
+
+    fn failures(&self) -> u64 {
+        0
+    }
+
+    fn send(&mut self, port: usize, to: [u8; 4], bytes: &[u8]) -> Result<(), DeviceFault> {
+        let place = place_of(to, self.sockets[port].udp_port);
+        match self.sockets[port].socket.send_to(bytes, place) {
+            Ok(count) if count == bytes.len() => {}
+            _ => self.count_fault(),
+        }
+        Ok(())
+    }
+
+    fn receive(&mut self, port: usize, room: &mut [u8]) -> Result<Option<usize>, DeviceFault> {
+        for _try in 0..TRIES {
+            match self.sockets[port].socket.recv_from(room) {
+                Ok((count, from)) => {
+                    self.sender = ip_of(from);
+                    return Ok(Some(count));
+                }
+                Err(error) if error.kind() == ErrorKind::WouldBlock => return Ok(None),
+                Err(_) => self.count_fault(),
+            }
+        }
+        Ok(None)
+    }
+}
+
+impl Senders for SiteSockets {
+    ghost last_sender = { λ d. d.sender };
+
+    fn sender(&self) -> Option<[u8; 4]> {
+        self.sender
+    }
+}

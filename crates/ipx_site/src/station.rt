@@ -1,0 +1,209 @@
+//! A router with its sockets, and what is to be done besides its turns.
+
+use crate::asking::asking_moment;
+use crate::clock::SteadyClock;
+use crate::figures::Figures;
+use crate::peers::PeersOnly;
+use crate::readiness::{Readiness, WaitFault};
+use crate::sockets::SiteSockets;
+use crate::status::write_whole;
+use crate::tally::Tally;
+use crate::troubles::Troubles;
+use crate::turns::run_burst;
+use crate::watch::Known;
+use ipx_carrier::{Clock, RouterCore};
+use log::Log;
+use std::alloc::Global;
+use std::rt::{Clock as SystemClock, Files};
+
+/// How often the figures are written, and one looks for what grew old, in milliseconds.
+const PERIOD: u64 = 10_000;
+
+/// How soon one looks again where something was heard, in milliseconds.
+const SOON: u64 = 1000;
+
+/// How long a router rests after a fault, in milliseconds.
+const REST: u64 = 100;
+
+/// How many turns are taken before one looks what else there is to do.
+const TURNS: u32 = 256;
+
+/// A router that runs.
+#[derive(Drop)]
+pub struct Station<'a, R: SystemClock> {
+    core: RouterCore,
+    device: PeersOnly<SiteSockets>,
+    peers: Vec<Vec<[u8; 4]>>,
+    clock: SteadyClock<'a, R>,
+    ready: Readiness,
+    status: Option<String>,
+    tally: Tally,
+    known: Known,
+    troubles: Troubles,
+    /// How often it asked again.
+    asked: usize,
+    /// When one looked last what it knows, and how many responses it had heard by then.
+    looked: Option<u64>,
+    responses: u64,
+    /// When the figures were written last.
+    written: Option<u64>,
+}
+
+/// The parts of a router that runs.
+#[derive(Drop)]
+pub struct Parts<'a, R: SystemClock> {
+    pub core: RouterCore,
+    pub device: PeersOnly<SiteSockets>,
+    pub peers: Vec<Vec<[u8; 4]>>,
+    pub clock: SteadyClock<'a, R>,
+    pub ready: Readiness,
+    pub status: Option<String>,
+}
+
+/// How long it is to the first of these moments, at most a period.
+fn time_to(moments: [Option<u64>; 5], now: u64) -> u64 {
+    let mut least = PERIOD;
+    for moment in moments {
+        if let Some(moment) = moment {
+            least = least.min(moment.saturating_sub(now));
+        }
+    }
+    least
+}
+
+/// Whether a period is over since something was done, or it never was.
+fn is_over(last: Option<u64>, period: u64, now: u64) -> bool {
+    match last {
+        None => true,
+        Some(last) => now.saturating_sub(last) >= period,
+    }
+}
+
+/// The moment at which it is over.
+fn end_of(last: Option<u64>, period: u64) -> Option<u64> {
+    match last {
+        None => Some(0),
+        Some(last) => Some(last.saturating_add(period)),
+    }
+}
+
+impl<'a, R: SystemClock> Station<'a, R> {
+    /// A router that begins to run.
+    pub fn new(alloc: Global, parts: Parts<'a, R>) -> Station<'a, R> {
+        Station {
+            core: parts.core,
+            device: parts.device,
+            peers: parts.peers,
+            clock: parts.clock,
+            ready: parts.ready,
+            status: parts.status,
+            tally: Tally::new(),
+            known: Known::new(alloc),
+            troubles: Troubles::new(),
+            asked: 0,
+            looked: None,
+            responses: 0,
+            written: None,
+        }
+    }
+
+    fn figures(&self, now: u64) -> Figures {
+        self.tally
+            .figures(&self.core, &self.device, &self.known, now)
+    }
+
+    /// How long to wait for the next look: shortly, where a response was heard since.
+    fn look_period(&self) -> u64 {
+        if self.core.fates().heard == self.responses {
+            PERIOD
+        } else {
+            SOON
+        }
+    }
+
+    /// Asks the neighbours again, if it is time.
+    fn ask(&mut self, now: u64) {
+        if let Some(moment) = asking_moment(self.asked) {
+            if now >= moment {
+                self.asked = self.asked.saturating_add(1);
+                self.core.ask_again();
+            }
+        }
+    }
+
+    /// Tells what is newly known and what is lost, if it is time.
+    fn look<L: Log>(&mut self, rt: &L, alloc: Global, now: u64) {
+        if !is_over(self.looked, self.look_period(), now) {
+            return;
+        }
+        self.looked = Some(now);
+        self.responses = self.core.fates().heard;
+        if self.known.look(rt, alloc, self.core.router(), now).is_err() {
+            self.tally.want_memory();
+        }
+    }
+
+    /// Writes the figures, if it is time and there is a file for them.
+    fn write_figures<F: Files>(&mut self, rt: &F, alloc: Global, now: u64) {
+        if !is_over(self.written, PERIOD, now) {
+            return;
+        }
+        self.written = Some(now);
+        let figures = self.figures(now);
+        let Some(path) = &self.status else {
+            return;
+        };
+        let Ok(text) = figures.text(alloc) else {
+            self.tally.want_memory();
+            return;
+        };
+        if !write_whole(rt, alloc, path.as_str(), text.as_str()) {
+            self.tally.fail_file();
+        }
+    }
+
+    /// Does what is to be done besides the turns.
+    fn keep<S: Log + Files>(&mut self, rt: &S, alloc: Global) {
+        let now = self.clock.now();
+        self.ask(now);
+        self.look(rt, alloc, now);
+        self.write_figures(rt, alloc, now);
+        let figures = self.figures(now);
+        self.troubles.tell(rt, &figures, now);
+    }
+
+    /// How long there is nothing to do, unless something comes, in milliseconds.
+    fn leisure(&mut self) -> u64 {
+        let now = self.clock.now();
+        let moments = [
+            asking_moment(self.asked),
+            end_of(self.looked, self.look_period()),
+            end_of(self.written, PERIOD),
+            self.core.router().next_telling(),
+            self.troubles.next(&self.figures(now)),
+        ];
+        time_to(moments, now)
+    }
+
+    /// Does what is to be done now, takes turns as long as there is something to hear or to send,
+    /// and waits.
+    pub fn step<S: Log + Files>(&mut self, rt: &S, alloc: Global) -> Result<(), WaitFault> {
+        self.keep(rt, alloc);
+        let burst = run_burst(
+            alloc,
+            &mut self.core,
+            &mut self.device,
+            &self.peers,
+            &mut self.clock,
+            TURNS,
+        );
+        self.tally.add(burst);
+        if burst.fault.is_some() {
+            self.ready.wait(REST)?;
+        } else if burst.quiet {
+            let leisure = self.leisure();
+            self.ready.wait(leisure)?;
+        }
+        Ok(())
+    }
+}

@@ -1,0 +1,76 @@
+//! What a router that runs counts.
+
+use crate::figures::Figures;
+use crate::peers::PeersOnly;
+use crate::sockets::SiteSockets;
+use crate::turns::Burst;
+use crate::watch::Known;
+use ipx_carrier::{RouterCore, RunFault};
+
+/// What a router that runs counts itself. Each count stays at the greatest u64.
+#[derive(Clone, Copy, Debug, PartialEq, Eq)]
+pub struct Tally {
+    pub heard: u64,
+    pub sent: u64,
+    pub unmapped: u64,
+    pub device_faults: u64,
+    pub memory_faults: u64,
+    pub file_faults: u64,
+}
+
+impl Tally {
+    pub fn new() -> Tally {
+        Tally {
+            heard: 0,
+            sent: 0,
+            unmapped: 0,
+            device_faults: 0,
+            memory_faults: 0,
+            file_faults: 0,
+        }
+    }
+
+    pub fn add(&mut self, burst: Burst) {
+        self.heard = self.heard.saturating_add(burst.heard);
+        self.sent = self.sent.saturating_add(burst.sent);
+        self.unmapped = self.unmapped.saturating_add(burst.unmapped);
+        match burst.fault {
+            Some(RunFault::Device) => self.device_faults = self.device_faults.saturating_add(1),
+            Some(RunFault::OutOfMemory) => self.want_memory(),
+            None => {}
+        }
+    }
+
+    pub fn want_memory(&mut self) {
+        self.memory_faults = self.memory_faults.saturating_add(1);
+    }
+
+    pub fn fail_file(&mut self) {
+        self.file_faults = self.file_faults.saturating_add(1);
+    }
+
+    /// All figures of a router, at a moment in milliseconds since its start.
+    pub fn figures(
+        &self,
+        core: &RouterCore,
+        device: &PeersOnly<SiteSockets>,
+        known: &Known,
+        now: u64,
+    ) -> Figures {
+        Figures {
+            heard: self.heard,
+            sent: self.sent,
+            fates: core.fates(),
+            queue_full: core.dropped(),
+            unmapped: self.unmapped,
+            strangers: device.strangers(),
+            refused: device.refused(),
+            device_faults: self.device_faults.saturating_add(device.device().faults()),
+            memory_faults: self.memory_faults,
+            file_faults: self.file_faults,
+            routes: known.networks() as u64,
+            services: known.services() as u64,
+            seconds: now / 1000,
+        }
+    }
+}

@@ -1,0 +1,56 @@
+//! The lines of faults.
+
+use crate::fault::FileFault;
+use crate::key::Key;
+use crate::shown::Shown;
+use std::fmt;
+
+/// The keys of a table, by its number.
+fn keys_of(table: usize) -> &'static str {
+    if table == 0 {
+        return "a router has status and port, a host network, address, router, udp_port, socket and \
+            buffers";
+    }
+    "the keys are network, address, udp_port, cost, peers, accept"
+}
+
+/// Where a fault lies: nothing for the file itself, and else the port.
+fn write_place<W: fmt::Write>(f: &mut fmt::Formatter<W>, table: usize) -> fmt::Result {
+    if table == 0 {
+        return Ok(());
+    }
+    write!(f, "port {table}: ")
+}
+
+impl fmt::Display for Key {
+    fn fmt<W: fmt::Write>(&self, f: &mut fmt::Formatter<W>) -> fmt::Result {
+        f.write_str(self.text())
+    }
+}
+
+/// One line without its end. The caller names the file before it.
+impl fmt::Display for FileFault {
+    fn fmt<W: fmt::Write>(&self, f: &mut fmt::Formatter<W>) -> fmt::Result {
+        match self {
+            FileFault::OutOfMemory => f.write_str("out of memory"),
+            FileFault::NotToml(line, error) => { write!(f, "line {line}: {}", error.message()) }
+            FileFault::Unknown(table, name) => {
+                write_place(f, *table)?;
+                let name = Shown(name.as_bytes());
+                write!(f, "{name} is no key here: {}", keys_of(*table))
+            }
+            FileFault::Missing(table, key) => {
+                write_place(f, *table)?;
+                write!(f, "{key} is missing: it is to be {}", key.right())
+            }
+            FileFault::Wrong(table, key) => {
+                write_place(f, *table)?;
+                write!(f, "{key} is to be {}", key.right())
+            }
+            FileFault::Twin(table, network, earlier) => {
+                write_place(f, *table)?;
+                write!(f, "network {network} is already that of port {earlier}")
+            }
+        }
+    }
+}

@@ -1,0 +1,121 @@
+//! The troubles that a person is told of, each at most once a minute.
+
+use crate::causes::Cause;
+use crate::figures::Figures;
+use log::{Log, warn};
+
+/// What goes wrong again and again.
+#[derive(Clone, Copy, Debug, PartialEq, Eq)]
+pub struct Troubles {
+    strangers: Cause,
+    refused: Cause,
+    table_full: Cause,
+    queue_full: Cause,
+    device: Cause,
+    memory: Cause,
+    file: Cause,
+}
+
+fn tell<R: Log>(rt: &R, cause: &mut Cause, count: u64, now: u64, what: &str) {
+    if let Some(more) = cause.tell(count, now) {
+        warn!(rt; target: "ipx", "{more} {what} ({count} since the start)");
+    }
+}
+
+/// The sooner of two moments, where there are any.
+fn sooner(a: Option<u64>, b: Option<u64>) -> Option<u64> {
+    match (a, b) {
+        (Some(a), Some(b)) => Some(a.min(b)),
+        (Some(a), None) => Some(a),
+        (None, b) => b,
+    }
+}
+
+impl Troubles {
+    /// None was told yet.
+    pub fn new() -> Troubles {
+        Troubles {
+            strangers: Cause::new(),
+            refused: Cause::new(),
+            table_full: Cause::new(),
+            queue_full: Cause::new(),
+            device: Cause::new(),
+            memory: Cause::new(),
+            file: Cause::new(),
+        }
+    }
+
+    /// Tells those for which it is time.
+    pub fn tell<R: Log>(&mut self, rt: &R, figures: &Figures, now: u64) {
+        let f = *figures;
+        let full = f.fates.table_full;
+        tell(
+            rt,
+            &mut self.strangers,
+            f.strangers,
+            now,
+            "datagrams came from no peer",
+        );
+        tell(
+            rt,
+            &mut self.refused,
+            f.refused,
+            now,
+            "datagrams were to go to no peer",
+        );
+        tell(
+            rt,
+            &mut self.table_full,
+            full,
+            now,
+            "responses found a table full",
+        );
+        tell(
+            rt,
+            &mut self.queue_full,
+            f.queue_full,
+            now,
+            "packets found no room to wait",
+        );
+        tell(
+            rt,
+            &mut self.device,
+            f.device_faults,
+            now,
+            "datagrams the system refused",
+        );
+        tell(
+            rt,
+            &mut self.memory,
+            f.memory_faults,
+            now,
+            "times memory was refused",
+        );
+        tell(
+            rt,
+            &mut self.file,
+            f.file_faults,
+            now,
+            "times the status file could not be written",
+        );
+    }
+
+    /// The moment at which it is time to tell one.
+    pub fn next(&self, figures: &Figures) -> Option<u64> {
+        let f = *figures;
+        let people = sooner(
+            self.strangers.next(f.strangers),
+            self.refused.next(f.refused),
+        );
+        let full = sooner(
+            self.table_full.next(f.fates.table_full),
+            self.queue_full.next(f.queue_full),
+        );
+        let system = sooner(
+            self.device.next(f.device_faults),
+            self.memory.next(f.memory_faults),
+        );
+        let file = self.file.next(f.file_faults);
+        sooner(sooner(people, full), sooner(system, file))
+    }
+}

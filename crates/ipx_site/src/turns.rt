@@ -1,0 +1,138 @@
+//! Turns of a core over a device, one after another, as long as there is something to do.
+
+ghost use Rattle.std.specs.Prelude.{◌≡◌, ◌⊎◌, ◌<◌, ◌≤◌, ◌+◌, ◌^◌, IfOk, IfErr, Some, None, length};
+ghost use Rattle.ipx_carrier.specs.Runs.{EndsEarly, Runs};
+ghost use Rattle.ipx_carrier.specs.Turns.{peers_of};
+ghost use Rattle.ipx_site.specs.Bursts.{Bursts};
+
+use crate::peers::PeersOnly;
+use crate::senders::Senders;
+use ipx_carrier::{Clock, Core, Datagrams, Report, RunFault, run};
+use std::alloc::Global;
+
+/// What turns one after another counted, and how they ended.
+#[derive(Clone, Copy, Debug, PartialEq, Eq)]
+pub struct Burst {
+    /// The datagrams that the core heard.
+    pub heard: u64,
+    /// The datagrams that were sent.
+    pub sent: u64,
+    /// The packets that were not sent, since their node has no IP address.
+    pub unmapped: u64,
+    /// What ended a turn early, and the burst.
+    pub fault: Option<RunFault>,
+    /// The last turn neither heard nor sent, and kept nothing back: now one waits.
+    pub quiet: bool,
+}
+
+/// A count of a report, which stays at the greatest u64.
+fn count_of(count: u128) -> u64 {
+    u64::try_from(count).unwrap_or(u64::MAX)
+}
+
+impl Burst {
+    fn none() -> Burst
+        ensures { result.fault ≡ None }
+    {
+        Burst {
+            heard: 0,
+            sent: 0,
+            unmapped: 0,
+            fault: None,
+            quiet: false,
+        }
+    }
+
+    fn with(self, report: Report) -> Burst
+        ensures { result.fault ≡ self.fault }
+    {
+        Burst {
+            heard: self.heard.saturating_add(count_of(report.heard)),
+            sent: self.sent.saturating_add(count_of(report.sent)),
+            unmapped: self.unmapped.saturating_add(count_of(report.unmapped)),
+            fault: self.fault,
+            quiet: self.quiet,
+        }
+    }
+
+    fn ended_by(self, fault: RunFault) -> Burst
+        ensures { result.fault ≡ Some fault }
+    {
+        Burst {
+            fault: Some(fault),
+            ..self
+        }
+    }
+
+    fn quieted(self) -> Burst
+        ensures { result.fault ≡ self.fault }
+    {
+        Burst {
+            quiet: true,
+            ..self
+        }
+    }
+}
+
+/// Takes one turn. A device with other ports than the core, or one that failed too often to count
+/// once more, is a device that fails, and nothing else happens.
+fn take_turn<C: Core, D: Datagrams, K: Clock>(
+    alloc: Global,
+    core: &mut C,
+    device: &mut D,
+    peers: &[Vec<[u8; 4]>],
+    clock: &mut K,
+) -> Result<Report, RunFault>
+    ensures turn { IfOk result (λ report.
+        Runs C.hears C.gives K.tells (C.port_count core.old) (peers_of peers.now) 1
+        (D.traffic device.old) (D.traffic device.new) clock.old clock.new
+        core.old core.new report) }
+    ensures fault { IfErr result (λ f.
+        ((core.new ≡ core.old) × ((f ≡ RunFault.Device) × (device.new ≡ device.old)
+        × (clock.new ≡ clock.old)))
+        ⊎ EndsEarly C.hears C.misses C.gives C.withholds K.tells
+        (C.port_count core.old) (peers_of peers.now) 1
+        (D.traffic device.old) (D.traffic device.new) clock.old clock.new
+        f core.old core.new) }
+    ensures ports { C.port_count core.new ≡ C.port_count core.old }
+{
+    let ports = core.ports();
+    let fits = device.ports() == ports && peers.len() == ports;
+    if !fits || device.failures() == u64::MAX {
+        return Err(RunFault::Device);
+    }
+    run(alloc, core, device, peers, clock, 1)
+}
+
+/// Takes turns until one neither hears nor sends and keeps back no stranger's datagram, until a
+/// fault ends one, or until there were so many.
+///
+/// After a quiet burst nothing was left to read, so one waits; after another one takes the next.
+pub fn run_burst<C: Core, D: Senders + Drop, K: Clock>(
+    alloc: Global,
+    core: &mut C,
+    device: &mut PeersOnly<D>,
+    peers: &[Vec<[u8; 4]>],
+    clock: &mut K,
+    most: u32,
+) -> Burst
+    // What the core is then comes of whole turns, and of a part of one where a fault ended it.
+    ensures turns { Bursts C.hears C.misses C.gives C.withholds (C.port_count core.old)
+        (peers_of peers.now) most result.fault core.old core.new }
+    ensures ports { C.port_count core.new ≡ C.port_count core.old }
+{
+    let mut burst = Burst::none();
+    for _turn in 0..most {
+        let strangers = device.strangers();
+        let report = match take_turn(alloc, core, device, peers, clock) {
+            Ok(report) => report,
+            Err(fault) => return burst.ended_by(fault),
+        };
+        burst = burst.with(report);
+        let idle = report.heard == 0 && report.sent == 0;
+        if idle && device.strangers() == strangers {
+            return burst.quieted();
+        }
+    }
+    burst
+}

@@ -1,0 +1,128 @@
+//! Each fault of a file, with its line.
+
+use crate::fixture::{host_line, site_line};
+use std::alloc::AllocError;
+
+/// A port, and the lines of one on the same network.
+const TWIN: &str = "\
+[[port]]
+network = \"00000001\"
+address = \"192.0.2.10\"
+peers = []
+[[port]]
+network = \"00000001\"
+address = \"192.0.2.11\"
+peers = []
+";
+
+/// Files of routers with what is printed of them.
+const SITES: [(&str, &str); 9] = [
+    (TWIN, "port 2: network 00000001 is already that of port 1"),
+    (
+        "",
+        "port is missing: it is to be one to sixteen tables, each begun by [[port]]",
+    ),
+    (
+        "port = []",
+        "port is to be one to sixteen tables, each begun by [[port]]",
+    ),
+    (
+        "port = [1]",
+        "port 1: port is to be one to sixteen tables, each begun by [[port]]",
+    ),
+    (
+        "Status = \"a\"",
+        "Status is no key here: a router has status and port, a host network, address, router, udp_port, socket and buffers",
+    ),
+    (
+        "status = 1",
+        "status is to be the name of a file, as \"/run/ipx/hq/hq.prom\"",
+    ),
+    (
+        "[[port]]\npeer = []",
+        "port 1: peer is no key here: the keys are network, address, udp_port, cost, peers, accept",
+    ),
+    (
+        "[[port]]\nnetwork = \"ffffffff\"",
+        "port 1: network is to be eight hex digits, neither all 0 nor all f, as \"00000011\"",
+    ),
+    (
+        "[[port]]\nnetwork = \"00000001\"",
+        "port 1: address is missing: it is to be an IP address of this machine, as \"192.0.2.10\"",
+    ),
+];
+
+/// A port up to its peers, and what follows with what is printed of it.
+const START: &str = "[[port]]\nnetwork = \"00000001\"\naddress = \"192.0.2.10\"\n";
+
+const PORTS: [(&str, &str); 6] = [
+    (
+        "udp_port = 0",
+        "port 1: udp_port is to be a number from 1 to 65535, as 213",
+    ),
+    (
+        "cost = 65536",
+        "port 1: cost is to be a number of ticks from 1 to 65535, as 6",
+    ),
+    (
+        "",
+        "port 1: peers is missing: it is to be a list of IP addresses, as [\"198.51.100.7\", \"203.0.113.9\"]",
+    ),
+    (
+        "peers = [\"10.1.0\"]",
+        "port 1: peers is to be a list of IP addresses, as [\"198.51.100.7\", \"203.0.113.9\"]",
+    ),
+    (
+        "peers = []\naccept = \"all\"",
+        "port 1: accept is to be \"peers\" or \"any\"",
+    ),
+    ("peers = []", "none"),
+];
+
+/// Files of hosts with what is printed of them.
+const HOSTS: [(&str, &str); 3] = [
+    (
+        "network = 11",
+        "network is to be eight hex digits, neither all 0 nor all f, as \"00000011\"",
+    ),
+    (
+        "network = \"+0000011\"",
+        "network is to be eight hex digits, neither all 0 nor all f, as \"00000011\"",
+    ),
+    (
+        "port = 1",
+        "port is no key here: a router has status and port, a host network, address, router, udp_port, socket and buffers",
+    ),
+];
+
+#[test]
+fn lines_of_sites(rt: HostRuntime) -> Result<(), AllocError> {
+    for (text, line) in SITES {
+        assert_eq!(rt; site_line(rt.alloc(), text)?.as_str(), line);
+    }
+    Ok(())
+}
+
+#[test]
+fn lines_of_ports(rt: HostRuntime) -> Result<(), AllocError> {
+    for (rest, line) in PORTS {
+        let text = format!(in rt.alloc(); "{START}{rest}")?;
+        assert_eq!(rt; site_line(rt.alloc(), text.as_str())?.as_str(), line);
+    }
+    Ok(())
+}
+
+#[test]
+fn lines_of_hosts(rt: HostRuntime) -> Result<(), AllocError> {
+    for (text, line) in HOSTS {
+        assert_eq!(rt; host_line(rt.alloc(), text)?.as_str(), line);
+    }
+    Ok(())
+}
+
+#[test]
+fn line_where_toml_ends(rt: HostRuntime) -> Result<(), AllocError> {
+    let line = site_line(rt.alloc(), "\n[[port]]\nnetwork 1\n")?;
+    assert!(rt; line.as_str().starts_with("line 3: "));
+    Ok(())
+}

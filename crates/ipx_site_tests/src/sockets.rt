@@ -1,0 +1,79 @@
+//! Sockets of UDP on the loopback.
+
+use crate::fixture::site;
+use ipx_carrier::{Datagrams, DeviceFault};
+use ipx_site::{BindFault, Obstacle, Senders, SiteSockets};
+use std::test::Fail;
+
+const HERE: &str = "\
+[[port]]
+network = \"00000001\"
+address = \"127.0.91.1\"
+udp_port = 21391
+peers = [\"127.0.91.2\"]
+";
+
+const THERE: &str = "\
+[[port]]
+network = \"00000001\"
+address = \"127.0.91.2\"
+udp_port = 21391
+peers = [\"127.0.91.1\"]
+";
+
+const IN_USE: &str = "\
+[[port]]
+network = \"00000001\"
+address = \"127.0.91.3\"
+udp_port = 21391
+peers = []
+[[port]]
+network = \"00000002\"
+address = \"127.0.91.3\"
+udp_port = 21391
+peers = []
+";
+
+/// Asks port 1 until a datagram came, some thousand times.
+fn wait_for(device: &mut SiteSockets, room: &mut [u8]) -> Result<Option<usize>, DeviceFault> {
+    for _turn in 0..100000u32 {
+        if device.ports() == 0 || device.failures() > 1000 {
+            return Err(DeviceFault);
+        }
+        if let Some(count) = device.receive(0, room)? {
+            return Ok(Some(count));
+        }
+    }
+    Ok(None)
+}
+
+fn send(device: &mut SiteSockets, to: [u8; 4], bytes: &[u8]) -> Result<(), DeviceFault> {
+    if device.ports() == 0 || device.failures() > 1000 {
+        return Err(DeviceFault);
+    }
+    device.send(0, to, bytes)
+}
+
+fn bound(rt: &HostRuntime, text: &str) -> Result<SiteSockets, BindFault> {
+    let Some(site) = site(rt.alloc(), text) else {
+        return Err(BindFault::OutOfMemory);
+    };
+    SiteSockets::bind(rt, rt.alloc(), &site.ports)
+}
+
+#[test]
+fn tells_who_sent(rt: HostRuntime) -> Result<(), Fail> {
+    let mut here = bound(&rt, HERE)?;
+    let mut there = bound(&rt, THERE)?;
+    assert!(rt; there.sender() == None);
+    send(&mut here, [127, 0, 91, 2], b"abc")?;
+    let mut room = [0; 1536];
+    assert!(rt; wait_for(&mut there, &mut room)? == Some(3));
+    assert!(rt; there.sender() == Some([127, 0, 91, 1]));
+    Ok(())
+}
+
+#[test]
+fn names_the_port_that_is_in_use(rt: HostRuntime) {
+    assert!(rt; matches!(bound(&rt, IN_USE), Err(BindFault::Port(2, Obstacle::InUse))));
+}
