@@ -1,2 +1,2 @@
 pub mod Fate
-pub mod Verdict
+pub mod Transfer

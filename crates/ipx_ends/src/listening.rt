@@ -5,11 +5,10 @@ ghost use Rattle.std.specs.Prelude.{◌<◌, length, IfSome};
 use crate::callers::{Caller, Fate, LINGER, Standing, fate_of};
 use crate::gate::Gate;
 use crate::outlet::{Outlet, WriteFault};
-use crate::start::{StartFault, ip_of, tell_start};
+use crate::start::{StartFault, tell_start};
 use crate::station::Station;
-use ipx_carrier::node_of;
 use ipx_site::{HostFile, WaitFault, load_host};
-use log::{Log, info, warn};
+use log::{Log, warn};
 use mio::Interest;
 use spx_messages::{EndFault, Endpoint, MessageFault, Taken};
 use std::alloc::Global;
@@ -299,16 +298,6 @@ impl<'a, R: Net + Log + Clock> Listening<'a, R> {
     }
 }
 
-/// Logs where a host listens.
-fn tell_place<R: Log>(rt: &R, file: &HostFile) {
-    let node = node_of(file.address);
-    let ip = ip_of(file);
-    let network = file.network;
-    let socket = file.socket;
-    let port = file.udp_port;
-    info!(rt; target: "ipx", "socket {socket} network {network} node {node} udp {ip}:{port}");
-}
-
 /// Prints why a host stopped, where that is to be said, and answers its status.
 fn tell_stop<R: Eprint>(rt: &R, stopped: Result<(), Stop>) -> u8 {
     let _ = match stopped {
@@ -342,7 +331,6 @@ pub fn do_listen<R: Net + Log + Files + Clock + Eprint, W: Write>(
         Ok(listening) => listening,
         Err(fault) => return tell_start(rt, path, fault),
     };
-    tell_place(rt, &file);
     let stopped = listening.serve(rt, alloc, writer);
     tell_stop(rt, stopped)
 }

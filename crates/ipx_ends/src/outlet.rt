@@ -1,5 +1,7 @@
 //! Messages on their way out.
 
+ghost use Rattle.std.specs.Prelude.{◌≤◌, length};
+
 use crate::gate::Gate;
 use std::alloc::Global;
 use std::io::{ErrorKind, Write};

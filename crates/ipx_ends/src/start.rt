@@ -2,10 +2,9 @@
 
 ghost use Rattle.std.specs.Prelude.{◌≡◌};
 
-use ipx_site::{BindFault, HostFile, Obstacle, WaitFault};
+use ipx_site::{BindFault, Obstacle, WaitFault};
 use ipx_wire::OutOfMemory;
 use std::alloc::{AllocError, AllocFailed};
-use std::net::Ipv4Addr;
 
 /// Why a host does not start.
 #[derive(Clone, Copy, Debug, PartialEq, Eq)]
@@ -51,12 +50,6 @@ impl From<WaitFault> for StartFault {
             WaitFault::System => StartFault::Wait,
         }
     }
-}
-
-/// The IP address of a host.
-pub fn ip_of(file: &HostFile) -> Ipv4Addr {
-    let [a, b, c, d] = file.address;
-    Ipv4Addr::new(a, b, c, d)
 }
 
 /// Prints why the host of a file does not start, and answers the status 1.

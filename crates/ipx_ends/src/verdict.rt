@@ -2,6 +2,7 @@
 
 ghost use Rattle.std.specs.Prelude.{◌≡◌, ◌↔◌, Some};
 ghost use Rattle.spx_link.specs.declared.state.State.TheVariants as States;
+ghost use Rattle.ipx_ends.specs.Transfer.{verdict_at};
 ghost use Rattle.ipx_ends.specs.declared.verdict.Verdict.TheVariants as Verdicts;
 
 use spx_link::State;
@@ -40,7 +41,7 @@ impl Verdict {
 /// connection was open at any time, and `waits` whether a confirmation is still waited for.
 pub fn verdict_of(state: Option<State>, joined: bool, waits: bool) -> Option<Verdict>
     ensures done { (result ≡ Some Verdicts.Done) ↔ (state ≡ Some States.Confirmed) }
-    ensures verdict { result ≡ Rattle.ipx_ends.specs.Verdict.verdict joined waits state }
+    ensures verdict { result ≡ verdict_at joined waits state }
 {
     match state {
         Some(State::Opening | State::Live | State::Ending) => None,

@@ -8,13 +8,13 @@ use Rattle.ipx_ends.specs.declared.verdict.Verdict.TheVariants as Verdicts
 -- what a link that has a state, or is gone, tells of a transfer: done where the peer has confirmed
 -- the end, and nowhere else. One that is lost before it was open was answered by nobody. The peer
 -- may end the connection first, which is waited for while a confirmation may still come
-abbrev pub verdict : Bool → Bool → Option State → Option Verdict
-verdict joined waits None = Some Verdicts.GivenUp
-verdict joined waits (Some Opening) = None
-verdict joined waits (Some Live) = None
-verdict joined waits (Some Ending) = None
-verdict joined true (Some PeerEnded) = None
-verdict joined false (Some PeerEnded) = Some Verdicts.PeerLeft
-verdict joined waits (Some Confirmed) = Some Verdicts.Done
-verdict true waits (Some Lost) = Some Verdicts.GivenUp
-verdict false waits (Some Lost) = Some Verdicts.Unanswered
+abbrev pub verdict_at : Bool → Bool → Option State → Option Verdict
+verdict_at joined waits None = Some Verdicts.GivenUp
+verdict_at joined waits (Some Opening) = None
+verdict_at joined waits (Some Live) = None
+verdict_at joined waits (Some Ending) = None
+verdict_at joined true (Some PeerEnded) = None
+verdict_at joined false (Some PeerEnded) = Some Verdicts.PeerLeft
+verdict_at joined waits (Some Confirmed) = Some Verdicts.Done
+verdict_at true waits (Some Lost) = Some Verdicts.GivenUp
+verdict_at false waits (Some Lost) = Some Verdicts.Unanswered
