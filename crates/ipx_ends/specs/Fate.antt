@@ -5,13 +5,16 @@ use Rattle.spx_link.specs.declared.state.State.TheVariants as States
 use Rattle.ipx_ends.specs.declared.callers.Standing.{Standing}
 use Rattle.ipx_ends.specs.declared.callers.Standing.TheVariants as Standings
 
--- its link is Lost, and this host did not ask for its end
-abbrev pub IsGivenUp : Standing → Option State → Type 0
-IsGivenUp standing state = (state ≡ Some States.Lost) × (standing ≢ Standings.Closing)
+-- its link is there, and neither Lost nor Confirmed
+abbrev pub IsHeld : Option State → Type 0
+IsHeld state = (state ≢ None) × (state ≢ Some States.Lost) × (state ≢ Some States.Confirmed)
 
--- its link is gone or Confirmed; or this host asked for its end, and it is Lost; or its end came,
--- it is not Lost, and nothing was heard of it for three seconds
+-- its link is gone or Confirmed; or its end came, and nothing was heard of it for three seconds
 abbrev pub IsOver : Standing → Option State → ℕ → Type 0
 IsOver standing state silent = (state ≡ None) ⊎ (state ≡ Some States.Confirmed)
-    ⊎ ((state ≡ Some States.Lost) × (standing ≡ Standings.Closing))
-    ⊎ ((state ≢ Some States.Lost) × (standing ≡ Standings.Ended) × (3000 ≤ silent))
+    ⊎ (IsHeld state × (standing ≡ Standings.Ended) × (3000 ≤ silent))
+
+-- it is open, and nothing was heard of it for a minute
+abbrev pub IsToAsk : Standing → Option State → ℕ → Type 0
+IsToAsk standing state silent =
+    IsHeld state × (standing ≡ Standings.Open) × (60000 ≤ silent)

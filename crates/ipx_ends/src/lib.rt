@@ -18,4 +18,4 @@ mod verdict;
 
 pub use listening::do_listen;
 pub use sending::do_send;
-pub use target::{Target, TargetFault};
+pub use target::Target;

@@ -2,7 +2,7 @@
 
 ghost use Rattle.std.specs.Prelude.{◌<◌, length, IfSome};
 
-use crate::callers::{Caller, Fate, LINGER, Standing, fate_of};
+use crate::callers::{Caller, Fate, LINGER, SILENCE, Standing, fate_of};
 use crate::gate::Gate;
 use crate::outlet::{Outlet, WriteFault};
 use crate::start::{StartFault, tell_start};
@@ -10,7 +10,7 @@ use crate::station::Station;
 use ipx_site::{HostFile, WaitFault, load_host};
 use log::{Log, warn};
 use mio::Interest;
-use spx_messages::{EndFault, Endpoint, MessageFault, Taken};
+use spx_messages::{EndFault, Endpoint, Message, MessageFault, Taken};
 use std::alloc::Global;
 use std::io::Write;
 use std::net::Net;
@@ -23,12 +23,8 @@ const MOST_CALLERS: usize = 16;
 /// The most units that are taken of a connection before the network is asked again.
 const MOST_TAKES: u32 = 256;
 
-/// How long a connection is silent at least that is closed to make room, in milliseconds.
-const SILENCE: u64 = 60_000;
-
-/// The longest wait, in milliseconds, and the longest one where all places are taken.
+/// The longest wait, in milliseconds.
 const LONG: u64 = 3_600_000;
-const SHORT: u64 = 1000;
 
 /// The descriptor of standard output.
 const STDOUT: RawFd = 1;
@@ -136,7 +132,7 @@ impl<'a, R: Net + Log + Clock> Listening<'a, R> {
         let heard = self.station.core.endpoint.heard();
         for caller in self.callers.iter_mut() {
             if Some(caller.id) == heard {
-                caller.heard = moment;
+                caller.hear(moment);
             }
         }
         let Some(accepted) = self.station.core.take_accepted() else {
@@ -170,8 +166,8 @@ impl<'a, R: Net + Log + Clock> Listening<'a, R> {
         fate_of(caller.standing, state, silent)
     }
 
-    /// The place of the first connection that does not stay.
-    fn first_to_go(&self) -> Option<usize>
+    /// The place of the first connection that does not just stay.
+    fn first_to_tend(&self) -> Option<usize>
         ensures { IfSome result (λ place. place < length self.now.callers.items) }
     {
         self.callers
@@ -179,12 +175,25 @@ impl<'a, R: Net + Log + Clock> Listening<'a, R> {
             .position(|caller| self.fate_of(caller) != Fate::Stays)
     }
 
+    /// Asks whether a connection is still there, by a message of no bytes: a peer that is there
+    /// acknowledges it, and without one the link is Lost some five seconds later.
+    fn ask(&mut self, alloc: Global, place: usize)
+        requires { place < length self.old.callers.items }
+    {
+        let caller = &mut self.callers[place];
+        let nothing = Message {
+            stream: 0,
+            body: Vec::new(alloc),
+        };
+        let _ = self.station.core.endpoint.send(alloc, caller.id, &nothing);
+        caller.standing = Standing::Asked;
+    }
+
     /// Lets a connection go.
-    fn let_go(&mut self, rt: &R, place: usize) -> Result<(), Stop>
+    fn let_go(&mut self, rt: &R, place: usize, fate: Fate) -> Result<(), Stop>
         requires { place < length self.old.callers.items }
     {
         let caller = self.callers.remove(place);
-        let fate = self.fate_of(&caller);
         let _ = self.station.core.endpoint.release(caller.id);
         if fate == Fate::GivenUp {
             let from = caller.from;
@@ -192,73 +201,47 @@ impl<'a, R: Net + Log + Clock> Listening<'a, R> {
         }
         match fate {
             Fate::GivenUp if self.once => Err(Stop::Lost),
-            Fate::Over if self.once && caller.standing == Standing::Ended => Err(Stop::Ended),
+            Fate::Over if self.once => Err(Stop::Ended),
             _ => Ok(()),
         }
     }
 
-    /// Lets go the connections that are over or given up.
-    fn tidy(&mut self, rt: &R) -> Result<(), Stop> {
+    /// Does what is to be done with the connection at a place.
+    fn tend(&mut self, rt: &R, alloc: Global, place: usize) -> Result<(), Stop>
+        requires { place < length self.old.callers.items }
+    {
+        match self.fate_of(&self.callers[place]) {
+            Fate::Stays => Ok(()),
+            Fate::Asks => {
+                self.ask(alloc, place);
+                Ok(())
+            }
+            fate => self.let_go(rt, place, fate),
+        }
+    }
+
+    /// Lets go the connections that are over or given up, and asks those that are silent.
+    fn tidy(&mut self, rt: &R, alloc: Global) -> Result<(), Stop> {
         for _ in 0..MOST_CALLERS {
-            let Some(place) = self.first_to_go() else {
+            let Some(place) = self.first_to_tend() else {
                 break;
             };
-            self.let_go(rt, place)?;
+            self.tend(rt, alloc, place)?;
         }
         Ok(())
-    }
-
-    /// The place of the open connection that is silent for longest.
-    fn most_silent(&self) -> Option<usize>
-        ensures { IfSome result (λ place. place < length self.now.callers.items) }
-    {
-        let open = self
-            .callers
-            .iter()
-            .filter(|caller| caller.standing == Standing::Open);
-        let heard = open.map(|caller| caller.heard).min()?;
-        self.callers
-            .iter()
-            .position(|caller| caller.standing == Standing::Open && caller.heard == heard)
-    }
-
-    /// Where all places are taken and none is to be free soon, asks for the end of the connection
-    /// that is silent for longest, if that is a minute at least.
-    fn make_room(&mut self, rt: &R, alloc: Global) {
-        let moment = self.station.moment();
-        let is_open = |caller: &Caller| caller.standing == Standing::Open;
-        if self.callers.len() < MOST_CALLERS || !self.callers.iter().all(is_open) {
-            return;
-        }
-        let Some(place) = self.most_silent() else {
-            return;
-        };
-        let caller = &mut self.callers[place];
-        let silent = moment.saturating_sub(caller.heard);
-        if silent < SILENCE {
-            return;
-        }
-        let _ = self.station.core.endpoint.close(alloc, caller.id);
-        caller.standing = Standing::Closing;
-        let from = caller.from;
-        let seconds = silent / 1000;
-        warn!(rt; target: "ipx", "{from}: silent for {seconds} seconds, closed to make room");
     }
 
     /// How long to wait at most, in milliseconds.
     fn rest(&self) -> u64 {
         let moment = self.station.moment();
-        let ended = self
-            .callers
-            .iter()
-            .filter(|caller| caller.standing == Standing::Ended);
-        let lingers = ended
-            .map(|caller| caller.heard.saturating_add(LINGER).saturating_sub(moment))
-            .min();
-        if self.callers.len() < MOST_CALLERS {
-            lingers.unwrap_or(LONG)
-        } else {
-            lingers.unwrap_or(SHORT).min(SHORT)
+        let moments = self.callers.iter().map(|caller| match caller.standing {
+            Standing::Open => caller.heard.saturating_add(SILENCE),
+            Standing::Asked => moment.saturating_add(LONG),
+            Standing::Ended => caller.heard.saturating_add(LINGER),
+        });
+        match moments.min() {
+            Some(first) => first.saturating_sub(moment),
+            None => LONG,
         }
     }
 
@@ -270,8 +253,7 @@ impl<'a, R: Net + Log + Clock> Listening<'a, R> {
         }
         let wrote = self.outlet.write(writer)?;
         let took = self.take_all(alloc, writer)?;
-        self.tidy(rt)?;
-        self.make_room(rt, alloc);
+        self.tidy(rt, alloc)?;
         Ok(turn.active || wrote || took)
     }
 

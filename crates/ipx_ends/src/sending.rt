@@ -1,10 +1,12 @@
 //! The command `send`: a host that asks for a connection, and sends what it reads.
 
 ghost use Rattle.std.specs.Prelude.{◌≡◌, ◌⊎◌, [], IfSome, OnOk};
+ghost use Rattle.ipx_wire.specs.declared.address.Address.{Address};
 ghost use Rattle.spx_link.specs.Offer.{offer_link};
 ghost use Rattle.spx_units.specs.Cut.{cut_of};
 ghost use Rattle.spx_messages.specs.Changes.{ChangesEnd};
 ghost use Rattle.spx_messages.specs.EndpointView.{held_at};
+ghost use Rattle.ipx_ends.specs.Target.{Names};
 
 use crate::gate::Gate;
 use crate::ledger::Ledger;
@@ -312,7 +314,10 @@ pub fn do_send<R: Net + Log + Files + Clock + Eprint, I: Read>(
     target: Target<'_>,
     reader: &mut I,
     shows: bool,
-) -> u8 {
+) -> u8
+    // Words that name no address are told, and nothing is read or bound.
+    ensures words { ((a : Address) → Names target.entry a → ⊥) → result ≡ 2 }
+{
     let to = match target.address() {
         Ok(to) => to,
         Err(fault) => {

@@ -1,5 +1,9 @@
 //! The address that words name.
 
+ghost use Rattle.std.specs.Prelude.{IfErr, IfOk};
+ghost use Rattle.ipx_ends.specs.Target.{IsTargetFault, Names};
+
+use byteorder::{BigEndian, ByteOrder};
 use hex::FromHex;
 use ipx_wire::{Address, Network, Node, Socket};
 use std::fmt;
@@ -33,7 +37,10 @@ impl fmt::Display for TargetFault {
 
 impl Target<'_> {
     /// The address: eight, twelve and four hex digits, and nothing else.
-    pub fn address(&self) -> Result<Address, TargetFault> {
+    pub(crate) fn address(&self) -> Result<Address, TargetFault>
+        ensures named { IfOk result (Names self.now) }
+        ensures fault { IfErr result (IsTargetFault self.now) }
+    {
         let Ok(network) = <[u8; 4] as FromHex>::from_hex(self.network) else {
             return Err(TargetFault::Network);
         };
@@ -44,9 +51,9 @@ impl Target<'_> {
             return Err(TargetFault::Socket);
         };
         Ok(Address {
-            network: Network(u32::from_be_bytes(network)),
+            network: Network(BigEndian::read_u32(&network)),
             node: Node(node),
-            socket: Socket(u16::from_be_bytes(socket)),
+            socket: Socket(BigEndian::read_u16(&socket)),
         })
     }
 }
