@@ -35,6 +35,7 @@ const PATIENCE: u64 = 6000;
 
 /// The time between two lines of progress, and the longest wait, in milliseconds.
 const SECOND: u64 = 1000;
+
 const LONG: u64 = 3_600_000;
 
 /// How many ids a host has for its connections.
@@ -104,15 +105,12 @@ fn dialed<R: Clock>(
 }
 
 /// Hands bytes in as one message.
-fn hand_in(
-    alloc: Global,
-    endpoint: &mut Endpoint,
-    id: u16,
-    bytes: &[u8],
-) -> Result<(), EndFault>
+fn hand_in(alloc: Global, endpoint: &mut Endpoint, id: u16, bytes: &[u8]) -> Result<(), EndFault>
     ensures whole { IfSome (held_at endpoint.old id) (λ h. OnOk result
-        (ChangesEnd endpoint.old endpoint.new id (record h { link = offer_link h.link
-        (cut_of (record { stream = 0; body = bytes.now })) }))) }
+        (ChangesEnd endpoint.old endpoint.new id (record h {
+          link = offer_link h.link
+              (cut_of (record { stream = 0; body = bytes.now }));
+        }))) }
 {
     let Ok(body) = Vec::from_slice(alloc, bytes) else {
         return Err(EndFault::Message(MessageFault::OutOfMemory));
@@ -169,9 +167,7 @@ impl<'a, R: Net + Log + Clock + Eprint> Sending<'a, R> {
     /// Whether a confirmation may still come, where the peer ended the connection.
     fn waits(&self) -> bool {
         match self.left {
-            Some(left) => {
-                self.closed && self.station.moment().saturating_sub(left) < PATIENCE
-            }
+            Some(left) => { self.closed && self.station.moment().saturating_sub(left) < PATIENCE }
             None => true,
         }
     }
@@ -259,7 +255,11 @@ impl<'a, R: Net + Log + Clock + Eprint> Sending<'a, R> {
         if self.step(rt, alloc, reader)? {
             return Ok(());
         }
-        let most = if self.shows || self.left.is_some() { SECOND } else { LONG };
+        let most = if self.shows || self.left.is_some() {
+            SECOND
+        } else {
+            LONG
+        };
         match self.station.wait(most) {
             Ok(()) => Ok(()),
             Err(_) => Err(Verdict::Unwaited),
