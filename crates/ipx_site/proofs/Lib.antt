@@ -3,3 +3,4 @@ pub mod Faults
 pub mod Found
 pub mod HexText
 pub mod Own
+pub mod Bursting

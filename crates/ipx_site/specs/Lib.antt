@@ -7,3 +7,4 @@ pub mod Ports
 pub mod Host
 pub mod Peers
 pub mod Moments
+pub mod Bursts

@@ -1,6 +1,6 @@
 //! How often a line says what happens again and again.
 
-ghost use Rattle.std.specs.Prelude.{◌≡◌, ◌↔◌, ◌+◌, ◌<◌, ◌≤◌, IsTrue, Some, IfSome, None};
+ghost use Rattle.std.specs.Prelude.{◌≡◌, ◌↔◌, ◌+◌, ◌^◌, ◌<◌, ◌≤◌, ℕ, IsTrue, MatchOption, Some, IfSome, None};
 ghost use Rattle.ipx_site.specs.Moments.{IsDue};
 
 /// How long a cause is not told again, in milliseconds.
@@ -53,14 +53,18 @@ impl Cause {
         Some(more)
     }
 
-    /// The moment at which it is time, where it happened so often.
-    pub fn next(&self, count: u64) -> Option<u64> {
+    /// The moment from which on it is time, where it happened so often; none where no clock can show
+    /// that moment.
+    pub fn next(&self, count: u64) -> Option<u64>
+        ensures { MatchOption result ((t : ℕ) → t < 2 ^ 64 → IsDue self.now count t → ⊥)
+            (λ m. (t : ℕ) → IsDue self.now count t ↔ (m ≤ t)) }
+    {
         if count <= self.told {
             return None;
         }
         match self.at {
             None => Some(0),
-            Some(at) => Some(at.saturating_add(PAUSE)),
+            Some(at) => at.checked_add(PAUSE),
         }
     }
 }

@@ -9,7 +9,11 @@ pub struct Shown<'a>(pub &'a [u8]);
 
 /// A byte as it is printed.
 fn printed(byte: u8) -> char {
-    if byte.is_ascii_graphic() || byte == b' ' { char::from(byte) } else { '.' }
+    if byte.is_ascii_graphic() || byte == b' ' {
+        char::from(byte)
+    } else {
+        '.'
+    }
 }
 
 impl fmt::Display for Shown<'_> {

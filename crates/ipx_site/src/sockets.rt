@@ -1,8 +1,10 @@
 //! Sockets of UDP, one for each port of a site.
 
-ghost use Rattle.std.specs.Prelude.{◌≡◌, IfErr, IfOk, length, OnErr, OnOk};
+ghost use Rattle.std.specs.Prelude.{◌≡◌, IfOk, length};
+ghost use Rattle.ipx_site.specs.Peers.{raised};
 
 use crate::bind_fault::{BindFault, obstacle_of};
+use crate::peers::raise;
 use crate::senders::Senders;
 use crate::site::SitePort;
 use ipx_carrier::{Datagrams, DeviceFault};
@@ -47,8 +49,12 @@ fn ip_of(place: SocketAddr) -> Option<[u8; 4]> {
     }
 }
 
-/// A socket at an IP address, which does not wait.
+/// A socket at an IP address, which does not wait. 0.0.0.0, which is every address of a machine, is
+/// none that its peers could name.
 fn bound_socket<R: Net>(rt: &R, ip: [u8; 4], udp_port: u16) -> io::Result<PortSocket> {
+    if ip == [0; 4] {
+        return Err(io::Error::from(ErrorKind::AddrNotAvailable));
+    }
     let socket = UdpSocket::bind(rt, place_of(ip, udp_port))?;
     socket.set_nonblocking(true)?;
     Ok(PortSocket { socket, udp_port })
@@ -117,10 +123,11 @@ impl SiteSockets {
     }
 
     fn count_fault(&mut self)
+        ensures counted { self.new.faults ≡ raised self.old.faults }
         ensures sockets { self.new.sockets ≡ self.old.sockets }
         ensures sender { self.new.sender ≡ self.old.sender }
     {
-        self.faults = self.faults.saturating_add(1);
+        raise(&mut self.faults);
     }
 }
 

@@ -108,12 +108,17 @@ impl<'a, R: SystemClock> Station<'a, R> {
     }
 
     fn figures(&self, now: u64) -> Figures {
-        self.tally.figures(&self.core, &self.device, &self.known, now)
+        self.tally
+            .figures(&self.core, &self.device, &self.known, now)
     }
 
     /// How long to wait for the next look: shortly, where a response was heard since.
     fn look_period(&self) -> u64 {
-        if self.core.fates().heard == self.responses { PERIOD } else { SOON }
+        if self.core.fates().heard == self.responses {
+            PERIOD
+        } else {
+            SOON
+        }
     }
 
     /// Asks the neighbours again, if it is time.

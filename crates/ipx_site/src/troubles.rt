@@ -49,24 +49,72 @@ impl Troubles {
     pub fn tell<R: Log>(&mut self, rt: &R, figures: &Figures, now: u64) {
         let f = *figures;
         let full = f.fates.table_full;
-        tell(rt, &mut self.strangers, f.strangers, now, "datagrams came from no peer");
-        tell(rt, &mut self.refused, f.refused, now, "datagrams were to go to no peer");
-        tell(rt, &mut self.table_full, full, now, "responses found a table full");
-        tell(rt, &mut self.queue_full, f.queue_full, now, "packets found no room to wait");
-        tell(rt, &mut self.device, f.device_faults, now, "datagrams the system refused");
-        tell(rt, &mut self.memory, f.memory_faults, now, "times memory was refused");
-        tell(rt, &mut self.file, f.file_faults, now, "times the status file could not be written");
+        tell(
+            rt,
+            &mut self.strangers,
+            f.strangers,
+            now,
+            "datagrams came from no peer",
+        );
+        tell(
+            rt,
+            &mut self.refused,
+            f.refused,
+            now,
+            "datagrams were to go to no peer",
+        );
+        tell(
+            rt,
+            &mut self.table_full,
+            full,
+            now,
+            "responses found a table full",
+        );
+        tell(
+            rt,
+            &mut self.queue_full,
+            f.queue_full,
+            now,
+            "packets found no room to wait",
+        );
+        tell(
+            rt,
+            &mut self.device,
+            f.device_faults,
+            now,
+            "datagrams the system refused",
+        );
+        tell(
+            rt,
+            &mut self.memory,
+            f.memory_faults,
+            now,
+            "times memory was refused",
+        );
+        tell(
+            rt,
+            &mut self.file,
+            f.file_faults,
+            now,
+            "times the status file could not be written",
+        );
     }
 
     /// The moment at which it is time to tell one.
     pub fn next(&self, figures: &Figures) -> Option<u64> {
         let f = *figures;
-        let people = sooner(self.strangers.next(f.strangers), self.refused.next(f.refused));
+        let people = sooner(
+            self.strangers.next(f.strangers),
+            self.refused.next(f.refused),
+        );
         let full = sooner(
             self.table_full.next(f.fates.table_full),
             self.queue_full.next(f.queue_full),
         );
-        let system = sooner(self.device.next(f.device_faults), self.memory.next(f.memory_faults));
+        let system = sooner(
+            self.device.next(f.device_faults),
+            self.memory.next(f.memory_faults),
+        );
         let file = self.file.next(f.file_faults);
         sooner(sooner(people, full), sooner(system, file))
     }

@@ -1,8 +1,9 @@
 //! Turns of a core over a device, one after another, as long as there is something to do.
 
-ghost use Rattle.std.specs.Prelude.{◌≡◌, ◌⊎◌, ◌<◌, ◌≤◌, ◌+◌, ◌^◌, IfOk, IfErr, length};
+ghost use Rattle.std.specs.Prelude.{◌≡◌, ◌⊎◌, ◌<◌, ◌≤◌, ◌+◌, ◌^◌, IfOk, IfErr, Some, None, length};
 ghost use Rattle.ipx_carrier.specs.Runs.{EndsEarly, Runs};
 ghost use Rattle.ipx_carrier.specs.Turns.{peers_of};
+ghost use Rattle.ipx_site.specs.Bursts.{Bursts};
 
 use crate::peers::PeersOnly;
 use crate::senders::Senders;
@@ -30,7 +31,9 @@ fn count_of(count: u128) -> u64 {
 }
 
 impl Burst {
-    fn none() -> Burst {
+    fn none() -> Burst
+        ensures { result.fault ≡ None }
+    {
         Burst {
             heard: 0,
             sent: 0,
@@ -40,10 +43,34 @@ impl Burst {
         }
     }
 
-    fn add(&mut self, report: Report) {
-        self.heard = self.heard.saturating_add(count_of(report.heard));
-        self.sent = self.sent.saturating_add(count_of(report.sent));
-        self.unmapped = self.unmapped.saturating_add(count_of(report.unmapped));
+    fn with(self, report: Report) -> Burst
+        ensures { result.fault ≡ self.fault }
+    {
+        Burst {
+            heard: self.heard.saturating_add(count_of(report.heard)),
+            sent: self.sent.saturating_add(count_of(report.sent)),
+            unmapped: self.unmapped.saturating_add(count_of(report.unmapped)),
+            fault: self.fault,
+            quiet: self.quiet,
+        }
+    }
+
+    fn ended_by(self, fault: RunFault) -> Burst
+        ensures { result.fault ≡ Some fault }
+    {
+        Burst {
+            fault: Some(fault),
+            ..self
+        }
+    }
+
+    fn quieted(self) -> Burst
+        ensures { result.fault ≡ self.fault }
+    {
+        Burst {
+            quiet: true,
+            ..self
+        }
     }
 }
 
@@ -61,12 +88,13 @@ fn take_turn<C: Core, D: Datagrams, K: Clock>(
         (D.traffic device.old) (D.traffic device.new) clock.old clock.new
         core.old core.new report) }
     ensures fault { IfErr result (λ f.
-        ((f ≡ RunFault.Device) × (core.new ≡ core.old) × (device.new ≡ device.old)
-        × (clock.new ≡ clock.old))
+        ((core.new ≡ core.old) × ((f ≡ RunFault.Device) × (device.new ≡ device.old)
+        × (clock.new ≡ clock.old)))
         ⊎ EndsEarly C.hears C.misses C.gives C.withholds K.tells
         (C.port_count core.old) (peers_of peers.now) 1
         (D.traffic device.old) (D.traffic device.new) clock.old clock.new
         f core.old core.new) }
+    ensures ports { C.port_count core.new ≡ C.port_count core.old }
 {
     let ports = core.ports();
     let fits = device.ports() == ports && peers.len() == ports;
@@ -87,23 +115,23 @@ pub fn run_burst<C: Core, D: Senders + Drop, K: Clock>(
     peers: &[Vec<[u8; 4]>],
     clock: &mut K,
     most: u32,
-) -> Burst {
+) -> Burst
+    // What the core is then comes of whole turns, and of a part of one where a fault ended it.
+    ensures turns { Bursts C.hears C.misses C.gives C.withholds (C.port_count core.old)
+        (peers_of peers.now) most result.fault core.old core.new }
+    ensures ports { C.port_count core.new ≡ C.port_count core.old }
+{
     let mut burst = Burst::none();
     for _turn in 0..most {
         let strangers = device.strangers();
-        match take_turn(alloc, core, device, peers, clock) {
-            Ok(report) => {
-                burst.add(report);
-                let idle = report.heard == 0 && report.sent == 0;
-                if idle && device.strangers() == strangers {
-                    burst.quiet = true;
-                    return burst;
-                }
-            }
-            Err(fault) => {
-                burst.fault = Some(fault);
-                return burst;
-            }
+        let report = match take_turn(alloc, core, device, peers, clock) {
+            Ok(report) => report,
+            Err(fault) => return burst.ended_by(fault),
+        };
+        burst = burst.with(report);
+        let idle = report.heard == 0 && report.sent == 0;
+        if idle && device.strangers() == strangers {
+            return burst.quieted();
         }
     }
     burst

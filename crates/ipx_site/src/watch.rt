@@ -140,7 +140,10 @@ impl Known {
         let Ok(held) = router.routes().list(alloc, now) else {
             return Err(OutOfMemory);
         };
-        let networks = held.iter().map(|item| item.0).collect::<Vec<Network>>(alloc)?;
+        let networks = held
+            .iter()
+            .map(|item| item.0)
+            .collect::<Vec<Network>>(alloc)?;
         tell_new_networks(rt, &self.networks, &held);
         tell_lost_networks(rt, &self.networks, &held);
         self.networks = networks;
@@ -157,7 +160,10 @@ impl Known {
         let Ok(held) = router.services().list(alloc, now) else {
             return Err(OutOfMemory);
         };
-        let services = held.iter().map(|item| item.0).collect::<Vec<ServiceKey>>(alloc)?;
+        let services = held
+            .iter()
+            .map(|item| item.0)
+            .collect::<Vec<ServiceKey>>(alloc)?;
         tell_new_services(rt, &self.services, &held);
         tell_lost_services(rt, &self.services, &held);
         self.services = services;

@@ -61,8 +61,8 @@ fn reads_peers(rt: HostRuntime) {
         panic!(rt; "the file has a fault");
     };
     assert_eq!(rt; site.ports.len(), 2);
-    assert!(rt; site.ports[0].peers.as_slice() == [[198, 51, 100, 7], [203, 0, 113, 9]]);
-    assert!(rt; site.ports[1].peers.as_slice() == [[10, 1, 0, 20]]);
+    assert!(rt; site.ports[0].peers.as_slice() == [[198, 51, 100, 7], [203, 0, 113, 9]].as_slice());
+    assert!(rt; site.ports[1].peers.as_slice() == [[10, 1, 0, 20]].as_slice());
 }
 
 #[test]
@@ -70,7 +70,7 @@ fn reads_a_status_file(rt: HostRuntime) {
     let Some(site) = site(rt.alloc(), SITE) else {
         panic!(rt; "the file has a fault");
     };
-    let Some(status) = site.status else {
+    let Some(status) = &site.status else {
         panic!(rt; "it has no status file");
     };
     assert_eq!(rt; status.as_str(), "/run/ipx/hq/hq.prom");

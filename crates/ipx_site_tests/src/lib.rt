@@ -1,14 +1,20 @@
-//! Tests of the files of a site, with literal lines, and of who may speak. They call what
+//! Tests of the files of a site, with literal lines, of who may speak, of waiting and of what is told. They call what
 //! `ipx_site` makes public, and no crate stands on this one.
 #![tactic(auto)]
 
 #[cfg(test)]
 mod faults;
 #[cfg(test)]
+mod figures;
+#[cfg(test)]
 mod files;
 #[cfg(test)]
 mod fixture;
 #[cfg(test)]
+mod moments;
+#[cfg(test)]
 mod peers;
 #[cfg(test)]
 mod sockets;
+#[cfg(test)]
+mod waiting;

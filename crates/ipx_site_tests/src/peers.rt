@@ -47,8 +47,11 @@ impl Senders for Fountain {
 }
 
 /// That device behind the peer 10.0.0.1.
-fn guarded(alloc: Global, from: [u8; 4], accept: Accept) -> Result<PeersOnly<Fountain>, AllocError>
-{
+fn guarded(
+    alloc: Global,
+    from: [u8; 4],
+    accept: Accept,
+) -> Result<PeersOnly<Fountain>, AllocError> {
     let peers = vec![in alloc; [10, 0, 0, 1]]?;
     let guards = vec![in alloc; Guard { peers, accept }]?;
     Ok(PeersOnly::new(Fountain { from }, guards))

@@ -2,7 +2,7 @@
 
 use crate::fixture::site;
 use ipx_carrier::{Datagrams, DeviceFault};
-use ipx_site::{BindFault, Senders, SiteSockets};
+use ipx_site::{BindFault, Obstacle, Senders, SiteSockets};
 use std::test::Fail;
 
 const HERE: &str = "\
@@ -75,5 +75,5 @@ fn tells_who_sent(rt: HostRuntime) -> Result<(), Fail> {
 
 #[test]
 fn names_the_port_that_is_in_use(rt: HostRuntime) {
-    assert!(rt; matches!(bound(&rt, IN_USE), Err(BindFault::Port(2))));
+    assert!(rt; matches!(bound(&rt, IN_USE), Err(BindFault::Port(2, Obstacle::InUse))));
 }

@@ -1,0 +1,102 @@
+//! Waiting for sockets of the loopback, and bursts of turns over them.
+
+use ipx_carrier::{Core, Datagrams, DeviceFault};
+use ipx_site::{
+    Accept, BindFault, Guard, PeersOnly, Readiness, SiteSockets, SteadyClock, run_burst,
+};
+use ipx_wire::{Node, OutOfMemory};
+use std::alloc::{AllocError, Global};
+use std::test::Fail;
+
+const UDP_PORT: u16 = 21392;
+
+/// A core that hears all and says nothing.
+#[derive(Drop)]
+struct Mute;
+
+impl Core for Mute {
+    ghost use Rattle.std.specs.Prelude.{◌≡◌};
+
+    ghost port_count = { λ c. 1 };
+
+    ghost hears = { λ old port bytes now new. new ≡ old };
+
+    ghost gives = { λ old now given new. new ≡ old };
+
+    ghost misses = { λ old port bytes now new. ⊥ };
+
+    ghost withholds = { λ old now new. ⊥ };
+
+    fn ports(&self) -> usize {
+        1
+    }
+
+    fn hear(
+        &mut self,
+        _alloc: Global,
+        _port: usize,
+        _bytes: &[u8],
+        _now: u64,
+    ) -> Result<(), OutOfMemory> {
+        Ok(())
+    }
+
+    fn next(
+        &mut self,
+        _alloc: Global,
+        _now: u64,
+        _room: &mut [u8],
+    ) -> Result<Option<(usize, Node, usize)>, OutOfMemory> {
+        Ok(None)
+    }
+}
+
+fn socket(rt: &HostRuntime, last: u8) -> Result<SiteSockets, BindFault> {
+    SiteSockets::bind_one(rt, rt.alloc(), [127, 0, 92, last], UDP_PORT)
+}
+
+fn send(device: &mut SiteSockets, last: u8) -> Result<(), DeviceFault> {
+    if device.ports() == 0 || device.failures() > 1000 {
+        return Err(DeviceFault);
+    }
+    device.send(0, [127, 0, 92, last], b"abc")
+}
+
+/// These sockets behind the peer 127.0.92.4.
+fn guarded(alloc: Global, sockets: SiteSockets) -> Result<PeersOnly<SiteSockets>, AllocError> {
+    let peers = vec![in alloc; [127, 0, 92, 4]]?;
+    let guard = Guard {
+        peers,
+        accept: Accept::Peers,
+    };
+    Ok(PeersOnly::new(sockets, vec![in alloc; guard]?))
+}
+
+#[test]
+fn tells_that_something_came(rt: HostRuntime) -> Result<(), Fail> {
+    let here = socket(&rt, 1)?;
+    let mut there = socket(&rt, 2)?;
+    let mut ready = Readiness::new(&rt, rt.alloc(), &here)?;
+    assert!(rt; !ready.wait(0)?);
+    send(&mut there, 1)?;
+    assert!(rt; ready.wait(5000)?);
+    assert!(rt; !ready.wait(0)?);
+    Ok(())
+}
+
+#[test]
+fn a_burst_ends_quietly(rt: HostRuntime) -> Result<(), Fail> {
+    let alloc = rt.alloc();
+    let mut peer = socket(&rt, 4)?;
+    let mut stranger = socket(&rt, 5)?;
+    let mut device = guarded(alloc, socket(&rt, 3)?)?;
+    send(&mut stranger, 3)?;
+    send(&mut peer, 3)?;
+    let peers = vec![in alloc; Vec::new(alloc)]?;
+    let mut clock = SteadyClock::new(&rt);
+    let burst = run_burst(alloc, &mut Mute, &mut device, &peers, &mut clock, 8);
+    assert!(rt; burst.quiet && burst.fault.is_none());
+    assert_eq!(rt; (burst.heard, burst.sent), (1, 0));
+    assert_eq!(rt; device.strangers(), 1);
+    Ok(())
+}
