@@ -1,13 +1,13 @@
 //! What the program says of itself.
 
 use clap::builder::ValueParser;
-use clap::{Arg, Command, Error};
+use clap::{Arg, ArgAction, Command, Error};
 use std::alloc::Global;
 
 /// The version of the program.
 pub const VERSION: &str = "0.1.0";
 
-const ABOUT: &str = "Packets of a Novell internetwork: IPX, SPX, RIP and SAP";
+const ABOUT: &str = "Routers and hosts of a Novell internetwork over UDP: IPX, SPX, RIP and SAP";
 
 const STATUSES: &str = "\
 A packet is written in hex, two digits a byte, from its checksum ffff on.
@@ -124,6 +124,68 @@ Port 213 wants the right to bind it.
 Example:
   $ ipx udp --port 20213 < script";
 
+const ROUTE: &str = "\
+A router of one site over UDP (RFC 1234), until it is ended
+
+Reads the file SITE, in TOML: a table [[port]] for each network that it joins, with
+  network   eight hex digits
+  address   the local IP address: the node is two zero bytes and it
+  udp_port  213 where it is left out
+  cost      ticks, 1 where it is left out
+  peers     a list of IP addresses: whom it sends to
+  accept    \"peers\", as where it is left out, or \"any\": who is heard
+and before the first port, if figures are wanted,
+  status    the name of a file, which it writes anew every ten seconds
+It tells each port, and what becomes known or is lost, on standard error.";
+
+const ROUTE_STATUSES: &str = "\
+It ends by itself only at the start. Status 2: the file has a fault, which one line tells, and
+nothing was bound. 1: a socket can't be had, or memory ran out.
+Port 213 wants the right to bind it.
+
+Example:
+  $ ipx route /etc/ipx/site.toml";
+
+const LISTEN: &str = "\
+A host that takes connections, and writes the messages that come
+
+Reads the file HOST, in TOML:
+  network   eight hex digits
+  address   the local IP address: the node is two zero bytes and it
+  router    the IP address of the router: where packets for other networks go
+  udp_port  213 where it is left out
+  socket    four hex digits: where it listens
+  buffers   of each connection, 64 where it is left out
+The bytes of each message go to standard output when it is whole, with nothing between them. Up to
+16 connections are held at once. Where standard output is not read, those who send have to wait, and
+stay connected.";
+
+const LISTEN_STATUSES: &str = "\
+It goes on until it is ended, or with --once until three seconds after the end of a connection.
+Status 0: that end came, and all before it is written. 1: that connection was lost, standard output
+can't be written, the socket can't be had, or memory ran out at the start. 2: the file has a fault,
+which one line on standard error tells, and nothing was bound.
+
+Example:
+  $ ipx listen --once host.toml > copy";
+
+const SEND: &str = "\
+A host that asks for a connection, sends its input, and ends the connection
+
+Reads the file HOST as listen does, and dials from its socket to NET NODE SOCKET, which are eight,
+twelve and four hex digits. What one read of standard input gives, at most 65535 bytes, is a message.
+The input may pause for as long as it likes. Where standard error is a terminal, a line there tells
+how far it is.";
+
+const SEND_STATUSES: &str = "\
+Status 0: the other end has confirmed the end, which stands behind all of the input. 1: nobody
+answers, or the connection is lost or ended by the other end, and a line on standard error tells how
+much was acknowledged; the input can't be read, the socket can't be had, or memory ran out. 2: a word
+or the file has a fault, which one line tells, and nothing was bound.
+
+Example:
+  $ ipx send host.toml 00000033 00007f000104 4002 < file";
+
 fn hop_command<'a>(alloc: Global) -> Command<'a> {
     Command::new(alloc, "hop")
         .about("What a router with two ports does with one packet")
@@ -171,6 +233,46 @@ fn udp_command<'a>(alloc: Global) -> Result<Command<'a>, Error> {
     Ok(command)
 }
 
+/// The argument that names the file of a site or a host.
+fn file_arg<'a>(alloc: Global, name: &'a str, help: &'a str) -> Arg<'a> {
+    Arg::new(alloc, name).required(true).help(help)
+}
+
+fn route_command<'a>(alloc: Global) -> Result<Command<'a>, Error> {
+    let command = Command::new(alloc, "route")
+        .about("A router of one site, over UDP")
+        .long_about(ROUTE)
+        .after_help(ROUTE_STATUSES)
+        .arg(file_arg(alloc, "SITE", "The file of the site"))?;
+    Ok(command)
+}
+
+fn listen_command<'a>(alloc: Global) -> Result<Command<'a>, Error> {
+    let once = Arg::new(alloc, "once")
+        .long("once")
+        .action(ArgAction::SetTrue)
+        .help("Ends behind the first connection that ends");
+    let command = Command::new(alloc, "listen")
+        .about("A host that takes connections, and writes the messages that come")
+        .long_about(LISTEN)
+        .after_help(LISTEN_STATUSES)
+        .arg(file_arg(alloc, "HOST", "The file of the host"))?
+        .arg(once)?;
+    Ok(command)
+}
+
+fn send_command<'a>(alloc: Global) -> Result<Command<'a>, Error> {
+    let command = Command::new(alloc, "send")
+        .about("A host that asks for a connection, and sends its input")
+        .long_about(SEND)
+        .after_help(SEND_STATUSES)
+        .arg(file_arg(alloc, "HOST", "The file of the host"))?
+        .arg(file_arg(alloc, "NET", "The network to dial, eight hex digits"))?
+        .arg(file_arg(alloc, "NODE", "The node there, twelve hex digits"))?
+        .arg(file_arg(alloc, "SOCKET", "Its socket, four hex digits"))?;
+    Ok(command)
+}
+
 /// The program's commands, with what is said of them.
 pub fn whole_command<'a>(alloc: Global) -> Result<Command<'a>, Error> {
     let command = Command::new(alloc, "ipx")
@@ -183,6 +285,9 @@ pub fn whole_command<'a>(alloc: Global) -> Result<Command<'a>, Error> {
         .subcommand(show_command(alloc)?)?
         .subcommand(check_command(alloc))?
         .subcommand(sim_command(alloc))?
-        .subcommand(udp_command(alloc)?)?;
+        .subcommand(udp_command(alloc)?)?
+        .subcommand(route_command(alloc)?)?
+        .subcommand(listen_command(alloc)?)?
+        .subcommand(send_command(alloc)?)?;
     Ok(command)
 }

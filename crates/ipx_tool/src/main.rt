@@ -6,8 +6,11 @@ mod words;
 
 use clap::error::ErrorKind;
 use ipx_commands::{do_check, do_hop, do_show, tell_no_memory};
+use ipx_ends::{do_listen, do_send};
 use ipx_sim::do_sim;
+use ipx_site::do_route;
 use ipx_udp::do_udp;
+use std::io::IsTerminal;
 use std::process::ExitCode;
 use std::{env, io};
 use words::{Task, fault_of, task_of};
@@ -35,6 +38,14 @@ fn do_task(rt: &HostRuntime, task: Task<'_>) -> Result<u8, u8> {
         Task::Check => do_check(rt.alloc(), &mut rt.stdin(), &mut io::writer(rt)),
         Task::Sim => do_sim(rt.alloc(), &mut rt.stdin(), &mut io::writer(rt)),
         Task::Udp(port) => do_udp(rt, rt.alloc(), &mut rt.stdin(), &mut io::writer(rt), port),
+        Task::Route(file) => Ok(do_route(rt, rt.alloc(), file)),
+        Task::Listen(file, once) => {
+            Ok(do_listen(rt, rt.alloc(), file, once, &mut io::writer(rt)))
+        }
+        Task::Send(file, target) => {
+            let shows = rt.stderr().is_terminal();
+            Ok(do_send(rt, rt.alloc(), file, target, &mut rt.stdin(), shows))
+        }
     }
 }
 

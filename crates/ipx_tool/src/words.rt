@@ -1,11 +1,13 @@
 //! What the words of the command line ask for.
 
-ghost use Rattle.std.specs.Prelude.{◌∷◌, [], ℕ, List, IfSome, map, string_bytes};
+ghost use Rattle.std.specs.Prelude.{◌≡◌, ◌∷◌, [], ℕ, List, IfSome, codes, map, nat_eq, string_bytes};
+ghost use Rattle.std.specs.List.{starts_with};
 ghost use Rattle.ipx_tool.specs.Words.{AsksFor};
 
 use crate::help::whole_command;
 use clap::Error;
 use clap::error::ErrorKind;
+use ipx_ends::Target;
 use std::alloc::Global;
 
 /// A command of the program. The text of `Show` is its packet in hex.
@@ -16,14 +18,21 @@ pub enum Task<'a> {
     Sim,
     /// The UDP port of every socket.
     Udp(u16),
+    /// The file of the site.
+    Route(&'a str),
+    /// The file of the host, and whether it ends behind the first connection.
+    Listen(&'a str, bool),
+    /// The file of the host, and whom it dials.
+    Send(&'a str, Target<'a>),
 }
 
 /// The UDP port of IPX (RFC 1234).
 const IPX_PORT: u16 = 213;
 
 /// The command that the words ask for, the program's own name first: just `hop`, `check`, `sim` or
-/// `udp`; `show` and one word that is no option; or `udp` and a port, as `--port P` or `--port=P`. No
-/// other words ask for one.
+/// `udp`; `show`, `route` or `listen` and one word that is no option; `listen` and such a word with
+/// `--once` before or behind it; `send` and four words that are no options; or `udp` and a port, as
+/// `--port P` or `--port=P`. No other words ask for one.
 pub fn task_of(words: &[String]) -> Option<Task<'_>>
     ensures { IfSome result (AsksFor (map string_bytes words.now)) }
 {
@@ -32,6 +41,14 @@ pub fn task_of(words: &[String]) -> Option<Task<'_>>
         [_, command, word] => one_word_task(command.as_str(), word.as_str()),
         [_, command, option, value] => {
             option_task(command.as_str(), option.as_str(), value.as_str())
+        }
+        [_, command, file, network, node, socket] => {
+            let target = Target {
+                network: network.as_str(),
+                node: node.as_str(),
+                socket: socket.as_str(),
+            };
+            send_task(command.as_str(), file.as_str(), target)
         }
         _ => None,
     }
@@ -49,14 +66,50 @@ fn plain_task(command: &str) -> Option<Task<'_>>
     }
 }
 
-fn show_task<'a>(command: &str, packet: &'a str) -> Option<Task<'a>>
-    ensures { IfSome result (λ t.
-        (name : List ℕ) → AsksFor (name ∷ command.now ∷ packet.now ∷ []) t) }
+/// Whether a word is an option.
+fn is_option(word: &str) -> bool
+    ensures { result ≡ starts_with nat_eq word.now (codes "-") }
 {
-    if command != "show" || packet.as_bytes().starts_with(b"-") {
+    word.as_bytes().starts_with(b"-")
+}
+
+/// A command with a word that is no option: the packet of `show`, or a file.
+fn word_task<'a>(command: &str, word: &'a str) -> Option<Task<'a>>
+    ensures { IfSome result (λ t.
+        (name : List ℕ) → AsksFor (name ∷ command.now ∷ word.now ∷ []) t) }
+{
+    if is_option(word) {
         return None;
     }
-    Some(Task::Show(packet))
+    match command {
+        "show" => Some(Task::Show(word)),
+        "route" => Some(Task::Route(word)),
+        "listen" => Some(Task::Listen(word, false)),
+        _ => None,
+    }
+}
+
+/// A host that listens until the end of one connection.
+fn once_task<'a>(command: &str, file: &'a str) -> Option<Task<'a>>
+    ensures { IfSome result (λ t.
+        (name : List ℕ) (rest : List (List ℕ)) → AsksFor (name ∷ command.now ∷ rest) t) }
+{
+    if command != "listen" || is_option(file) {
+        return None;
+    }
+    Some(Task::Listen(file, true))
+}
+
+/// A host that sends.
+fn send_task<'a>(command: &str, file: &'a str, target: Target<'a>) -> Option<Task<'a>>
+    ensures { IfSome result (λ t.
+        (name : List ℕ) (rest : List (List ℕ)) → AsksFor (name ∷ command.now ∷ rest) t) }
+{
+    let words = is_option(file) || is_option(target.network);
+    if command != "send" || words || is_option(target.node) || is_option(target.socket) {
+        return None;
+    }
+    Some(Task::Send(file, target))
 }
 
 /// A port from 1 to 65,535 in decimal digits.
@@ -75,26 +128,27 @@ fn udp_task<'a>(command: &str, port: Option<u16>) -> Option<Task<'a>>
     Some(Task::Udp(port?))
 }
 
-/// A command with one word more: a packet of `show`, or the port of `udp`.
+/// A command with one word more: one that is no option, or the port of `udp`.
 fn one_word_task<'a>(command: &str, word: &'a str) -> Option<Task<'a>>
     ensures { IfSome result (λ t.
         (name : List ℕ) → AsksFor (name ∷ command.now ∷ word.now ∷ []) t) }
 {
     match word.strip_prefix("--port=") {
         Some(port) => udp_task(command, port_of(port)),
-        None => show_task(command, word),
+        None => word_task(command, word),
     }
 }
 
-/// A command with an option and its value: the port of `udp`.
-fn option_task<'a>(command: &str, option: &str, value: &str) -> Option<Task<'a>>
+/// A command with two words more: the port of `udp`, or the file of `listen` and `--once`.
+fn option_task<'a>(command: &str, first: &'a str, second: &'a str) -> Option<Task<'a>>
     ensures { IfSome result (λ t.
         (name : List ℕ) (rest : List (List ℕ)) → AsksFor (name ∷ command.now ∷ rest) t) }
 {
-    if option != "--port" {
-        return None;
+    match (first, second) {
+        ("--port", port) => udp_task(command, port_of(port)),
+        ("--once", file) | (file, "--once") => once_task(command, file),
+        _ => None,
     }
-    udp_task(command, port_of(value))
 }
 
 /// Why words ask for no command: a mistake in them, or a call for help or the version, with the

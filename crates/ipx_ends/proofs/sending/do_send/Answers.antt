@@ -1,0 +1,8 @@
+use Rattle.std.proofs.Common.{◌≡◌}
+use Rattle.ipx_wire.specs.declared.address.Address.{Address}
+use Rattle.ipx_ends.specs.Target.{Names}
+use Rattle.ipx_ends.proofs.sending.do_send.Goals as goal
+
+-- words that were read name an address
+pub returns : goal.returns
+returns g c = record { words = λ nothing. absurd (nothing c.in-Ok.to c.in-Ok.ensures.named) }

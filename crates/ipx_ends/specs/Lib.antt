@@ -1,0 +1,3 @@
+pub mod Fate
+pub mod Transfer
+pub mod Target

@@ -1,0 +1,76 @@
+//! The connections that a listening host accepted.
+
+ghost use Rattle.std.specs.Prelude.{◌≡◌, ◌↔◌, Some};
+ghost use Rattle.spx_link.specs.declared.state.State.TheVariants as States;
+ghost use Rattle.ipx_ends.specs.Fate.{IsOver, IsToAsk};
+ghost use Rattle.ipx_ends.specs.declared.callers.Fate.TheVariants as Fates;
+
+use ipx_wire::Address;
+use spx_link::State;
+
+/// How long a connection is kept once its end came, counted from the last datagram of it, in
+/// milliseconds: a peer that lost the confirmation asks again each half second.
+pub const LINGER: u64 = 3000;
+
+/// How long an open connection is silent before it is asked whether it is still there, in
+/// milliseconds.
+pub const SILENCE: u64 = 60_000;
+
+/// How a connection that was accepted stands with this host.
+#[derive(Clone, Copy, Debug, PartialEq, Eq)]
+pub enum Standing {
+    Open,
+    /// It was silent, and is asked whether it is still there.
+    Asked,
+    /// Its end was taken: all that came before it, too.
+    Ended,
+}
+
+/// A connection that was accepted.
+#[derive(Clone, Copy, Debug)]
+pub struct Caller {
+    pub id: u16,
+    pub from: Address,
+    /// The moment at which it was heard last.
+    pub heard: u64,
+    pub standing: Standing,
+}
+
+impl Caller {
+    /// It is heard at a moment, so it is there.
+    pub fn hear(&mut self, now: u64) {
+        self.heard = now;
+        if self.standing == Standing::Asked {
+            self.standing = Standing::Open;
+        }
+    }
+}
+
+/// What becomes of a connection.
+#[derive(Clone, Copy, Debug, PartialEq, Eq)]
+pub enum Fate {
+    /// It is held on.
+    Stays,
+    /// It is held on, and asked whether it is still there.
+    Asks,
+    /// It is over, and its place is free for another.
+    Over,
+    /// It was given up before its end came.
+    GivenUp,
+}
+
+/// What becomes of a connection of this standing, whose link has this state, or is gone, and that
+/// was silent for so many milliseconds.
+pub fn fate_of(standing: Standing, state: Option<State>, silent: u64) -> Fate
+    ensures given_up { (result ≡ Fates.GivenUp) ↔ (state ≡ Some States.Lost) }
+    ensures over { (result ≡ Fates.Over) ↔ IsOver standing state silent }
+    ensures asks { (result ≡ Fates.Asks) ↔ IsToAsk standing state silent }
+{
+    match (standing, state) {
+        (_, Some(State::Lost)) => Fate::GivenUp,
+        (_, None | Some(State::Confirmed)) => Fate::Over,
+        (Standing::Ended, _) if silent >= LINGER => Fate::Over,
+        (Standing::Open, _) if silent >= SILENCE => Fate::Asks,
+        _ => Fate::Stays,
+    }
+}

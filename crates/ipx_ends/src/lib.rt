@@ -1,0 +1,21 @@
+//! The hosts that one runs at a site: one that listens, `ipx listen`, and one that sends, `ipx send`.
+//!
+//! [`do_listen`] takes connections and writes the messages that come. [`do_send`] asks for one, and
+//! sends what it reads. Each runs by the file of a host until it is over.
+#![tactic(auto)]
+
+mod callers;
+mod end_core;
+mod gate;
+mod ledger;
+mod listening;
+mod outlet;
+mod sending;
+mod start;
+mod station;
+mod target;
+mod verdict;
+
+pub use listening::do_listen;
+pub use sending::do_send;
+pub use target::Target;

@@ -1,0 +1,344 @@
+//! The command `send`: a host that asks for a connection, and sends what it reads.
+
+ghost use Rattle.std.specs.Prelude.{◌≡◌, ◌⊎◌, [], IfSome, OnOk};
+ghost use Rattle.ipx_wire.specs.declared.address.Address.{Address};
+ghost use Rattle.spx_link.specs.Offer.{offer_link};
+ghost use Rattle.spx_units.specs.Cut.{cut_of};
+ghost use Rattle.spx_messages.specs.Changes.{ChangesEnd};
+ghost use Rattle.spx_messages.specs.EndpointView.{held_at};
+ghost use Rattle.ipx_ends.specs.Target.{Names};
+
+use crate::gate::Gate;
+use crate::ledger::Ledger;
+use crate::start::{StartFault, tell_start};
+use crate::station::Station;
+use crate::target::Target;
+use crate::verdict::{Verdict, verdict_of};
+use ipx_site::{HostFile, load_host};
+use ipx_wire::{Address, Socket};
+use log::Log;
+use mio::Interest;
+use spx_link::State;
+use spx_messages::{EndFault, Endpoint, MOST_BYTES, Message, MessageFault, Taken};
+use std::alloc::Global;
+use std::io::{ErrorKind, Read};
+use std::net::Net;
+use std::os::fd::RawFd;
+use std::rt::{Clock, Files};
+use std::time::SystemTime;
+
+/// The most units that are handed in and not acknowledged before no more is read.
+const MOST_AHEAD: u64 = 2048;
+
+/// How long a confirmation is waited for once the peer ended the connection too, in milliseconds.
+const PATIENCE: u64 = 6000;
+
+/// The time between two lines of progress, and the longest wait, in milliseconds.
+const SECOND: u64 = 1000;
+
+const LONG: u64 = 3_600_000;
+
+/// How many ids a host has for its connections.
+const IDS: u128 = 65_534;
+
+/// The descriptor of standard input.
+const STDIN: RawFd = 0;
+
+/// A host that sends.
+#[derive(Drop)]
+struct Sending<'a, R: Clock> {
+    station: Station<'a, R>,
+    id: u16,
+    gate: Gate,
+    room: Vec<u8>,
+    ledger: Ledger,
+    /// Whether the connection was open.
+    joined: bool,
+    /// Whether all of the input is read.
+    read: bool,
+    /// Whether the end is queued.
+    closed: bool,
+    /// When the end of the peer was seen.
+    left: Option<u64>,
+    shows: bool,
+    next_shown: u64,
+}
+
+/// How many ids the connection of this run passes over: the milliseconds of the day's clock tell
+/// it, so two runs within a minute have different ids. A host that still holds the connection of
+/// the run before would take a request of the same id for that one.
+fn passed_ids<R: Clock>(rt: &R) -> u16 {
+    let Ok(now) = SystemTime::now(rt) else {
+        return 0;
+    };
+    let Ok(since) = now.duration_since(SystemTime::UNIX_EPOCH) else {
+        return 0;
+    };
+    u16::try_from(since.as_millis() % IDS).unwrap_or(0)
+}
+
+/// Lets an endpoint pass over so many ids, which go up with each connection.
+fn pass_ids(
+    alloc: Global,
+    endpoint: &mut Endpoint,
+    socket: Socket,
+    to: Address,
+    count: u16,
+) -> Result<(), EndFault> {
+    for _ in 0..count {
+        let id = endpoint.dial(alloc, socket, to, 1, 0)?;
+        endpoint.release(id)?;
+    }
+    Ok(())
+}
+
+/// The id of a new connection.
+fn dialed<R: Clock>(
+    rt: &R,
+    alloc: Global,
+    endpoint: &mut Endpoint,
+    file: &HostFile,
+    to: Address,
+) -> Result<u16, EndFault> {
+    pass_ids(alloc, endpoint, file.socket, to, passed_ids(rt))?;
+    endpoint.dial(alloc, file.socket, to, file.buffers, 0)
+}
+
+/// Hands bytes in as one message.
+fn hand_in(alloc: Global, endpoint: &mut Endpoint, id: u16, bytes: &[u8]) -> Result<(), EndFault>
+    ensures whole { IfSome (held_at endpoint.old id) (λ h. OnOk result
+        (ChangesEnd endpoint.old endpoint.new id (record h {
+          link = offer_link h.link
+              (cut_of (record { stream = 0; body = bytes.now }));
+        }))) }
+{
+    let Ok(body) = Vec::from_slice(alloc, bytes) else {
+        return Err(EndFault::Message(MessageFault::OutOfMemory));
+    };
+    endpoint.send(alloc, id, &Message { stream: 0, body })
+}
+
+impl<'a, R: Net + Log + Clock + Eprint> Sending<'a, R> {
+    fn open(
+        rt: &'a R,
+        alloc: Global,
+        file: &HostFile,
+        to: Address,
+        shows: bool,
+    ) -> Result<Sending<'a, R>, StartFault> {
+        let mut station = Station::open(rt, alloc, file)?;
+        let Ok(id) = dialed(rt, alloc, &mut station.core.endpoint, file, to) else {
+            return Err(StartFault::OutOfMemory);
+        };
+        let gate = Gate::new(rt, alloc, STDIN, Interest::READABLE);
+        station.watch(gate.fd());
+        Ok(Sending {
+            station,
+            id,
+            gate,
+            room: vec![in alloc; 0; MOST_BYTES]?,
+            ledger: Ledger::new(alloc),
+            joined: false,
+            read: false,
+            closed: false,
+            left: None,
+            shows,
+            next_shown: 0,
+        })
+    }
+
+    /// Notes how the connection stands, and answers its state.
+    fn look(&mut self) -> Option<State> {
+        let endpoint = &self.station.core.endpoint;
+        if let Ok(numbers) = endpoint.numbers(self.id) {
+            self.ledger.acknowledge(numbers);
+        }
+        let state = endpoint.state(self.id).ok();
+        match state {
+            Some(State::Opening | State::Lost) | None => {}
+            Some(_) => self.joined = true,
+        }
+        if state == Some(State::PeerEnded) && self.left.is_none() {
+            self.left = Some(self.station.moment());
+        }
+        state
+    }
+
+    /// Whether a confirmation may still come, where the peer ended the connection.
+    fn waits(&self) -> bool {
+        match self.left {
+            Some(left) => { self.closed && self.station.moment().saturating_sub(left) < PATIENCE }
+            None => true,
+        }
+    }
+
+    /// Reads once, and hands in what came as one message. It answers whether something came, or
+    /// the end did.
+    fn read_some<I: Read>(&mut self, alloc: Global, reader: &mut I) -> Result<bool, Verdict> {
+        let count = match reader.read(&mut self.room) {
+            Ok(count) => count,
+            Err(error) if error.kind() == ErrorKind::Interrupted => return Ok(true),
+            Err(error) if error.kind() == ErrorKind::WouldBlock => {
+                self.gate.pass();
+                return Ok(false);
+            }
+            Err(_) => return Err(Verdict::Unread),
+        };
+        self.gate.pass();
+        if count == 0 {
+            self.read = true;
+            return Ok(true);
+        }
+        let endpoint = &mut self.station.core.endpoint;
+        let handed = hand_in(alloc, endpoint, self.id, &self.room[..count]);
+        if handed.is_err() || self.ledger.add(count as u64).is_err() {
+            return Err(Verdict::OutOfMemory);
+        }
+        Ok(true)
+    }
+
+    /// Reads where there is something to read and not too much is on its way, and queues the end
+    /// behind it. It answers whether anything was queued.
+    fn feed<I: Read>(&mut self, alloc: Global, reader: &mut I) -> Result<bool, Verdict> {
+        if self.read && !self.closed {
+            self.closed = self.station.core.endpoint.close(alloc, self.id).is_ok();
+            return Ok(self.closed);
+        }
+        if self.read || self.ledger.ahead() >= MOST_AHEAD || !self.gate.is_open() {
+            return Ok(false);
+        }
+        self.read_some(alloc, reader)
+    }
+
+    /// Lets go what the peer sends: its buffers are free again.
+    fn drop_what_came(&mut self, alloc: Global) {
+        for _ in 0..u16::MAX {
+            match self.station.core.endpoint.take(alloc, self.id) {
+                Ok(Taken::Nothing) | Err(_) => break,
+                Ok(_) => {}
+            }
+        }
+    }
+
+    /// Shows how far it is, once a second.
+    fn show(&mut self, rt: &R) {
+        let moment = self.station.moment();
+        if !self.shows || moment < self.next_shown {
+            return;
+        }
+        self.next_shown = moment.saturating_add(SECOND);
+        let acknowledged = self.ledger.acknowledged();
+        let given = self.ledger.given();
+        let _ = eprint!(rt; "\r{acknowledged} of {given} bytes acknowledged");
+    }
+
+    /// Takes a turn, and reads. It answers whether there may be more to do at once.
+    fn step<I: Read>(&mut self, rt: &R, alloc: Global, reader: &mut I) -> Result<bool, Verdict> {
+        let turn = self.station.turn(rt, alloc);
+        let state = self.look();
+        if let Some(verdict) = verdict_of(state, self.joined, self.waits()) {
+            return Err(verdict);
+        }
+        self.drop_what_came(alloc);
+        let fed = state == Some(State::Live) && self.feed(alloc, reader)?;
+        self.show(rt);
+        Ok(turn.active || fed)
+    }
+
+    /// Takes a turn, and waits where there is nothing to do.
+    fn step_or_wait<I: Read>(
+        &mut self,
+        rt: &R,
+        alloc: Global,
+        reader: &mut I,
+    ) -> Result<(), Verdict> {
+        if self.step(rt, alloc, reader)? {
+            return Ok(());
+        }
+        let most = if self.shows || self.left.is_some() {
+            SECOND
+        } else {
+            LONG
+        };
+        match self.station.wait(most) {
+            Ok(()) => Ok(()),
+            Err(_) => Err(Verdict::Unwaited),
+        }
+    }
+
+    /// Runs until the transfer is over.
+    fn serve<I: Read>(&mut self, rt: &R, alloc: Global, reader: &mut I) -> Verdict {
+        for _ in 0..u64::MAX {
+            if let Err(verdict) = self.step_or_wait(rt, alloc, reader) {
+                return verdict;
+            }
+        }
+        Verdict::GivenUp
+    }
+
+    /// Prints how a transfer ended. Where all went well that is a line on a terminal alone.
+    fn tell(&mut self, rt: &R, to: Address, verdict: Verdict) {
+        let given = self.ledger.given();
+        let acknowledged = self.ledger.acknowledged();
+        if self.shows {
+            let _ = eprintln!(rt; "\r{acknowledged} of {given} bytes acknowledged");
+        }
+        let what = match verdict {
+            Verdict::Done => return,
+            Verdict::Unanswered => return tell_nobody(rt, to),
+            Verdict::GivenUp => "the connection is lost",
+            Verdict::PeerLeft => "the other end ended the connection",
+            Verdict::Unread => "standard input can't be read",
+            Verdict::OutOfMemory => "out of memory",
+            Verdict::Unwaited => "the system can't wait for the socket",
+        };
+        let _ = eprintln!(rt; "{what}: {acknowledged} of {given} bytes acknowledged");
+    }
+}
+
+/// Prints that nobody answers at an address.
+fn tell_nobody<R: Eprint>(rt: &R, to: Address) {
+    let network = to.network;
+    let node = to.node;
+    let socket = to.socket;
+    let _ = eprintln!(rt; "nobody answers at {network} {node} {socket}");
+}
+
+/// The command `send`: runs the host of a file, asks for a connection to an address, sends what it
+/// reads, and ends the connection behind it. What one read gives, at most 65,535 bytes, is one
+/// message. Where the input pauses, the connection stays.
+///
+/// The answer is the status: 0 where the other end has confirmed the end, which stands behind all
+/// that was read; 1 where nobody answers, the connection is lost or ended by the other end, the
+/// input fails, the socket can't be had or memory is refused; 2 for a fault of the words or the file. What
+/// is wrong is a line on standard error. With `shows` a line there tells how far it is.
+pub fn do_send<R: Net + Log + Files + Clock + Eprint, I: Read>(
+    rt: &R,
+    alloc: Global,
+    path: &str,
+    target: Target<'_>,
+    reader: &mut I,
+    shows: bool,
+) -> u8
+    // Words that name no address are told, and nothing is read or bound.
+    ensures words { ((a : Address) → Names target.entry a → ⊥) → result ≡ 2 }
+{
+    let to = match target.address() {
+        Ok(to) => to,
+        Err(fault) => {
+            let _ = eprintln!(rt; "{fault}");
+            return 2;
+        }
+    };
+    let file = match load_host(rt, alloc, path) {
+        Ok(file) => file,
+        Err(status) => return status,
+    };
+    let mut sending = match Sending::open(rt, alloc, &file, to, shows) {
+        Ok(sending) => sending,
+        Err(fault) => return tell_start(rt, path, fault),
+    };
+    let verdict = sending.serve(rt, alloc, reader);
+    sending.tell(rt, to, verdict);
+    verdict.status()
+}

@@ -1,0 +1,65 @@
+//! Why a host does not start.
+
+ghost use Rattle.std.specs.Prelude.{◌≡◌};
+
+use ipx_site::{BindFault, Obstacle, WaitFault};
+use ipx_wire::OutOfMemory;
+use std::alloc::{AllocError, AllocFailed};
+
+/// Why a host does not start.
+#[derive(Clone, Copy, Debug, PartialEq, Eq)]
+pub enum StartFault {
+    OutOfMemory,
+    /// Its socket can't be had.
+    Bind(Obstacle),
+    /// The system has no way to wait.
+    Wait,
+}
+
+impl From<OutOfMemory> for StartFault {
+    fn from(_error: OutOfMemory) -> StartFault {
+        StartFault::OutOfMemory
+    }
+}
+
+impl From<AllocError> for StartFault {
+    fn from(_error: AllocError) -> StartFault {
+        StartFault::OutOfMemory
+    }
+}
+
+impl<T: Drop> From<AllocFailed<T>> for StartFault {
+    fn from(_error: AllocFailed<T>) -> StartFault {
+        StartFault::OutOfMemory
+    }
+}
+
+impl From<BindFault> for StartFault {
+    fn from(fault: BindFault) -> StartFault {
+        match fault {
+            BindFault::OutOfMemory => StartFault::OutOfMemory,
+            BindFault::Port(_, obstacle) => StartFault::Bind(obstacle),
+        }
+    }
+}
+
+impl From<WaitFault> for StartFault {
+    fn from(fault: WaitFault) -> StartFault {
+        match fault {
+            WaitFault::OutOfMemory => StartFault::OutOfMemory,
+            WaitFault::System => StartFault::Wait,
+        }
+    }
+}
+
+/// Prints why the host of a file does not start, and answers the status 1.
+pub fn tell_start<R: Eprint>(rt: &R, path: &str, fault: StartFault) -> u8
+    ensures { result ≡ 1 }
+{
+    let _ = match fault {
+        StartFault::OutOfMemory => eprintln!(rt; "{path}: out of memory"),
+        StartFault::Bind(obstacle) => eprintln!(rt; "{path}: {obstacle}"),
+        StartFault::Wait => eprintln!(rt; "{path}: the system can't wait for the socket"),
+    };
+    1
+}

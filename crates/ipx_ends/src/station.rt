@@ -1,0 +1,126 @@
+//! A host by its file: its endpoint, its socket and its clock.
+
+use crate::end_core::EndCore;
+use crate::start::StartFault;
+use ipx_carrier::{Core, Datagrams, node_of, run};
+use ipx_site::{Cause, HostFile, Readiness, SiteSockets, SteadyClock, WaitFault};
+use log::{Log, warn};
+use spx_messages::Endpoint;
+use std::alloc::Global;
+use std::net::Net;
+use std::os::fd::RawFd;
+use std::rt::Clock;
+
+/// What a turn did.
+#[derive(Clone, Copy, Debug)]
+pub struct Turn {
+    /// A datagram was heard.
+    pub heard: bool,
+    /// A datagram was heard or sent: the next turn may have something to do as well.
+    pub active: bool,
+}
+
+/// A host that runs.
+#[derive(Drop)]
+pub struct Station<'a, R: Clock> {
+    pub core: EndCore,
+    sockets: SiteSockets,
+    peers: Vec<Vec<[u8; 4]>>,
+    clock: SteadyClock<'a, R>,
+    readiness: Readiness,
+    unheard: u64,
+    of_memory: Cause,
+    of_system: Cause,
+}
+
+impl<'a, R: Net + Log + Clock> Station<'a, R> {
+    /// A host that is bound as its file says. It hears whoever reaches its socket.
+    pub fn open(rt: &'a R, alloc: Global, file: &HostFile) -> Result<Station<'a, R>, StartFault> {
+        let node = node_of(file.address);
+        let endpoint = Endpoint::new(alloc, file.network, node, node_of(file.router));
+        let router = vec![in alloc; file.router]?;
+        let sockets = SiteSockets::bind_one(rt, alloc, file.address, file.udp_port)?;
+        let readiness = Readiness::new(rt, alloc, &sockets)?;
+        Ok(Station {
+            core: EndCore::new(endpoint),
+            sockets,
+            peers: vec![in alloc; router]?,
+            clock: SteadyClock::new(rt),
+            readiness,
+            unheard: 0,
+            of_memory: Cause::new(),
+            of_system: Cause::new(),
+        })
+    }
+
+    /// Ends a wait when this descriptor is readable, too.
+    pub fn watch(&mut self, fd: Option<RawFd>) {
+        if let Some(fd) = fd {
+            let _ = self.readiness.watch_reading(fd);
+        }
+    }
+
+    /// The moment of the last turn, in milliseconds from the start.
+    pub fn moment(&self) -> u64 {
+        self.core.moment()
+    }
+
+    /// Takes one turn. What the system or memory refuses is counted and told, and goes on.
+    pub fn turn(&mut self, rt: &R, alloc: Global) -> Turn {
+        let turn = self.take_turn(alloc);
+        let now = self.core.moment();
+        let faults = self.sockets.faults();
+        if let Some(more) = self.of_system.tell(faults, now) {
+            warn!(rt; target: "ipx", "{more} datagrams the system refused ({faults} since the start)");
+        }
+        let unheard = self.unheard;
+        if let Some(more) = self.of_memory.tell(unheard, now) {
+            warn!(rt; target: "ipx", "{more} times memory was refused ({unheard} since the start)");
+        }
+        turn
+    }
+
+    fn take_turn(&mut self, alloc: Global) -> Turn {
+        let ports = self.core.ports();
+        let fits = self.sockets.ports() == ports && self.peers.len() == ports;
+        if !fits || self.sockets.failures() == u64::MAX {
+            return Turn {
+                heard: false,
+                active: false,
+            };
+        }
+        let ran = run(
+            alloc,
+            &mut self.core,
+            &mut self.sockets,
+            &self.peers,
+            &mut self.clock,
+            1,
+        );
+        match ran {
+            Ok(report) => Turn {
+                heard: report.heard > 0,
+                active: report.heard > 0 || report.sent > 0 || report.unmapped > 0,
+            },
+            Err(_) => {
+                self.unheard = self.unheard.saturating_add(1);
+                Turn {
+                    heard: false,
+                    active: true,
+                }
+            }
+        }
+    }
+
+    /// Waits until something may be done: a datagram came, a descriptor that is watched is
+    /// readable, the endpoint has something to send, or so many milliseconds are over.
+    pub fn wait(&mut self, most: u64) -> Result<(), WaitFault> {
+        let now = self.core.moment();
+        let due = match self.core.endpoint.next_due() {
+            Some(due) => due.saturating_sub(now),
+            None => most,
+        };
+        self.readiness.wait(most.min(due))?;
+        Ok(())
+    }
+}
