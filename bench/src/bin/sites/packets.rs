@@ -1,0 +1,168 @@
+//! Packets a second through one process.
+
+use crate::or_say;
+use crate::world::{Process, World, node};
+use crate::Port;
+use std::io;
+use std::net::UdpSocket;
+use std::sync::atomic::{AtomicU64, Ordering};
+use std::thread;
+use std::time::{Duration, Instant};
+
+const SENDER: &str = "127.0.2.20";
+const RECEIVER: &str = "127.0.2.30";
+const SIZES: [usize; 3] = [30, 576, 1500];
+/// How many packets are on their way at once: fewer than a socket's room holds.
+const WINDOW: u64 = 64;
+/// A repetition, and how often both sides are gone through in turn.
+const REPETITION: Duration = Duration::from_millis(400);
+const TIMES: usize = 6;
+/// After this silence what is on its way is given up as lost.
+const SILENCE: Duration = Duration::from_millis(20);
+
+/// A packet from the sender's host to the receiver's, of so many bytes.
+fn packet(size: usize) -> Vec<u8> {
+    let mut bytes = vec![0; size];
+    bytes[..2].copy_from_slice(&[0xff, 0xff]);
+    bytes[2..4].copy_from_slice(&(size as u16).to_be_bytes());
+    bytes[5] = 4;
+    bytes[6..10].copy_from_slice(&[0, 0, 0, 0x22]);
+    bytes[10..16].copy_from_slice(&node(RECEIVER));
+    bytes[16..18].copy_from_slice(&[0x40, 0]);
+    bytes[18..22].copy_from_slice(&[0, 0, 0, 0x11]);
+    bytes[22..28].copy_from_slice(&node(SENDER));
+    bytes[28..30].copy_from_slice(&[0x50, 0]);
+    bytes
+}
+
+/// Counts packets of that size until the moment.
+fn count(socket: &UdpSocket, size: usize, end: Instant, received: &AtomicU64) -> io::Result<()> {
+    let mut room = [0; 1536];
+    socket.set_read_timeout(Some(SILENCE))?;
+    while Instant::now() < end {
+        if let Ok((count, _)) = socket.recv_from(&mut room)
+            && count == size
+            && room[16..18] == [0x40, 0]
+        {
+            received.fetch_add(1, Ordering::Release);
+        }
+    }
+    Ok(())
+}
+
+/// Sends packets until the moment, with at most a window of them on their way. It answers how many
+/// were lost.
+fn pour(
+    socket: &UdpSocket,
+    to: (&str, u16),
+    bytes: &[u8],
+    end: Instant,
+    received: &AtomicU64,
+) -> io::Result<u64> {
+    let (mut sent, mut lost, mut last) = (0, 0, 0);
+    let mut moved = Instant::now();
+    while Instant::now() < end {
+        let came = received.load(Ordering::Acquire);
+        if came != last {
+            last = came;
+            moved = Instant::now();
+        }
+        if sent - lost - came < WINDOW {
+            socket.send_to(bytes, to)?;
+            sent += 1;
+        } else if moved.elapsed() > SILENCE {
+            lost = sent - came;
+            moved = Instant::now();
+        } else {
+            thread::yield_now();
+        }
+    }
+    Ok(lost)
+}
+
+/// Packets a second, in at one address and out to the receiver.
+fn rate(world: &World, ends: &Ends, by: &str, size: usize) -> io::Result<f64> {
+    let received = AtomicU64::new(0);
+    let bytes = packet(size);
+    let start = Instant::now();
+    let end = start + REPETITION;
+    thread::scope(|scope| {
+        let counted = scope.spawn(|| count(&ends.receiver, size, end, &received));
+        pour(&ends.sender, (by, world.port), &bytes, end, &received)?;
+        counted.join().expect("the counting thread ends")
+    })?;
+    Ok(received.load(Ordering::Acquire) as f64 / start.elapsed().as_secs_f64())
+}
+
+/// The sockets of both hosts.
+struct Ends {
+    sender: UdpSocket,
+    receiver: UdpSocket,
+}
+
+/// Both processes: a router between the hosts, and the plain loop.
+fn start(world: &World) -> io::Result<(Process, Process, Ends)> {
+    let ports = [
+        Port::new("00000011", "127.0.2.1", SENDER),
+        Port::new("00000022", "127.0.2.2", RECEIVER),
+    ];
+    let router = world.router("one", &ports)?;
+    let port = world.port.to_string();
+    let me = std::env::current_exe()?;
+    let plain = world.start(&me, &["floor", "127.0.2.3", "127.0.2.4", RECEIVER, &port])?;
+    let ends = Ends {
+        sender: UdpSocket::bind((SENDER, world.port))?,
+        receiver: UdpSocket::bind((RECEIVER, world.port))?,
+    };
+    for by in ["127.0.2.1", "127.0.2.3"] {
+        while_silent(world, &ends, by)?;
+    }
+    Ok((router, plain, ends))
+}
+
+/// Waits until packets pass, for five seconds at most.
+fn while_silent(world: &World, ends: &Ends, by: &str) -> io::Result<()> {
+    let end = Instant::now() + Duration::from_secs(5);
+    while Instant::now() < end {
+        if rate(world, ends, by, 30)? > 0.0 {
+            return Ok(());
+        }
+    }
+    Err(io::Error::new(io::ErrorKind::TimedOut, format!("nothing passes by {by}")))
+}
+
+/// The best rates of both sides, which run in turn.
+fn both(world: &World, ends: &Ends, size: usize) -> io::Result<(f64, f64)> {
+    let (mut ours, mut plain) = (0.0_f64, 0.0_f64);
+    for _ in 0..TIMES {
+        ours = ours.max(rate(world, ends, "127.0.2.1", size)?);
+        plain = plain.max(rate(world, ends, "127.0.2.3", size)?);
+    }
+    Ok((ours, plain))
+}
+
+fn print_rows(world: &World) -> io::Result<()> {
+    let (_router, _plain, ends) = start(world)?;
+    for size in SIZES {
+        let (ours, plain) = both(world, &ends, size)?;
+        println!(
+            "{:<36} {:>12.1} {:>12.1} {:>12.2} {:>12.2} {:>8.3}",
+            format!("one router, {size} bytes"),
+            ours / 1e3,
+            plain / 1e3,
+            1e6 / ours,
+            1e6 / plain,
+            ours / plain
+        );
+    }
+    Ok(())
+}
+
+/// Prints a row for each size.
+pub fn print(world: &mut World) {
+    println!(
+        "{:<36} {:>12} {:>12} {:>12} {:>12} {:>8}",
+        "packets a second, by processes", "ours, k", "plain, k", "ours us", "plain us", "ratio"
+    );
+    or_say("packets a second", print_rows(world));
+}

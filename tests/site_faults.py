@@ -1,0 +1,164 @@
+"""One file for each fault, with the line that the program prints of it, for tests/sites."""
+import os
+import subprocess
+
+from site_world import bound, die_with_the_parent
+
+PORT = """[[port]]
+network = "00000011"
+address = "127.0.1.1"
+udp_port = 20999
+peers = ["127.0.1.20"]
+"""
+SECOND = PORT.replace("11", "22").replace("1.1", "1.2")
+HOST = """network = "00000011"
+address = "127.0.1.20"
+router = "127.0.1.1"
+udp_port = 20999
+socket = "4002"
+"""
+KEYS = "a router has status and port, a host network, address, router, udp_port, socket and buffers"
+PORT_KEYS = "the keys are network, address, udp_port, cost, peers, accept"
+NETWORK = 'eight hex digits, neither all 0 nor all f, as "00000011"'
+ADDRESS = 'an IP address of this machine, as "192.0.2.10"'
+NUMBER = "a number from 1 to 65535, as 213"
+COST = "a number of ticks from 1 to 65535, as 6"
+PEERS = 'a list of IP addresses, as ["198.51.100.7", "203.0.113.9"]'
+PORTS = "one to sixteen tables, each begun by [[port]]"
+SOCKET = 'four hex digits, not all 0, as "4002"'
+ROUTER = 'the IP address of a router, as "10.1.0.1"'
+BUFFERS = "a number from 1 to 8192, as 64"
+STATUS = 'the name of a file, as "/run/ipx/site.prom"'
+
+
+USED = "address and udp_port are in use: end what has them, or take others"
+IN_USE = {"route": f"port 1: {USED}", "listen": USED, "send": USED}
+ELSEWHERE = "address is to be an IP address of this machine"
+NOT_HERE = {"route": f"port 1: {ELSEWHERE}", "listen": ELSEWHERE, "send": ELSEWHERE}
+UNREAD = [
+    ("nothing", "there is no such file"),
+    ("folder", "the file can't be read"),
+    ("bytes", "the file is to be text in UTF-8"),
+    ("long", "the file is to have 65536 bytes at most"),
+]
+
+
+def without(text, key):
+    """A text without the line of a key."""
+    return "".join(line for line in text.splitlines(True) if not line.startswith(key))
+
+
+def changed(text, key, value):
+    """A text with another value of a key."""
+    return without(text, key) + f"{key} = {value}\n"
+
+
+# The text of a router's file, and what is wrong with it.
+ROUTER_FILES = [
+    ("", f"port is missing: it is to be {PORTS}"),
+    ("port = []\n", f"port is to be {PORTS}"),
+    ("port = 1\n", f"port is to be {PORTS}"),
+    ("port = [1]\n", f"port 1: port is to be {PORTS}"),
+    ("".join(PORT.replace("11", f"{number:02x}") for number in range(1, 18)), f"port is to be {PORTS}"),
+    ("status = 1\n" + PORT, f"status is to be {STATUS}"),
+    ("peers = []\n" + PORT, f"peers is no key here: {KEYS}"),
+    (PORT + "peer = []\n", f"port 1: peer is no key here: {PORT_KEYS}"),
+    (PORT + SECOND + "Accept = \"any\"\n", f"port 2: Accept is no key here: {PORT_KEYS}"),
+    (PORT + '"a\\nb\\u001b" = 1\n', f"port 1: a.b. is no key here: {PORT_KEYS}"),
+    (without(PORT, "network"), f"port 1: network is missing: it is to be {NETWORK}"),
+    (without(PORT, "address"), f"port 1: address is missing: it is to be {ADDRESS}"),
+    (without(PORT, "peers"), f"port 1: peers is missing: it is to be {PEERS}"),
+    (changed(PORT, "network", '"00000000"'), f"port 1: network is to be {NETWORK}"),
+    (changed(PORT, "network", '"ffffffff"'), f"port 1: network is to be {NETWORK}"),
+    (changed(PORT, "network", '"11"'), f"port 1: network is to be {NETWORK}"),
+    (changed(PORT, "network", "11"), f"port 1: network is to be {NETWORK}"),
+    (changed(PORT, "address", '"127.0.1.256"'), f"port 1: address is to be {ADDRESS}"),
+    (changed(PORT, "address", '"localhost"'), f"port 1: address is to be {ADDRESS}"),
+    (changed(PORT, "udp_port", "0"), f"port 1: udp_port is to be {NUMBER}"),
+    (changed(PORT, "udp_port", "65536"), f"port 1: udp_port is to be {NUMBER}"),
+    (PORT + "cost = 0\n", f"port 1: cost is to be {COST}"),
+    (PORT + "cost = \"6\"\n", f"port 1: cost is to be {COST}"),
+    (changed(PORT, "peers", '"127.0.1.20"'), f"port 1: peers is to be {PEERS}"),
+    (changed(PORT, "peers", '["127.0.1.20", "b"]'), f"port 1: peers is to be {PEERS}"),
+    (PORT + "accept = true\n", 'port 1: accept is to be "peers" or "any"'),
+    (PORT + "accept = \"all\"\n", 'port 1: accept is to be "peers" or "any"'),
+    (PORT + SECOND.replace("00000022", "00000011"), "port 2: network 00000011 is already that of port 1"),
+]
+
+# The text of a host's file, and what is wrong with it.
+HOST_FILES = [
+    (without(HOST, "network"), f"network is missing: it is to be {NETWORK}"),
+    (without(HOST, "address"), f"address is missing: it is to be {ADDRESS}"),
+    (without(HOST, "router"), f"router is missing: it is to be {ROUTER}"),
+    (without(HOST, "socket"), f"socket is missing: it is to be {SOCKET}"),
+    (changed(HOST, "network", '"0000001g"'), f"network is to be {NETWORK}"),
+    (changed(HOST, "address", '"127.0.1"'), f"address is to be {ADDRESS}"),
+    (changed(HOST, "router", '"r1"'), f"router is to be {ROUTER}"),
+    (changed(HOST, "socket", '"0000"'), f"socket is to be {SOCKET}"),
+    (changed(HOST, "socket", "4002"), f"socket is to be {SOCKET}"),
+    (changed(HOST, "udp_port", "-1"), f"udp_port is to be {NUMBER}"),
+    (HOST + "buffers = 0\n", f"buffers is to be {BUFFERS}"),
+    (HOST + "buffers = 8193\n", f"buffers is to be {BUFFERS}"),
+    (HOST + "peers = []\n", f"peers is no key here: {KEYS}"),
+]
+
+
+def told(sites, words):
+    """The status, standard output and lines of standard error of a call that is to end at once."""
+    try:
+        done = subprocess.run([sites.world.program, *words], stdin=subprocess.DEVNULL, capture_output=True,
+                              timeout=10, cwd=sites.world.folder, preexec_fn=die_with_the_parent)
+    except subprocess.TimeoutExpired:
+        return "still running after 10 s"
+    return done.returncode, done.stdout, done.stderr.decode("utf-8", "replace").splitlines()
+
+
+def check_told(sites, name, words, status, line):
+    """A call ends with a status, one line on standard error, and nothing on standard output."""
+    got = told(sites, words)
+    good = got == (status, b"", [line])
+    sites.check(name, good, f"{line!r} and status {status} are to be told, not {got}", quiet=True)
+
+
+def check_faults(sites):
+    """Each fault of a file, of what is no file, and of a socket."""
+    passed = sites.passed
+    holders = [bound(address, sites.port) for address in ("127.0.1.50", "127.0.1.51")]
+    here = {"127.0.1.1": "127.0.1.50", "127.0.1.20": "127.0.1.51", "20999": str(sites.port)}
+
+    def write(text):
+        for old, new in here.items():
+            text = text.replace(f'"{old}"', f'"{new}"').replace(f" {old}\n", f" {new}\n")
+        sites.world.write("bad.toml", text)
+
+    send = ["send", "bad.toml", "00000022", "00007f00011e", "4002"]
+    # The addresses are in use: a program that binds before it has read all says so, and not this.
+    for text, line in ROUTER_FILES:
+        write(text)
+        check_told(sites, f"a router's file: {line}", ["route", "bad.toml"], 2, f"bad.toml: {line}")
+    for words in (["listen", "bad.toml"], send):
+        for text, line in HOST_FILES:
+            write(text)
+            check_told(sites, f"a host's file, {words[0]}: {line}", words, 2, f"bad.toml: {line}")
+    for text, words in ((PORT, ["route", "bad.toml"]), (HOST, ["listen", "bad.toml"]), (HOST, send)):
+        write(text)
+        check_told(sites, f"an address in use, {words[0]}", words, 1, f"bad.toml: {IN_USE[words[0]]}")
+    here["127.0.1.1"] = here["127.0.1.20"] = "192.0.2.10"
+    for text, words in ((PORT, ["route", "bad.toml"]), (HOST, ["listen", "bad.toml"]), (HOST, send)):
+        write(text)
+        check_told(sites, f"no address of this machine, {words[0]}", words, 1, f"bad.toml: {NOT_HERE[words[0]]}")
+    check_unread(sites, send)
+    for holder in holders:
+        holder.close()
+    print(f"    {sites.passed - passed} faults of files and sockets were told in their line")
+
+
+def check_unread(sites, send):
+    """Files that are not there, no text, or too long."""
+    os.mkdir(sites.world.path("folder"))
+    for name, content in (("bytes", b"\xff\n"), ("long", b"#" * 65537)):
+        with open(sites.world.path(name), "wb") as file:
+            file.write(content)
+    for name, line in UNREAD:
+        for words in (["route", name], ["listen", name], ["send", name, *send[2:]]):
+            check_told(sites, f"{words[0]} {name}: {line}", words, 2, f"{name}: {line}")

@@ -1,0 +1,205 @@
+"""What tests/sites stands on: a folder, a free port of UDP, processes that cannot be left behind, and
+files of routers and hosts.
+"""
+import atexit
+import ctypes
+import os
+import random
+import re
+import shutil
+import signal
+import socket
+import subprocess
+import sys
+import tempfile
+import threading
+import time
+
+TOP = os.path.dirname(os.path.dirname(os.path.abspath(__file__)))
+IPX = os.path.join(TOP, "crates/ipx_tool/out/ipx_tool")
+LIBC = ctypes.CDLL(None)
+PR_SET_PDEATHSIG = 1
+
+
+def die_with_the_parent():
+    """In a child: the system ends it as this process ends, however that comes about."""
+    LIBC.prctl(PR_SET_PDEATHSIG, signal.SIGKILL)
+
+
+def until(condition, seconds):
+    """Waits for a condition, and answers whether it came."""
+    end = time.monotonic() + seconds
+    while time.monotonic() < end:
+        if condition():
+            return True
+        time.sleep(0.005)
+    return bool(condition())
+
+
+def node(ip):
+    """The node of an IP address: two zero bytes and the four of it."""
+    return "0000" + "".join(f"{int(part):02x}" for part in ip.split("."))
+
+
+def some_bytes(seed, count):
+    """Random bytes of a seed."""
+    return random.Random(seed).randbytes(count)
+
+
+def port_table(network, address, udp_port, peers):
+    """The text of a port of a router's file."""
+    listed = ", ".join(f'"{peer}"' for peer in peers)
+    return (f'[[port]]\nnetwork = "{network}"\naddress = "{address}"\nudp_port = {udp_port}\n'
+            f"peers = [{listed}]\n")
+
+
+class Process:
+    """A process, what it wrote, and its end. Only the main thread starts one, since the system ends
+    it with the thread that did."""
+
+    def __init__(self, world, name, words, stdin=False):
+        self.name = name
+        self.log = world.path(f"{name}.{len(world.processes)}.log")
+        self.out = bytearray()
+        self.first_byte = None
+        self.reader = None
+        with open(self.log, "wb") as log:
+            self.started = time.monotonic()
+            self.popen = subprocess.Popen(
+                [world.program, *words], stdin=subprocess.PIPE if stdin else subprocess.DEVNULL,
+                stdout=subprocess.PIPE, stderr=log, bufsize=0, preexec_fn=die_with_the_parent)
+        world.processes.append(self)
+        self.reader = threading.Thread(target=self.read, daemon=True)
+        self.reader.start()
+
+    def read(self):
+        while chunk := os.read(self.popen.stdout.fileno(), 1 << 16):
+            if self.first_byte is None:
+                self.first_byte = time.monotonic()
+            self.out += chunk
+
+    def feed(self, pieces):
+        """Gives its standard input these bytes, one after another, and ends it. A piece may be an
+        event, which is waited for."""
+        def write():
+            try:
+                for piece in pieces:
+                    if isinstance(piece, threading.Event):
+                        piece.wait(60)
+                        continue
+                    self.popen.stdin.write(piece)
+            except OSError:
+                pass
+            finally:
+                self.popen.stdin.close()
+
+        threading.Thread(target=write, daemon=True).start()
+
+    def is_over(self):
+        return self.popen.poll() is not None
+
+    def status(self, seconds):
+        """Its status, if it ends within so many seconds, and else None. All that it wrote is read
+        then."""
+        try:
+            status = self.popen.wait(seconds)
+        except subprocess.TimeoutExpired:
+            return None
+        self.reader.join(10)
+        return status
+
+    def end(self, how=signal.SIGTERM):
+        """Ends it, and waits for that."""
+        if not self.is_over():
+            self.popen.send_signal(how)
+            if self.status(5) is None:
+                self.popen.kill()
+        return self.status(5)
+
+    def said(self):
+        """The lines that it wrote on standard error."""
+        with open(self.log, encoding="utf-8", errors="replace") as log:
+            return log.read().splitlines()
+
+    def memory(self):
+        """Its memory in kB, now and at most."""
+        with open(f"/proc/{self.popen.pid}/status", encoding="ascii") as status:
+            text = status.read()
+        return tuple(int(re.search(rf"{name}:\s+(\d+) kB", text)[1]) for name in ("VmRSS", "VmHWM"))
+
+
+class World:
+    """A folder and the processes of a run. Whatever happens, both are gone afterwards."""
+
+    def __init__(self, program):
+        self.program = program
+        self.folder = tempfile.mkdtemp(prefix="ipx-sites-")
+        self.processes = []
+        atexit.register(self.close)
+        for number in (signal.SIGINT, signal.SIGTERM, signal.SIGHUP):
+            signal.signal(number, lambda number, _frame: sys.exit(128 + number))
+
+    def close(self):
+        for process in self.processes:
+            if not process.is_over():
+                process.popen.kill()
+        for process in self.processes:
+            process.popen.wait(10)
+        shutil.rmtree(self.folder, ignore_errors=True)
+
+    def path(self, name):
+        return os.path.join(self.folder, name)
+
+    def write(self, name, text):
+        with open(self.path(name), "w", encoding="utf-8") as file:
+            file.write(text)
+        return self.path(name)
+
+    def start(self, name, *words, stdin=False):
+        return Process(self, name, words, stdin)
+
+    def left(self):
+        """The processes that still run."""
+        return [process.name for process in self.processes if not process.is_over()]
+
+    def figures(self, name):
+        """The figures of a status file: the sum for each name, and each line's own value."""
+        figures = {}
+        try:
+            with open(self.path(name), encoding="ascii") as file:
+                lines = file.read().splitlines()
+        except FileNotFoundError:
+            return figures
+        for line in lines:
+            found = re.fullmatch(r"([a-z_]+)(\{[^}]*\})? (\d+)", line)
+            if found:
+                figures[found[1]] = figures.get(found[1], 0) + int(found[3])
+                if found[2]:
+                    figures[found[1] + found[2]] = int(found[3])
+        return figures
+
+
+def bound(ip, port):
+    """A socket of UDP at an address, which does not wait."""
+    one = socket.socket(socket.AF_INET, socket.SOCK_DGRAM)
+    one.bind((ip, port))
+    one.setblocking(False)
+    return one
+
+
+def free_port(addresses, seed=None):
+    """A high port of UDP that is free at all of these addresses."""
+    rng = random.Random(seed)
+    for _ in range(200):
+        port = rng.randrange(20000, 32000)
+        sockets = []
+        try:
+            for address in addresses:
+                sockets.append(bound(address, port))
+            return port
+        except OSError:
+            continue
+        finally:
+            for one in sockets:
+                one.close()
+    raise OSError("no port of UDP is free at " + ", ".join(addresses))
