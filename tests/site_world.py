@@ -62,7 +62,8 @@ class Process:
         self.log = world.path(f"{name}.{len(world.processes)}.log")
         self.out = bytearray()
         self.first_byte = None
-        self.reader = None
+        self.reading = threading.Event()
+        self.reading.set()
         with open(self.log, "wb") as log:
             self.started = time.monotonic()
             self.popen = subprocess.Popen(
@@ -73,21 +74,23 @@ class Process:
         self.reader.start()
 
     def read(self):
-        while chunk := os.read(self.popen.stdout.fileno(), 1 << 16):
+        while self.reading.wait() and (chunk := os.read(self.popen.stdout.fileno(), 1 << 16)):
             if self.first_byte is None:
                 self.first_byte = time.monotonic()
             self.out += chunk
 
     def feed(self, pieces):
         """Gives its standard input these bytes, one after another, and ends it. A piece may be an
-        event, which is waited for."""
+        event, which is waited for, or how many seconds to wait."""
         def write():
             try:
                 for piece in pieces:
                     if isinstance(piece, threading.Event):
                         piece.wait(60)
-                        continue
-                    self.popen.stdin.write(piece)
+                    elif isinstance(piece, float):
+                        time.sleep(piece)
+                    else:
+                        self.popen.stdin.write(piece)
             except OSError:
                 pass
             finally:
