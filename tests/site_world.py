@@ -57,7 +57,7 @@ class Process:
     """A process, what it wrote, and its end. Only the main thread starts one, since the system ends
     it with the thread that did."""
 
-    def __init__(self, world, name, words, stdin=False):
+    def __init__(self, world, name, words, stdin=False, stdout=subprocess.PIPE, stderr=None):
         self.name = name
         self.log = world.path(f"{name}.{len(world.processes)}.log")
         self.out = bytearray()
@@ -68,10 +68,11 @@ class Process:
             self.started = time.monotonic()
             self.popen = subprocess.Popen(
                 [world.program, *words], stdin=subprocess.PIPE if stdin else subprocess.DEVNULL,
-                stdout=subprocess.PIPE, stderr=log, bufsize=0, preexec_fn=die_with_the_parent)
+                stdout=stdout, stderr=stderr or log, bufsize=0, preexec_fn=die_with_the_parent)
         world.processes.append(self)
         self.reader = threading.Thread(target=self.read, daemon=True)
-        self.reader.start()
+        if self.popen.stdout:
+            self.reader.start()
 
     def read(self):
         while self.reading.wait() and (chunk := os.read(self.popen.stdout.fileno(), 1 << 16)):
@@ -108,7 +109,8 @@ class Process:
             status = self.popen.wait(seconds)
         except subprocess.TimeoutExpired:
             return None
-        self.reader.join(10)
+        if self.popen.stdout:
+            self.reader.join(10)
         return status
 
     def end(self, how=signal.SIGTERM):
@@ -158,8 +160,8 @@ class World:
             file.write(text)
         return self.path(name)
 
-    def start(self, name, *words, stdin=False):
-        return Process(self, name, words, stdin)
+    def start(self, name, *words, **how):
+        return Process(self, name, words, **how)
 
     def left(self):
         """The processes that still run."""
@@ -190,9 +192,16 @@ def bound(ip, port):
     return one
 
 
-def free_port(addresses, seed=None):
+def broken_pipe():
+    """A descriptor to write to, of a pipe that nobody reads."""
+    read, write = os.pipe()
+    os.close(read)
+    return write
+
+
+def free_port(addresses):
     """A high port of UDP that is free at all of these addresses."""
-    rng = random.Random(seed)
+    rng = random.Random()
     for _ in range(200):
         port = rng.randrange(20000, 32000)
         sockets = []
