@@ -11,7 +11,10 @@ pub fn forward(words: &[String]) -> io::Result<()> {
     let port = port.parse::<u16>().map_err(io::Error::other)?;
     let came = UdpSocket::bind((from.as_str(), port))?;
     let goes = UdpSocket::bind((by.as_str(), port))?;
-    let to = (to.parse::<std::net::Ipv4Addr>().map_err(io::Error::other)?, port);
+    let to = (
+        to.parse::<std::net::Ipv4Addr>().map_err(io::Error::other)?,
+        port,
+    );
     let mut room = [0; 1536];
     loop {
         let (count, _) = came.recv_from(&mut room)?;

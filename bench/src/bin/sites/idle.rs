@@ -48,7 +48,10 @@ fn print_rows(world: &World) -> io::Result<()> {
     let processes = [
         ("a router", world.router(one.0, &one.1)?),
         ("its neighbour", world.router(other.0, &other.1)?),
-        ("a listener", world.start(&world.program, &["listen", &file])?),
+        (
+            "a listener",
+            world.start(&world.program, &["listen", &file])?,
+        ),
     ];
     // A router asks again until 32 seconds after its start, which is no idle router yet.
     thread::sleep(Duration::from_secs(34));
@@ -57,6 +60,9 @@ fn print_rows(world: &World) -> io::Result<()> {
 
 /// Prints a row for each process.
 pub fn print(world: &mut World) {
-    println!("{:<36} {:>12} {:>12}", "ten seconds without traffic", "ms of time", "wakes");
+    println!(
+        "{:<36} {:>12} {:>12}",
+        "ten seconds without traffic", "ms of time", "wakes"
+    );
     or_say("idle", print_rows(world));
 }

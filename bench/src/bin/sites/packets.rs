@@ -1,8 +1,8 @@
 //! Packets a second through one process.
 
+use crate::Port;
 use crate::or_say;
 use crate::world::{Process, World, node};
-use crate::Port;
 use std::io;
 use std::net::UdpSocket;
 use std::sync::atomic::{AtomicU64, Ordering};
@@ -128,7 +128,10 @@ fn while_silent(world: &World, ends: &Ends, by: &str) -> io::Result<()> {
             return Ok(());
         }
     }
-    Err(io::Error::new(io::ErrorKind::TimedOut, format!("nothing passes by {by}")))
+    Err(io::Error::new(
+        io::ErrorKind::TimedOut,
+        format!("nothing passes by {by}"),
+    ))
 }
 
 /// The best rates of both sides, which run in turn.

@@ -33,7 +33,12 @@ fn data(count: usize) -> Vec<u8> {
         state = state.wrapping_mul(1_664_525).wrapping_add(1_013_904_223);
         (state >> 24) as u8
     });
-    block.collect::<Vec<_>>().into_iter().cycle().take(count).collect()
+    block
+        .collect::<Vec<_>>()
+        .into_iter()
+        .cycle()
+        .take(count)
+        .collect()
 }
 
 /// Reads what a listener writes: the moments of its first byte and of its last, and whether it is what
@@ -127,7 +132,10 @@ fn routed(world: &World, buffers: u16) -> io::Result<(f64, usize)> {
 
 /// Prints a row for each way and number of buffers.
 pub fn print(world: &mut World) {
-    println!("{:<36} {:>12} {:>12}", "a transfer, by processes", "MB a second", "MB");
+    println!(
+        "{:<36} {:>12} {:>12}",
+        "a transfer, by processes", "MB a second", "MB"
+    );
     for buffers in [64, 128] {
         let name = format!("host to host, {buffers} buffers");
         row(&name, or_say(&name, direct(world, buffers)));

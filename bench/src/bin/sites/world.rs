@@ -8,8 +8,16 @@ use std::process::{Child, Command, Stdio};
 
 /// All addresses of a run.
 const ADDRESSES: [&str; 10] = [
-    "127.0.2.1", "127.0.2.2", "127.0.2.3", "127.0.2.4", "127.0.2.5", "127.0.2.6", "127.0.2.7",
-    "127.0.2.20", "127.0.2.21", "127.0.2.30",
+    "127.0.2.1",
+    "127.0.2.2",
+    "127.0.2.3",
+    "127.0.2.4",
+    "127.0.2.5",
+    "127.0.2.6",
+    "127.0.2.7",
+    "127.0.2.20",
+    "127.0.2.21",
+    "127.0.2.30",
 ];
 
 /// A port of a router, with one peer.
@@ -54,7 +62,11 @@ impl Drop for World {
 
 fn is_free(port: u16) -> bool {
     let bound = |address: &&str| UdpSocket::bind((*address, port)).ok();
-    ADDRESSES.iter().map(bound).collect::<Option<Vec<_>>>().is_some()
+    ADDRESSES
+        .iter()
+        .map(bound)
+        .collect::<Option<Vec<_>>>()
+        .is_some()
 }
 
 /// The node of an IP address: two zero bytes and the four of it.
@@ -107,7 +119,13 @@ impl World {
     }
 
     /// The file of a host.
-    pub fn host(&self, network: &str, address: &str, router: &str, buffers: u16) -> io::Result<String> {
+    pub fn host(
+        &self,
+        network: &str,
+        address: &str,
+        router: &str,
+        buffers: u16,
+    ) -> io::Result<String> {
         let text = format!(
             "network = \"{network}\"\naddress = \"{address}\"\nrouter = \"{router}\"\nudp_port = {}\n\
              socket = \"4002\"\nbuffers = {buffers}\n",
