@@ -7,8 +7,9 @@ use crate::gate::Gate;
 use crate::outlet::{Outlet, WriteFault};
 use crate::start::{StartFault, tell_start};
 use crate::station::Station;
+use ipx_carrier::node_of;
 use ipx_site::{HostFile, WaitFault, load_host};
-use log::{Log, warn};
+use log::{Log, info, warn};
 use mio::Interest;
 use spx_messages::{EndFault, Endpoint, Message, MessageFault, Taken};
 use std::alloc::Global;
@@ -280,6 +281,17 @@ impl<'a, R: Net + Log + Clock> Listening<'a, R> {
     }
 }
 
+/// Logs where a host listens.
+fn tell_place<R: Log>(rt: &R, file: &HostFile) {
+    let network = file.network;
+    let node = node_of(file.address);
+    let socket = file.socket;
+    let [a, b, c, d] = file.address;
+    let udp = file.udp_port;
+    info!(rt; target: "ipx",
+        "socket {socket} network {network} node {node} udp {a}.{b}.{c}.{d}:{udp}");
+}
+
 /// Prints why a host stopped, where that is to be said, and answers its status.
 fn tell_stop<R: Eprint>(rt: &R, stopped: Result<(), Stop>) -> u8 {
     let _ = match stopped {
@@ -313,6 +325,7 @@ pub fn do_listen<R: Net + Log + Files + Clock + Eprint, W: Write>(
         Ok(listening) => listening,
         Err(fault) => return tell_start(rt, path, fault),
     };
+    tell_place(rt, &file);
     let stopped = listening.serve(rt, alloc, writer);
     tell_stop(rt, stopped)
 }

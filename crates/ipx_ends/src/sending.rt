@@ -285,10 +285,7 @@ impl<'a, R: Net + Log + Clock + Eprint> Sending<'a, R> {
         }
         let what = match verdict {
             Verdict::Done => return,
-            Verdict::Unanswered => {
-                let _ = eprintln!(rt; "nobody answers at {to}");
-                return;
-            }
+            Verdict::Unanswered => return tell_nobody(rt, to),
             Verdict::GivenUp => "the connection is lost",
             Verdict::PeerLeft => "the other end ended the connection",
             Verdict::Unread => "standard input can't be read",
@@ -297,6 +294,14 @@ impl<'a, R: Net + Log + Clock + Eprint> Sending<'a, R> {
         };
         let _ = eprintln!(rt; "{what}: {acknowledged} of {given} bytes acknowledged");
     }
+}
+
+/// Prints that nobody answers at an address.
+fn tell_nobody<R: Eprint>(rt: &R, to: Address) {
+    let network = to.network;
+    let node = to.node;
+    let socket = to.socket;
+    let _ = eprintln!(rt; "nobody answers at {network} {node} {socket}");
 }
 
 /// The command `send`: runs the host of a file, asks for a connection to an address, sends what it
