@@ -28,7 +28,7 @@ PORTS = "one to sixteen tables, each begun by [[port]]"
 SOCKET = 'four hex digits, not all 0, as "4002"'
 ROUTER = 'the IP address of a router, as "10.1.0.1"'
 BUFFERS = "a number from 1 to 8192, as 64"
-STATUS = 'the name of a file, as "/run/ipx/site.prom"'
+STATUS = 'the name of a file, as "/run/ipx/hq/hq.prom"'
 
 
 USED = "address and udp_port are in use: end what has them, or take others"
