@@ -21,6 +21,7 @@ pub struct Route {
 }
 
 /// The best offer of a network, as a route.
+#[inline(always)]
 fn heard_route(routes: &RouteTable, network: Network, now: u64) -> Option<Route>
     ensures port { (count : ℕ) → AreFromPorts count (routes_in routes.now)
         → IfSome result (λ r. IsPortNumber count r.port) }

@@ -46,6 +46,7 @@ impl Inbox {
     /// The message has the stream of its first unit. Where more than 65,535 bytes came of it, it is
     /// refused as `Overlong` and the inbox is empty. Where memory is refused, the inbox is as it
     /// was.
+    #[inline(always)] // what it answers would else pass through memory for each unit
     pub fn push(&mut self, alloc: Global, unit: &Unit) -> Result<Option<Message>, MessageFault>
         requires { unit.now.stream ≢ end_stream }
         ensures overlong { is_overlong self.old unit.now ≡ true

@@ -26,6 +26,7 @@ use std::alloc::Global;
 
 impl Links {
     /// What `Link::poll` does, by a live id. It takes no memory.
+    #[inline(always)] // what it answers would else pass through memory for each packet
     pub fn poll(&mut self, id: u16, now: u64) -> Option<Outgoing<'_>>
         requires { IsLive self.old id }
         ensures* leaves { sem 𝓛
