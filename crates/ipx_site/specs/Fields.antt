@@ -2,6 +2,7 @@
 use Rattle.std.specs.Prelude.{String, string_bytes, ◌≡◌, ◌⊎◌, ℕ, List, Option, Some, None, Result, MatchOption, MatchResult}
 use Rattle.std.specs.Global.{Global}
 use Rattle.toml.specs.Data.{Data, Members, get_member}
+use Rattle.toml.specs.Errors.{IsMemory, IsWithin}
 use Rattle.toml.specs.Parse.{parse_document}
 use Rattle.toml.specs.declared.de.error.Error.{Error}
 use Rattle.ipx_site.specs.declared.key.Key.{Key}
@@ -9,9 +10,11 @@ use Rattle.ipx_site.specs.declared.fault.FileFault.{FileFault}
 use Rattle.ipx_site.specs.declared.fault.FileFault.TheVariants.{Missing, NotToml, OutOfMemory, Unknown, Wrong}
 use Rattle.ipx_site.specs.Keys.{first_unknown, key_text}
 
--- a text is no TOML
+-- a text is no TOML, and this is the error of its reader: it lies within the text, and is none of
+-- memory
 abbrev pub IsNoToml : List ℕ → FileFault → Type 0
-IsNoToml text f = (e : Error) × (f ≡ NotToml e) × (parse_document text ≡ None)
+IsNoToml text f = (e : Error) × (f ≡ NotToml e) × IsWithin text e × ¬ IsMemory e
+    × (parse_document text ≡ None)
 
 -- a table has a name that is no key: the first one is told. A table has a number, for the line of
 -- the fault
