@@ -1,6 +1,7 @@
 //! A router with ports on networks 11 and 22, over a device of two ports.
 
 ghost use Rattle.std.specs.Prelude.{◌≡◌, IfOk};
+ghost use Rattle.ipx_router.specs.NewRouter.{IsOwnNetwork};
 
 use ipx_carrier::{
     Core, Datagrams, MemoryDatagrams, Report, RouterCore, RunFault, SentDatagram, SteppedClock, run,
@@ -20,13 +21,25 @@ fn port(network: u32, last: u8) -> Port
     }
 }
 
-/// A core of a router with ports 11 and 22.
-pub fn two_ports(alloc: Global) -> Result<RouterCore, OutOfMemory> {
-    let ports = vec![in alloc; port(0x11, 1), port(0x22, 2)]?;
-    let Ok(router) = Router::new(alloc, ports) else {
+/// A core of a router with these ports.
+fn core_of(alloc: Global, first: Port, second: Port) -> Result<RouterCore, OutOfMemory>
+    requires first { IsOwnNetwork first }
+    requires second { IsOwnNetwork second }
+{
+    let Ok(router) = Router::new(alloc, vec![in alloc; first, second]?) else {
         return Err(OutOfMemory);
     };
     Ok(RouterCore::new(alloc, router))
+}
+
+/// A core of a router with ports 11 and 22.
+pub fn two_ports(alloc: Global) -> Result<RouterCore, OutOfMemory> {
+    core_of(alloc, port(0x11, 1), port(0x22, 2))
+}
+
+/// A core of a router with ports 22 and 33, the next one.
+pub fn next_ports(alloc: Global) -> Result<RouterCore, OutOfMemory> {
+    core_of(alloc, port(0x22, 4), port(0x33, 6))
 }
 
 /// One peer on each port.

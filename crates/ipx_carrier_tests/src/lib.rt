@@ -13,6 +13,10 @@ mod mapping;
 #[cfg(test)]
 mod refused;
 #[cfg(test)]
+mod refused_calls;
+#[cfg(test)]
+mod refused_turns;
+#[cfg(test)]
 mod turns;
 #[cfg(test)]
 mod udp;

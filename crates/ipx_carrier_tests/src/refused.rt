@@ -8,7 +8,7 @@ use std::alloc::Global;
 use std::test::Fail;
 
 /// The core of `two_ports`, made once more where memory was refused.
-fn core_at_last(alloc: Global) -> Result<RouterCore, OutOfMemory> {
+pub fn core_at_last(alloc: Global) -> Result<RouterCore, OutOfMemory> {
     match two_ports(alloc) {
         Ok(core) => Ok(core),
         Err(_) => two_ports(alloc),
@@ -16,7 +16,7 @@ fn core_at_last(alloc: Global) -> Result<RouterCore, OutOfMemory> {
 }
 
 /// A device of two ports, made once more where memory was refused.
-fn device_at_last(alloc: Global) -> Result<MemoryDatagrams, OutOfMemory> {
+pub fn device_at_last(alloc: Global) -> Result<MemoryDatagrams, OutOfMemory> {
     match MemoryDatagrams::new(alloc, 2) {
         Ok(datagrams) => Ok(datagrams),
         Err(_) => MemoryDatagrams::new(alloc, 2),

@@ -8,7 +8,7 @@ use std::test::Fail;
 
 /// What the router of `two_ports` sends: on each port it asks for routes and for services, and then
 /// it tells each network on the other one.
-const SIX: [&str; 6] = [
+pub const SIX: [&str; 6] = [
     "0 9 ffff0028000100000011ffffffffffff04530000001100007f00000104530001ffffffffffffffff",
     "0 9 ffff0022000400000011ffffffffffff04520000001100007f00000104520001ffff",
     "1 8 ffff0028000100000022ffffffffffff04530000002200007f00000204530001ffffffffffffffff",

@@ -65,3 +65,16 @@ fn an_address_in_use_is_a_fault(rt: HostRuntime) -> Result<(), Fail> {
     assert!(rt; second.is_err());
     Ok(())
 }
+
+/// A device of two sockets, bound once more where memory was refused: no socket is left over.
+#[test]
+fn refused_bind(rt: HostRuntime) -> Result<(), Fail> {
+    let alloc = rt.alloc();
+    let device = match UdpDatagrams::bind(&rt, alloc, &[HERE, THERE], PORT + 2) {
+        Ok(device) => device,
+        Err(_) => UdpDatagrams::bind(&rt, alloc, &[HERE, THERE], PORT + 2)?,
+    };
+    assert_eq!(rt; device.ports(), 2);
+    assert_eq!(rt; device.failures(), 0);
+    Ok(())
+}

@@ -2,7 +2,7 @@
 use Rattle.std.specs.Prelude.{String, string_bytes, ◌≡◌, ◌⊎◌, ◌+◌, ◌==◌, ℕ, List, count_by, take, Option, Some, None, Result, MatchOption, MatchResult}
 use Rattle.std.specs.Global.{Global}
 use Rattle.toml.specs.Data.{Data, Members, get_member}
-use Rattle.toml.specs.Errors.{span_start}
+use Rattle.toml.specs.Errors.{IsMemory, IsWithin, span_start}
 use Rattle.toml.specs.Parse.{parse_document}
 use Rattle.toml.specs.declared.de.error.Error.{Error}
 use Rattle.ipx_site.specs.declared.key.Key.{Key}
@@ -14,9 +14,11 @@ use Rattle.ipx_site.specs.Keys.{first_unknown, key_text}
 abbrev pub line_number : List ℕ → ℕ → ℕ
 line_number text place = count_by (λ b. b == 10) (take place text) + 1
 
--- a text is no TOML, and the fault has the line where that shows
+-- a text is no TOML, and the fault has the error of its reader, which lies within the text and is
+-- none of memory, and the line where that shows
 abbrev pub IsNoToml : List ℕ → FileFault → Type 0
 IsNoToml text f = (e : Error) × (f ≡ NotToml (line_number text (span_start e)) e)
+    × IsWithin text e × ¬ IsMemory e
     × (parse_document text ≡ None)
 
 -- a table has a name that is no key: the first one is told. A table has a number, for the line of

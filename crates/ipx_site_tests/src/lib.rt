@@ -15,6 +15,8 @@ mod moments;
 #[cfg(test)]
 mod peers;
 #[cfg(test)]
+mod refused;
+#[cfg(test)]
 mod sockets;
 #[cfg(test)]
 mod waiting;

@@ -1,0 +1,120 @@
+//! Calls of a device and of a router's core where memory is refused. Run them with each request
+//! refused.
+
+use crate::refused::{core_at_last, device_at_last};
+use ipx_carrier::{Core, Datagrams, DeviceFault, MemoryDatagrams, RouterCore};
+use ipx_wire::{Node, OutOfMemory};
+use std::alloc::Global;
+use std::test::Fail;
+
+/// A packet from network 11 to node 00007f000005 of network 22, which goes on by port 1.
+const ONWARD: &[u8] = b"ffff001e00000000002200007f00000540000000001100007f0000034001";
+
+/// A request for all routes of node 00007f000003 of network 11, which is answered.
+const REQUEST: &[u8] =
+    b"ffff0028000100000011ffffffffffff04530000001100007f00000304530001ffffffffffffffff";
+
+/// Bytes in hex, made once more where memory was refused.
+fn bytes_at_last(alloc: Global, text: &[u8]) -> Result<Vec<u8>, Fail> {
+    match hex::decode(alloc, text) {
+        Ok(bytes) => Ok(bytes),
+        Err(_) => Ok(hex::decode(alloc, text)?),
+    }
+}
+
+fn put(alloc: Global, device: &mut MemoryDatagrams) -> Result<(), OutOfMemory> {
+    if device.ports() == 0 {
+        return Ok(());
+    }
+    device.put(alloc, 0, b"abc")
+}
+
+/// Asks port 0 for a datagram.
+fn ask(device: &mut MemoryDatagrams, room: &mut [u8]) -> Result<Option<usize>, DeviceFault> {
+    if device.ports() == 0 || device.failures() > 1000 {
+        return Ok(None);
+    }
+    device.receive(0, room)
+}
+
+/// The same, and once more where memory was refused.
+fn ask_at_last(
+    device: &mut MemoryDatagrams,
+    room: &mut [u8],
+) -> Result<Option<usize>, DeviceFault> {
+    match ask(device, room) {
+        Ok(count) => Ok(count),
+        Err(_) => ask(device, room),
+    }
+}
+
+/// What is not put does not wait, and what is put waits once.
+#[test]
+fn refused_put(rt: HostRuntime) -> Result<(), Fail> {
+    let alloc = rt.alloc();
+    let mut device = device_at_last(alloc)?;
+    let mut room = [0; 16];
+    if put(alloc, &mut device).is_err() {
+        assert!(rt; ask(&mut device, &mut room)? == None);
+        put(alloc, &mut device)?;
+    }
+    assert!(rt; ask_at_last(&mut device, &mut room)? == Some(3));
+    assert!(rt; room[..3] == b"abc"[..]);
+    assert!(rt; ask_at_last(&mut device, &mut room)? == None);
+    Ok(())
+}
+
+fn hear(alloc: Global, core: &mut RouterCore, bytes: &[u8]) -> Result<(), OutOfMemory> {
+    if core.ports() == 0 {
+        return Ok(());
+    }
+    core.hear(alloc, 0, bytes, 0)
+}
+
+/// The next packet: its port, its node and how long it is.
+fn next(alloc: Global, core: &mut RouterCore) -> Result<Option<(usize, Node, usize)>, OutOfMemory> {
+    let mut room = [0; 1536];
+    core.next(alloc, 0, &mut room)
+}
+
+/// The same, asked once more where memory was refused.
+fn next_at_last(
+    alloc: Global,
+    core: &mut RouterCore,
+) -> Result<Option<(usize, Node, usize)>, OutOfMemory> {
+    match next(alloc, core) {
+        Ok(given) => Ok(given),
+        Err(_) => next(alloc, core),
+    }
+}
+
+/// What comes of bytes that a core hears: this packet, or none where memory was refused.
+fn comes_of(alloc: Global, text: &[u8], packet: (usize, Node, usize)) -> Result<bool, Fail> {
+    let bytes = bytes_at_last(alloc, text)?;
+    let mut core = core_at_last(alloc)?;
+    if hear(alloc, &mut core, &bytes).is_ok() {
+        return Ok(next_at_last(alloc, &mut core)? == Some(packet));
+    }
+    // The first of the six packets of its own, by which it asks for all routes on port 0.
+    let first = next(alloc, &mut core)?;
+    hear(alloc, &mut core, &bytes)?;
+    let mut last = None;
+    for _ in 0..6_u32 {
+        last = next(alloc, &mut core)?;
+    }
+    Ok(first == Some((0, Node::BROADCAST, 40)) && last == Some(packet))
+}
+
+#[test]
+fn refused_hear_of_a_packet_to_be_forwarded(rt: HostRuntime) -> Result<(), Fail> {
+    let packet = (1, Node([0, 0, 0x7f, 0, 0, 5]), 30);
+    assert!(rt; comes_of(rt.alloc(), ONWARD, packet)?);
+    Ok(())
+}
+
+#[test]
+fn refused_hear_of_a_request_that_is_answered(rt: HostRuntime) -> Result<(), Fail> {
+    let packet = (0, Node([0, 0, 0x7f, 0, 0, 3]), 40);
+    assert!(rt; comes_of(rt.alloc(), REQUEST, packet)?);
+    Ok(())
+}

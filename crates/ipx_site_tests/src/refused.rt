@@ -1,0 +1,69 @@
+//! The files of a site where memory is refused: a file is read as it stands, or memory is wanted.
+//! Run these with each request refused.
+
+use ipx_site::{FileFault, read_host, read_site};
+
+/// A router with two ports.
+const SITE: &str = "\
+status = \"/run/ipx/hq.prom\"
+
+[[port]]
+network = \"00000001\"
+address = \"192.0.2.10\"
+udp_port = 2130
+cost = 6
+peers = [\"198.51.100.7\", \"203.0.113.9\"]
+accept = \"any\"
+
+[[port]]
+network = \"00000022\"
+address = \"10.1.0.1\"
+peers = [\"10.1.0.20\"]
+";
+
+const HOST: &str = "\
+network = \"00000011\"
+address = \"10.1.0.20\"
+router = \"10.1.0.1\"
+socket = \"4002\"
+";
+
+/// A key that a host does not have.
+const PEERS_OF_A_HOST: &str = "network = \"00000011\"\npeers = []\n";
+
+/// Neither is TOML: a text that ends too soon.
+const CUT: &str = "network = ";
+
+#[test]
+fn refused_site(rt: HostRuntime) {
+    match read_site(rt.alloc(), SITE) {
+        Ok(site) => {
+            assert!(rt; site.ports.len() == 2 && site.status.is_some());
+            assert!(rt; site.ports.first().is_some_and(|port| port.peers.len() == 2));
+        }
+        Err(fault) => assert!(rt; matches!(fault, FileFault::OutOfMemory)),
+    }
+}
+
+#[test]
+fn refused_host(rt: HostRuntime) {
+    match read_host(rt.alloc(), HOST) {
+        Ok(host) => assert!(rt; host.router == [10, 1, 0, 1] && host.buffers == 64),
+        Err(fault) => assert!(rt; matches!(fault, FileFault::OutOfMemory)),
+    }
+}
+
+/// A fault is told, or memory is wanted: a file with a fault is never read.
+#[test]
+fn refused_faults_of_files(rt: HostRuntime) {
+    match read_host(rt.alloc(), PEERS_OF_A_HOST) {
+        Ok(_) => assert!(rt; false),
+        Err(fault) => {
+            assert!(rt; matches!(fault, FileFault::Unknown(0, _) | FileFault::OutOfMemory));
+        }
+    }
+    match read_site(rt.alloc(), CUT) {
+        Ok(_) => assert!(rt; false),
+        Err(fault) => assert!(rt; matches!(fault, FileFault::NotToml(_) | FileFault::OutOfMemory)),
+    }
+}
