@@ -1,7 +1,8 @@
 -- How a host that sends ends. All of it is own.
 use Rattle.std.specs.Prelude.{◌≡◌, ℕ, Bool, Option, Some, None, true, false}
 use Rattle.spx_link.specs.declared.state.State.{State}
-use Rattle.spx_link.specs.declared.state.State.TheVariants.{Opening, Live, Ending, PeerEnded, Confirmed, Lost}
+use Rattle.spx_link.specs.declared.state.State.TheVariants.{Opening, Live, Ending}
+use Rattle.spx_link.specs.declared.state.State.TheVariants.{PeerEnded, Confirmed, Lost}
 use Rattle.ipx_ends.specs.declared.verdict.Verdict.{Verdict}
 use Rattle.ipx_ends.specs.declared.verdict.Verdict.TheVariants as Verdicts
 

@@ -1,4 +1,5 @@
-//! The hosts that one runs at a site: one that listens, `ipx listen`, and one that sends, `ipx send`.
+//! The hosts that one runs at a site: one that listens, `ipx listen`, and one that sends, `ipx
+//! send`.
 //!
 //! [`do_listen`] takes connections and writes the messages that come. [`do_send`] asks for one, and
 //! sends what it reads. Each runs by the file of a host until it is over.

@@ -307,9 +307,9 @@ fn tell_stop<R: Eprint>(rt: &R, stopped: Result<(), Stop>) -> u8 {
 /// bytes of each message when it is whole, with nothing between them. It goes on until it is ended,
 /// or with `once` until three seconds after the end of a connection.
 ///
-/// The answer is the status: 0 where the end of a connection came; 1 where that connection was lost,
-/// the writer failed, the socket can't be had or memory for the start is refused; 2 for a fault of
-/// the file. What is wrong is a line on standard error.
+/// The answer is the status: 0 where the end of a connection came; 1 where that connection was
+/// lost, the writer failed, the socket can't be had or memory for the start is refused; 2 for a
+/// fault of the file. What is wrong is a line on standard error.
 pub fn do_listen<R: Net + Log + Files + Clock + Eprint, W: Write>(
     rt: &R,
     alloc: Global,

@@ -1,6 +1,6 @@
 //! The command `send`: a host that asks for a connection, and sends what it reads.
 
-ghost use Rattle.std.specs.Prelude.{◌≡◌, ◌⊎◌, [], IfSome, OnOk};
+ghost use Rattle.std.specs.Prelude.{◌≡◌, IfSome, OnOk};
 ghost use Rattle.ipx_wire.specs.declared.address.Address.{Address};
 ghost use Rattle.spx_link.specs.Offer.{offer_link};
 ghost use Rattle.spx_units.specs.Cut.{cut_of};
@@ -310,8 +310,8 @@ fn tell_nobody<R: Eprint>(rt: &R, to: Address) {
 ///
 /// The answer is the status: 0 where the other end has confirmed the end, which stands behind all
 /// that was read; 1 where nobody answers, the connection is lost or ended by the other end, the
-/// input fails, the socket can't be had or memory is refused; 2 for a fault of the words or the file. What
-/// is wrong is a line on standard error. With `shows` a line there tells how far it is.
+/// input fails, the socket can't be had or memory is refused; 2 for a fault of the words or the
+/// file. What is wrong is a line on standard error. With `shows` a line there tells how far it is.
 pub fn do_send<R: Net + Log + Files + Clock + Eprint, I: Read>(
     rt: &R,
     alloc: Global,

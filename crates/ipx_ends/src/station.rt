@@ -71,7 +71,8 @@ impl<'a, R: Net + Log + Clock> Station<'a, R> {
         let now = self.core.moment();
         let faults = self.sockets.faults();
         if let Some(more) = self.of_system.tell(faults, now) {
-            warn!(rt; target: "ipx", "{more} datagrams the system refused ({faults} since the start)");
+            warn!(rt; target: "ipx",
+                "{more} datagrams the system refused ({faults} since the start)");
         }
         let unheard = self.unheard;
         if let Some(more) = self.of_memory.tell(unheard, now) {

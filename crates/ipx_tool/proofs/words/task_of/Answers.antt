@@ -23,3 +23,9 @@ returns-in-len2 c =
     let command = c.command-item.result in
     let asks = subst (λ (t : List ℕ). IfSome c.plain_task.result (λ k. (name : List ℕ) → AsksFor (name ∷ t ∷ []) k)) c.as_str.ensures.value c.plain_task.ensures in
     asks_in_two string_bytes c.args.words.now command c.plain_task.result c.in-len2.len_at_least c.in-len2.len_below c.command-item.is asks
+
+pub returns-in-len6 : goal.returns-in-len6
+returns-in-len6 c =
+    let command = c.command-item-then-words-lt7.result in
+    let asks = subst (λ (t : List ℕ). IfSome c.send_task.result (λ k. (name : List ℕ) (behind : List (List ℕ)) → AsksFor (name ∷ t ∷ behind) k)) c.as_str-in-len6-4.ensures.value c.send_task.ensures in
+    asks_in_some string_bytes c.args.words.now command c.send_task.result (omega (arith, c.in-len6.len_at_least)) c.command-item-then-words-lt7.is asks
