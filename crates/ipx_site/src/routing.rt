@@ -168,7 +168,7 @@ fn route<R: Net + Log + Files + SystemClock>(
 /// The command `route`: reads the file of a router, binds a socket for each port, tells each port,
 /// and routes until it is ended from outside.
 ///
-/// The result is its status where it ends by itself. 2: the file has a fault, and nothing was bound.
+/// The result is its status where it ends by itself. 2: the file has a fault; nothing was bound.
 /// 1: memory was refused at the start, a socket can't be had, or the system can't wait. One line on
 /// standard error says which.
 pub fn do_route<R: Net + Log + Files + SystemClock + Eprint>(

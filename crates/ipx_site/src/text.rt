@@ -8,8 +8,8 @@ use std::fmt;
 /// The keys of a table, by its number.
 fn keys_of(table: usize) -> &'static str {
     if table == 0 {
-        return "a router has status and port, a host network, address, router, udp_port, socket and \
-            buffers";
+        return "a router has status and port, \
+            a host network, address, router, udp_port, socket and buffers";
     }
     "the keys are network, address, udp_port, cost, peers, accept"
 }

@@ -23,7 +23,8 @@ fn tell_network<R: Log>(rt: &R, item: &(Network, Source, RouteMetric)) {
     let node = item.1.neighbour;
     let hops = item.2.hops;
     let ticks = item.2.ticks;
-    info!(rt; target: "ipx", "network {network} known by port {port} node {node} hops {hops} ticks {ticks}");
+    info!(rt; target: "ipx",
+        "network {network} known by port {port} node {node} hops {hops} ticks {ticks}");
 }
 
 fn tell_service<R: Log>(rt: &R, item: &(ServiceKey, Source, ServiceMetric)) {
