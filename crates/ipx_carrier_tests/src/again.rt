@@ -1,0 +1,36 @@
+//! A router that asks again, and what it counts.
+
+use crate::fixture::{no_peers, one_peer_each, one_turn, two_ports};
+use ipx_carrier::{Fates, MemoryDatagrams};
+use std::test::Fail;
+
+/// In its first turn it asks for routes and services on each port, and tells a network on each;
+/// asked to ask again, it asks for the four once more.
+#[test]
+fn asks_again_for_all(rt: HostRuntime) -> Result<(), Fail> {
+    let alloc = rt.alloc();
+    let peers = one_peer_each(alloc)?;
+    let mut core = two_ports(alloc)?;
+    let mut datagrams = MemoryDatagrams::new(alloc, 2)?;
+    assert_eq!(rt; one_turn(alloc, &mut core, &mut datagrams, &peers)?.sent, 6);
+    assert_eq!(rt; one_turn(alloc, &mut core, &mut datagrams, &peers)?.sent, 0);
+    core.ask_again();
+    assert_eq!(rt; one_turn(alloc, &mut core, &mut datagrams, &peers)?.sent, 4);
+    Ok(())
+}
+
+#[test]
+fn counts_what_is_no_packet(rt: HostRuntime) -> Result<(), Fail> {
+    let alloc = rt.alloc();
+    let peers = no_peers(alloc)?;
+    let mut core = two_ports(alloc)?;
+    let mut datagrams = MemoryDatagrams::new(alloc, 2)?;
+    assert!(rt; core.fates() == Fates::new());
+    datagrams.put(alloc, 1, b"abc")?;
+    let _report = one_turn(alloc, &mut core, &mut datagrams, &peers)?;
+    assert_eq!(rt; core.fates().bad, 1);
+    assert_eq!(rt; core.router().ports().len(), 2);
+    assert!(rt; core.router().routes().list(alloc, 0).is_ok());
+    assert!(rt; core.router().services().list(alloc, 0).is_ok());
+    Ok(())
+}
