@@ -61,7 +61,7 @@ class Process:
         self.name = name
         self.log = world.path(f"{name}.{len(world.processes)}.log")
         self.out = bytearray()
-        self.first_byte = None
+        self.first_byte = self.last_byte = None
         self.reading = threading.Event()
         self.reading.set()
         with open(self.log, "wb") as log:
@@ -79,6 +79,7 @@ class Process:
             if self.first_byte is None:
                 self.first_byte = time.monotonic()
             self.out += chunk
+            self.last_byte = time.monotonic()
 
     def feed(self, pieces):
         """Gives its standard input these bytes, one after another, and ends it. A piece may be an

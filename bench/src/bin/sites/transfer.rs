@@ -136,7 +136,7 @@ pub fn print(world: &mut World) {
         "{:<36} {:>12} {:>12}",
         "a transfer, by processes", "MB a second", "MB"
     );
-    for buffers in [64, 128] {
+    for buffers in [64, 96] {
         let name = format!("host to host, {buffers} buffers");
         row(&name, or_say(&name, direct(world, buffers)));
         let name = format!("over two routers, {buffers} buffers");
