@@ -5,7 +5,7 @@ use ipx_site::Figures;
 use std::alloc::AllocError;
 
 /// Figures of a router, each another number.
-const FIGURES: Figures = Figures {
+pub const FIGURES: Figures = Figures {
     heard: 1,
     sent: 2,
     fates: Fates {

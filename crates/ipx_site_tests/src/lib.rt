@@ -17,6 +17,8 @@ mod peers;
 #[cfg(test)]
 mod refused;
 #[cfg(test)]
+mod refused_device;
+#[cfg(test)]
 mod sockets;
 #[cfg(test)]
 mod waiting;

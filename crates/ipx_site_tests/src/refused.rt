@@ -64,6 +64,6 @@ fn refused_faults_of_files(rt: HostRuntime) {
     }
     match read_site(rt.alloc(), CUT) {
         Ok(_) => assert!(rt; false),
-        Err(fault) => assert!(rt; matches!(fault, FileFault::NotToml(_) | FileFault::OutOfMemory)),
+        Err(fault) => assert!(rt; matches!(fault, FileFault::NotToml(..) | FileFault::OutOfMemory)),
     }
 }

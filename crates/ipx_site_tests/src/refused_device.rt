@@ -1,0 +1,128 @@
+//! Sockets, waiting, bursts and figures where memory is refused: each does what it does, or memory
+//! is wanted. Run these with each request refused.
+
+use crate::figures::FIGURES;
+use ipx_carrier::{Core, Datagrams, RunFault};
+use ipx_site::{
+    Accept, BindFault, Burst, Guard, PeersOnly, Readiness, SiteSockets, SteadyClock, WaitFault,
+    run_burst,
+};
+use ipx_wire::{Node, OutOfMemory};
+use std::alloc::Global;
+
+const UDP_PORT: u16 = 21393;
+
+/// A core that wants memory as it is asked for a packet, and has none to send.
+#[derive(Drop)]
+struct Greedy;
+
+impl Core for Greedy {
+    ghost use Rattle.std.specs.Prelude.{◌≡◌};
+
+    ghost port_count = { λ c. 1 };
+
+    ghost hears = { λ old port bytes now new. new ≡ old };
+
+    ghost gives = { λ old now given new. new ≡ old };
+
+    ghost misses = { λ old port bytes now new. ⊥ };
+
+    ghost withholds = { λ old now new. new ≡ old };
+
+    fn ports(&self) -> usize {
+        1
+    }
+
+    fn hear(
+        &mut self,
+        _alloc: Global,
+        _port: usize,
+        _bytes: &[u8],
+        _now: u64,
+    ) -> Result<(), OutOfMemory> {
+        Ok(())
+    }
+
+    fn next(
+        &mut self,
+        alloc: Global,
+        _now: u64,
+        _room: &mut [u8],
+    ) -> Result<Option<(usize, Node, usize)>, OutOfMemory> {
+        let _some = vec![in alloc; 7; 7]?;
+        Ok(None)
+    }
+}
+
+fn socket(rt: &HostRuntime, last: u8) -> Result<SiteSockets, BindFault> {
+    SiteSockets::bind_one(rt, rt.alloc(), [127, 0, 93, last], UDP_PORT)
+}
+
+/// A socket, bound once more where memory was refused.
+fn socket_at_last(rt: &HostRuntime, last: u8) -> Result<SiteSockets, BindFault> {
+    match socket(rt, last) {
+        Ok(sockets) => Ok(sockets),
+        Err(_) => socket(rt, last),
+    }
+}
+
+/// These sockets with a guard that hears everybody, which takes no memory.
+fn guarded(alloc: Global, sockets: SiteSockets) -> PeersOnly<SiteSockets> {
+    let mut guards = Vec::new(alloc);
+    let guard = Guard {
+        peers: Vec::new(alloc),
+        accept: Accept::Any,
+    };
+    let _full = guards.push(guard);
+    PeersOnly::new(sockets, guards)
+}
+
+/// A burst over this device, with the peers of one port.
+fn burst_of(rt: &HostRuntime, device: &mut PeersOnly<SiteSockets>) -> Burst {
+    let alloc = rt.alloc();
+    let mut peers = Vec::new(alloc);
+    if peers.push(Vec::new(alloc)).is_err() {
+        let _again = peers.push(Vec::new(alloc));
+    }
+    let mut clock = SteadyClock::new(rt);
+    run_burst(alloc, &mut Greedy, device, &peers, &mut clock, 4)
+}
+
+#[test]
+fn refused_bind_of_one(rt: HostRuntime) {
+    match socket(&rt, 1) {
+        Ok(sockets) => assert!(rt; sockets.ports() == 1),
+        Err(fault) => assert!(rt; fault == BindFault::OutOfMemory),
+    }
+}
+
+#[test]
+fn refused_readiness(rt: HostRuntime) {
+    let Ok(sockets) = socket_at_last(&rt, 2) else {
+        assert!(rt; false);
+        return;
+    };
+    match Readiness::new(&rt, rt.alloc(), &sockets) {
+        Ok(mut ready) => assert!(rt; ready.wait(0) == Ok(false)),
+        Err(fault) => assert!(rt; fault == WaitFault::OutOfMemory),
+    }
+}
+
+#[test]
+fn refused_burst(rt: HostRuntime) {
+    let Ok(sockets) = socket_at_last(&rt, 3) else {
+        assert!(rt; false);
+        return;
+    };
+    let mut device = guarded(rt.alloc(), sockets);
+    let burst = burst_of(&rt, &mut device);
+    assert!(rt; burst.quiet || burst.fault == Some(RunFault::OutOfMemory));
+    assert!(rt; burst_of(&rt, &mut device).quiet);
+}
+
+#[test]
+fn refused_figures(rt: HostRuntime) {
+    if let Ok(text) = FIGURES.text(rt.alloc()) {
+        assert!(rt; text.as_str().ends_with("ipx_seconds 22\n"));
+    }
+}
