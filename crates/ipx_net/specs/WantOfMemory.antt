@@ -1,5 +1,5 @@
 -- Which events may want memory, by what stands before them: those that make an entry or a parcel,
--- or are answered with a list. The entry point is `EventWantsMemory`.
+-- are answered with a list, or make a router's table grow. The entry point is `EventWantsMemory`.
 use Rattle.std.specs.Prelude.{ℕ, ◌≡◌, ◌⊎◌, ◌<◌, ◌+◌, ◌++◌, List, length, Option, None, Some, Result, Ok, Err, slice_get}
 use Rattle.ipx_wire.specs.declared.memory.OutOfMemory.{OutOfMemory}
 use Rattle.spx_link.specs.Offer.{first_of}
@@ -71,7 +71,8 @@ DeliveryWantsMemory n parcel bytes (Places.Port router port) =
     RouterWantsMemory n.routers router port bytes n.world.moment
 
 -- an event may want memory: a call that no end refuses, a take that is told, a delivery that is
--- told or sent on, and each poll, release and packet from outside. A moment wants none
+-- told, sent on or makes a router's table grow, and each poll, release and packet from outside. A
+-- moment wants none
 abbrev pub EventWantsMemory : NetNow → Event → Type 0
 EventWantsMemory n (Events.Dial host socket to buffers) =
     dial_fault (slice_get n.world.hosts host) ≡ None
