@@ -182,17 +182,21 @@ impl<'a, R: Net + Log + Clock> Listening<'a, R> {
     }
 
     /// Asks whether a connection is still there, by a message of no bytes: a peer that is there
-    /// acknowledges it, and without one the link is Lost some five seconds later.
+    /// acknowledges it, and without one the link is Lost some five seconds later. Where the message
+    /// is refused, nothing goes out: the silence counts anew, and it is asked again after it.
     fn ask(&mut self, alloc: Global, place: usize)
         requires { place < length self.old.callers.items }
     {
+        let moment = self.station.moment();
         let caller = &mut self.callers[place];
         let nothing = Message {
             stream: 0,
             body: Vec::new(alloc),
         };
-        let _ = self.station.core.endpoint.send(alloc, caller.id, &nothing);
-        caller.standing = Standing::Asked;
+        match self.station.core.endpoint.send(alloc, caller.id, &nothing) {
+            Ok(()) => caller.standing = Standing::Asked,
+            Err(_) => caller.heard = moment,
+        }
     }
 
     /// Lets a connection go. With `once` it is the only one, and all is over.
