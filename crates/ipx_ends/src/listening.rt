@@ -127,6 +127,11 @@ impl<'a, R: Net + Log + Clock> Listening<'a, R> {
         })
     }
 
+    /// Whether a connection that comes is let go at once: with `once` the first one alone counts.
+    fn is_taken(&self) -> bool {
+        self.once && !self.callers.is_empty()
+    }
+
     /// Notes which connection the last datagram was of, or made.
     fn note(&mut self) {
         let moment = self.station.moment();
@@ -145,7 +150,7 @@ impl<'a, R: Net + Log + Clock> Listening<'a, R> {
             heard: moment,
             standing: Standing::Open,
         };
-        if self.callers.push(caller).is_err() {
+        if self.is_taken() || self.callers.push(caller).is_err() {
             let _ = self.station.core.endpoint.release(accepted.id);
         }
     }
@@ -177,33 +182,38 @@ impl<'a, R: Net + Log + Clock> Listening<'a, R> {
     }
 
     /// Asks whether a connection is still there, by a message of no bytes: a peer that is there
-    /// acknowledges it, and without one the link is Lost some five seconds later.
+    /// acknowledges it, and without one the link is Lost some five seconds later. Where the message
+    /// is refused, nothing goes out: the silence counts anew, and it is asked again after it.
     fn ask(&mut self, alloc: Global, place: usize)
         requires { place < length self.old.callers.items }
     {
+        let moment = self.station.moment();
         let caller = &mut self.callers[place];
         let nothing = Message {
             stream: 0,
             body: Vec::new(alloc),
         };
-        let _ = self.station.core.endpoint.send(alloc, caller.id, &nothing);
-        caller.standing = Standing::Asked;
+        match self.station.core.endpoint.send(alloc, caller.id, &nothing) {
+            Ok(()) => caller.standing = Standing::Asked,
+            Err(_) => caller.heard = moment,
+        }
     }
 
-    /// Lets a connection go.
+    /// Lets a connection go. With `once` it is the only one, and all is over.
     fn let_go(&mut self, rt: &R, place: usize, fate: Fate) -> Result<(), Stop>
         requires { place < length self.old.callers.items }
     {
         let caller = self.callers.remove(place);
         let _ = self.station.core.endpoint.release(caller.id);
-        if fate == Fate::GivenUp {
+        let ended = fate == Fate::Over && caller.standing == Standing::Ended;
+        if !ended {
             let from = caller.from;
             warn!(rt; target: "ipx", "{from}: the connection is lost");
         }
-        match fate {
-            Fate::GivenUp if self.once => Err(Stop::Lost),
-            Fate::Over if self.once => Err(Stop::Ended),
-            _ => Ok(()),
+        match ended {
+            _ if !self.once => Ok(()),
+            true => Err(Stop::Ended),
+            false => Err(Stop::Lost),
         }
     }
 
@@ -305,9 +315,10 @@ fn tell_stop<R: Eprint>(rt: &R, stopped: Result<(), Stop>) -> u8 {
 
 /// The command `listen`: runs the host of a file, takes connections at its socket, and writes the
 /// bytes of each message when it is whole, with nothing between them. It goes on until it is ended,
-/// or with `once` until three seconds after the end of a connection.
+/// or with `once` until three seconds after the end of the first connection: later ones are let go
+/// as they come, and nothing of them is written.
 ///
-/// The answer is the status: 0 where the end of a connection came; 1 where that connection was
+/// The answer is the status: 0 where the end of that connection came; 1 where that connection was
 /// lost, the writer failed, the socket can't be had or memory for the start is refused; 2 for a
 /// fault of the file. What is wrong is a line on standard error.
 pub fn do_listen<R: Net + Log + Files + Clock + Eprint, W: Write>(

@@ -201,8 +201,11 @@ impl<'a, R: Net + Log + Clock + Eprint> Sending<'a, R> {
     /// behind it. It answers whether anything was queued.
     fn feed<I: Read>(&mut self, alloc: Global, reader: &mut I) -> Result<bool, Verdict> {
         if self.read && !self.closed {
-            self.closed = self.station.core.endpoint.close(alloc, self.id).is_ok();
-            return Ok(self.closed);
+            if self.station.core.endpoint.close(alloc, self.id).is_err() {
+                return Err(Verdict::OutOfMemory);
+            }
+            self.closed = true;
+            return Ok(true);
         }
         if self.read || self.ledger.ahead() >= MOST_AHEAD || !self.gate.is_open() {
             return Ok(false);
