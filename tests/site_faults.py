@@ -35,6 +35,8 @@ USED = "address and udp_port are in use: end what has them, or take others"
 IN_USE = {"route": f"port 1: {USED}", "listen": USED, "send": USED}
 ELSEWHERE = "address is to be an IP address of this machine"
 NOT_HERE = {"route": f"port 1: {ELSEWHERE}", "listen": ELSEWHERE, "send": ELSEWHERE}
+CLOSED = "standard input, output or error is closed"
+FREE = "127.0.1.52", "127.0.1.53"
 UNREAD = [
     ("nothing", "there is no such file"),
     ("folder", "the file can't be read"),
@@ -103,19 +105,25 @@ HOST_FILES = [
 ]
 
 
-def told(sites, words):
-    """The status, standard output and lines of standard error of a call that is to end at once."""
+def told(sites, words, closed=None):
+    """The status, standard output and lines of standard error of a call that is to end at once. A
+    descriptor may be closed as it starts."""
+    def prepare():
+        die_with_the_parent()
+        if closed is not None:
+            os.close(closed)
+
     try:
         done = subprocess.run([sites.world.program, *words], stdin=subprocess.DEVNULL, capture_output=True,
-                              timeout=10, cwd=sites.world.folder, preexec_fn=die_with_the_parent)
+                              timeout=10, cwd=sites.world.folder, preexec_fn=prepare)
     except subprocess.TimeoutExpired:
         return "still running after 10 s"
     return done.returncode, done.stdout, done.stderr.decode("utf-8", "replace").splitlines()
 
 
-def check_told(sites, name, words, status, line):
+def check_told(sites, name, words, status, line, closed=None):
     """A call ends with a status, one line on standard error, and nothing on standard output."""
-    got = told(sites, words)
+    got = told(sites, words, closed)
     good = got == (status, b"", [line])
     sites.check(name, good, f"{line!r} and status {status} are to be told, not {got}", quiet=True)
 
@@ -148,6 +156,10 @@ def check_faults(sites):
         write(text)
         check_told(sites, f"no address of this machine, {words[0]}", words, 1, f"bad.toml: {NOT_HERE[words[0]]}")
     check_unread(sites, send)
+    here["127.0.1.1"], here["127.0.1.20"] = FREE
+    write(HOST)
+    for words, closed in ((send, 0), (["listen", "bad.toml"], 1)):
+        check_told(sites, f"{words[0]}, descriptor {closed} is closed", words, 1, CLOSED, closed)
     for holder in holders:
         holder.close()
     print(f"    {sites.passed - passed} faults of files and sockets were told in their line")

@@ -31,7 +31,7 @@ pub enum Standing {
 pub struct Caller {
     pub id: u16,
     pub from: Address,
-    /// The moment at which it was heard last.
+    /// The moment at which it was heard last, or at which it could not be asked.
     pub heard: u64,
     pub standing: Standing,
 }

@@ -4,7 +4,13 @@ ghost use Rattle.std.specs.Prelude.{◌≡◌};
 
 use ipx_site::{BindFault, Obstacle, WaitFault};
 use ipx_wire::OutOfMemory;
+use mio::Poll;
 use std::alloc::{AllocError, AllocFailed};
+use std::net::Net;
+use std::os::fd::{AsRawFd, RawFd};
+
+/// The descriptor of standard error, the greatest of the three.
+const STDERR: RawFd = 2;
 
 /// Why a host does not start.
 #[derive(Clone, Copy, Debug, PartialEq, Eq)]
@@ -14,6 +20,8 @@ pub enum StartFault {
     Bind(Obstacle),
     /// The system has no way to wait.
     Wait,
+    /// Standard input, output or error is closed.
+    Closed,
 }
 
 impl From<OutOfMemory> for StartFault {
@@ -52,6 +60,16 @@ impl From<WaitFault> for StartFault {
     }
 }
 
+/// Refuses to start where standard input, output or error is closed. What is opened gets the lowest
+/// number that is free: a socket would get theirs, and be read or written in their place.
+pub fn check_streams<R: Net>(rt: &R) -> Result<(), StartFault> {
+    match Poll::new(rt) {
+        Ok(poll) if poll.as_raw_fd() > STDERR => Ok(()),
+        Ok(_) => Err(StartFault::Closed),
+        Err(_) => Err(StartFault::Wait),
+    }
+}
+
 /// Prints why the host of a file does not start, and answers the status 1.
 pub fn tell_start<R: Eprint>(rt: &R, path: &str, fault: StartFault) -> u8
     ensures { result ≡ 1 }
@@ -60,6 +78,7 @@ pub fn tell_start<R: Eprint>(rt: &R, path: &str, fault: StartFault) -> u8
         StartFault::OutOfMemory => eprintln!(rt; "{path}: out of memory"),
         StartFault::Bind(obstacle) => eprintln!(rt; "{path}: {obstacle}"),
         StartFault::Wait => eprintln!(rt; "{path}: the system can't wait for the socket"),
+        StartFault::Closed => eprintln!(rt; "standard input, output or error is closed"),
     };
     1
 }

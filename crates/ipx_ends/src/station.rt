@@ -1,7 +1,7 @@
 //! A host by its file: its endpoint, its socket and its clock.
 
 use crate::end_core::EndCore;
-use crate::start::StartFault;
+use crate::start::{StartFault, check_streams};
 use ipx_carrier::{Core, Datagrams, node_of, run};
 use ipx_site::{Cause, HostFile, Readiness, SiteSockets, SteadyClock, WaitFault};
 use log::{Log, warn};
@@ -36,6 +36,7 @@ pub struct Station<'a, R: Clock> {
 impl<'a, R: Net + Log + Clock> Station<'a, R> {
     /// A host that is bound as its file says. It hears whoever reaches its socket.
     pub fn open(rt: &'a R, alloc: Global, file: &HostFile) -> Result<Station<'a, R>, StartFault> {
+        check_streams(rt)?;
         let node = node_of(file.address);
         let endpoint = Endpoint::new(alloc, file.network, node, node_of(file.router));
         let router = vec![in alloc; file.router]?;
