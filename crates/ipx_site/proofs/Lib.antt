@@ -4,3 +4,5 @@ pub mod Found
 pub mod HexText
 pub mod Own
 pub mod Bursting
+pub mod Ports
+pub mod Rounds

@@ -8,3 +8,4 @@ pub mod Host
 pub mod Peers
 pub mod Moments
 pub mod Bursts
+pub mod Rounds

@@ -1,8 +1,9 @@
 -- Who may speak at the ports of a device, and what a device that asks so hands up and lets down. All
 -- of it is own.
-use Rattle.std.specs.Prelude.{◌≡◌, ℕ, ◌+◌, ◌-◌, ◌^◌, List, Bool, true, false, Option, Some, None, nat_eq, min}
+use Rattle.std.specs.Prelude.{◌≡◌, ℕ, List, Bool, true, false, Option, Some, None, nat_eq}
 use Rattle.std.specs.List.{list_any}
 use Rattle.std.specs.Cmp.Lexicographic.{pointwise}
+use Rattle.ipx_carrier.specs.Fates.{raised}
 use Rattle.ipx_site.specs.declared.peers.Guard.{Guard}
 use Rattle.ipx_site.specs.declared.site.Accept.{Accept}
 use Rattle.ipx_site.specs.declared.site.Accept.TheVariants.{Any, Peers}
@@ -26,10 +27,6 @@ is_heard (Some g) from = hears_from g.accept g.peers.items from
 abbrev pub may_go : Option Guard → List ℕ → Bool
 may_go None to = false
 may_go (Some g) to = is_peer g.peers.items to
-
--- a count of 64 bits goes up by one, and stays where it is the greatest
-abbrev pub raised : ℕ → ℕ
-raised n = min (n + 1) (2 ^ 64 - 1)
 
 -- what came is handed up where it is heard. What is not is counted, and it is as if nothing came
 abbrev pub HandsUp : Bool → Option ℕ → Option ℕ → ℕ → ℕ → Type 0

@@ -1,7 +1,9 @@
--- The ports of the router that a file describes. All of it is own.
-use Rattle.std.specs.Prelude.{List, map}
+-- The ports of the router that a file describes, and who may speak there. All of it is own.
+use Rattle.std.specs.Prelude.{◌≡◌, ℕ, List, map}
 use Rattle.ipx_router.specs.declared.port.Port.{Port}
 use Rattle.ipx_carrier.specs.Mapping.{node_at}
+use Rattle.ipx_site.specs.declared.peers.Guard.{Guard}
+use Rattle.ipx_site.specs.declared.site.Accept.{Accept}
 use Rattle.ipx_site.specs.declared.site.SitePort.{SitePort}
 
 -- a port of a file as one of the router: its node is two zero bytes and the IP address
@@ -10,3 +12,27 @@ router_port_of p = record { network = p.network; node = node_at p.address; cost 
 
 abbrev pub router_ports : List SitePort → List Port
 router_ports ports = map router_port_of ports
+
+-- the port of UDP of each port, at which its peers are reached too
+abbrev pub udp_ports : List SitePort → List ℕ
+udp_ports ports = map (λ p. p.udp_port) ports
+
+-- the peers of each port
+abbrev pub site_peers : List SitePort → List (List (List ℕ))
+site_peers ports = map (λ p. p.peers.items) ports
+
+-- whom a port sends to, and who is heard there
+pub record Access : Type 0 where
+  pub peers : List (List ℕ)
+  pub accept : Accept
+
+-- as its file says it, and as its guard does
+abbrev pub access_of : SitePort → Access
+access_of p = record { peers = p.peers.items; accept = p.accept }
+
+abbrev pub access_by : Guard → Access
+access_by g = record { peers = g.peers.items; accept = g.accept }
+
+-- the guards are those of the ports, in order
+abbrev pub GuardPorts : List SitePort → List Guard → Type 0
+GuardPorts ports guards = map access_by guards ≡ map access_of ports

@@ -1,5 +1,5 @@
 -- What the value of a key means: a number of a network, an address, and so on.
-use Rattle.std.specs.Prelude.{String, Vec, string_bytes, ◌≡◌, ◌≢◌, ℕ, ◌^◌, ◌<◌, ◌≤◌, pos, List, [], ◌∷◌, length, Option, Some, codes, MatchOption}
+use Rattle.std.specs.Prelude.{String, Vec, string_bytes, ◌≡◌, ◌≢◌, ℕ, ◌≤◌, pos, List, [], ◌∷◌, length, Option, Some, codes, MatchOption}
 use Rattle.std.specs.Global.{Global}
 use Rattle.std.specs.Str.Parse.{IsNumeral, digits_value}
 use Rattle.std.specs.Net.Grammar.{IsDotted}

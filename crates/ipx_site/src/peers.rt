@@ -2,8 +2,9 @@
 
 ghost use Rattle.std.specs.Prelude.{◌≡◌, ◌<◌, ◌≤◌, ◌+◌, ◌^◌, [], ◌∷◌, ℕ, true, false, Ok, Option, OnErr, OnOk, IfOk, IfSome, length, slice_get, option_copied};
 ghost use Rattle.ipx_carrier.specs.Device.{Passes, received_in};
+ghost use Rattle.ipx_carrier.specs.Fates.{raised};
 ghost use Rattle.ipx_carrier.specs.Fault.{device_failures};
-ghost use Rattle.ipx_site.specs.Peers.{HandsUp, hears_from, is_heard, is_peer, may_go, raised};
+ghost use Rattle.ipx_site.specs.Peers.{HandsUp, hears_from, is_heard, is_peer, may_go};
 
 use crate::senders::Senders;
 use crate::site::Accept;

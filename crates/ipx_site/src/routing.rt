@@ -2,7 +2,8 @@
 
 ghost use Rattle.std.specs.Prelude.{◌≡◌, All, IfOk};
 ghost use Rattle.ipx_router.specs.NewRouter.{IsOwnNetwork};
-ghost use Rattle.ipx_site.specs.Ports.{router_port_of, router_ports};
+ghost use Rattle.ipx_carrier.specs.Turns.{peers_of};
+ghost use Rattle.ipx_site.specs.Ports.{GuardPorts, access_by, access_of, router_port_of, router_ports, site_peers};
 
 use crate::bind_fault::BindFault;
 use crate::clock::SteadyClock;
@@ -76,30 +77,51 @@ fn own_ports(alloc: Global, ports: &[SitePort]) -> Result<Vec<Port>, AllocError>
 
 fn router_of(alloc: Global, ports: &[SitePort]) -> Result<Router, RouteFault>
     requires { All IsOwnNetwork (router_ports ports.now) }
+    ensures { IfOk result (λ r. r.ports ≡ router_ports ports.now) }
 {
     let ports = own_ports(alloc, ports)?;
     let router = Router::new(alloc, ports)?;
     Ok(router)
 }
 
+/// The peers of a port.
+fn port_peers(alloc: Global, port: &SitePort) -> Result<Vec<[u8; 4]>, AllocError>
+    ensures { IfOk result (λ v. v.items ≡ port.now.peers.items) }
+{
+    Vec::from_slice(alloc, &port.peers)
+}
+
 /// The peers of each port.
-fn peers_of(alloc: Global, ports: &[SitePort]) -> Result<Vec<Vec<[u8; 4]>>, AllocError> {
-    let mut peers = Vec::new(alloc);
+fn peers_by_port(alloc: Global, ports: &[SitePort]) -> Result<Vec<Vec<[u8; 4]>>, AllocError>
+    ensures { IfOk result (λ v. peers_of v.items ≡ site_peers ports.now) }
+{
+    let mut lists = Vec::new(alloc);
     for port in ports {
-        peers.push(Vec::from_slice(alloc, &port.peers)?)?;
+        let peers = port_peers(alloc, port)?;
+        lists.push(peers)?;
     }
-    Ok(peers)
+    Ok(lists)
+}
+
+/// The guard of a port.
+fn guard_of(alloc: Global, port: &SitePort) -> Result<Guard, AllocError>
+    ensures { IfOk result (λ g. access_by g ≡ access_of port.now) }
+{
+    let peers = port_peers(alloc, port)?;
+    Ok(Guard {
+        peers,
+        accept: port.accept,
+    })
 }
 
 /// The guard of each port.
-fn guards_of(alloc: Global, ports: &[SitePort]) -> Result<Vec<Guard>, AllocError> {
+fn guards_of(alloc: Global, ports: &[SitePort]) -> Result<Vec<Guard>, AllocError>
+    ensures { IfOk result (λ v. GuardPorts ports.now v.items) }
+{
     let mut guards = Vec::new(alloc);
     for port in ports {
-        let peers = Vec::from_slice(alloc, &port.peers)?;
-        guards.push(Guard {
-            peers,
-            accept: port.accept,
-        })?;
+        let guard = guard_of(alloc, port)?;
+        guards.push(guard)?;
     }
     Ok(guards)
 }
@@ -132,9 +154,13 @@ fn start<'a, R: Net + Log + SystemClock>(
     site: SiteFile,
 ) -> Result<Station<'a, R>, RouteFault>
     requires { All IsOwnNetwork (router_ports site.ports.items) }
+    // The router has the ports of the file, and each of them its peers and its guard.
+    ensures ports { IfOk result (λ s. s.core.router.ports ≡ router_ports site.ports.items) }
+    ensures peers { IfOk result (λ s. peers_of s.peers.items ≡ site_peers site.ports.items) }
+    ensures guards { IfOk result (λ s. GuardPorts site.ports.items s.device.guards.items) }
 {
     let router = router_of(alloc, &site.ports)?;
-    let peers = peers_of(alloc, &site.ports)?;
+    let peers = peers_by_port(alloc, &site.ports)?;
     let guards = guards_of(alloc, &site.ports)?;
     let sockets = SiteSockets::bind(rt, alloc, &site.ports)?;
     let ready = Readiness::new(rt, alloc, &sockets)?;

@@ -1,7 +1,8 @@
 //! Sockets of UDP, one for each port of a site.
 
-ghost use Rattle.std.specs.Prelude.{◌≡◌, IfOk, length};
-ghost use Rattle.ipx_site.specs.Peers.{raised};
+ghost use Rattle.std.specs.Prelude.{◌≡◌, ◌∷◌, [], IfOk, map};
+ghost use Rattle.ipx_carrier.specs.Fates.{raised};
+ghost use Rattle.ipx_site.specs.Ports.{udp_ports};
 
 use crate::bind_fault::{BindFault, obstacle_of};
 use crate::peers::raise;
@@ -51,7 +52,9 @@ fn ip_of(place: SocketAddr) -> Option<[u8; 4]> {
 
 /// A socket at an IP address, which does not wait. 0.0.0.0, which is every address of a machine, is
 /// none that its peers could name.
-fn bound_socket<R: Net>(rt: &R, ip: [u8; 4], udp_port: u16) -> io::Result<PortSocket> {
+fn bound_socket<R: Net>(rt: &R, ip: [u8; 4], udp_port: u16) -> io::Result<PortSocket>
+    ensures { IfOk result (λ s. s.udp_port ≡ udp_port) }
+{
     if ip == [0; 4] {
         return Err(io::Error::from(ErrorKind::AddrNotAvailable));
     }
@@ -75,7 +78,7 @@ impl SiteSockets {
     /// A device with these ports in their order. At the first socket that can't be had it answers
     /// that port, and nothing stays bound.
     pub fn bind<R: Net>(rt: &R, alloc: Global, ports: &[SitePort]) -> Result<SiteSockets, BindFault>
-        ensures { IfOk result (λ d. length d.sockets.items ≡ length ports.now) }
+        ensures { IfOk result (λ d. map (λ s. s.udp_port) d.sockets.items ≡ udp_ports ports.now) }
     {
         let mut sockets = Vec::new(alloc);
         for (place, port) in ports.iter().enumerate() {
@@ -98,7 +101,7 @@ impl SiteSockets {
         address: [u8; 4],
         udp_port: u16,
     ) -> Result<SiteSockets, BindFault>
-        ensures { IfOk result (λ d. length d.sockets.items ≡ 1) }
+        ensures { IfOk result (λ d. map (λ s. s.udp_port) d.sockets.items ≡ udp_port ∷ []) }
     {
         match bound_socket(rt, address, udp_port) {
             Ok(socket) => match vec![in alloc; socket] {

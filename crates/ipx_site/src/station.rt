@@ -1,5 +1,9 @@
 //! A router with its sockets, and what is to be done besides its turns.
 
+ghost use Rattle.std.specs.Prelude.{◌≡◌, ◌≤◌};
+ghost use Rattle.ipx_carrier.specs.Turns.{peers_of};
+ghost use Rattle.ipx_site.specs.Rounds.{AsksAgain, IsRound};
+
 use crate::asking::asking_moment;
 use crate::clock::SteadyClock;
 use crate::figures::Figures;
@@ -9,7 +13,7 @@ use crate::sockets::SiteSockets;
 use crate::status::write_whole;
 use crate::tally::Tally;
 use crate::troubles::Troubles;
-use crate::turns::run_burst;
+use crate::turns::{Burst, run_burst};
 use crate::watch::Known;
 use ipx_carrier::{Clock, RouterCore};
 use log::Log;
@@ -89,7 +93,12 @@ fn end_of(last: Option<u64>, period: u64) -> Option<u64> {
 
 impl<'a, R: SystemClock> Station<'a, R> {
     /// A router that begins to run.
-    pub fn new(alloc: Global, parts: Parts<'a, R>) -> Station<'a, R> {
+    pub fn new(alloc: Global, parts: Parts<'a, R>) -> Station<'a, R>
+        ensures core { result.core ≡ parts.entry.core }
+        ensures device { result.device ≡ parts.entry.device }
+        ensures peers { result.peers ≡ parts.entry.peers }
+        ensures asked { result.asked ≡ 0 }
+    {
         Station {
             core: parts.core,
             device: parts.device,
@@ -122,17 +131,26 @@ impl<'a, R: SystemClock> Station<'a, R> {
     }
 
     /// Asks the neighbours again, if it is time.
-    fn ask(&mut self, now: u64) {
+    fn ask(&mut self, now: u64)
+        ensures core { AsksAgain now self.old.asked self.new.asked self.old.core self.new.core }
+        ensures peers { self.new.peers ≡ self.old.peers }
+        ensures clock { self.new.clock ≡ self.old.clock }
+    {
         if let Some(moment) = asking_moment(self.asked) {
             if now >= moment {
-                self.asked = self.asked.saturating_add(1);
+                self.asked += 1;
                 self.core.ask_again();
             }
         }
     }
 
     /// Tells what is newly known and what is lost, if it is time.
-    fn look<L: Log>(&mut self, rt: &L, alloc: Global, now: u64) {
+    fn look<L: Log>(&mut self, rt: &L, alloc: Global, now: u64)
+        ensures core { self.new.core ≡ self.old.core }
+        ensures peers { self.new.peers ≡ self.old.peers }
+        ensures clock { self.new.clock ≡ self.old.clock }
+        ensures asked { self.new.asked ≡ self.old.asked }
+    {
         if !is_over(self.looked, self.look_period(), now) {
             return;
         }
@@ -144,7 +162,12 @@ impl<'a, R: SystemClock> Station<'a, R> {
     }
 
     /// Writes the figures, if it is time and there is a file for them.
-    fn write_figures<F: Files>(&mut self, rt: &F, alloc: Global, now: u64) {
+    fn write_figures<F: Files>(&mut self, rt: &F, alloc: Global, now: u64)
+        ensures core { self.new.core ≡ self.old.core }
+        ensures peers { self.new.peers ≡ self.old.peers }
+        ensures clock { self.new.clock ≡ self.old.clock }
+        ensures asked { self.new.asked ≡ self.old.asked }
+    {
         if !is_over(self.written, PERIOD, now) {
             return;
         }
@@ -163,8 +186,11 @@ impl<'a, R: SystemClock> Station<'a, R> {
     }
 
     /// Does what is to be done besides the turns.
-    fn keep<S: Log + Files>(&mut self, rt: &S, alloc: Global) {
-        let now = self.clock.now();
+    fn keep<S: Log + Files>(&mut self, rt: &S, alloc: Global, now: u64)
+        ensures core { AsksAgain now self.old.asked self.new.asked self.old.core self.new.core }
+        ensures peers { self.new.peers ≡ self.old.peers }
+        ensures clock { self.new.clock ≡ self.old.clock }
+    {
         self.ask(now);
         self.look(rt, alloc, now);
         self.write_figures(rt, alloc, now);
@@ -173,8 +199,7 @@ impl<'a, R: SystemClock> Station<'a, R> {
     }
 
     /// How long there is nothing to do, unless something comes, in milliseconds.
-    fn leisure(&mut self) -> u64 {
-        let now = self.clock.now();
+    fn leisure(&self, now: u64) -> u64 {
         let moments = [
             asking_moment(self.asked),
             end_of(self.looked, self.look_period()),
@@ -185,10 +210,15 @@ impl<'a, R: SystemClock> Station<'a, R> {
         time_to(moments, now)
     }
 
-    /// Does what is to be done now, takes turns as long as there is something to hear or to send,
-    /// and waits.
-    pub fn step<S: Log + Files>(&mut self, rt: &S, alloc: Global) -> Result<(), WaitFault> {
-        self.keep(rt, alloc);
+    /// Does what is to be done now, and takes turns as long as there is something to hear or to send.
+    fn round<S: Log + Files>(&mut self, rt: &S, alloc: Global) -> Burst
+        ensures core { IsRound self.old.clock
+            (λ old moment new. (old.last ≤ moment) × (new.last ≡ moment))
+            (peers_of self.old.peers.items) self.old.asked self.new.asked self.old.core self.new.core }
+        ensures peers { self.new.peers ≡ self.old.peers }
+    {
+        let now = self.clock.now();
+        self.keep(rt, alloc, now);
         let burst = run_burst(
             alloc,
             &mut self.core,
@@ -198,10 +228,23 @@ impl<'a, R: SystemClock> Station<'a, R> {
             TURNS,
         );
         self.tally.add(burst);
+        burst
+    }
+
+    /// Does what is to be done now, takes turns as long as there is something to hear or to send,
+    /// and waits.
+    pub fn step<S: Log + Files>(&mut self, rt: &S, alloc: Global) -> Result<(), WaitFault>
+        ensures core { IsRound self.old.clock
+            (λ old moment new. (old.last ≤ moment) × (new.last ≡ moment))
+            (peers_of self.old.peers.items) self.old.asked self.new.asked self.old.core self.new.core }
+        ensures peers { self.new.peers ≡ self.old.peers }
+    {
+        let burst = self.round(rt, alloc);
         if burst.fault.is_some() {
             self.ready.wait(REST)?;
         } else if burst.quiet {
-            let leisure = self.leisure();
+            let now = self.clock.now();
+            let leisure = self.leisure(now);
             self.ready.wait(leisure)?;
         }
         Ok(())

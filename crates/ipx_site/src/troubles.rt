@@ -47,57 +47,28 @@ impl Troubles {
 
     /// Tells those for which it is time.
     pub fn tell<R: Log>(&mut self, rt: &R, figures: &Figures, now: u64) {
-        let f = *figures;
-        let full = f.fates.table_full;
-        tell(
-            rt,
-            &mut self.strangers,
-            f.strangers,
-            now,
-            "datagrams came from no peer",
-        );
-        tell(
-            rt,
-            &mut self.refused,
-            f.refused,
-            now,
-            "datagrams were to go to no peer",
-        );
-        tell(
-            rt,
-            &mut self.table_full,
-            full,
-            now,
-            "responses found a table full",
-        );
-        tell(
-            rt,
-            &mut self.queue_full,
-            f.queue_full,
-            now,
-            "packets found no room to wait",
-        );
-        tell(
-            rt,
-            &mut self.device,
-            f.device_faults,
-            now,
-            "datagrams the system refused",
-        );
-        tell(
-            rt,
-            &mut self.memory,
-            f.memory_faults,
-            now,
-            "times memory was refused",
-        );
-        tell(
-            rt,
-            &mut self.file,
-            f.file_faults,
-            now,
-            "times the status file could not be written",
-        );
+        self.tell_of_datagrams(rt, figures, now);
+        self.tell_of_system(rt, figures, now);
+    }
+
+    fn tell_of_datagrams<R: Log>(&mut self, rt: &R, f: &Figures, now: u64) {
+        let what = "datagrams came from no peer";
+        tell(rt, &mut self.strangers, f.strangers, now, what);
+        let what = "datagrams were to go to no peer";
+        tell(rt, &mut self.refused, f.refused, now, what);
+        let what = "responses found a table full";
+        tell(rt, &mut self.table_full, f.fates.table_full, now, what);
+        let what = "packets found no room to wait";
+        tell(rt, &mut self.queue_full, f.queue_full, now, what);
+    }
+
+    fn tell_of_system<R: Log>(&mut self, rt: &R, f: &Figures, now: u64) {
+        let what = "datagrams the system refused";
+        tell(rt, &mut self.device, f.device_faults, now, what);
+        let what = "times memory was refused";
+        tell(rt, &mut self.memory, f.memory_faults, now, what);
+        let what = "times the status file could not be written";
+        tell(rt, &mut self.file, f.file_faults, now, what);
     }
 
     /// The moment at which it is time to tell one.

@@ -1,9 +1,9 @@
 //! Turns of a core over a device, one after another, as long as there is something to do.
 
-ghost use Rattle.std.specs.Prelude.{◌≡◌, ◌⊎◌, ◌<◌, ◌≤◌, ◌+◌, ◌^◌, IfOk, IfErr, Some, None, length};
+ghost use Rattle.std.specs.Prelude.{◌≡◌, ◌⊎◌, ◌<◌, ◌≤◌, ◌+◌, ◌^◌, true, false, IfOk, IfErr, Some, None, length};
 ghost use Rattle.ipx_carrier.specs.Runs.{EndsEarly, Runs};
 ghost use Rattle.ipx_carrier.specs.Turns.{peers_of};
-ghost use Rattle.ipx_site.specs.Bursts.{Bursts};
+ghost use Rattle.ipx_site.specs.Bursts.{Bursts, counted};
 
 use crate::peers::PeersOnly;
 use crate::senders::Senders;
@@ -26,13 +26,16 @@ pub struct Burst {
 }
 
 /// A count of a report, which stays at the greatest u64.
-fn count_of(count: u128) -> u64 {
+fn count_of(count: u128) -> u64
+    ensures { result ≡ counted count }
+{
     u64::try_from(count).unwrap_or(u64::MAX)
 }
 
 impl Burst {
     fn none() -> Burst
-        ensures { result.fault ≡ None }
+        ensures counts { (result.heard ≡ 0) × (result.sent ≡ 0) × (result.unmapped ≡ 0) }
+        ensures goes_on { (result.fault ≡ None) × (result.quiet ≡ false) }
     {
         Burst {
             heard: 0,
@@ -44,7 +47,10 @@ impl Burst {
     }
 
     fn with(self, report: Report) -> Burst
-        ensures { result.fault ≡ self.fault }
+        ensures heard { result.heard ≡ counted (self.heard + report.heard) }
+        ensures sent { result.sent ≡ counted (self.sent + report.sent) }
+        ensures unmapped { result.unmapped ≡ counted (self.unmapped + report.unmapped) }
+        ensures rest { (result.fault ≡ self.fault) × (result.quiet ≡ self.quiet) }
     {
         Burst {
             heard: self.heard.saturating_add(count_of(report.heard)),
@@ -56,7 +62,7 @@ impl Burst {
     }
 
     fn ended_by(self, fault: RunFault) -> Burst
-        ensures { result.fault ≡ Some fault }
+        ensures { result ≡ record self { fault = Some fault } }
     {
         Burst {
             fault: Some(fault),
@@ -65,13 +71,20 @@ impl Burst {
     }
 
     fn quieted(self) -> Burst
-        ensures { result.fault ≡ self.fault }
+        ensures { result ≡ record self { quiet = true } }
     {
         Burst {
             quiet: true,
             ..self
         }
     }
+}
+
+/// Whether what a report tells of neither heard nor sent.
+fn is_idle(report: Report) -> bool
+    ensures { result ≡ true → (report.heard ≡ 0) × (report.sent ≡ 0) }
+{
+    report.heard == 0 && report.sent == 0
 }
 
 /// Takes one turn. A device with other ports than the core, or one that failed too often to count
@@ -116,9 +129,10 @@ pub fn run_burst<C: Core, D: Senders + Drop, K: Clock>(
     clock: &mut K,
     most: u32,
 ) -> Burst
-    // What the core is then comes of whole turns, and of a part of one where a fault ended it.
-    ensures turns { Bursts C.hears C.misses C.gives C.withholds (C.port_count core.old)
-        (peers_of peers.now) most result.fault core.old core.new }
+    // What the core and the clock are then comes of whole turns, each as `run` takes it, which are
+    // counted, and of a part of one where a fault ended it.
+    ensures turns { Bursts C.hears C.misses C.gives C.withholds K.tells (C.port_count core.old)
+        (peers_of peers.now) most result clock.old clock.new core.old core.new }
     ensures ports { C.port_count core.new ≡ C.port_count core.old }
 {
     let mut burst = Burst::none();
@@ -129,8 +143,7 @@ pub fn run_burst<C: Core, D: Senders + Drop, K: Clock>(
             Err(fault) => return burst.ended_by(fault),
         };
         burst = burst.with(report);
-        let idle = report.heard == 0 && report.sent == 0;
-        if idle && device.strangers() == strangers {
+        if is_idle(report) && device.strangers() == strangers {
             return burst.quieted();
         }
     }

@@ -2,7 +2,7 @@
 
 use crate::shown::Shown;
 use ipx_router::Router;
-use ipx_tables::{RouteMetric, ServiceKey, ServiceMetric, Source};
+use ipx_tables::{Metric, Offers, RouteMetric, ServiceKey, ServiceMetric, Source};
 use ipx_wire::{Network, OutOfMemory};
 use log::{Log, info};
 use std::alloc::Global;
@@ -17,99 +17,114 @@ pub struct Known {
     services: Vec<ServiceKey>,
 }
 
-fn tell_network<R: Log>(rt: &R, item: &(Network, Source, RouteMetric)) {
-    let network = item.0;
-    let port = item.1.port;
-    let node = item.1.neighbour;
-    let hops = item.2.hops;
-    let ticks = item.2.ticks;
-    info!(rt; target: "ipx",
-        "network {network} known by port {port} node {node} hops {hops} ticks {ticks}");
+/// A key of a table, a network or a service, of which it is told that it is known or lost.
+trait Told: Ord + Copy {
+    /// What a neighbour offers by it.
+    type Offered: Metric + Copy;
+
+    /// What several of them are called.
+    const MANY: &'static str;
+
+    /// Tells that it is known, by this source.
+    fn tell_known<R: Log>(&self, rt: &R, source: Source, offered: Self::Offered);
+
+    fn tell_lost<R: Log>(&self, rt: &R);
 }
 
-fn tell_service<R: Log>(rt: &R, item: &(ServiceKey, Source, ServiceMetric)) {
-    let kind = item.0.kind;
-    let name = Shown(&item.0.name);
-    let at = item.2.at;
-    let port = item.1.port;
-    let hops = item.2.hops;
-    info!(rt; target: "ipx", "service {kind:04x} {name} at {at} known by port {port} hops {hops}");
+impl Told for Network {
+    type Offered = RouteMetric;
+
+    const MANY: &'static str = "networks";
+
+    fn tell_known<R: Log>(&self, rt: &R, source: Source, offered: RouteMetric) {
+        let network = *self;
+        let port = source.port;
+        let node = source.neighbour;
+        let hops = offered.hops;
+        let ticks = offered.ticks;
+        info!(rt; target: "ipx",
+            "network {network} known by port {port} node {node} hops {hops} ticks {ticks}");
+    }
+
+    fn tell_lost<R: Log>(&self, rt: &R) {
+        let network = *self;
+        info!(rt; target: "ipx", "network {network} lost");
+    }
 }
 
-fn tell_lost_service<R: Log>(rt: &R, key: &ServiceKey) {
-    let kind = key.kind;
-    let name = Shown(&key.name);
-    info!(rt; target: "ipx", "service {kind:04x} {name} lost");
+impl Told for ServiceKey {
+    type Offered = ServiceMetric;
+
+    const MANY: &'static str = "services";
+
+    fn tell_known<R: Log>(&self, rt: &R, source: Source, offered: ServiceMetric) {
+        let kind = self.kind;
+        let name = Shown(&self.name);
+        let at = offered.at;
+        let port = source.port;
+        let hops = offered.hops;
+        info!(rt; target: "ipx",
+            "service {kind:04x} {name} at {at} known by port {port} hops {hops}");
+    }
+
+    fn tell_lost<R: Log>(&self, rt: &R) {
+        let kind = self.kind;
+        let name = Shown(&self.name);
+        info!(rt; target: "ipx", "service {kind:04x} {name} lost");
+    }
 }
 
 /// Says that there were more lines than are written at once.
-fn tell_rest<R: Log>(rt: &R, what: &str, count: usize) {
+fn tell_rest<R: Log>(rt: &R, many: &str, what: &str, count: usize) {
     if count > MOST_LINES {
         let rest = count - MOST_LINES;
-        info!(rt; target: "ipx", "{rest} more {what}");
+        info!(rt; target: "ipx", "{rest} more {many} {what}");
     }
 }
 
-/// Tells the networks that were not known before.
-fn tell_new_networks<R: Log>(rt: &R, known: &[Network], held: &[(Network, Source, RouteMetric)]) {
+/// Tells those that were not known before.
+fn tell_new<R: Log, K: Told>(rt: &R, known: &[K], held: &[(K, Source, K::Offered)]) {
     let mut count: usize = 0;
     for item in held {
         if known.binary_search(&item.0).is_err() {
             if count < MOST_LINES {
-                tell_network(rt, item);
+                item.0.tell_known(rt, item.1, item.2);
             }
             count = count.saturating_add(1);
         }
     }
-    tell_rest(rt, "networks known", count);
+    tell_rest(rt, K::MANY, "known", count);
 }
 
-/// Tells the networks that are known no more.
-fn tell_lost_networks<R: Log>(rt: &R, known: &[Network], held: &[(Network, Source, RouteMetric)]) {
-    let mut count: usize = 0;
-    for network in known {
-        if held.binary_search_by(|item| item.0.cmp(network)).is_err() {
-            if count < MOST_LINES {
-                info!(rt; target: "ipx", "network {network} lost");
-            }
-            count = count.saturating_add(1);
-        }
-    }
-    tell_rest(rt, "networks lost", count);
-}
-
-fn tell_new_services<R: Log>(
-    rt: &R,
-    known: &[ServiceKey],
-    held: &[(ServiceKey, Source, ServiceMetric)],
-) {
-    let mut count: usize = 0;
-    for item in held {
-        if known.binary_search(&item.0).is_err() {
-            if count < MOST_LINES {
-                tell_service(rt, item);
-            }
-            count = count.saturating_add(1);
-        }
-    }
-    tell_rest(rt, "services known", count);
-}
-
-fn tell_lost_services<R: Log>(
-    rt: &R,
-    known: &[ServiceKey],
-    held: &[(ServiceKey, Source, ServiceMetric)],
-) {
+/// Tells those that are known no more.
+fn tell_gone<R: Log, K: Told>(rt: &R, known: &[K], held: &[(K, Source, K::Offered)]) {
     let mut count: usize = 0;
     for key in known {
         if held.binary_search_by(|item| item.0.cmp(key)).is_err() {
             if count < MOST_LINES {
-                tell_lost_service(rt, key);
+                key.tell_lost(rt);
             }
             count = count.saturating_add(1);
         }
     }
-    tell_rest(rt, "services lost", count);
+    tell_rest(rt, K::MANY, "lost", count);
+}
+
+/// The keys that a table offers now. Those that are new and those that are gone are told.
+fn look_at<R: Log, K: Told>(
+    rt: &R,
+    alloc: Global,
+    known: &[K],
+    table: &Offers<K, K::Offered>,
+    now: u64,
+) -> Result<Vec<K>, OutOfMemory> {
+    let Ok(held) = table.list(alloc, now) else {
+        return Err(OutOfMemory);
+    };
+    let keys = held.iter().map(|item| item.0).collect::<Vec<K>>(alloc)?;
+    tell_new(rt, known, &held);
+    tell_gone(rt, known, &held);
+    Ok(keys)
 }
 
 impl Known {
@@ -131,46 +146,6 @@ impl Known {
         self.services.len()
     }
 
-    fn look_at_networks<R: Log>(
-        &mut self,
-        rt: &R,
-        alloc: Global,
-        router: &Router,
-        now: u64,
-    ) -> Result<(), OutOfMemory> {
-        let Ok(held) = router.routes().list(alloc, now) else {
-            return Err(OutOfMemory);
-        };
-        let networks = held
-            .iter()
-            .map(|item| item.0)
-            .collect::<Vec<Network>>(alloc)?;
-        tell_new_networks(rt, &self.networks, &held);
-        tell_lost_networks(rt, &self.networks, &held);
-        self.networks = networks;
-        Ok(())
-    }
-
-    fn look_at_services<R: Log>(
-        &mut self,
-        rt: &R,
-        alloc: Global,
-        router: &Router,
-        now: u64,
-    ) -> Result<(), OutOfMemory> {
-        let Ok(held) = router.services().list(alloc, now) else {
-            return Err(OutOfMemory);
-        };
-        let services = held
-            .iter()
-            .map(|item| item.0)
-            .collect::<Vec<ServiceKey>>(alloc)?;
-        tell_new_services(rt, &self.services, &held);
-        tell_lost_services(rt, &self.services, &held);
-        self.services = services;
-        Ok(())
-    }
-
     /// Looks what a router knows now, and tells a line for each network and service that is new or
     /// lost since one looked last.
     pub fn look<R: Log>(
@@ -180,7 +155,8 @@ impl Known {
         router: &Router,
         now: u64,
     ) -> Result<(), OutOfMemory> {
-        self.look_at_networks(rt, alloc, router, now)?;
-        self.look_at_services(rt, alloc, router, now)
+        self.networks = look_at(rt, alloc, &self.networks, router.routes(), now)?;
+        self.services = look_at(rt, alloc, &self.services, router.services(), now)?;
+        Ok(())
     }
 }

@@ -1,5 +1,6 @@
-use Rattle.std.proofs.Common.{◌≡◌, length}
+use Rattle.std.proofs.Common.{◌≡◌, map, take}
+use Rattle.ipx_site.specs.Ports.{udp_ports}
 use Rattle.ipx_site.proofs.sockets.SiteSockets.bind.Given as goal
 
 abbrev pub invariant-loop-place : goal.invariant-loop-place
-invariant-loop-place g l = length l.sockets.items ≡ l.place
+invariant-loop-place g l = map (λ s. s.udp_port) l.sockets.items ≡ udp_ports (take l.place l.ports)

@@ -1,0 +1,6 @@
+use Rattle.std.proofs.Common.{◌≡◌, take}
+use Rattle.ipx_site.specs.Ports.{GuardPorts}
+use Rattle.ipx_site.proofs.routing.guards_of.Given as goal
+
+abbrev pub invariant-loop-port : goal.invariant-loop-port
+invariant-loop-port l = GuardPorts (take l.port-index l.ports) l.guards.items

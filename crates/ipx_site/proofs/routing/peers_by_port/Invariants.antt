@@ -1,0 +1,7 @@
+use Rattle.std.proofs.Common.{◌≡◌, take}
+use Rattle.ipx_carrier.specs.Turns.{peers_of}
+use Rattle.ipx_site.specs.Ports.{site_peers}
+use Rattle.ipx_site.proofs.routing.peers_by_port.Given as goal
+
+abbrev pub invariant-loop-port : goal.invariant-loop-port
+invariant-loop-port l = peers_of l.lists.items ≡ site_peers (take l.port-index l.ports)

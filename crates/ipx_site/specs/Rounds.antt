@@ -1,0 +1,25 @@
+-- What one round of a router that runs does to its core. All of it is own.
+use Rattle.std.specs.Prelude.{◌≡◌, ◌≤◌, ◌⊎◌, ℕ, ◌+◌, List, length, false, Some, slice_get}
+use Rattle.ipx_carrier.specs.RouterCore.{CoreView, Gives, Hears, Misses, Withholds}
+use Rattle.ipx_carrier.specs.Turns.{Peers}
+use Rattle.ipx_site.specs.declared.turns.Burst.{Burst}
+use Rattle.ipx_site.specs.Bursts.{Bursts}
+use Rattle.ipx_site.specs.Moments.{askings}
+
+-- a router that asked again so often is to ask once more
+abbrev pub IsToAskAgain : ℕ → ℕ → Type 0
+IsToAskAgain times now = (moment : ℕ) × (slice_get askings times ≡ Some moment) × (moment ≤ now)
+
+-- then its core gives the packets of its start once more, and at no other time
+abbrev pub AsksAgain : ℕ → ℕ → ℕ → CoreView → CoreView → Type 0
+AsksAgain now times times_after old new =
+    (IsToAskAgain times now × (times_after ≡ times + 1) × (new ≡ record old { started = false }))
+    ⊎ ((IsToAskAgain times now → ⊥) × (times_after ≡ times) × (new ≡ old))
+
+-- one round, at the moment that the clock tells: it asks again where it is time, and takes a burst of
+-- at most 256 turns
+abbrev pub IsRound : {K : Type 0} → K → (K → ℕ → K → Type 0) → Peers → ℕ → ℕ → CoreView → CoreView → Type 0
+IsRound {K} clock tells peers times times_after old new = (now : ℕ) × (tick clock_after : K)
+    × (mid : CoreView) × (b : Burst) × tells clock now tick
+    × AsksAgain now times times_after old mid
+    × Bursts Hears Misses Gives Withholds tells (length old.router.ports) peers 256 b tick clock_after mid new
