@@ -3,12 +3,15 @@
 
    With REFUSE_FROM in its place: each request between one of that many bytes and one of one byte
    more. The file REFUSE_TOLD is made where the first of the two comes, and the file REFUSE_ASKED
-   where a request between them was refused. */
+   where a request between them was refused.
+
+   With REFUSE_DAY the day's clock stands still, so many milliseconds after the start of 1970. */
 #define _GNU_SOURCE
 #include <dlfcn.h>
 #include <errno.h>
 #include <fcntl.h>
 #include <stdlib.h>
+#include <time.h>
 #include <unistd.h>
 
 static long asked;
@@ -53,4 +56,16 @@ void *realloc(void *block, size_t size) {
     static void *(*real)(void *, size_t);
     if (real == NULL) real = dlsym(RTLD_NEXT, "realloc");
     return is_refused(size) ? NULL : real(block, size);
+}
+
+int clock_gettime(clockid_t clock, struct timespec *now) {
+    static int (*real)(clockid_t, struct timespec *);
+    const char *day = getenv("REFUSE_DAY");
+    if (clock == CLOCK_REALTIME && day != NULL) {
+        now->tv_sec = atol(day) / 1000;
+        now->tv_nsec = atol(day) % 1000 * 1000000;
+        return 0;
+    }
+    if (real == NULL) real = dlsym(RTLD_NEXT, "clock_gettime");
+    return real(clock, now);
 }

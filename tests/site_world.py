@@ -1,5 +1,5 @@
-"""What tests/sites stands on: a folder, a free port of UDP, processes that cannot be left behind, and
-files of routers and hosts.
+"""What tests/sites and tests/refused_sites stand on: a folder, a free port of UDP, processes that
+cannot be left behind, and files of routers and hosts.
 """
 import atexit
 import ctypes
@@ -57,7 +57,7 @@ class Process:
     """A process, what it wrote, and its end. Only the main thread starts one, since the system ends
     it with the thread that did."""
 
-    def __init__(self, world, name, words, stdin=False, stdout=subprocess.PIPE, stderr=None):
+    def __init__(self, world, name, words, stdin=False, stdout=subprocess.PIPE, stderr=None, environment=None):
         self.name = name
         self.log = world.path(f"{name}.{len(world.processes)}.log")
         self.out = bytearray()
@@ -68,7 +68,8 @@ class Process:
             self.started = time.monotonic()
             self.popen = subprocess.Popen(
                 [world.program, *words], stdin=subprocess.PIPE if stdin else subprocess.DEVNULL,
-                stdout=stdout, stderr=stderr or log, bufsize=0, preexec_fn=die_with_the_parent)
+                stdout=stdout, stderr=stderr or log, bufsize=0, preexec_fn=die_with_the_parent,
+                env={**os.environ, **(environment or {})})
         world.processes.append(self)
         self.reader = threading.Thread(target=self.read, daemon=True)
         if self.popen.stdout:
@@ -163,6 +164,13 @@ class World:
 
     def start(self, name, *words, **how):
         return Process(self, name, words, **how)
+
+    def forget(self, process):
+        """Ends a process, and holds no more of it than what it wrote."""
+        process.end()
+        if process.is_over():
+            process.popen.stdout.close()
+            self.processes.remove(process)
 
     def left(self):
         """The processes that still run."""
