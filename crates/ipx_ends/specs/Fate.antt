@@ -18,3 +18,9 @@ IsOver standing state silent = (state ≡ None) ⊎ (state ≡ Some States.Confi
 abbrev pub IsToAsk : Standing → Option State → ℕ → Type 0
 IsToAsk standing state silent =
     IsHeld state × (standing ≡ Standings.Open) × (60000 ≤ silent)
+
+-- how a connection stands once it was heard: one that was asked is open again
+abbrev pub standing_heard : Standing → Standing
+standing_heard Standings.Open = Standings.Open
+standing_heard Standings.Asked = Standings.Open
+standing_heard Standings.Ended = Standings.Ended

@@ -1,3 +1,7 @@
 pub mod Fate
-pub mod Transfer
+pub mod Ledger
+pub mod Outlet
+pub mod Passing
+pub mod Stop
 pub mod Target
+pub mod Transfer

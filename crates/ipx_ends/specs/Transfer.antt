@@ -1,8 +1,10 @@
 -- How a host that sends ends. All of it is own.
-use Rattle.std.specs.Prelude.{◌≡◌, ℕ, Bool, Option, Some, None, true, false}
+use Rattle.std.specs.Prelude.{◌≡◌, ◌+◌, ◌<◌, ℕ, Bool, IsTrue, Option, Some, None, true, false}
+use Rattle.std.specs.Option.{option_map}
 use Rattle.spx_link.specs.declared.state.State.{State}
 use Rattle.spx_link.specs.declared.state.State.TheVariants.{Opening, Live, Ending}
 use Rattle.spx_link.specs.declared.state.State.TheVariants.{PeerEnded, Confirmed, Lost}
+use Rattle.spx_messages.specs.EndpointView.{EndpointView, held_at}
 use Rattle.ipx_ends.specs.declared.verdict.Verdict.{Verdict}
 use Rattle.ipx_ends.specs.declared.verdict.Verdict.TheVariants as Verdicts
 
@@ -19,3 +21,38 @@ verdict_at joined false (Some PeerEnded) = Some Verdicts.PeerLeft
 verdict_at joined waits (Some Confirmed) = Some Verdicts.Done
 verdict_at true waits (Some Lost) = Some Verdicts.GivenUp
 verdict_at false waits (Some Lost) = Some Verdicts.Unanswered
+
+-- the state of the link of an id, if it is there
+abbrev pub state_at : EndpointView → ℕ → Option State
+state_at e id = option_map (λ h. h.link.state) (held_at e id)
+
+-- the peer has confirmed the end of the link of an id
+abbrev pub IsConfirmedAt : EndpointView → ℕ → Type 0
+IsConfirmedAt e id = state_at e id ≡ Some Confirmed
+
+-- whether a connection was open at any time, once its link was seen to have a state, or to be gone
+abbrev pub joined_at : Bool → Option State → Bool
+joined_at joined None = joined
+joined_at joined (Some Opening) = joined
+joined_at joined (Some Live) = true
+joined_at joined (Some Ending) = true
+joined_at joined (Some PeerEnded) = true
+joined_at joined (Some Confirmed) = true
+joined_at joined (Some Lost) = joined
+
+-- when the end of the peer was seen first, once a state was seen at a moment
+abbrev pub left_at : Option ℕ → Option State → ℕ → Option ℕ
+left_at (Some moment) state now = Some moment
+left_at None None now = None
+left_at None (Some Opening) now = None
+left_at None (Some Live) now = None
+left_at None (Some Ending) now = None
+left_at None (Some PeerEnded) now = Some now
+left_at None (Some Confirmed) now = None
+left_at None (Some Lost) now = None
+
+-- a confirmation may still come: the end of the peer was not seen, or it was seen less than six
+-- seconds ago and the end is queued here
+abbrev pub IsWaiting : Bool → Option ℕ → ℕ → Type 0
+IsWaiting closed None now = Unit {0}
+IsWaiting closed (Some left) now = IsTrue closed × (now < left + 6000)

@@ -2,7 +2,7 @@
 
 ghost use Rattle.std.specs.Prelude.{◌≡◌, ◌↔◌, Some};
 ghost use Rattle.spx_link.specs.declared.state.State.TheVariants as States;
-ghost use Rattle.ipx_ends.specs.Fate.{IsOver, IsToAsk};
+ghost use Rattle.ipx_ends.specs.Fate.{IsOver, IsToAsk, standing_heard};
 ghost use Rattle.ipx_ends.specs.declared.callers.Fate.TheVariants as Fates;
 
 use ipx_wire::Address;
@@ -38,7 +38,12 @@ pub struct Caller {
 
 impl Caller {
     /// It is heard at a moment, so it is there.
-    pub fn hear(&mut self, now: u64) {
+    pub fn hear(&mut self, now: u64)
+        ensures { self.new ≡ record self.old {
+          heard = now;
+          standing = standing_heard self.old.standing;
+        } }
+    {
         self.heard = now;
         if self.standing == Standing::Asked {
             self.standing = Standing::Open;

@@ -1,5 +1,8 @@
 //! The core of a host that one runs.
 
+ghost use Rattle.std.specs.Prelude.{◌≡◌, IfSome};
+ghost use Rattle.spx_messages.specs.declared.arrived.Arrived.TheVariants as Arriveds;
+
 use ipx_carrier::Core;
 use ipx_wire::{Address, Node, OutOfMemory, decode};
 use spx_messages::{Arrived, Endpoint};
@@ -30,7 +33,9 @@ fn sender_of(bytes: &[u8]) -> Option<Address> {
 }
 
 /// The connection that a datagram made.
-fn accepted_by(arrived: Arrived, bytes: &[u8]) -> Option<Accepted> {
+fn accepted_by(arrived: Arrived, bytes: &[u8]) -> Option<Accepted>
+    ensures { IfSome result (λ a. arrived ≡ Arriveds.Accepted a.id) }
+{
     let Arrived::Accepted(id) = arrived else {
         return None;
     };
@@ -40,7 +45,10 @@ fn accepted_by(arrived: Arrived, bytes: &[u8]) -> Option<Accepted> {
 
 impl EndCore {
     /// The core of an endpoint.
-    pub fn new(endpoint: Endpoint) -> EndCore {
+    pub fn new(endpoint: Endpoint) -> EndCore
+        ensures endpoint { result.endpoint ≡ endpoint }
+        ensures nobody { result.accepted ≡ None }
+    {
         EndCore {
             endpoint,
             accepted: None,
@@ -49,12 +57,17 @@ impl EndCore {
     }
 
     /// The moment of the last turn, in milliseconds.
-    pub fn moment(&self) -> u64 {
+    pub fn moment(&self) -> u64
+        ensures { result ≡ self.now.moment }
+    {
         self.moment
     }
 
     /// The connection that the last datagram made, told once.
-    pub fn take_accepted(&mut self) -> Option<Accepted> {
+    pub fn take_accepted(&mut self) -> Option<Accepted>
+        ensures told { result ≡ self.old.accepted }
+        ensures once { self.new ≡ record self.old { accepted = None } }
+    {
         self.accepted.take()
     }
 }

@@ -1,5 +1,10 @@
 //! How much of what was handed in is acknowledged.
 
+ghost use Rattle.std.specs.Prelude.{◌≡◌, ◌≤◌, ◌+◌, ◌-◌, ℕ, List, OnErr, OnOk, length, sum};
+ghost use Rattle.spx_link.specs.Marks.{distance};
+ghost use Rattle.spx_units.specs.Cut.{cut_of};
+ghost use Rattle.ipx_ends.specs.Ledger.{base_of, counted, units_in};
+
 use spx_link::Numbers;
 use std::alloc::{AllocError, Global};
 use std::collections::VecDeque;
@@ -8,7 +13,12 @@ use std::collections::VecDeque;
 const UNIT: u64 = 534;
 
 /// The units of a message of so many bytes.
-fn units_of(bytes: u64) -> u64 {
+fn units_of(bytes: u64) -> u64
+    ensures value { result ≡ units_in bytes }
+    // That many units the message is cut into.
+    ensures cut { (body : List ℕ) → length body ≡ bytes
+        → length (cut_of (record { stream = 0; body = body })) ≡ result }
+{
     bytes.div_ceil(UNIT).max(1)
 }
 
@@ -27,11 +37,16 @@ pub struct Ledger {
     whole: u64,
     /// All bytes that were handed in.
     given: u64,
+    ghost all: { given ≡ counted (whole + sum messages.items) },
 }
 
 impl Ledger {
     /// Nothing was handed in.
-    pub fn new(alloc: Global) -> Ledger {
+    pub fn new(alloc: Global) -> Ledger
+        ensures given { result.given ≡ 0 }
+        ensures ahead { result.ahead ≡ 0 }
+        ensures base { result.base ≡ 0 }
+    {
         Ledger {
             base: 0,
             messages: VecDeque::new(alloc),
@@ -43,7 +58,13 @@ impl Ledger {
     }
 
     /// A message of so many bytes was handed in.
-    pub fn add(&mut self, bytes: u64) -> Result<(), AllocError> {
+    pub fn add(&mut self, bytes: u64) -> Result<(), AllocError>
+        ensures given { OnOk result (self.new.given ≡ counted (self.old.given + bytes)) }
+        ensures ahead { OnOk result (self.new.ahead ≡ counted (self.old.ahead + units_in bytes)) }
+        ensures base { self.new.base ≡ self.old.base }
+        ensures refused { OnErr result
+            ((self.new.given ≡ self.old.given) × (self.new.ahead ≡ self.old.ahead)) }
+    {
         self.messages.push_back(bytes)?;
         self.ahead = self.ahead.saturating_add(units_of(bytes));
         self.given = self.given.saturating_add(bytes);
@@ -51,7 +72,13 @@ impl Ledger {
     }
 
     /// The link has these numbers now.
-    pub fn acknowledge(&mut self, numbers: Numbers) {
+    pub fn acknowledge(&mut self, numbers: Numbers)
+        ensures base { self.new.base ≡ base_of numbers }
+        // As many units less as the numbers went on.
+        ensures ahead { self.new.ahead
+            ≡ self.old.ahead - distance (base_of numbers) self.old.base }
+        ensures given { self.new.given ≡ self.old.given }
+    {
         let base = numbers.next.wrapping_sub(numbers.out);
         let count = u64::from(base.wrapping_sub(self.base));
         self.base = base;
@@ -65,7 +92,11 @@ impl Ledger {
     }
 
     /// Lets the first message go, where all its units are acknowledged.
-    fn close_first(&mut self) -> bool {
+    fn close_first(&mut self) -> bool
+        ensures base { self.new.base ≡ self.old.base }
+        ensures ahead { self.new.ahead ≡ self.old.ahead }
+        ensures given { self.new.given ≡ self.old.given }
+    {
         let Some(bytes) = self.messages.front().copied() else {
             return false;
         };
@@ -80,12 +111,17 @@ impl Ledger {
     }
 
     /// How many units were handed in and are not acknowledged.
-    pub fn ahead(&self) -> u64 {
+    pub fn ahead(&self) -> u64
+        ensures { result ≡ self.now.ahead }
+    {
         self.ahead
     }
 
     /// How many bytes are acknowledged.
-    pub fn acknowledged(&self) -> u64 {
+    pub fn acknowledged(&self) -> u64
+        ensures most { result ≤ self.now.given }
+        ensures least { self.now.whole ≤ result }
+    {
         let begun = match self.messages.front() {
             Some(bytes) => self.units.saturating_mul(UNIT).min(*bytes),
             None => 0,
@@ -94,7 +130,9 @@ impl Ledger {
     }
 
     /// How many bytes were handed in.
-    pub fn given(&self) -> u64 {
+    pub fn given(&self) -> u64
+        ensures { result ≡ self.now.given }
+    {
         self.given
     }
 }

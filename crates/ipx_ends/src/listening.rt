@@ -1,6 +1,11 @@
 //! The command `listen`: a host that takes connections, and writes the messages that come.
 
-ghost use Rattle.std.specs.Prelude.{◌<◌, length, IfSome};
+ghost use Rattle.std.specs.Prelude.{◌≡◌, ◌<◌, length, false, IfSome, IsTrue, None, Ok};
+ghost use Rattle.spx_messages.specs.EndpointView.{held_at};
+ghost use Rattle.spx_messages.specs.Taking.{PeerEnd as TheEnd, take_end};
+ghost use Rattle.ipx_ends.specs.Outlet.{left_of};
+ghost use Rattle.ipx_ends.specs.Passing.{Passes, Takes, TakesNothing};
+ghost use Rattle.ipx_ends.specs.Stop.{stop_status};
 
 use crate::callers::{Caller, Fate, LINGER, SILENCE, Standing, fate_of};
 use crate::gate::Gate;
@@ -70,7 +75,17 @@ fn take_next(
     endpoint: &mut Endpoint,
     outlet: &mut Outlet,
     caller: &mut Caller,
-) -> bool {
+) -> bool
+    ensures takes { IfSome (held_at endpoint.old caller.old.id) (λ h. IsTrue result → Takes h
+        endpoint.old endpoint.new outlet.old outlet.new caller.old caller.new) }
+    ensures nothing { result ≡ false → TakesNothing
+        endpoint.old endpoint.new outlet.old outlet.new caller.old caller.new }
+    // No want of memory holds up the end of the peer.
+    ensures ends { IfSome (held_at endpoint.old caller.old.id) (λ h.
+        (take_end h).0 ≡ Ok TheEnd → IsTrue result) }
+    ensures unknown { held_at endpoint.old caller.old.id ≡ None → result ≡ false }
+    ensures id { caller.new.id ≡ caller.old.id }
+{
     match endpoint.take(alloc, caller.id) {
         Ok(Taken::Part) | Err(EndFault::Message(MessageFault::Overlong)) => true,
         Ok(Taken::Whole(message)) => {
@@ -93,7 +108,14 @@ fn take_some<W: Write>(
     outlet: &mut Outlet,
     caller: &mut Caller,
     writer: &mut W,
-) -> Result<bool, WriteFault> {
+) -> Result<bool, WriteFault>
+    // What was left to write, and then the bodies of the messages that were taken, are what the
+    // writer took, and then what is left to write; where the writer fails, too.
+    ensures passes { IfSome (held_at endpoint.old caller.old.id) (λ h.
+        Passes h (held_at endpoint.new caller.old.id) (left_of outlet.old) (left_of outlet.new)
+        (W.contents writer.old) (W.contents writer.new)) }
+    ensures id { caller.new.id ≡ caller.old.id }
+{
     let mut took = false;
     for _ in 0..MOST_TAKES {
         outlet.write(writer)?;
@@ -303,7 +325,9 @@ fn tell_place<R: Log>(rt: &R, file: &HostFile) {
 }
 
 /// Prints why a host stopped, where that is to be said, and answers its status.
-fn tell_stop<R: Eprint>(rt: &R, stopped: Result<(), Stop>) -> u8 {
+fn tell_stop<R: Eprint>(rt: &R, stopped: Result<(), Stop>) -> u8
+    ensures { result ≡ stop_status stopped }
+{
     let _ = match stopped {
         Ok(()) | Err(Stop::Ended) => return 0,
         Err(Stop::Lost) => return 1,

@@ -1,6 +1,6 @@
 //! Messages on their way out.
 
-ghost use Rattle.std.specs.Prelude.{◌≤◌, length};
+ghost use Rattle.std.specs.Prelude.{◌≡◌, ◌≤◌, ◌<◌, ◌↔◌, IfOk, IsTrue, [], length};
 
 use crate::gate::Gate;
 use std::alloc::Global;
@@ -27,8 +27,12 @@ pub struct Outlet {
 }
 
 impl Outlet {
+    ghost use Rattle.ipx_ends.specs.Outlet.{Writes, left_of};
+
     /// An outlet that holds nothing, for a writer behind this gate.
-    pub fn new(alloc: Global, gate: Gate) -> Outlet {
+    pub fn new(alloc: Global, gate: Gate) -> Outlet
+        ensures { left_of result ≡ [] }
+    {
         Outlet {
             gate,
             bytes: Vec::new(alloc),
@@ -37,18 +41,28 @@ impl Outlet {
     }
 
     /// Whether all that was put in is written.
-    pub fn is_empty(&self) -> bool {
+    pub fn is_empty(&self) -> bool
+        ensures { IsTrue result ↔ (left_of self.now ≡ []) }
+    {
         self.written == self.bytes.len()
     }
 
     /// Puts in the bytes of a message. What was there before is written already, or lost.
-    pub fn put(&mut self, bytes: Vec<u8>) {
+    pub fn put(&mut self, bytes: Vec<u8>)
+        ensures { left_of self.new ≡ bytes.items }
+    {
         self.written = 0;
         self.bytes = bytes;
     }
 
     /// Writes what the writer takes without waiting. It answers whether it wrote anything.
-    pub fn write<W: Write>(&mut self, writer: &mut W) -> Result<bool, WriteFault> {
+    pub fn write<W: Write>(&mut self, writer: &mut W) -> Result<bool, WriteFault>
+        // So it is where the writer fails, too: the first bytes of what was left are written then.
+        ensures writes { Writes (left_of self.old) (left_of self.new)
+            (W.contents writer.old) (W.contents writer.new) }
+        ensures wrote { IfOk result (λ wrote. IsTrue wrote
+            ↔ (length (left_of self.new) < length (left_of self.old))) }
+    {
         let mut wrote = false;
         for _ in 0..MOST_PIECES {
             if self.is_empty() || !self.gate.is_open() {
@@ -60,7 +74,12 @@ impl Outlet {
     }
 
     /// Writes one piece. It answers whether anything was written.
-    fn write_piece<W: Write>(&mut self, writer: &mut W) -> Result<bool, WriteFault> {
+    fn write_piece<W: Write>(&mut self, writer: &mut W) -> Result<bool, WriteFault>
+        ensures writes { Writes (left_of self.old) (left_of self.new)
+            (W.contents writer.old) (W.contents writer.new) }
+        ensures wrote { IfOk result (λ wrote. IsTrue wrote
+            ↔ (length (left_of self.new) < length (left_of self.old))) }
+    {
         let rest = &self.bytes[self.written..];
         let piece = &rest[..rest.len().min(PIECE)];
         match writer.write(piece) {

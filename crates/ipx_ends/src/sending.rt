@@ -1,12 +1,15 @@
 //! The command `send`: a host that asks for a connection, and sends what it reads.
 
-ghost use Rattle.std.specs.Prelude.{◌≡◌, IfSome, OnOk};
+ghost use Rattle.std.specs.Prelude.{◌≡◌, ◌≢◌, ◌<◌, ◌↔◌, ◌⊎◌, ℕ, false, IfErr, IfOk, IfSome, IsTrue, OnErr, OnOk, Err, Some};
 ghost use Rattle.ipx_wire.specs.declared.address.Address.{Address};
-ghost use Rattle.spx_link.specs.Offer.{offer_link};
+ghost use Rattle.spx_link.specs.Links.{count_of};
+ghost use Rattle.spx_link.specs.Offer.{dialed as link_dialed, offer_link};
 ghost use Rattle.spx_units.specs.Cut.{cut_of};
 ghost use Rattle.spx_messages.specs.Changes.{ChangesEnd};
 ghost use Rattle.spx_messages.specs.EndpointView.{held_at};
 ghost use Rattle.ipx_ends.specs.Target.{Names};
+ghost use Rattle.ipx_ends.specs.Transfer.{IsConfirmedAt, IsWaiting, joined_at, left_at, state_at};
+ghost use Rattle.ipx_ends.specs.declared.verdict.Verdict.TheVariants as Verdicts;
 
 use crate::gate::Gate;
 use crate::ledger::Ledger;
@@ -67,7 +70,9 @@ struct Sending<'a, R: Clock> {
 /// How many ids the connection of this run passes over: the milliseconds of the day's clock tell
 /// it, so two runs within a minute have different ids. A host that still holds the connection of
 /// the run before would take a request of the same id for that one.
-fn passed_ids<R: Clock>(rt: &R) -> u16 {
+fn passed_ids<R: Clock>(rt: &R) -> u16
+    ensures { result < 65534 }
+{
     let Ok(now) = SystemTime::now(rt) else {
         return 0;
     };
@@ -84,7 +89,10 @@ fn pass_ids(
     socket: Socket,
     to: Address,
     count: u16,
-) -> Result<(), EndFault> {
+) -> Result<(), EndFault>
+    ensures none_left { (q : ℕ) → held_at endpoint.new q ≡ held_at endpoint.old q }
+    ensures count { count_of endpoint.new.links ≡ count_of endpoint.old.links }
+{
     for _ in 0..count {
         let id = endpoint.dial(alloc, socket, to, 1, 0)?;
         endpoint.release(id)?;
@@ -99,7 +107,16 @@ fn dialed<R: Clock>(
     endpoint: &mut Endpoint,
     file: &HostFile,
     to: Address,
-) -> Result<u16, EndFault> {
+) -> Result<u16, EndFault>
+    ensures held { IfOk result (λ id. held_at endpoint.new id ≡ Some (record {
+      link = link_dialed id file.now.socket to file.now.buffers 0;
+      rest = None;
+    })) }
+    ensures others { IfOk result (λ id. (q : ℕ) → q ≢ id
+        → held_at endpoint.new q ≡ held_at endpoint.old q) }
+    ensures unchanged { OnErr result ((q : ℕ)
+        → held_at endpoint.new q ≡ held_at endpoint.old q) }
+{
     pass_ids(alloc, endpoint, file.socket, to, passed_ids(rt))?;
     endpoint.dial(alloc, file.socket, to, file.buffers, 0)
 }
@@ -148,7 +165,15 @@ impl<'a, R: Net + Log + Clock + Eprint> Sending<'a, R> {
     }
 
     /// Notes how the connection stands, and answers its state.
-    fn look(&mut self) -> Option<State> {
+    fn look(&mut self) -> Option<State>
+        ensures state { result ≡ state_at self.old.station.core.endpoint self.old.id }
+        ensures core { self.new.station.core ≡ self.old.station.core }
+        ensures id { self.new.id ≡ self.old.id }
+        ensures closed { self.new.closed ≡ self.old.closed }
+        ensures joined { self.new.joined ≡ joined_at self.old.joined result }
+        ensures left { self.new.left
+            ≡ left_at self.old.left result self.old.station.core.moment }
+    {
         let endpoint = &self.station.core.endpoint;
         if let Ok(numbers) = endpoint.numbers(self.id) {
             self.ledger.acknowledge(numbers);
@@ -165,7 +190,10 @@ impl<'a, R: Net + Log + Clock + Eprint> Sending<'a, R> {
     }
 
     /// Whether a confirmation may still come, where the peer ended the connection.
-    fn waits(&self) -> bool {
+    fn waits(&self) -> bool
+        ensures { IsTrue result
+            ↔ IsWaiting self.now.closed self.now.left self.now.station.core.moment }
+    {
         match self.left {
             Some(left) => { self.closed && self.station.moment().saturating_sub(left) < PATIENCE }
             None => true,
@@ -174,7 +202,10 @@ impl<'a, R: Net + Log + Clock + Eprint> Sending<'a, R> {
 
     /// Reads once, and hands in what came as one message. It answers whether something came, or
     /// the end did.
-    fn read_some<I: Read>(&mut self, alloc: Global, reader: &mut I) -> Result<bool, Verdict> {
+    fn read_some<I: Read>(&mut self, alloc: Global, reader: &mut I) -> Result<bool, Verdict>
+        ensures fault { IfErr result (λ v.
+            (v ≡ Verdicts.Unread) ⊎ (v ≡ Verdicts.OutOfMemory)) }
+    {
         let count = match reader.read(&mut self.room) {
             Ok(count) => count,
             Err(error) if error.kind() == ErrorKind::Interrupted => return Ok(true),
@@ -199,7 +230,10 @@ impl<'a, R: Net + Log + Clock + Eprint> Sending<'a, R> {
 
     /// Reads where there is something to read and not too much is on its way, and queues the end
     /// behind it. It answers whether anything was queued.
-    fn feed<I: Read>(&mut self, alloc: Global, reader: &mut I) -> Result<bool, Verdict> {
+    fn feed<I: Read>(&mut self, alloc: Global, reader: &mut I) -> Result<bool, Verdict>
+        ensures fault { IfErr result (λ v.
+            (v ≡ Verdicts.Unread) ⊎ (v ≡ Verdicts.OutOfMemory)) }
+    {
         if self.read && !self.closed {
             if self.station.core.endpoint.close(alloc, self.id).is_err() {
                 return Err(Verdict::OutOfMemory);
@@ -236,7 +270,11 @@ impl<'a, R: Net + Log + Clock + Eprint> Sending<'a, R> {
     }
 
     /// Takes a turn, and reads. It answers whether there may be more to do at once.
-    fn step<I: Read>(&mut self, rt: &R, alloc: Global, reader: &mut I) -> Result<bool, Verdict> {
+    fn step<I: Read>(&mut self, rt: &R, alloc: Global, reader: &mut I) -> Result<bool, Verdict>
+        ensures done { result ≡ Err Verdicts.Done
+            → IsConfirmedAt self.new.station.core.endpoint self.new.id }
+        ensures unanswered { result ≡ Err Verdicts.Unanswered → self.new.joined ≡ false }
+    {
         let turn = self.station.turn(rt, alloc);
         let state = self.look();
         if let Some(verdict) = verdict_of(state, self.joined, self.waits()) {
@@ -254,7 +292,11 @@ impl<'a, R: Net + Log + Clock + Eprint> Sending<'a, R> {
         rt: &R,
         alloc: Global,
         reader: &mut I,
-    ) -> Result<(), Verdict> {
+    ) -> Result<(), Verdict>
+        ensures done { result ≡ Err Verdicts.Done
+            → IsConfirmedAt self.new.station.core.endpoint self.new.id }
+        ensures unanswered { result ≡ Err Verdicts.Unanswered → self.new.joined ≡ false }
+    {
         if self.step(rt, alloc, reader)? {
             return Ok(());
         }
@@ -270,7 +312,11 @@ impl<'a, R: Net + Log + Clock + Eprint> Sending<'a, R> {
     }
 
     /// Runs until the transfer is over.
-    fn serve<I: Read>(&mut self, rt: &R, alloc: Global, reader: &mut I) -> Verdict {
+    fn serve<I: Read>(&mut self, rt: &R, alloc: Global, reader: &mut I) -> Verdict
+        ensures done { result ≡ Verdicts.Done
+            → IsConfirmedAt self.new.station.core.endpoint self.new.id }
+        ensures unanswered { result ≡ Verdicts.Unanswered → self.new.joined ≡ false }
+    {
         for _ in 0..u64::MAX {
             if let Err(verdict) = self.step_or_wait(rt, alloc, reader) {
                 return verdict;
@@ -280,7 +326,7 @@ impl<'a, R: Net + Log + Clock + Eprint> Sending<'a, R> {
     }
 
     /// Prints how a transfer ended. Where all went well that is a line on a terminal alone.
-    fn tell(&mut self, rt: &R, to: Address, verdict: Verdict) {
+    fn tell(&self, rt: &R, to: Address, verdict: Verdict) {
         let given = self.ledger.given();
         let acknowledged = self.ledger.acknowledged();
         if self.shows {
@@ -296,6 +342,16 @@ impl<'a, R: Net + Log + Clock + Eprint> Sending<'a, R> {
             Verdict::Unwaited => "the system can't wait for the socket",
         };
         let _ = eprintln!(rt; "{what}: {acknowledged} of {given} bytes acknowledged");
+    }
+
+    /// Runs until the transfer is over, prints how it ended, and answers the status: 0 only where
+    /// the peer has confirmed the end.
+    fn finish<I: Read>(&mut self, rt: &R, alloc: Global, to: Address, reader: &mut I) -> u8
+        ensures { result ≡ 0 → IsConfirmedAt self.new.station.core.endpoint self.new.id }
+    {
+        let verdict = self.serve(rt, alloc, reader);
+        self.tell(rt, to, verdict);
+        verdict.status()
     }
 }
 
@@ -341,7 +397,5 @@ pub fn do_send<R: Net + Log + Files + Clock + Eprint, I: Read>(
         Ok(sending) => sending,
         Err(fault) => return tell_start(rt, path, fault),
     };
-    let verdict = sending.serve(rt, alloc, reader);
-    sending.tell(rt, to, verdict);
-    verdict.status()
+    sending.finish(rt, alloc, to, reader)
 }

@@ -1,5 +1,7 @@
 //! A host by its file: its endpoint, its socket and its clock.
 
+ghost use Rattle.std.specs.Prelude.{◌≡◌};
+
 use crate::end_core::EndCore;
 use crate::start::{StartFault, check_streams};
 use ipx_carrier::{Core, Datagrams, node_of, run};
@@ -62,7 +64,9 @@ impl<'a, R: Net + Log + Clock> Station<'a, R> {
     }
 
     /// The moment of the last turn, in milliseconds from the start.
-    pub fn moment(&self) -> u64 {
+    pub fn moment(&self) -> u64
+        ensures { result ≡ self.now.core.moment }
+    {
         self.core.moment()
     }
 

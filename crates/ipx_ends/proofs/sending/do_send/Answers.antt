@@ -1,6 +1,3 @@
-use Rattle.std.proofs.Common.{◌≡◌}
-use Rattle.ipx_wire.specs.declared.address.Address.{Address}
-use Rattle.ipx_ends.specs.Target.{Names}
 use Rattle.ipx_ends.proofs.sending.do_send.Goals as goal
 
 -- words that were read name an address

@@ -1,0 +1,3 @@
+pub mod Counting
+pub mod Passed
+pub mod Written

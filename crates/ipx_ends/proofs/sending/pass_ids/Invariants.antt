@@ -1,0 +1,11 @@
+use Rattle.std.proofs.Common.{◌≡◌, ℕ}
+use Rattle.spx_link.specs.Links.{count_of}
+use Rattle.spx_messages.specs.EndpointView.{held_at}
+use Rattle.ipx_ends.proofs.sending.pass_ids.Given as goal
+
+-- of the ids that were passed over none is held
+abbrev pub invariant-loop : goal.invariant-loop
+invariant-loop l = record {
+  held : (q : ℕ) → held_at l.endpoint q ≡ held_at l.fn.endpoint q;
+  count : count_of l.endpoint.links ≡ count_of l.fn.endpoint.links;
+}

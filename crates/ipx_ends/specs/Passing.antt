@@ -1,0 +1,61 @@
+-- What passes from a connection to an outlet, by takes one after another. All of it is own.
+use Rattle.std.specs.Prelude.{◌≡◌, ◌≢◌, ℕ, zero, suc, List, [], ◌++◌, Option, Some, Result, Ok, Err}
+use Rattle.spx_messages.specs.Changes.{ChangesEnd}
+use Rattle.spx_messages.specs.EndpointView.{EndpointView, Held, held_at}
+use Rattle.spx_messages.specs.Taking.{TakenView, Nothing, Part, PeerEnd, Whole, take_end}
+use Rattle.spx_messages.specs.declared.fault.EndFault.{EndFault}
+use Rattle.ipx_ends.specs.Outlet.{Writes, left_of}
+use Rattle.ipx_ends.specs.declared.callers.Caller.{Caller}
+use Rattle.ipx_ends.specs.declared.callers.Standing.{Standing}
+use Rattle.ipx_ends.specs.declared.callers.Standing.TheVariants as Standings
+use Rattle.ipx_ends.specs.declared.outlet.Outlet.{Outlet}
+
+-- what is left to write once a take gave this: the body of the message that its unit ended, or else
+-- what was left before
+abbrev pub left_with : Result TakenView EndFault → List ℕ → List ℕ
+left_with (Ok Nothing) left = left
+left_with (Ok Part) left = left
+left_with (Ok (Whole m)) left = m.body
+left_with (Ok PeerEnd) left = left
+left_with (Err f) left = left
+
+-- how a connection stands once a take gave this: the end of its peer ends it, and nothing else does
+abbrev pub standing_with : Result TakenView EndFault → Standing → Standing
+standing_with (Ok Nothing) standing = standing
+standing_with (Ok Part) standing = standing
+standing_with (Ok (Whole m)) standing = standing
+standing_with (Ok PeerEnd) standing = Standings.Ended
+standing_with (Err f) standing = standing
+
+-- one take of a connection, whose id holds this: what it gave is to be written, and an end is noted
+pub record Takes (h : Held) (old new : EndpointView) (outlet outlet' : Outlet)
+    (caller caller' : Caller) : Type 0 where
+  pub held : ChangesEnd old new caller.id (take_end h).1
+  pub something : (take_end h).0 ≢ Ok Nothing
+  pub left : left_of outlet' ≡ left_with (take_end h).0 (left_of outlet)
+  pub noted : caller' ≡ record caller {
+    standing = standing_with (take_end h).0 caller.standing;
+  }
+
+-- nothing was taken of a connection, and nothing changes
+pub record TakesNothing (old new : EndpointView) (outlet outlet' : Outlet)
+    (caller caller' : Caller) : Type 0 where
+  pub held : held_at new caller.id ≡ held_at old caller.id
+  pub kept : outlet' ≡ outlet
+  pub same : caller' ≡ caller
+
+-- what is held under an id after so many takes
+abbrev pub held_after : ℕ → Held → Held
+held_after zero h = h
+held_after (suc n) h = (take_end (held_after n h)).1
+
+-- the bodies of the messages that so many takes end, one behind the other
+abbrev pub bodies_after : ℕ → Held → List ℕ
+bodies_after zero h = []
+bodies_after (suc n) h = bodies_after n h ++ left_with (take_end (held_after n h)).0 []
+
+-- what waited to be written, and then the bodies that so many takes give, are what a writer took, and
+-- then what is left to write; and what is held is what those takes leave
+abbrev pub Passes : Held → Option Held → List ℕ → List ℕ → Option (List ℕ) → Option (List ℕ) → Type 0
+Passes h after waiting left written writes = (count : ℕ) × (after ≡ Some (held_after count h))
+    × Writes (waiting ++ bodies_after count h) left written writes
