@@ -1,54 +1,206 @@
--- Two or three words, and what they ask for.
-use Rattle.std.proofs.Common.{◌≡◌, ◌≤◌, ◌<◌, ℕ, List, [], ◌∷◌, length, map, get_or, Option, Some, None, arith, sym, subst}
-use Rattle.std.specs.Prelude.{IfSome}
+-- What words ask for in more than one form, and that they ask for one command at most.
+use Rattle.std.proofs.Common.{◌≡◌, ◌≢◌, ◌≤◌, ◌<◌, ℕ, ◌+◌, ◌*◌, Bool, true, false, true≢false, inl, inr, List, [], ◌∷◌, ◌++◌, length, map, drop, get_or, length-drop, Option, Some, None, codes, arith, ap, sym, subst, refl, ◌∙◌}
+use Rattle.std.proofs.lemmas.List.{length-map}
+use Rattle.std.specs.Str.Parse.{digits_value, without_leading_plus}
+use Rattle.std.specs.Str.Pattern.{FindsTextPrefix, StripsPrefix}
 use Rattle.ipx_tool.specs.declared.words.Task.{Task}
-use Rattle.ipx_tool.specs.Words.{AsksFor}
+use Rattle.ipx_tool.specs.declared.words.Task.TheVariants.{Hop, Show, Check, Sim, Udp, Route, Listen, Send}
+use Rattle.ipx_tool.specs.Words.{AskForOne, AsksFor, Finds, IsPlain, IsPort, IsSame}
 
-three_words : {A : Type 0} (ws : List A) (b c : A) → 3 ≤ length ws → length ws < 4 → b ≡ get_or ws 1 b → c ≡ get_or ws 2 c → (a : A) × (a ∷ b ∷ c ∷ [] ≡ ws)
-three_words [] b c most least second third = absurd (omega arith)
-three_words (x ∷ []) b c most least second third = absurd (omega arith)
-three_words (x ∷ y ∷ []) b c most least second third = absurd (omega arith)
-three_words (x ∷ y ∷ z ∷ []) b c most least second third = (x, λ i. x ∷ second i ∷ third i ∷ [])
-three_words (x ∷ y ∷ z ∷ w ∷ ws) b c most least second third = absurd (omega arith)
+-- what begins with `-` is an option
+pub not_plain : (word rest : List ℕ) → word ≡ 45 ∷ rest → IsPlain word → ⊥
+not_plain word rest e plain = let of_dash : IsPlain (45 ∷ rest) = subst IsPlain e plain in true≢false of_dash
 
-asks_for : (r : Option Task) (first second third : List ℕ) (words : List (List ℕ)) → first ∷ second ∷ third ∷ [] ≡ words → IfSome r (λ t. (name : List ℕ) → AsksFor (name ∷ second ∷ third ∷ []) t) → IfSome r (AsksFor words)
-asks_for None first second third words are asks = tt
-asks_for (Some task) first second third words are asks = subst (λ (ws : List (List ℕ)). AsksFor ws task) are (asks first)
+port_or_once : codes "--port" ≡ codes "--once" → ⊥
+port_or_once e = omega (arith, ap (λ (word : List ℕ). get_or word 2 0) e)
 
-pub asks_in_three : {A : Type 0} (text : A → List ℕ) (ws : List A) (b c : A) (r : Option Task) → 3 ≤ length ws → length ws < 4 → b ≡ get_or ws 1 b → c ≡ get_or ws 2 c
-    → IfSome r (λ t. (name : List ℕ) → AsksFor (name ∷ text b ∷ text c ∷ []) t) → IfSome r (AsksFor (map text ws))
-asks_in_three text ws b c r most least second third asks =
-    let are = three_words ws b c most least second third in
-    asks_for r (text are.0) (text b) (text c) (map text ws) (λ i. map text (are.1 i)) asks
+-- `--port` and a text ask for the same in one word and in two
+pub joined : (command text : List ℕ) (task : Task) → AsksFor (command ∷ codes "--port" ∷ text ∷ []) task
+    → AsksFor (command ∷ (codes "--port=" ++ text) ∷ []) task
+joined command text (Udp port) (inl asks) = absurd (cc)
+joined command text (Udp port) (inr (other, is, inl e)) = inr (other, is, inr (cc))
+joined command text (Udp port) (inr (other, is, inr e)) = absurd (cc)
+joined command text (Listen file true) (inl e, plain) = absurd (port_or_once (ap (λ (ws : List (List ℕ)). get_or ws 1 []) e))
+joined command text (Listen file true) (inr e, plain) =
+    let option : file.now ≡ codes "--port" = cc in absurd (not_plain file.now _ option plain)
+joined command text _ asks = absurd (cc)
 
-two_words : {A : Type 0} (ws : List A) (b : A) → 2 ≤ length ws → length ws < 3 → b ≡ get_or ws 1 b → (a : A) × (a ∷ b ∷ [] ≡ ws)
-two_words [] b most least second = absurd (omega arith)
-two_words (x ∷ []) b most least second = absurd (omega arith)
-two_words (x ∷ y ∷ []) b most least second = (x, λ i. x ∷ second i ∷ [])
-two_words (x ∷ y ∷ z ∷ ws) b most least second = absurd (omega arith)
+pub parted : (command text : List ℕ) (task : Task) → AsksFor (command ∷ (codes "--port=" ++ text) ∷ []) task
+    → AsksFor (command ∷ codes "--port" ∷ text ∷ []) task
+parted command text (Show packet) (e, plain) =
+    let option : packet.now ≡ codes "--port=" ++ text = cc in absurd (not_plain packet.now _ option plain)
+parted command text (Udp port) (inl asks) = absurd (cc)
+parted command text (Udp port) (inr (other, is, inl e)) = absurd (cc)
+parted command text (Udp port) (inr (other, is, inr e)) = inr (other, is, inl (cc))
+parted command text (Route file) (e, plain) =
+    let option : file.now ≡ codes "--port=" ++ text = cc in absurd (not_plain file.now _ option plain)
+parted command text (Listen file false) (e, plain) =
+    let option : file.now ≡ codes "--port=" ++ text = cc in absurd (not_plain file.now _ option plain)
+parted command text (Listen file true) (inl e, plain) = absurd (cc)
+parted command text (Listen file true) (inr e, plain) = absurd (cc)
+parted command text _ asks = absurd (cc)
 
-asks_alone : (r : Option Task) (first second : List ℕ) (words : List (List ℕ)) → first ∷ second ∷ [] ≡ words → IfSome r (λ t. (name : List ℕ) → AsksFor (name ∷ second ∷ []) t) → IfSome r (AsksFor words)
-asks_alone None first second words are asks = tt
-asks_alone (Some task) first second words are asks = subst (λ (ws : List (List ℕ)). AsksFor ws task) are (asks first)
+-- what is left of a word without its front
+pub stripped : (front word rest : List ℕ) → StripsPrefix (FindsTextPrefix front) word rest → word ≡ front ++ rest
+stripped front word rest strips = strips.1.1 ∙ ap (λ end. front ++ end) (sym strips.2)
 
-pub asks_in_two : {A : Type 0} (text : A → List ℕ) (ws : List A) (b : A) (r : Option Task) → 2 ≤ length ws → length ws < 3 → b ≡ get_or ws 1 b
-    → IfSome r (λ t. (name : List ℕ) → AsksFor (name ∷ text b ∷ []) t) → IfSome r (AsksFor (map text ws))
-asks_in_two text ws b r most least second asks =
-    let are = two_words ws b most least second in
-    asks_alone r (text are.0) (text b) (map text ws) (λ i. map text (are.1 i)) asks
+-- what is found for a port and its text is found for the word that joins them
+pub found_joined : (command text word : List ℕ) (found : Option Task) → word ≡ codes "--port=" ++ text
+    → Finds (AsksFor (command ∷ codes "--port" ∷ text ∷ [])) found → Finds (AsksFor (command ∷ word ∷ [])) found
+found_joined command text word None is none =
+    λ task asks. none task (parted command text task (subst (λ w. AsksFor (command ∷ w ∷ []) task) is asks))
+found_joined command text word (Some task) is asks =
+    subst (λ w. AsksFor (command ∷ w ∷ []) task) (sym is) (joined command text task asks)
 
-some_words : {A : Type 0} (ws : List A) (b : A) → 2 ≤ length ws → b ≡ get_or ws 1 b → (a : A) × (rest : List A) × (a ∷ b ∷ rest ≡ ws)
-some_words [] b most second = absurd (omega arith)
-some_words (x ∷ []) b most second = absurd (omega arith)
-some_words (x ∷ y ∷ rest) b most second = (x, rest, λ i. x ∷ second i ∷ rest)
+-- no port is written `--once`
+not_once : (port : ℕ) → IsPort (codes "--once") port → ⊥
+not_once port is = let digit = is.0.1.0 in omega arith
 
-asks_before : (r : Option Task) (first second : List ℕ) (rest words : List (List ℕ)) → first ∷ second ∷ rest ≡ words → IfSome r (λ t. (name : List ℕ) (behind : List (List ℕ)) → AsksFor (name ∷ second ∷ behind) t) → IfSome r (AsksFor words)
-asks_before None first second rest words are asks = tt
-asks_before (Some task) first second rest words are asks = subst (λ (ws : List (List ℕ)). AsksFor ws task) are (asks first rest)
+-- before the word or behind it `--once` asks for the same
+pub behind : (command file : List ℕ) (task : Task) → AsksFor (command ∷ codes "--once" ∷ file ∷ []) task
+    → AsksFor (command ∷ file ∷ codes "--once" ∷ []) task
+behind command file (Udp port) (inl asks) = absurd (cc)
+behind command file (Udp port) (inr (text, is, inl e)) = absurd (port_or_once (sym (ap (λ (ws : List (List ℕ)). get_or ws 1 []) e)))
+behind command file (Udp port) (inr (text, is, inr e)) = absurd (cc)
+behind command file (Listen other true) (inl e, plain) = (inr (cc), plain)
+behind command file (Listen other true) (inr e, plain) =
+    let option : other.now ≡ codes "--once" = cc in absurd (not_plain other.now _ option plain)
+behind command file _ asks = absurd (cc)
 
--- whatever stands behind the second word
-pub asks_in_some : {A : Type 0} (text : A → List ℕ) (ws : List A) (b : A) (r : Option Task) → 2 ≤ length ws → b ≡ get_or ws 1 b
-    → IfSome r (λ t. (name : List ℕ) (behind : List (List ℕ)) → AsksFor (name ∷ text b ∷ behind) t) → IfSome r (AsksFor (map text ws))
-asks_in_some text ws b r most second asks =
-    let are = some_words ws b most second in
-    asks_before r (text are.0) (text b) (map text are.1) (map text ws) (λ i. map text (are.2 i)) asks
+pub before : (command file : List ℕ) (task : Task) → AsksFor (command ∷ file ∷ codes "--once" ∷ []) task
+    → AsksFor (command ∷ codes "--once" ∷ file ∷ []) task
+before command file (Udp port) (inl asks) = absurd (cc)
+before command file (Udp port) (inr (text, is, inl e)) =
+    let once : text ≡ codes "--once" = cc in absurd (not_once port (subst (λ t. IsPort t port) once is))
+before command file (Udp port) (inr (text, is, inr e)) = absurd (cc)
+before command file (Listen other true) (inl e, plain) =
+    let option : other.now ≡ codes "--once" = cc in absurd (not_plain other.now _ option plain)
+before command file (Listen other true) (inr e, plain) = (inl (cc), plain)
+before command file _ asks = absurd (cc)
+
+pub found_behind : (command file : List ℕ) (found : Option Task) → Finds (AsksFor (command ∷ codes "--once" ∷ file ∷ [])) found
+    → Finds (AsksFor (command ∷ file ∷ codes "--once" ∷ [])) found
+found_behind command file None none = λ task asks. none task (before command file task asks)
+found_behind command file (Some task) asks = behind command file task asks
+
+-- the number of words
+none_so_many : (words : List (List ℕ)) → length words ≢ 2 → length words ≢ 3 → length words ≢ 4 → length words ≢ 6
+    → (task : Task) → AsksFor (drop 1 words) task → ⊥
+none_so_many words two three four six Hop asks = omega (arith, length-drop 1 words, ap length asks)
+none_so_many words two three four six (Show packet) (e, plain) = omega (arith, length-drop 1 words, ap length e)
+none_so_many words two three four six Check asks = omega (arith, length-drop 1 words, ap length asks)
+none_so_many words two three four six Sim asks = omega (arith, length-drop 1 words, ap length asks)
+none_so_many words two three four six (Udp port) (inl (e, is)) = omega (arith, length-drop 1 words, ap length e)
+none_so_many words two three four six (Udp port) (inr (text, is, inl e)) = omega (arith, length-drop 1 words, ap length e)
+none_so_many words two three four six (Udp port) (inr (text, is, inr e)) = omega (arith, length-drop 1 words, ap length e)
+none_so_many words two three four six (Route file) (e, plain) = omega (arith, length-drop 1 words, ap length e)
+none_so_many words two three four six (Listen file false) (e, plain) = omega (arith, length-drop 1 words, ap length e)
+none_so_many words two three four six (Listen file true) (inl e, plain) = omega (arith, length-drop 1 words, ap length e)
+none_so_many words two three four six (Listen file true) (inr e, plain) = omega (arith, length-drop 1 words, ap length e)
+none_so_many words two three four six (Send file target) asks = omega (arith, length-drop 1 words, ap length asks.0)
+
+-- ---- the words of a list, behind its first
+
+module _ {A : Type 0} (text : A → List ℕ) where
+  pub none_behind : (ws : List A) → length ws ≢ 2 → length ws ≢ 3 → length ws ≢ 4 → length ws ≢ 6
+      → (task : Task) → AsksFor (drop 1 (map text ws)) task → ⊥
+  none_behind ws two three four six =
+      let same = length-map ws text in
+      none_so_many (map text ws) (λ e. two (sym same ∙ e)) (λ e. three (sym same ∙ e)) (λ e. four (sym same ∙ e)) (λ e. six (sym same ∙ e))
+
+  pub behind_two : (ws : List A) (b : A) → 2 ≤ length ws → length ws < 3 → b ≡ get_or ws 1 b → text b ∷ [] ≡ drop 1 (map text ws)
+  behind_two (a ∷ x ∷ []) b most least second = λ i. text (second i) ∷ []
+  behind_two _ b most least second = absurd (omega arith)
+
+  pub behind_three : (ws : List A) (b c : A) → 3 ≤ length ws → length ws < 4 → b ≡ get_or ws 1 b → c ≡ get_or ws 2 c
+      → text b ∷ text c ∷ [] ≡ drop 1 (map text ws)
+  behind_three (a ∷ x ∷ y ∷ []) b c most least second third = λ i. text (second i) ∷ text (third i) ∷ []
+  behind_three _ b c most least second third = absurd (omega arith)
+
+  pub behind_four : (ws : List A) (b c d : A) → 4 ≤ length ws → length ws < 5 → b ≡ get_or ws 1 b → c ≡ get_or ws 2 c
+      → d ≡ get_or ws 3 d → text b ∷ text c ∷ text d ∷ [] ≡ drop 1 (map text ws)
+  behind_four (a ∷ x ∷ y ∷ z ∷ []) b c d most least second third fourth =
+      λ i. text (second i) ∷ text (third i) ∷ text (fourth i) ∷ []
+  behind_four _ b c d most least second third fourth = absurd (omega arith)
+
+  pub behind_six : (ws : List A) (b c d e f : A) → 6 ≤ length ws → length ws < 7 → b ≡ get_or ws 1 b → c ≡ get_or ws 2 c
+      → d ≡ get_or ws 3 d → e ≡ get_or ws 4 e → f ≡ get_or ws 5 f
+      → text b ∷ text c ∷ text d ∷ text e ∷ text f ∷ [] ≡ drop 1 (map text ws)
+  behind_six (a ∷ v ∷ w ∷ x ∷ y ∷ z ∷ []) b c d e f most least second third fourth fifth sixth =
+      λ i. text (second i) ∷ text (third i) ∷ text (fourth i) ∷ text (fifth i) ∷ text (sixth i) ∷ []
+  behind_six _ b c d e f most least second third fourth fifth sixth = absurd (omega arith)
+
+-- what is found for words is found for the same words
+pub found_for : {words same : List (List ℕ)} (found : Option Task) → words ≡ same → Finds (AsksFor words) found → Finds (AsksFor same) found
+found_for found are finds = subst (λ (ws : List (List ℕ)). Finds (AsksFor ws) found) are finds
+
+-- ---- one command at most
+
+abbrev name : Task → List ℕ
+name Hop = codes "hop"
+name (Show packet) = codes "show"
+name Check = codes "check"
+name Sim = codes "sim"
+name (Udp port) = codes "udp"
+name (Route file) = codes "route"
+name (Listen file once) = codes "listen"
+name (Send file target) = codes "send"
+
+-- the first two letters tell the names apart
+abbrev mark : List ℕ → ℕ
+mark word = get_or word 0 0 * 256 + get_or word 1 0
+
+named : (words : List (List ℕ)) (task : Task) → AsksFor words task → get_or words 0 [] ≡ name task
+named words Hop asks = ap (λ ws. get_or ws 0 []) asks
+named words (Show packet) (e, plain) = ap (λ ws. get_or ws 0 []) e
+named words Check asks = ap (λ ws. get_or ws 0 []) asks
+named words Sim asks = ap (λ ws. get_or ws 0 []) asks
+named words (Udp port) (inl (e, is)) = ap (λ ws. get_or ws 0 []) e
+named words (Udp port) (inr (text, is, inl e)) = ap (λ ws. get_or ws 0 []) e
+named words (Udp port) (inr (text, is, inr e)) = ap (λ ws. get_or ws 0 []) e
+named words (Route file) (e, plain) = ap (λ ws. get_or ws 0 []) e
+named words (Listen file false) (e, plain) = ap (λ ws. get_or ws 0 []) e
+named words (Listen file true) (inl e, plain) = ap (λ ws. get_or ws 0 []) e
+named words (Listen file true) (inr e, plain) = ap (λ ws. get_or ws 0 []) e
+named words (Send file target) asks = ap (λ ws. get_or ws 0 []) asks.0
+
+one_value : (text next : List ℕ) (port other : ℕ) → text ≡ next → IsPort text port → IsPort next other → port ≡ other
+one_value text next port other same is too =
+    sym is.1 ∙ ap (λ t. digits_value 10 (without_leading_plus t)) same ∙ too.1
+
+one_port : (words : List (List ℕ)) (port other : ℕ) → AsksFor words (Udp port) → AsksFor words (Udp other) → port ≡ other
+one_port words port other (inl (e, is)) (inl (f, too)) = is ∙ sym too
+one_port words port other (inl (e, is)) (inr (next, too, inl f)) = absurd (cc)
+one_port words port other (inl (e, is)) (inr (next, too, inr f)) = absurd (cc)
+one_port words port other (inr (text, is, inl e)) (inl (f, too)) = absurd (cc)
+one_port words port other (inr (text, is, inr e)) (inl (f, too)) = absurd (cc)
+one_port words port other (inr (text, is, inl e)) (inr (next, too, inl f)) = one_value text next port other (cc) is too
+one_port words port other (inr (text, is, inl e)) (inr (next, too, inr f)) = absurd (cc)
+one_port words port other (inr (text, is, inr e)) (inr (next, too, inl f)) = absurd (cc)
+one_port words port other (inr (text, is, inr e)) (inr (next, too, inr f)) = one_value text next port other (cc) is too
+
+one_of_a_name : (words : List (List ℕ)) (task other : Task) → name task ≡ name other → AsksFor words task → AsksFor words other → IsSame task other
+one_of_a_name words Hop Hop same asks too = tt
+one_of_a_name words (Show packet) (Show other) same (e, plain) (f, also) = cc
+one_of_a_name words Check Check same asks too = tt
+one_of_a_name words Sim Sim same asks too = tt
+one_of_a_name words (Udp port) (Udp other) same asks too = one_port words port other asks too
+one_of_a_name words (Route file) (Route other) same (e, plain) (f, also) = cc
+one_of_a_name words (Listen file false) (Listen other false) same (e, plain) (f, also) = (cc, refl)
+one_of_a_name words (Listen file false) (Listen other true) same (e, plain) (inl f, also) = absurd (cc)
+one_of_a_name words (Listen file false) (Listen other true) same (e, plain) (inr f, also) = absurd (cc)
+one_of_a_name words (Listen file true) (Listen other false) same (inl e, plain) (f, also) = absurd (cc)
+one_of_a_name words (Listen file true) (Listen other false) same (inr e, plain) (f, also) = absurd (cc)
+one_of_a_name words (Listen file true) (Listen other true) same (inl e, plain) (inl f, also) = (cc, refl)
+one_of_a_name words (Listen file true) (Listen other true) same (inl e, plain) (inr f, also) =
+    let option : other.now ≡ codes "--once" = cc in absurd (not_plain other.now _ option also)
+one_of_a_name words (Listen file true) (Listen other true) same (inr e, plain) (inl f, also) =
+    let option : file.now ≡ codes "--once" = cc in absurd (not_plain file.now _ option plain)
+one_of_a_name words (Listen file true) (Listen other true) same (inr e, plain) (inr f, also) = (cc, refl)
+one_of_a_name words (Send file target) (Send other another) same asks too =
+    let e = asks.0 in
+    let f = too.0 in (cc, cc, cc, cc)
+one_of_a_name words _ _ same asks too = absurd (omega (arith, ap mark same))
+
+pub ask_for_one : AskForOne
+ask_for_one words task other asks too = one_of_a_name words task other (sym (named words task asks) ∙ named words other too) asks too

@@ -1,20 +1,59 @@
 -- Which words ask for which command.
-use Rattle.std.specs.Prelude.{◌≡◌, ℕ, false, List, [], ◌∷◌, codes, nat_eq}
+use Rattle.std.specs.Prelude.{◌≡◌, ◌≤◌, ℕ, false, true, ◌⊎◌, List, [], ◌∷◌, ◌++◌, Option, MatchOption, codes, nat_eq}
 use Rattle.std.specs.List.{starts_with}
+use Rattle.std.specs.Str.Parse.{IsNumeral, digits_value, without_leading_plus}
 use Rattle.ipx_tool.specs.declared.words.Task.{Task}
 use Rattle.ipx_tool.specs.declared.words.Task.TheVariants.{Hop, Show, Check, Sim, Udp, Route, Listen, Send}
 
--- these words ask for this command: the program's own name, the command, and for `show` its packet
--- in hex and for `route` its file, which are no options. What `udp`, `listen` and `send` have is read
--- off the words behind them, and is tested
+-- a word that is no option: it does not begin with `-`
+abbrev pub IsPlain : List ℕ → Type 0
+IsPlain word = starts_with nat_eq word (codes "-") ≡ false
+
+-- a text writes a port from 1 to 65,535: decimal digits, maybe behind a `+`
+abbrev pub IsPort : List ℕ → ℕ → Type 0
+IsPort text port = IsNumeral 10 (without_leading_plus text)
+    × (digits_value 10 (without_leading_plus text) ≡ port) × (1 ≤ port) × (port ≤ 65535)
+
+-- the words behind the program's own name ask for this command. `udp` stands alone, and the port is
+-- 213 then, or before `--port` and a text that writes the port, in two words or joined by `=`. `listen`
+-- has `--once` before or behind its file, or not at all. A packet, a file and the three words of a
+-- target are no options
 abbrev pub AsksFor : List (List ℕ) → Task → Type 0
-AsksFor words Hop = (name : List ℕ) × (words ≡ name ∷ codes "hop" ∷ [])
-AsksFor words (Show packet) = (name : List ℕ) × (words ≡ name ∷ codes "show" ∷ packet.now ∷ [])
-    × (starts_with nat_eq packet.now (codes "-") ≡ false)
-AsksFor words Check = (name : List ℕ) × (words ≡ name ∷ codes "check" ∷ [])
-AsksFor words Sim = (name : List ℕ) × (words ≡ name ∷ codes "sim" ∷ [])
-AsksFor words (Udp port) = (name : List ℕ) × (rest : List (List ℕ)) × (words ≡ name ∷ codes "udp" ∷ rest)
-AsksFor words (Route file) = (name : List ℕ) × (words ≡ name ∷ codes "route" ∷ file.now ∷ [])
-    × (starts_with nat_eq file.now (codes "-") ≡ false)
-AsksFor words (Listen file once) = (name : List ℕ) × (rest : List (List ℕ)) × (words ≡ name ∷ codes "listen" ∷ rest)
-AsksFor words (Send file target) = (name : List ℕ) × (rest : List (List ℕ)) × (words ≡ name ∷ codes "send" ∷ rest)
+AsksFor words Hop = words ≡ codes "hop" ∷ []
+AsksFor words (Show packet) = (words ≡ codes "show" ∷ packet.now ∷ []) × IsPlain packet.now
+AsksFor words Check = words ≡ codes "check" ∷ []
+AsksFor words Sim = words ≡ codes "sim" ∷ []
+AsksFor words (Udp port) = ((words ≡ codes "udp" ∷ []) × (port ≡ 213))
+    ⊎ ((text : List ℕ) × IsPort text port
+    × ((words ≡ codes "udp" ∷ codes "--port" ∷ text ∷ []) ⊎ (words ≡ codes "udp" ∷ (codes "--port=" ++ text) ∷ [])))
+AsksFor words (Route file) = (words ≡ codes "route" ∷ file.now ∷ []) × IsPlain file.now
+AsksFor words (Listen file false) = (words ≡ codes "listen" ∷ file.now ∷ []) × IsPlain file.now
+AsksFor words (Listen file true) = ((words ≡ codes "listen" ∷ codes "--once" ∷ file.now ∷ [])
+    ⊎ (words ≡ codes "listen" ∷ file.now ∷ codes "--once" ∷ [])) × IsPlain file.now
+AsksFor words (Send file target) =
+    (words ≡ codes "send" ∷ file.now ∷ target.network.now ∷ target.node.now ∷ target.socket.now ∷ [])
+    × IsPlain file.now × IsPlain target.network.now × IsPlain target.node.now × IsPlain target.socket.now
+
+-- what is found is so, and where nothing is found nothing is so
+abbrev pub Finds : {A : Type 0} → (A → Type 0) → Option A → Type 0
+Finds {A} IsSo found = MatchOption found ((a : A) → IsSo a → ⊥) IsSo
+
+-- ---- two commands that words may ask for
+
+-- the same command, of the same words, wherever these lie in memory
+abbrev pub IsSame : Task → Task → Type 0
+IsSame Hop Hop = Unit {0}
+IsSame (Show packet) (Show other) = packet.now ≡ other.now
+IsSame Check Check = Unit {0}
+IsSame Sim Sim = Unit {0}
+IsSame (Udp port) (Udp other) = port ≡ other
+IsSame (Route file) (Route other) = file.now ≡ other.now
+IsSame (Listen file once) (Listen other again) = (file.now ≡ other.now) × (once ≡ again)
+IsSame (Send file target) (Send other another) = (file.now ≡ other.now)
+    × (target.network.now ≡ another.network.now) × (target.node.now ≡ another.node.now)
+    × (target.socket.now ≡ another.socket.now)
+IsSame task other = ⊥
+
+-- words ask for one command at most
+abbrev pub AskForOne : Type 0
+AskForOne = (words : List (List ℕ)) (task other : Task) → AsksFor words task → AsksFor words other → IsSame task other

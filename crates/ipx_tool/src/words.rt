@@ -1,8 +1,8 @@
 //! What the words of the command line ask for.
 
-ghost use Rattle.std.specs.Prelude.{◌≡◌, ◌∷◌, [], ℕ, List, IfSome, codes, map, nat_eq, string_bytes};
+ghost use Rattle.std.specs.Prelude.{◌≡◌, ◌∷◌, [], codes, drop, map, nat_eq, string_bytes};
 ghost use Rattle.std.specs.List.{starts_with};
-ghost use Rattle.ipx_tool.specs.Words.{AsksFor};
+ghost use Rattle.ipx_tool.specs.Words.{AskForOne, AsksFor, Finds, IsPlain, IsPort};
 
 use crate::help::whole_command;
 use clap::Error;
@@ -34,7 +34,7 @@ const IPX_PORT: u16 = 213;
 /// `--once` before or behind it; `send` and four words that are no options; or `udp` and a port, as
 /// `--port P` or `--port=P`. No other words ask for one.
 pub fn task_of(words: &[String]) -> Option<Task<'_>>
-    ensures { IfSome result (AsksFor (map string_bytes words.now)) }
+    ensures { Finds (AsksFor (drop 1 (map string_bytes words.now))) result }
 {
     match words {
         [_, command] => plain_task(command.as_str()),
@@ -55,7 +55,7 @@ pub fn task_of(words: &[String]) -> Option<Task<'_>>
 }
 
 fn plain_task(command: &str) -> Option<Task<'_>>
-    ensures { IfSome result (λ t. (name : List ℕ) → AsksFor (name ∷ command.now ∷ []) t) }
+    ensures { Finds (AsksFor (command.now ∷ [])) result }
 {
     match command {
         "hop" => Some(Task::Hop),
@@ -75,8 +75,7 @@ fn is_option(word: &str) -> bool
 
 /// A command with a word that is no option: the packet of `show`, or a file.
 fn word_task<'a>(command: &str, word: &'a str) -> Option<Task<'a>>
-    ensures { IfSome result (λ t.
-        (name : List ℕ) → AsksFor (name ∷ command.now ∷ word.now ∷ []) t) }
+    ensures { Finds (λ t. IsPlain word.now × AsksFor (command.now ∷ word.now ∷ []) t) result }
 {
     if is_option(word) {
         return None;
@@ -91,8 +90,7 @@ fn word_task<'a>(command: &str, word: &'a str) -> Option<Task<'a>>
 
 /// A host that listens until the end of one connection.
 fn once_task<'a>(command: &str, file: &'a str) -> Option<Task<'a>>
-    ensures { IfSome result (λ t.
-        (name : List ℕ) (rest : List (List ℕ)) → AsksFor (name ∷ command.now ∷ rest) t) }
+    ensures { Finds (AsksFor (command.now ∷ codes "--once" ∷ file.now ∷ [])) result }
 {
     if command != "listen" || is_option(file) {
         return None;
@@ -102,54 +100,67 @@ fn once_task<'a>(command: &str, file: &'a str) -> Option<Task<'a>>
 
 /// A host that sends.
 fn send_task<'a>(command: &str, file: &'a str, target: Target<'a>) -> Option<Task<'a>>
-    ensures { IfSome result (λ t.
-        (name : List ℕ) (rest : List (List ℕ)) → AsksFor (name ∷ command.now ∷ rest) t) }
+    ensures { let to = target.entry in
+        Finds (AsksFor (command.now ∷ file.now ∷ to.network.now ∷ to.node.now ∷ to.socket.now ∷ []))
+        result }
 {
-    let words = is_option(file) || is_option(target.network);
-    if command != "send" || words || is_option(target.node) || is_option(target.socket) {
+    if command != "send" || is_option(file) {
+        return None;
+    }
+    if is_option(target.network) || is_option(target.node) || is_option(target.socket) {
         return None;
     }
     Some(Task::Send(file, target))
 }
 
 /// A port from 1 to 65,535 in decimal digits.
-fn port_of(text: &str) -> Option<u16> {
+fn port_of(text: &str) -> Option<u16>
+    ensures { Finds (IsPort text.now) result }
+{
     let port = text.parse::<u16>().ok()?;
     if port == 0 { None } else { Some(port) }
 }
 
-fn udp_task<'a>(command: &str, port: Option<u16>) -> Option<Task<'a>>
-    ensures { IfSome result (λ t.
-        (name : List ℕ) (rest : List (List ℕ)) → AsksFor (name ∷ command.now ∷ rest) t) }
+/// A script over UDP, at the port that a text writes.
+fn udp_task<'a>(command: &str, text: &str) -> Option<Task<'a>>
+    ensures { Finds (AsksFor (command.now ∷ codes "--port" ∷ text.now ∷ [])) result }
 {
     if command != "udp" {
         return None;
     }
-    Some(Task::Udp(port?))
+    Some(Task::Udp(port_of(text)?))
 }
 
 /// A command with one word more: one that is no option, or the port of `udp`.
 fn one_word_task<'a>(command: &str, word: &'a str) -> Option<Task<'a>>
-    ensures { IfSome result (λ t.
-        (name : List ℕ) → AsksFor (name ∷ command.now ∷ word.now ∷ []) t) }
+    ensures { Finds (AsksFor (command.now ∷ word.now ∷ [])) result }
 {
     match word.strip_prefix("--port=") {
-        Some(port) => udp_task(command, port_of(port)),
+        Some(port) => udp_task(command, port),
         None => word_task(command, word),
     }
 }
 
 /// A command with two words more: the port of `udp`, or the file of `listen` and `--once`.
 fn option_task<'a>(command: &str, first: &'a str, second: &'a str) -> Option<Task<'a>>
-    ensures { IfSome result (λ t.
-        (name : List ℕ) (rest : List (List ℕ)) → AsksFor (name ∷ command.now ∷ rest) t) }
+    ensures { Finds (AsksFor (command.now ∷ first.now ∷ second.now ∷ [])) result }
 {
-    match (first, second) {
-        ("--port", port) => udp_task(command, port_of(port)),
-        ("--once", file) | (file, "--once") => once_task(command, file),
-        _ => None,
+    if first == "--port" {
+        return udp_task(command, second);
     }
+    if first == "--once" {
+        return once_task(command, second);
+    }
+    if second == "--once" {
+        return once_task(command, first);
+    }
+    None
 }
+
+/// No words ask for two commands.
+pub fn words_ask_for_one()
+    ensures { AskForOne }
+{}
 
 /// Why words ask for no command: a mistake in them, or a call for help or the version, with the
 /// text for the person who wrote them.

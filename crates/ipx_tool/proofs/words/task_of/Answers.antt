@@ -1,31 +1,50 @@
-use Rattle.std.proofs.Common.{ℕ, List, [], ◌∷◌, arith, string_bytes, subst}
-use Rattle.std.specs.Prelude.{IfSome}
-use Rattle.ipx_tool.specs.Words.{AsksFor}
-use Rattle.ipx_tool.proofs.AskedWords.{asks_in_some, asks_in_three, asks_in_two}
+use Rattle.std.proofs.Common.{◌≡◌, ◌<◌, ◌≤◌, List, [], ◌∷◌, length, string_bytes, ap, arith, ◌∙◌}
+use Rattle.std.proofs.lemmas.Bool.{ltb-true, ltb-false}
+use Rattle.ipx_tool.proofs.AskedWords.{behind_two, behind_three, behind_four, behind_six, found_for, none_behind}
 use Rattle.ipx_tool.proofs.words.task_of.Goals as goal
-
-pub returns-in-len4 : goal.returns-in-len4
-returns-in-len4 c =
-    let command = c.command-item-then-words-lt5.result in
-    let asks = subst (λ (t : List ℕ). IfSome c.option_task.result (λ k. (name : List ℕ) (behind : List (List ℕ)) → AsksFor (name ∷ t ∷ behind) k)) c.as_str-in-len4.ensures.value c.option_task.ensures in
-    asks_in_some string_bytes c.args.words.now command c.option_task.result (omega (arith, c.in-len4.len_at_least)) c.command-item-then-words-lt5.is asks
-
-pub returns-in-len3 : goal.returns-in-len3
-returns-in-len3 c =
-    let command = c.command-item-then-words-lt4.result in
-    let word = c.word-item.result in
-    let named = subst (λ (t : List ℕ). IfSome c.one_word_task.result (λ k. (name : List ℕ) → AsksFor (name ∷ t ∷ c.as_str-in-len3-2.result.now ∷ []) k)) c.as_str-in-len3.ensures.value c.one_word_task.ensures in
-    let asks = subst (λ (t : List ℕ). IfSome c.one_word_task.result (λ k. (name : List ℕ) → AsksFor (name ∷ string_bytes command ∷ t ∷ []) k)) c.as_str-in-len3-2.ensures.value named in
-    asks_in_three string_bytes c.args.words.now command word c.one_word_task.result c.in-len3.len_at_least c.in-len3.len_below c.command-item-then-words-lt4.is c.word-item.is asks
+use Rattle.ipx_tool.proofs.words.task_of.Goals.{in_default-via-then-words-lt2, in_default-via-else-words-lt2+else-words-lt3+else-words-lt4+else-words-lt5+then-words-lt6, in_default-via-else-words-lt2+else-words-lt3+else-words-lt4+else-words-lt5+else-words-lt6+else-words-lt7}
 
 pub returns-in-len2 : goal.returns-in-len2
 returns-in-len2 c =
-    let command = c.command-item.result in
-    let asks = subst (λ (t : List ℕ). IfSome c.plain_task.result (λ k. (name : List ℕ) → AsksFor (name ∷ t ∷ []) k)) c.as_str.ensures.value c.plain_task.ensures in
-    asks_in_two string_bytes c.args.words.now command c.plain_task.result c.in-len2.len_at_least c.in-len2.len_below c.command-item.is asks
+    found_for c.plain_task.result
+    (ap (λ t. t ∷ []) c.as_str.ensures.value ∙ behind_two string_bytes c.args.words.now _ c.in-len2.len_at_least c.in-len2.len_below c.command-item.is)
+    c.plain_task.ensures
+
+pub returns-in-len3 : goal.returns-in-len3
+returns-in-len3 c =
+    found_for c.one_word_task.result
+    ((λ i. c.as_str-in-len3.ensures.value i ∷ c.as_str-in-len3-2.ensures.value i ∷ [])
+    ∙ behind_three string_bytes c.args.words.now _ _ c.in-len3.len_at_least c.in-len3.len_below c.command-item-then-words-lt4.is c.word-item.is)
+    c.one_word_task.ensures
+
+pub returns-in-len4 : goal.returns-in-len4
+returns-in-len4 c =
+    found_for c.option_task.result
+    ((λ i. c.as_str-in-len4.ensures.value i ∷ c.as_str-in-len4-2.ensures.value i ∷ c.as_str-in-len4-3.ensures.value i ∷ [])
+    ∙ behind_four string_bytes c.args.words.now _ _ _ c.in-len4.len_at_least c.in-len4.len_below c.command-item-then-words-lt5.is c.option-item.is c.value-item.is)
+    c.option_task.ensures
 
 pub returns-in-len6 : goal.returns-in-len6
 returns-in-len6 c =
-    let command = c.command-item-then-words-lt7.result in
-    let asks = subst (λ (t : List ℕ). IfSome c.send_task.result (λ k. (name : List ℕ) (behind : List (List ℕ)) → AsksFor (name ∷ t ∷ behind) k)) c.as_str-in-len6-4.ensures.value c.send_task.ensures in
-    asks_in_some string_bytes c.args.words.now command c.send_task.result (omega (arith, c.in-len6.len_at_least)) c.command-item-then-words-lt7.is asks
+    found_for c.send_task.result
+    ((λ i. c.as_str-in-len6-4.ensures.value i ∷ c.as_str-in-len6-5.ensures.value i ∷ c.as_str-in-len6.ensures.value i
+    ∷ c.as_str-in-len6-2.ensures.value i ∷ c.as_str-in-len6-3.ensures.value i ∷ [])
+    ∙ behind_six string_bytes c.args.words.now _ _ _ _ _ c.in-len6.len_at_least c.in-len6.len_below c.command-item-then-words-lt7.is
+    c.file-item.is c.network-item.is c.node-item.is c.socket-item.is)
+    c.send_task.ensures
+
+pub returns-in_default : goal.returns-in_default
+returns-in_default c =
+    let n = length c.args.words.now in
+    elim c.in_default.branch [
+      | in_default-via-then-words-lt2 w ↦
+          let most : n < 2 = ltb-true n 2 w.if-words-lt2-1.true in
+          none_behind string_bytes c.args.words.now (λ e. omega arith) (λ e. omega arith) (λ e. omega arith) (λ e. omega arith)
+      | in_default-via-else-words-lt2+else-words-lt3+else-words-lt4+else-words-lt5+then-words-lt6 w ↦
+          let least : 5 ≤ n = ltb-false n 5 w.if-words-lt5-1.false in
+          let most : n < 6 = ltb-true n 6 w.if-words-lt6-1.true in
+          none_behind string_bytes c.args.words.now (λ e. omega arith) (λ e. omega arith) (λ e. omega arith) (λ e. omega arith)
+      | in_default-via-else-words-lt2+else-words-lt3+else-words-lt4+else-words-lt5+else-words-lt6+else-words-lt7 w ↦
+          let least : 7 ≤ n = ltb-false n 7 w.if-words-lt7-1.false in
+          none_behind string_bytes c.args.words.now (λ e. omega arith) (λ e. omega arith) (λ e. omega arith) (λ e. omega arith)
+    ]
