@@ -1,3 +1,4 @@
 pub mod Counting
 pub mod Passed
 pub mod Written
+pub mod Turning

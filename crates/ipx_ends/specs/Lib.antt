@@ -5,3 +5,4 @@ pub mod Passing
 pub mod Stop
 pub mod Target
 pub mod Transfer
+pub mod Turning

@@ -1,11 +1,13 @@
 //! A host by its file: its endpoint, its socket and its clock.
 
-ghost use Rattle.std.specs.Prelude.{◌≡◌};
+ghost use Rattle.std.specs.Prelude.{◌≡◌, ◌≤◌};
+ghost use Rattle.ipx_carrier.specs.Turns.{peers_of};
+ghost use Rattle.ipx_ends.specs.Turning.{TakesTurn};
 
 use crate::end_core::EndCore;
 use crate::start::{StartFault, check_streams};
-use ipx_carrier::{Core, Datagrams, node_of, run};
-use ipx_site::{Cause, HostFile, Readiness, SiteSockets, SteadyClock, WaitFault};
+use ipx_carrier::{RunFault, node_of};
+use ipx_site::{Cause, HostFile, Readiness, SiteSockets, SteadyClock, WaitFault, take_turn};
 use log::{Log, warn};
 use spx_messages::Endpoint;
 use std::alloc::Global;
@@ -71,7 +73,11 @@ impl<'a, R: Net + Log + Clock> Station<'a, R> {
     }
 
     /// Takes one turn. What the system or memory refuses is counted and told, and goes on.
-    pub fn turn(&mut self, rt: &R, alloc: Global) -> Turn {
+    pub fn turn(&mut self, rt: &R, alloc: Global) -> Turn
+        ensures core { TakesTurn self.old.clock self.new.clock
+            (λ old moment new. (old.last ≤ moment) × (new.last ≡ moment))
+            (peers_of self.old.peers.items) self.old.core self.new.core }
+    {
         let turn = self.take_turn(alloc);
         let now = self.core.moment();
         let faults = self.sockets.faults();
@@ -86,33 +92,31 @@ impl<'a, R: Net + Log + Clock> Station<'a, R> {
         turn
     }
 
-    fn take_turn(&mut self, alloc: Global) -> Turn {
-        let ports = self.core.ports();
-        let fits = self.sockets.ports() == ports && self.peers.len() == ports;
-        if !fits || self.sockets.failures() == u64::MAX {
-            return Turn {
-                heard: false,
-                active: false,
-            };
-        }
-        let ran = run(
+    fn take_turn(&mut self, alloc: Global) -> Turn
+        ensures core { TakesTurn self.old.clock self.new.clock
+            (λ old moment new. (old.last ≤ moment) × (new.last ≡ moment))
+            (peers_of self.old.peers.items) self.old.core self.new.core }
+    {
+        let ran = take_turn(
             alloc,
             &mut self.core,
             &mut self.sockets,
             &self.peers,
             &mut self.clock,
-            1,
         );
         match ran {
             Ok(report) => Turn {
                 heard: report.heard > 0,
                 active: report.heard > 0 || report.sent > 0 || report.unmapped > 0,
             },
-            Err(_) => {
-                self.unheard = self.unheard.saturating_add(1);
+            Err(fault) => {
+                // Sockets never fail: Device is that they have other ports than the core, which no
+                // turn mends.
+                let is_memory = fault == RunFault::OutOfMemory;
+                self.unheard = self.unheard.saturating_add(u64::from(is_memory));
                 Turn {
                     heard: false,
-                    active: true,
+                    active: is_memory,
                 }
             }
         }

@@ -52,4 +52,4 @@ pub use routing::do_route;
 pub use senders::Senders;
 pub use site::{Accept, SiteFile, SitePort};
 pub use sockets::SiteSockets;
-pub use turns::{Burst, run_burst};
+pub use turns::{Burst, run_burst, take_turn};

@@ -87,9 +87,9 @@ fn is_idle(report: Report) -> bool
     report.heard == 0 && report.sent == 0
 }
 
-/// Takes one turn. A device with other ports than the core, or one that failed too often to count
-/// once more, is a device that fails, and nothing else happens.
-fn take_turn<C: Core, D: Datagrams, K: Clock>(
+/// Takes one turn, as `run` does. A device with other ports than the core, or one that failed too
+/// often to count once more, is a device that fails, and nothing else happens.
+pub fn take_turn<C: Core, D: Datagrams, K: Clock>(
     alloc: Global,
     core: &mut C,
     device: &mut D,
