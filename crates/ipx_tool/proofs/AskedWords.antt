@@ -1,5 +1,5 @@
 -- What words ask for in more than one form, and that they ask for one command at most.
-use Rattle.std.proofs.Common.{◌≡◌, ◌≢◌, ◌≤◌, ◌<◌, ℕ, ◌+◌, ◌*◌, Bool, true, false, true≢false, inl, inr, List, [], ◌∷◌, ◌++◌, length, map, drop, get_or, length-drop, Option, Some, None, codes, arith, ap, sym, subst, refl, ◌∙◌}
+use Rattle.std.proofs.Common.{◌≡◌, ◌≢◌, ◌≤◌, ◌<◌, ℕ, ◌+◌, ◌*◌, true, false, true≢false, inl, inr, List, [], ◌∷◌, ◌++◌, length, map, drop, get_or, length-drop, Option, Some, None, codes, arith, ap, sym, subst, refl, ◌∙◌}
 use Rattle.std.proofs.lemmas.List.{length-map}
 use Rattle.std.specs.Str.Parse.{digits_value, without_leading_plus}
 use Rattle.std.specs.Str.Pattern.{FindsTextPrefix, StripsPrefix}

@@ -1,4 +1,4 @@
-use Rattle.std.proofs.Common.{◌≡◌, ◌<◌, ◌≤◌, List, [], ◌∷◌, length, string_bytes, ap, arith, ◌∙◌}
+use Rattle.std.proofs.Common.{◌<◌, ◌≤◌, [], ◌∷◌, length, string_bytes, ap, arith, ◌∙◌}
 use Rattle.std.proofs.lemmas.Bool.{ltb-true, ltb-false}
 use Rattle.ipx_tool.proofs.AskedWords.{behind_two, behind_three, behind_four, behind_six, found_for, none_behind}
 use Rattle.ipx_tool.proofs.words.task_of.Goals as goal
