@@ -8,3 +8,5 @@ mod book;
 mod made;
 #[cfg(test)]
 mod refused;
+#[cfg(test)]
+mod spent;

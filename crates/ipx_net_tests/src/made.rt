@@ -12,7 +12,7 @@ use std::process::Abort;
 use std::test::Fail;
 
 /// A node 00007f0000xx.
-fn node(last: u8) -> Node {
+pub fn node(last: u8) -> Node {
     Node([0, 0, 0x7f, 0, 0, last])
 }
 
@@ -42,7 +42,7 @@ fn port(network: u32, last: u8) -> Port
 }
 
 /// The ports of a router on network 11 and another one.
-fn ports_with(alloc: Global, network: u32) -> Result<Vec<Port>, AllocError>
+pub fn ports_with(alloc: Global, network: u32) -> Result<Vec<Port>, AllocError>
     requires first { network ≢ 0 }
     requires last { network ≢ 4294967295 }
     ensures { IfOk result (λ v. ArePortsOwed v) }
