@@ -1,7 +1,7 @@
 //! A device that carries datagrams.
 
-ghost use Rattle.std.specs.Prelude.{◌≡◌, ◌<◌, ◌≤◌, ◌+◌, ◌^◌, ℕ, [], ◌∷◌, Option, IfOk, OnOk, OnErr, IfSome, length};
-ghost use Rattle.ipx_carrier.specs.Device.{Passes, Traffic, received_in};
+ghost use Rattle.std.specs.Prelude.{◌≡◌, ◌<◌, ◌≤◌, ◌+◌, ◌^◌, ℕ, List, [], ◌∷◌, Option, IfOk, OnOk, OnErr, IfSome, length};
+ghost use Rattle.ipx_carrier.specs.Device.{Access, Passes, Traffic, received_in};
 ghost use Rattle.ipx_carrier.specs.Fault.{device_failures};
 
 use crate::fault::DeviceFault;
@@ -10,7 +10,8 @@ use crate::fault::DeviceFault;
 ///
 /// It counts how often it failed, which no one else can raise. What it received and sent is known
 /// of a device that keeps it, as one in memory; a contract over datagrams speaks of what the
-/// device tells, and says nothing of it where it tells none, as one of sockets.
+/// device tells, and says nothing of it where it tells none, as one of sockets. A device may let pass
+/// only what comes from and goes to some: then it says who they are, and how much it kept back.
 pub trait Datagrams {
     /// How many ports there are.
     ghost port_count: { Self → ℕ };
@@ -20,6 +21,12 @@ pub trait Datagrams {
 
     /// What it received and sent so far, if the device keeps that.
     ghost traffic: { Self → Option Traffic };
+
+    /// Who may speak at each of its ports, if the device asks that. It stays.
+    ghost access: { Self → List Access };
+
+    /// How many datagrams it kept from its core. That never falls.
+    ghost kept_back: { Self → ℕ };
 
     /// How many ports it has.
     fn ports(&self) -> usize
@@ -39,7 +46,9 @@ pub trait Datagrams {
             [] (record { port = port; to = to; bytes = bytes.now } ∷ [])) }
         ensures refused { OnErr result (traffic self.new ≡ traffic self.old) }
         ensures failures { failed self.new ≡ device_failures result (failed self.old) }
-        ensures ports { port_count self.new ≡ port_count self.old };
+        ensures ports { port_count self.new ≡ port_count self.old }
+        ensures access { access self.new ≡ access self.old }
+        ensures kept_back { kept_back self.old ≤ kept_back self.new };
 
     /// Takes a datagram that came to a port, if there is one: its bytes go to the front of the
     /// room, as many as are answered. What the room can't take of a longer one is lost.
@@ -53,5 +62,7 @@ pub trait Datagrams {
         ensures within { IfOk result (λ count. IfSome count (λ n. n ≤ length room.old)) }
         ensures refused { OnErr result (traffic self.new ≡ traffic self.old) }
         ensures failures { failed self.new ≡ device_failures result (failed self.old) }
-        ensures ports { port_count self.new ≡ port_count self.old };
+        ensures ports { port_count self.new ≡ port_count self.old }
+        ensures access { access self.new ≡ access self.old }
+        ensures kept_back { kept_back self.old ≤ kept_back self.new };
 }

@@ -28,6 +28,8 @@ fn hear_port<C: Core, D: Datagrams>(
     ensures failures { D.failed datagrams.new ≡ failures_after result (D.failed datagrams.old) }
     ensures core_ports { C.port_count core.new ≡ C.port_count core.old }
     ensures device_ports { D.port_count datagrams.new ≡ D.port_count datagrams.old }
+    ensures access { D.access datagrams.new ≡ D.access datagrams.old }
+    ensures kept_back { D.kept_back datagrams.old ≤ D.kept_back datagrams.new }
 {
     let Some(count) = datagrams.receive(port, room)? else {
         return Ok(false);
@@ -55,6 +57,8 @@ pub fn hear_ports<C: Core, D: Datagrams>(
     ensures few { IfOk result (λ count. count < 2 ^ 64) }
     ensures core_ports { C.port_count core.new ≡ C.port_count core.old }
     ensures device_ports { D.port_count datagrams.new ≡ D.port_count datagrams.old }
+    ensures access { D.access datagrams.new ≡ D.access datagrams.old }
+    ensures kept_back { D.kept_back datagrams.old ≤ D.kept_back datagrams.new }
 {
     let mut heard = 0;
     for port in 0..core.ports() {

@@ -173,6 +173,10 @@ impl Datagrams for MemoryDatagrams {
 
     ghost traffic = { λ m. Some (traffic_of m) };
 
+    ghost access = { λ d. [] };
+
+    ghost kept_back = { λ d. 0 };
+
     fn ports(&self) -> usize {
         self.waiting.len()
     }

@@ -62,6 +62,8 @@ fn take_turn<C: Core, D: Datagrams, K: Clock>(
     ensures failures { D.failed datagrams.new ≡ failures_after result (D.failed datagrams.old) }
     ensures core_ports { C.port_count core.new ≡ C.port_count core.old }
     ensures device_ports { D.port_count datagrams.new ≡ D.port_count datagrams.old }
+    ensures access { D.access datagrams.new ≡ D.access datagrams.old }
+    ensures kept_back { D.kept_back datagrams.old ≤ D.kept_back datagrams.new }
 {
     let now = clock.now();
     let heard = hear_ports(alloc, core, datagrams, now, room)?;
@@ -111,6 +113,9 @@ pub fn run<C: Core, D: Datagrams, K: Clock>(
     ensures failures { D.failed datagrams.new ≡ failures_after result (D.failed datagrams.old) }
     ensures core_ports { C.port_count core.new ≡ C.port_count core.old }
     ensures device_ports { D.port_count datagrams.new ≡ D.port_count datagrams.old }
+    // Who may speak there stays, and what the device keeps from the core is counted on.
+    ensures access { D.access datagrams.new ≡ D.access datagrams.old }
+    ensures kept_back { D.kept_back datagrams.old ≤ D.kept_back datagrams.new }
 {
     let mut room = [0; ROOM];
     let mut report = Report {

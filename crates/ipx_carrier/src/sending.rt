@@ -31,6 +31,8 @@ fn send_to_each<D: Datagrams>(
         (D.traffic datagrams.old) (D.traffic datagrams.new)) }
     ensures failures { D.failed datagrams.new ≡ device_failures result (D.failed datagrams.old) }
     ensures ports { D.port_count datagrams.new ≡ D.port_count datagrams.old }
+    ensures access { D.access datagrams.new ≡ D.access datagrams.old }
+    ensures kept_back { D.kept_back datagrams.old ≤ D.kept_back datagrams.new }
 {
     for to in peers {
         datagrams.send(port, *to, bytes)?;
@@ -69,6 +71,8 @@ fn send_packet<D: Datagrams>(
         (D.traffic datagrams.old) (D.traffic datagrams.new)) }
     ensures failures { D.failed datagrams.new ≡ device_failures result (D.failed datagrams.old) }
     ensures ports { D.port_count datagrams.new ≡ D.port_count datagrams.old }
+    ensures access { D.access datagrams.new ≡ D.access datagrams.old }
+    ensures kept_back { D.kept_back datagrams.old ≤ D.kept_back datagrams.new }
 {
     if node == Node::BROADCAST {
         let port_peers = &peers[port];
@@ -102,6 +106,8 @@ fn send_next<C: Core, D: Datagrams>(
     ensures failures { D.failed datagrams.new ≡ failures_after result (D.failed datagrams.old) }
     ensures core_ports { C.port_count core.new ≡ C.port_count core.old }
     ensures device_ports { D.port_count datagrams.new ≡ D.port_count datagrams.old }
+    ensures access { D.access datagrams.new ≡ D.access datagrams.old }
+    ensures kept_back { D.kept_back datagrams.old ≤ D.kept_back datagrams.new }
 {
     let Some((port, node, count)) = core.next(alloc, now, room)? else {
         return Ok(None);
@@ -152,6 +158,8 @@ pub fn send_all<C: Core, D: Datagrams>(
     ensures failures { D.failed datagrams.new ≡ failures_after result (D.failed datagrams.old) }
     ensures core_ports { C.port_count core.new ≡ C.port_count core.old }
     ensures device_ports { D.port_count datagrams.new ≡ D.port_count datagrams.old }
+    ensures access { D.access datagrams.new ≡ D.access datagrams.old }
+    ensures kept_back { D.kept_back datagrams.old ≤ D.kept_back datagrams.new }
 {
     let mut tally = Tally {
         sent: 0,

@@ -63,13 +63,17 @@ impl UdpDatagrams {
 }
 
 impl Datagrams for UdpDatagrams {
-    ghost use Rattle.std.specs.Prelude.{None, length};
+    ghost use Rattle.std.specs.Prelude.{None, [], length};
 
     ghost port_count = { λ d. length d.sockets.items };
 
     ghost failed = { λ d. d.failures };
 
     ghost traffic = { λ d. None };
+
+    ghost access = { λ d. [] };
+
+    ghost kept_back = { λ d. 0 };
 
     fn ports(&self) -> usize {
         self.sockets.len()

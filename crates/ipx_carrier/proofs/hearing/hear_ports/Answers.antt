@@ -22,4 +22,6 @@ loop-port-preserved g c =
       failures = search rules;
       core_ports = search rules;
       device_ports = search rules;
+      access = search rules;
+      kept_back = omega arith;
     }

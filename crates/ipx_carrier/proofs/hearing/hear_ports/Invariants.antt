@@ -9,4 +9,6 @@ invariant-loop-port g l = record {
   failures : g.D.Datagrams.failed l.datagrams ≡ g.D.Datagrams.failed l.fn.datagrams;
   core_ports : g.C.Core.port_count l.core ≡ g.C.Core.port_count l.fn.core;
   device_ports : g.D.Datagrams.port_count l.datagrams ≡ g.D.Datagrams.port_count l.fn.datagrams;
+  access : g.D.Datagrams.access l.datagrams ≡ g.D.Datagrams.access l.fn.datagrams;
+  kept_back : g.D.Datagrams.kept_back l.fn.datagrams ≤ g.D.Datagrams.kept_back l.datagrams;
 }

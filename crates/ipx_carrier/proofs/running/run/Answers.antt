@@ -26,4 +26,6 @@ loop-turn-preserved g c =
       failures = search rules;
       core_ports = search rules;
       device_ports = search rules;
+      access = search rules;
+      kept_back = omega arith;
     }

@@ -27,4 +27,6 @@ loop-asked-preserved g c =
       failures = search rules;
       core_ports = search rules;
       device_ports = search rules;
+      access = search rules;
+      kept_back = omega arith;
     }

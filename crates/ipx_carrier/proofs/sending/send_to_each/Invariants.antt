@@ -1,4 +1,4 @@
-use Rattle.std.proofs.Common.{◌≡◌, [], List, ℕ, map, take}
+use Rattle.std.proofs.Common.{◌≡◌, ◌≤◌, [], List, ℕ, map, take}
 use Rattle.ipx_carrier.specs.Device.{Datagram, Passes}
 use Rattle.ipx_carrier.proofs.sending.send_to_each.Given as goal
 
@@ -9,4 +9,6 @@ invariant-loop-to g l =
       sent : Passes (g.D.Datagrams.traffic l.fn.datagrams) (g.D.Datagrams.traffic l.datagrams) [] (map f (take l.to-index l.peers));
       failures : g.D.Datagrams.failed l.datagrams ≡ g.D.Datagrams.failed l.fn.datagrams;
       ports : g.D.Datagrams.port_count l.datagrams ≡ g.D.Datagrams.port_count l.fn.datagrams;
+      access : g.D.Datagrams.access l.datagrams ≡ g.D.Datagrams.access l.fn.datagrams;
+      kept_back : g.D.Datagrams.kept_back l.fn.datagrams ≤ g.D.Datagrams.kept_back l.datagrams;
     }
