@@ -1,29 +1,29 @@
 //! A read or write fault is status 1, and after it nothing more is written.
 
-use crate::failing::Failing;
 use crate::texts::{CHECKED, FIELDS, FORWARD, PACKET, VECTOR};
 use ipx_commands::{do_check, do_hop, do_show};
+use ipx_failing::Failing;
 use std::alloc::Global;
 
 /// Whether a reader that fails after so many calls makes `hop` answer so, having written this.
-fn hop_reads(alloc: Global, left: u32, answer: Result<u8, u8>, text: &str) -> bool {
+fn hop_reads(alloc: Global, left: usize, answer: Result<u8, u8>, text: &str) -> bool {
     let mut written = Vec::new(alloc);
     let is = do_hop(alloc, &mut Failing::new(PACKET, left), &mut written) == answer;
     is && written.as_slice() == text.as_bytes()
 }
 
-fn hop_writes(alloc: Global, left: u32) -> Result<u8, u8> {
+fn hop_writes(alloc: Global, left: usize) -> Result<u8, u8> {
     let mut reader = PACKET.as_bytes();
     do_hop(alloc, &mut reader, &mut Failing::new("", left))
 }
 
-fn check_reads(alloc: Global, left: u32, answer: Result<u8, u8>, text: &str) -> bool {
+fn check_reads(alloc: Global, left: usize, answer: Result<u8, u8>, text: &str) -> bool {
     let mut written = Vec::new(alloc);
     let is = do_check(alloc, &mut Failing::new(VECTOR, left), &mut written) == answer;
     is && written.as_slice() == text.as_bytes()
 }
 
-fn check_writes(alloc: Global, left: u32) -> Result<u8, u8> {
+fn check_writes(alloc: Global, left: usize) -> Result<u8, u8> {
     let mut reader = VECTOR.as_bytes();
     do_check(alloc, &mut reader, &mut Failing::new("", left))
 }

@@ -1,6 +1,6 @@
 //! A read or write fault is status 1, and after it nothing more is written.
 
-use crate::failing::Failing;
+use ipx_failing::Failing;
 use ipx_sim::do_sim;
 use std::alloc::Global;
 
@@ -9,13 +9,13 @@ const SCRIPT: &str = "tick 7\n";
 const TOLD: &str = "now 7\nfresh yes\n";
 
 /// Whether a reader that fails after so many calls makes `sim` answer so, having written this.
-fn sim_reads(alloc: Global, left: u32, answer: Result<u8, u8>, text: &str) -> bool {
+fn sim_reads(alloc: Global, left: usize, answer: Result<u8, u8>, text: &str) -> bool {
     let mut written = Vec::new(alloc);
     let is = do_sim(alloc, &mut Failing::new(SCRIPT, left), &mut written) == answer;
     is && written.as_slice() == text.as_bytes()
 }
 
-fn sim_writes(alloc: Global, left: u32) -> Result<u8, u8> {
+fn sim_writes(alloc: Global, left: usize) -> Result<u8, u8> {
     let mut reader = SCRIPT.as_bytes();
     do_sim(alloc, &mut reader, &mut Failing::new("", left))
 }

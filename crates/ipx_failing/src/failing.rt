@@ -1,6 +1,6 @@
 //! A reader and writer that fails.
 
-ghost use Rattle.std.specs.Prelude.{◌≡◌, ◌≤◌, ◌<◌, ◌^◌, length};
+ghost use Rattle.std.specs.Prelude.{◌≡◌, ◌≤◌, ◌<◌, ◌^◌, false, length};
 
 use std::io;
 use std::io::{Read, Write};
@@ -17,7 +17,11 @@ pub struct Failing<'a> {
 }
 
 impl<'a> Failing<'a> {
-    pub fn new(text: &'a str, left: usize) -> Failing<'a> {
+    /// One that fails once so many calls are over.
+    pub fn new(text: &'a str, left: usize) -> Failing<'a>
+        ensures left { result.left ≡ left }
+        ensures whole { (result.failed ≡ false) × (result.again ≡ false) }
+    {
         Failing {
             text: text.as_bytes(),
             left,
@@ -28,7 +32,9 @@ impl<'a> Failing<'a> {
     }
 
     /// Whether it was called once more after it had failed.
-    pub fn is_called_again(&self) -> bool {
+    pub fn is_called_again(&self) -> bool
+        ensures { result ≡ self.now.again }
+    {
         self.again
     }
 
