@@ -28,9 +28,11 @@ IsNetwork d n = (text : List ℕ) × (as_str d ≡ Some text) × IsHex 8 text n.
 abbrev pub IsSocket : Data → Socket → Type 0
 IsSocket d s = (text : List ℕ) × (as_str d ≡ Some text) × IsHex 4 text s.0 × (s.0 ≢ 0)
 
--- a string that is an IP address: four decimal numbers below 256, with dots between them
+-- a string that is an IP address: four decimal numbers below 256, with dots between them. 0.0.0.0,
+-- which names none of the machines, is none
 abbrev pub IsAddress : Data → List ℕ → Type 0
 IsAddress d ip = (text : List ℕ) × (as_str d ≡ Some text) × IsDotted text ip
+    × (text ≢ codes "0.0.0.0")
 
 -- an integer from 1 to a greatest one
 abbrev pub IsCount : ℕ → Data → ℕ → Type 0

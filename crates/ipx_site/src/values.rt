@@ -36,11 +36,14 @@ pub fn network_of(value: &Value) -> Option<Network>
     Some(network)
 }
 
-/// The IP address that a value writes.
+/// The IP address that a value writes. 0.0.0.0 is none.
 pub fn address_of(value: &Value) -> Option<[u8; 4]>
     ensures { Reads IsAddress (view value.now) result }
 {
     let text = value.as_str()?;
+    if text == "0.0.0.0" {
+        return None;
+    }
     match text.parse::<Ipv4Addr>() {
         Ok(ip) => Some(ip.octets()),
         Err(_) => None,
