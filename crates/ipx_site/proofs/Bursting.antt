@@ -1,5 +1,5 @@
 -- Turns one after another, as a burst takes them.
-use Rattle.std.proofs.Common.{◌≡◌, ◌≤◌, ◌<◌, ℕ, zero, suc, ◌+◌, ◌-◌, ◌^◌, List, [], ◌∷◌, ◌++◌, length, min, sum_by, All, Bool, true, false, Option, Some, None, Result, Ok, Err, IsTrue, ◌↔◌, refl, sym, subst, ap, ◌∙◌, arith, length-append}
+use Rattle.std.proofs.Common.{◌≡◌, ◌≤◌, ◌<◌, ℕ, zero, suc, ◌+◌, List, [], ◌∷◌, ◌++◌, length, sum_by, Bool, true, false, Option, Some, None, Result, Ok, Err, IsTrue, ◌↔◌, refl, sym, subst, ap, ◌∙◌, arith, length-append}
 use Rattle.std.proofs.lemmas.List.Elements.{All-nil, All-push}
 use Rattle.std.proofs.lemmas.List.Sums.{sum_by_push}
 use Rattle.ipx_carrier.specs.declared.fault.RunFault.{RunFault}
@@ -8,7 +8,7 @@ use Rattle.ipx_carrier.specs.declared.report.Report.{Report}
 use Rattle.ipx_carrier.specs.Turns.{Given, Peers}
 use Rattle.ipx_carrier.specs.Runs.{EndsEarly, Runs}
 use Rattle.ipx_site.specs.declared.turns.Burst.{Burst}
-use Rattle.ipx_site.specs.Bursts.{AreBusy, Bursts, CanBegin, Chain, Counts, Ends, EndsIdle, IsIdle, Stops, Taken, counted, no_turns, refused}
+use Rattle.ipx_site.specs.Bursts.{AreBusy, Bursts, CanBegin, Chain, Counts, Ends, IsIdle, Stops, Taken, counted, no_turns, refused}
 
 -- a turn can be begun over the same as before
 pub begins_again : {ports ports_now device device_now lists failed failed_now : ℕ} → ports_now ≡ ports

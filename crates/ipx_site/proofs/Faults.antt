@@ -12,7 +12,7 @@ use Rattle.ipx_site.specs.declared.site.SitePort.{SitePort}
 use Rattle.ipx_site.specs.declared.key.Key.TheVariants.{Status}
 use Rattle.ipx_site.specs.Keys.{key_text}
 use Rattle.ipx_site.specs.Values.{IsText}
-use Rattle.ipx_site.specs.Loading.{IsFileText, IsStatus, fault_status}
+use Rattle.ipx_site.specs.Loading.{IsStatus, fault_status}
 use Rattle.ipx_site.specs.Fields.{Holds, HoldsOr, IsRightOr}
 use Rattle.ipx_site.specs.Site.{ArePorts, IsFirstFault, IsPortItem, IsPortItemFault, IsTwin, item_count, twin_place}
 

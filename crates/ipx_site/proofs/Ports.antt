@@ -1,6 +1,6 @@
 -- Lists that grow with the ports that they are of.
 use Rattle.std.proofs.Common.{◌≡◌, ◌∙◌, ℕ, ◌+◌, ◌<◌, List, [], ◌∷◌, ◌++◌, length, map, take, get_or, sym, ap}
-use Rattle.std.proofs.lemmas.List.{length-map, map-append, take_all, take_more}
+use Rattle.std.proofs.lemmas.List.{length-map, map-append, take_more}
 
 module _ {A B C : Type 0} (f : A → C) (g : B → C) (xs : List A) (i : ℕ) where
   -- one more is behind them

@@ -1,5 +1,5 @@
 -- One round of a router that runs.
-use Rattle.std.proofs.Common.{◌≡◌, ℕ, length, refl, sym, ap, subst, inl, inr}
+use Rattle.std.proofs.Common.{◌≡◌, ℕ, length, sym, ap, subst, inl, inr}
 use Rattle.ipx_carrier.specs.RouterCore.{CoreView, Gives, Hears, Misses, Withholds}
 use Rattle.ipx_carrier.specs.Turns.{Peers}
 use Rattle.ipx_site.specs.declared.turns.Burst.{Burst}

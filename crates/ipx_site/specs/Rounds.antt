@@ -1,5 +1,5 @@
 -- What one round of a router that runs does to its core and its clock. All of it is own.
-use Rattle.std.specs.Prelude.{◌≡◌, ◌≤◌, ◌⊎◌, ℕ, ◌+◌, List, length, false, Some, slice_get}
+use Rattle.std.specs.Prelude.{◌≡◌, ◌≤◌, ◌⊎◌, ℕ, ◌+◌, length, false, Some, slice_get}
 use Rattle.ipx_carrier.specs.RouterCore.{CoreView, Gives, Hears, Misses, Withholds}
 use Rattle.ipx_carrier.specs.Turns.{Peers}
 use Rattle.ipx_site.specs.declared.turns.Burst.{Burst}
