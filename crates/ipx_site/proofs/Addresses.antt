@@ -1,6 +1,5 @@
 -- the items of a list that are left to read, as addresses
-use Rattle.std.proofs.Common.{◌≡◌, ℕ, ◌+◌, ◌<◌, ◌≤◌, List, ◌++◌, ◌∷◌, [], length, drop, refl, sym, subst, arith, ◌∙◌}
-use Rattle.std.proofs.lemmas.List.{drop_all, append-nil}
+use Rattle.std.proofs.Common.{◌≡◌, ℕ, ◌+◌, ◌<◌, List, ◌∷◌, length, drop, refl, sym, subst}
 use Rattle.std.specs.Prelude.{get_or}
 use Rattle.toml.specs.Data.{Data, Items, item}
 use Rattle.toml.specs.View.{items_view, view}

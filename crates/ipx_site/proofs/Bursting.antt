@@ -1,5 +1,6 @@
 -- Turns one after another, as a burst takes them.
-use Rattle.std.proofs.Common.{◌≡◌, ◌≤◌, ◌<◌, ◌⊎◌, ℕ, ◌+◌, ◌-◌, ◌^◌, List, [], ◌∷◌, ◌++◌, length, min, sum_by, Bool, true, false, Option, Some, None, refl, sym, subst, arith, length-append, inl, inr}
+use Rattle.std.proofs.Common.{◌≡◌, ◌≤◌, ◌<◌, ℕ, zero, suc, ◌+◌, List, [], ◌∷◌, ◌++◌, length, sum_by, Bool, true, false, Option, Some, None, Result, Ok, Err, IsTrue, ◌↔◌, refl, sym, subst, ap, ◌∙◌, arith, length-append}
+use Rattle.std.proofs.lemmas.List.Elements.{All-nil, All-push}
 use Rattle.std.proofs.lemmas.List.Sums.{sum_by_push}
 use Rattle.ipx_carrier.specs.declared.fault.RunFault.{RunFault}
 use Rattle.ipx_carrier.specs.declared.fault.RunFault.TheVariants.{Device}
@@ -7,14 +8,54 @@ use Rattle.ipx_carrier.specs.declared.report.Report.{Report}
 use Rattle.ipx_carrier.specs.Turns.{Given, Peers}
 use Rattle.ipx_carrier.specs.Runs.{EndsEarly, Runs}
 use Rattle.ipx_site.specs.declared.turns.Burst.{Burst}
-use Rattle.ipx_site.specs.Bursts.{Bursts, Chain, Counts, Ends, EndsIdle, Stops, counted}
+use Rattle.ipx_site.specs.Bursts.{AreBusy, Bursts, CanBegin, Chain, Counts, Ends, IsIdle, Stops, Taken, counted, no_turns, refused}
+
+-- a turn can be begun over the same as before
+pub begins_again : {ports ports_now device device_now lists failed failed_now : ℕ} → ports_now ≡ ports
+    → device_now ≡ device → failed_now ≡ failed → CanBegin ports device lists failed → CanBegin ports_now device_now lists failed_now
+begins_again e f g can = rw (e, f, g) can
+
+-- where none can be begun, the first one ends the burst, and there is none where none is to be taken
+pub refused_first : (count most : ℕ) (x y : Burst) (f : RunFault) → count < most → x ≡ no_turns → f ≡ Device
+    → y ≡ record x { fault = Some f } → y ≡ refused most
+refused_first count zero x y f few none e is = absurd (omega (arith, few))
+refused_first count (suc most) x y f few none e is = rw (is, none, e) refl
+
+-- a result that is a fault is this one, and no value
+fault_in : {T : Type 0} → Result T RunFault → RunFault
+fault_in (Ok x) = Device
+fault_in (Err f) = f
+
+went : {T : Type 0} → Result T RunFault → Type 0
+went (Ok x) = Unit {0}
+went (Err f) = ⊥
+
+pub same_fault : {T : Type 0} (f g : RunFault) → ◌≡◌ {A = Result T RunFault} (Err f) (Err g) → f ≡ g
+unfolding fault_in
+same_fault f g e = ap fault_in e
+
+pub no_fault : {T : Type 0} (x : T) (f : RunFault) → ◌≡◌ {A = Result T RunFault} (Ok x) (Err f) → ⊥
+unfolding went
+no_fault x f e = subst went e tt
+
+-- a report is idle, or not, as its test says
+holds : Bool → Type 0
+holds true = Unit {0}
+holds false = ⊥
+
+pub is_busy_so : (b : Bool) (r : Report) → IsTrue b ↔ ((r.heard ≡ 0) × (r.sent ≡ 0)) → b ≡ false → (r.heard ≡ 0) × (r.sent ≡ 0) → ⊥
+unfolding holds
+is_busy_so b r h e idle = subst holds (sym (h.1 idle) ∙ e) tt
+
+pub refused_none : (count most : ℕ) (x : Burst) → count ≡ 0 → count ≡ most → x ≡ no_turns → x ≡ refused most
+refused_none count most x first all none = rw (← all, first, none) refl
 
 -- one more is counted
-more_counted : (f : Report → ℕ) (rs : List Report) (r : Report) (before after : ℕ)
-    → before ≡ counted (sum_by f rs) → after ≡ counted (before + f r)
-    → after ≡ counted (sum_by f (rs ++ r ∷ []))
-more_counted f rs r before after e k =
-    let s : sum_by f (rs ++ r ∷ []) ≡ sum_by f rs + f r = sum_by_push f rs r in
+more_counted : (f : Taken → ℕ) (ts : List Taken) (t : Taken) (before after : ℕ)
+    → before ≡ counted (sum_by f ts) → after ≡ counted (before + f t)
+    → after ≡ counted (sum_by f (ts ++ t ∷ []))
+more_counted f ts t before after e k =
+    let s : sum_by f (ts ++ t ∷ []) ≡ sum_by f ts + f t = sum_by_push f ts t in
     omega (arith, e, k, s)
 
 -- a burst that counts one more turn
@@ -22,104 +63,119 @@ abbrev pub CountsOne : Report → Burst → Burst → Type 0
 CountsOne r b c = (c.heard ≡ counted (b.heard + r.heard)) × (c.sent ≡ counted (b.sent + r.sent))
     × (c.unmapped ≡ counted (b.unmapped + r.unmapped))
 
+more_counts : (ts : List Taken) (t : Taken) (x y : Burst) → Counts ts x → CountsOne t.report x y → Counts (ts ++ t ∷ []) y
+more_counts ts t x y h counts = (
+  more_counted (λ t. t.report.heard) ts t x.heard y.heard h.0 counts.0,
+  more_counted (λ t. t.report.sent) ts t x.sent y.sent h.1 counts.1,
+  more_counted (λ t. t.report.unmapped) ts t x.unmapped y.unmapped h.2 counts.2,
+)
+
+-- a turn by its report and what was kept back
+abbrev pub taken : Report → ℕ → ℕ → Taken
+taken r before after = record { report = r; before = before; after = after }
+
 module _ {C K : Type 0} (hears : C → ℕ → List ℕ → ℕ → C → Type 0)
     (gives : C → ℕ → Option Given → C → Type 0) (tells : K → ℕ → K → Type 0)
     (ports : ℕ) (peers : Peers) where
-  -- so many whole turns, and their counts
-  abbrev pub Goes : ℕ → Burst → K → K → C → C → Type 0
-  Goes turns b clock clock_after old new = (reports : List Report) × (length reports ≡ turns)
-      × Chain hears gives tells ports peers reports clock clock_after old new × Counts reports b
+  -- so many whole turns, none of them idle, and their counts
+  abbrev pub Goes : ℕ → Burst → ℕ → ℕ → K → K → C → C → Type 0
+  Goes count b kept kept_after clock clock_after old new = (turns : List Taken) × (length turns ≡ count)
+      × Chain hears gives tells ports peers turns kept kept_after clock clock_after old new
+      × Counts turns b × AreBusy turns
 
-  chain_on : (rs : List Report) (r : Report) (k l m : K) (a b c : C) → Chain hears gives tells ports peers rs k l a b
-      → Runs hears gives tells ports peers 1 None None l m b c r → Chain hears gives tells ports peers (rs ++ r ∷ []) k m a c
-  chain_on [] r k l m a b c h ran =
-      let ran' : Runs hears gives tells ports peers 1 None None k m b c r = subst (λ k. Runs hears gives tells ports peers 1 None None k m b c r) h.0 ran in
-      (m, c, subst (λ a. Runs hears gives tells ports peers 1 None None k m a c r) h.1 ran', (refl, refl))
-  chain_on (q ∷ rs) r k l m a b c h ran = (h.0, h.1, h.2, chain_on rs r h.0 l m h.1 b c h.3 ran)
+  chain_on : (ts : List Taken) (t : Taken) (i j : ℕ) (k l m : K) (a b c : C) → Chain hears gives tells ports peers ts i j k l a b
+      → t.before ≡ j → j ≤ t.after → Runs hears gives tells ports peers 1 None None l m b c t.report
+      → Chain hears gives tells ports peers (ts ++ t ∷ []) i t.after k m a c
+  chain_on [] t i j k l m a b c h e le ran =
+      let ran' = subst (λ l. Runs hears gives tells ports peers 1 None None l m b c t.report) h.1 ran in
+      (
+        m,
+        c,
+        rw (← h.0) e,
+        rw (← h.0) le,
+        subst (λ b. Runs hears gives tells ports peers 1 None None k m b c t.report) h.2 ran',
+        (refl, refl, refl),
+      )
+  chain_on (s ∷ ss) t i j k l m a b c h e le ran = (h.0, h.1, h.2, h.3, h.4, chain_on ss t s.after j h.0 l m h.1 b c h.5 e le ran)
 
-  pub goes_nowhere : (k l : K) (a b : C) (burst : Burst) → l ≡ k → b ≡ a → Counts [] burst → Goes 0 burst k l a b
-  goes_nowhere k l a b burst e f counts = ([], refl, (e, f), counts)
+  pub goes_nowhere : (i : ℕ) (k : K) (a : C) (burst : Burst) → Counts [] burst → Goes 0 burst i i k k a a
+  goes_nowhere i k a burst counts = ([], refl, (refl, refl, refl), counts, All-nil (λ t. IsIdle t → ⊥))
 
-  pub goes_on : (here turns : ℕ) (k l m : K) (a b c : C) (x y : Burst) (report : Report) → here ≡ ports
-      → Goes turns x k l a b → Runs hears gives tells here peers 1 None None l m b c report → CountsOne report x y
-      → Goes (turns + 1) y k m a c
-  goes_on here turns k l m a b c x y report e h ran counts = (
-    h.0 ++ report ∷ [],
-    omega (arith, length-append h.0 (report ∷ []), h.1),
-    chain_on h.0 report k l m a b c h.2 (subst (λ n. Runs hears gives tells n peers 1 None None l m b c report) e ran),
-    (
-      more_counted (λ r. r.heard) h.0 report x.heard y.heard h.3.0 counts.0,
-      more_counted (λ r. r.sent) h.0 report x.sent y.sent h.3.1 counts.1,
-      more_counted (λ r. r.unmapped) h.0 report x.unmapped y.unmapped h.3.2 counts.2,
-    ),
+  -- one more turn, idle or not
+  one_more : (here count : ℕ) (i j n : ℕ) (k l m : K) (a b c : C) (x : Burst) (report : Report) → here ≡ ports
+      → (h : Goes count x i j k l a b) → j ≤ n → Runs hears gives tells here peers 1 None None l m b c report
+      → Chain hears gives tells ports peers (h.0 ++ taken report j n ∷ []) i n k m a c
+  one_more here count i j n k l m a b c x report e h le ran =
+      chain_on h.0 (taken report j n) i j k l m a b c h.2 refl le (subst (λ n. Runs hears gives tells n peers 1 None None l m b c report) e ran)
+
+  pub goes_on : (here count : ℕ) (i j n : ℕ) (k l m : K) (a b c : C) (x y : Burst) (report : Report) → here ≡ ports
+      → Goes count x i j k l a b → j ≤ n → Runs hears gives tells here peers 1 None None l m b c report → CountsOne report x y
+      → (IsIdle (taken report j n) → ⊥) → Goes (count + 1) y i n k m a c
+  goes_on here count i j n k l m a b c x y report e h le ran counts busy = (
+    h.0 ++ taken report j n ∷ [],
+    omega (arith, length-append h.0 (taken report j n ∷ []), h.1),
+    one_more here count i j n k l m a b c x report e h le ran,
+    more_counts h.0 (taken report j n) x y h.3 counts,
+    All-push (λ t. IsIdle t → ⊥) h.0 (taken report j n) h.4 busy,
   )
-
--- no fault ended a burst, and it is not quiet: there were so many turns
-stops_at_most : (most : ℕ) (reports : List Report) (fault : Option RunFault) (quiet : Bool) → fault ≡ None → quiet ≡ false
-    → length reports ≡ most → Stops most reports fault quiet
-stops_at_most most reports fault quiet e f all =
-    subst (λ (it : Option RunFault). Stops most reports it quiet) (sym e)
-    (subst (λ (it : Bool). Stops most reports None it) (sym f) all)
 
 module _ {C K : Type 0} (hears misses : C → ℕ → List ℕ → ℕ → C → Type 0)
     (gives : C → ℕ → Option Given → C → Type 0) (withholds : C → ℕ → C → Type 0)
     (tells : K → ℕ → K → Type 0) (ports : ℕ) (peers : Peers) where
-  nothing_more : (fault : Option RunFault) (l : K) (b : C) → fault ≡ None
-      → Ends hears misses gives withholds tells ports peers fault l l b b
-  nothing_more fault l b e =
-      subst (λ (it : Option RunFault). Ends hears misses gives withholds tells ports peers it l l b b) (sym e) (refl, refl)
+  nothing_more : (fault : Option RunFault) (j : ℕ) (l : K) (b : C) → fault ≡ None
+      → Ends hears misses gives withholds tells ports peers fault j j l l b b
+  nothing_more fault j l b e =
+      subst (λ (it : Option RunFault). Ends hears misses gives withholds tells ports peers it j j l l b b) (sym e) (refl, refl, refl)
 
-  pub ends_at_most : (turns most : ℕ) (k l : K) (a b : C) (x : Burst) → turns ≡ most → x.fault ≡ None → x.quiet ≡ false
-      → Goes hears gives tells ports peers turns x k l a b
-      → Bursts hears misses gives withholds tells ports peers most x k l a b
-  ends_at_most turns most k l a b x all e f h = (
+  -- no fault ended it, and it is not quiet: there were so many turns
+  pub ends_at_most : (count most : ℕ) (i j : ℕ) (k l : K) (a b : C) (x : Burst) → count ≡ most → x.fault ≡ None → x.quiet ≡ false
+      → Goes hears gives tells ports peers count x i j k l a b
+      → Bursts hears misses gives withholds tells ports peers most x i j k l a b
+  ends_at_most count most i j k l a b x all e f h = (
     h.0,
+    j,
     l,
     b,
     h.2,
-    nothing_more x.fault l b e,
+    nothing_more x.fault j l b e,
     h.3,
-    stops_at_most most h.0 x.fault x.quiet e f (omega (arith, h.1, all)),
+    subst (λ (it : Option RunFault). Stops most h.0 it x.quiet) (sym e)
+        (subst (λ (it : Bool). Stops most h.0 None it) (sym f) (omega (arith, h.1, all), h.4)),
   )
 
-  pub ends_quietly : (here turns most : ℕ) (k l m : K) (a b c : C) (x y z : Burst) (report : Report) → here ≡ ports
-      → turns < most → Goes hears gives tells ports peers turns x k l a b
+  pub ends_quietly : (here count most : ℕ) (i j n : ℕ) (k l m : K) (a b c : C) (x y z : Burst) (report : Report) → here ≡ ports
+      → count < most → Goes hears gives tells ports peers count x i j k l a b → n ≡ j
       → Runs hears gives tells here peers 1 None None l m b c report → (report.heard ≡ 0) × (report.sent ≡ 0)
       → CountsOne report x y → y.fault ≡ None → z ≡ record y { quiet = true }
-      → Bursts hears misses gives withholds tells ports peers most z k m a c
-  unfolding goes_on
-  ends_quietly here turns most k l m a b c x y z report e few h ran idle counts f is =
-      let more = goes_on hears gives tells ports peers here turns k l m a b c x y report e h ran counts in
-      subst (λ (it : Burst). Bursts hears misses gives withholds tells ports peers most it k m a c) (sym is) (
-        more.0,
+      → Bursts hears misses gives withholds tells ports peers most z i n k m a c
+  unfolding one_more
+  ends_quietly here count most i j n k l m a b c x y z report e few h same ran idle counts f is =
+      let last = taken report j n in
+      subst (λ (it : Burst). Bursts hears misses gives withholds tells ports peers most it i n k m a c) (sym is) (
+        h.0 ++ last ∷ [],
+        n,
         m,
         c,
-        more.2,
-        nothing_more y.fault m c f,
-        more.3,
-        subst (λ (it : Option RunFault). Stops most more.0 it true) (sym f)
-            (omega (arith, more.1, few), (h.0, report, refl, idle.0, idle.1)),
+        one_more hears gives tells ports peers here count i j n k l m a b c x report e h (omega (arith, same)) ran,
+        nothing_more y.fault n m c f,
+        more_counts h.0 last x y h.3 counts,
+        subst (λ (it : Option RunFault). Stops most (h.0 ++ last ∷ []) it true) (sym f)
+            (omega (arith, length-append h.0 (last ∷ []), h.1, few), (h.0, last, refl, h.4, (idle.0, idle.1, same))),
       )
 
-  broken_off : {A : Type 0} (here : ℕ) (l m : K) (b c : C) (f : RunFault) → here ≡ ports
-      → ((c ≡ b) × ((f ≡ Device) × A × (m ≡ l))) ⊎ EndsEarly hears misses gives withholds tells here peers 1 None None l m f b c
-      → Ends hears misses gives withholds tells ports peers (Some f) l m b c
-  broken_off here l m b c f e (inl k) = inl (k.1.0, k.1.2, k.0)
-  broken_off here l m b c f e (inr k) =
-      inr (subst (λ n. EndsEarly hears misses gives withholds tells n peers 1 None None l m f b c) e k)
-
-  pub ends_badly : {A : Type 0} (here turns most : ℕ) (k l m : K) (a b c : C) (x y : Burst) (f : RunFault) → here ≡ ports
-      → turns < most → x.quiet ≡ false → y ≡ record x { fault = Some f }
-      → Goes hears gives tells ports peers turns x k l a b
-      → ((c ≡ b) × ((f ≡ Device) × A × (m ≡ l))) ⊎ EndsEarly hears misses gives withholds tells here peers 1 None None l m f b c
-      → Bursts hears misses gives withholds tells ports peers most y k m a c
-  ends_badly here turns most k l m a b c x y f e few loud is h how =
-      subst (λ (it : Burst). Bursts hears misses gives withholds tells ports peers most it k m a c) (sym is) (
+  pub ends_badly : (here count most : ℕ) (i j n : ℕ) (k l m : K) (a b c : C) (x y : Burst) (f : RunFault) → here ≡ ports
+      → count < most → x.quiet ≡ false → y ≡ record x { fault = Some f }
+      → Goes hears gives tells ports peers count x i j k l a b → j ≤ n
+      → EndsEarly hears misses gives withholds tells here peers 1 None None l m f b c
+      → Bursts hears misses gives withholds tells ports peers most y i n k m a c
+  ends_badly here count most i j n k l m a b c x y f e few loud is h le how =
+      subst (λ (it : Burst). Bursts hears misses gives withholds tells ports peers most it i n k m a c) (sym is) (
         h.0,
+        j,
         l,
         b,
         h.2,
-        broken_off here l m b c f e how,
+        (le, subst (λ n. EndsEarly hears misses gives withholds tells n peers 1 None None l m f b c) e how),
         h.3,
-        (omega (arith, h.1, few), loud),
+        (omega (arith, h.1, few), h.4, loud),
       )

@@ -1,17 +1,18 @@
 -- how a fault of one part is the first fault of the whole
-use Rattle.std.proofs.Common.{String, ◌≡◌, ◌⊎◌, ℕ, suc, ◌+◌, List, [], ◌∷◌, ◌++◌, length, Option, Some, None, inl, inr, refl, ap}
+use Rattle.std.proofs.Common.{String, ◌≡◌, ◌⊎◌, ℕ, suc, ◌+◌, List, [], ◌∷◌, ◌++◌, length, Option, Some, None, inl, inr, refl, ap, subst, ◌∙◌}
 use Rattle.std.specs.Prelude.{MatchOption}
 use Rattle.std.specs.Global.{Global}
 use Rattle.toml.specs.Data.{Data, Items, item, Members, get_member}
 use Rattle.toml.specs.View.{items_view}
 use Rattle.toml.specs.declared.value.Value.{Value}
 use Rattle.ipx_site.specs.declared.fault.FileFault.{FileFault}
-use Rattle.ipx_site.specs.declared.fault.FileFault.TheVariants.{OutOfMemory}
+use Rattle.ipx_site.specs.declared.fault.FileFault.TheVariants.{Missing, NotToml, OutOfMemory, Twin, Unknown, Wrong}
 use Rattle.ipx_site.specs.declared.key.Key.{Key}
 use Rattle.ipx_site.specs.declared.site.SitePort.{SitePort}
 use Rattle.ipx_site.specs.declared.key.Key.TheVariants.{Status}
 use Rattle.ipx_site.specs.Keys.{key_text}
 use Rattle.ipx_site.specs.Values.{IsText}
+use Rattle.ipx_site.specs.Loading.{IsStatus, fault_status}
 use Rattle.ipx_site.specs.Fields.{Holds, HoldsOr, IsRightOr}
 use Rattle.ipx_site.specs.Site.{ArePorts, IsFirstFault, IsPortItem, IsPortItemFault, IsTwin, item_count, twin_place}
 
@@ -68,3 +69,19 @@ status_right ms (Some text) holds = inr (text, holds)
 pub count_is : (vs : List Value) → item_count (items_view vs) ≡ length vs
 count_is [] = refl
 count_is (v ∷ vs) = ap (λ n. suc n) (count_is vs)
+
+-- the status of a fault of a text says what it is of
+fault_is : (IsFault : FileFault → Type 0) (bytes : List ℕ) (f : FileFault) (status : ℕ) → IsFault f
+    → status ≡ fault_status f → IsStatus IsFault bytes status
+fault_is IsFault bytes OutOfMemory status fault is = inl is
+fault_is IsFault bytes (NotToml line error) status fault is = inr (is, inr (NotToml line error, fault))
+fault_is IsFault bytes (Unknown table name) status fault is = inr (is, inr (Unknown table name, fault))
+fault_is IsFault bytes (Missing table key) status fault is = inr (is, inr (Missing table key, fault))
+fault_is IsFault bytes (Wrong table key) status fault is = inr (is, inr (Wrong table key, fault))
+fault_is IsFault bytes (Twin table network earlier) status fault is = inr (is, inr (Twin table network earlier, fault))
+
+pub status_is : (F : List ℕ → FileFault → Type 0) (bytes text : List ℕ) (f : FileFault) (status : ℕ) → text ≡ bytes
+    → (f ≡ OutOfMemory) ⊎ F text f → status ≡ fault_status f → IsStatus (F bytes) bytes status
+status_is F bytes text f status same (inl memory) is = inl (is ∙ ap fault_status memory)
+status_is F bytes text f status same (inr fault) is =
+    fault_is (F bytes) bytes f status (subst (λ (it : List ℕ). F it f) same fault) is

@@ -1,5 +1,5 @@
 -- what is found in a table, and what items are left of a list
-use Rattle.std.proofs.Common.{String, string_bytes, ◌≡◌, ℕ, ◌+◌, ◌<◌, List, ◌++◌, ◌∷◌, [], length, drop, map, Option, Some, None, false, ap, ◌∙◌, sym, refl, if◌then◌else◌}
+use Rattle.std.proofs.Common.{String, string_bytes, ◌≡◌, ℕ, List, ◌∷◌, [], map, Option, Some, None, false, ap, ◌∙◌, sym, refl, if◌then◌else◌}
 use Rattle.std.specs.Prelude.{MatchOption}
 use Rattle.std.specs.Global.{Global}
 use Rattle.std.specs.Option.{option_map}

@@ -1,11 +1,11 @@
 -- what a text of hex digits without a sign is read as
-use Rattle.std.proofs.Common.{◌≡◌, ℕ, ◌^◌, ◌<◌, ◌≤◌, List, length, refl, sym, subst, ap, ◌∙◌, arith}
+use Rattle.std.proofs.Common.{◌≡◌, ℕ, ◌^◌, ◌<◌, ◌≤◌, List, length, sym, arith}
 use Rattle.std.specs.Prelude.{IfSome, Result, Ok, Err, slice_index}
 use Rattle.std.specs.Result.{result_ok}
-use Rattle.std.specs.Str.Parse.{IsNumeral, ParsesUnsigned, digits_value, without_leading_plus}
+use Rattle.std.specs.Str.Parse.{ParsesUnsigned, digits_value, without_leading_plus}
 use Rattle.std.proofs.lemmas.Int.Digits.{digits_value-lt}
 use Rattle.std.proofs.Math.Nat.{pow-le-pow_right}
-use Rattle.ipx_site.specs.Values.{IsHex, Spells}
+use Rattle.ipx_site.specs.Values.{Spells}
 
 -- where no sign stands first, none is left out
 pub plain : (text : List ℕ) → (slice_index text 0 ≡ 43 → ⊥) → without_leading_plus text ≡ text

@@ -1,5 +1,5 @@
 -- The networks of the ports of a file are those that a router's ports may have.
-use Rattle.std.proofs.Common.{◌≡◌, List, [], ◌∷◌, ◌++◌, All, sym, subst}
+use Rattle.std.proofs.Common.{List, [], ◌∷◌, ◌++◌, All, sym, subst}
 use Rattle.std.proofs.lemmas.List.Elements.{All-nil, All-cons}
 use Rattle.toml.specs.Data.{Items, no_items, item}
 use Rattle.ipx_router.specs.NewRouter.{IsOwnNetwork}

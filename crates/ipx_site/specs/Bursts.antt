@@ -1,8 +1,8 @@
 -- What turns one after another leave of a core and a clock, and what is counted of them. All of it
 -- is own.
-use Rattle.std.specs.Prelude.{◌≡◌, ◌<◌, ◌≤◌, ◌⊎◌, ℕ, ◌-◌, ◌^◌, List, [], ◌∷◌, ◌++◌, length, min, sum_by, Bool, true, false, Option, Some, None}
+use Rattle.std.specs.Prelude.{◌≡◌, ◌<◌, ◌≤◌, ℕ, zero, suc, ◌+◌, ◌-◌, ◌^◌, List, [], ◌∷◌, ◌++◌, length, min, sum_by, All, Bool, true, false, Option, Some, None}
 use Rattle.ipx_carrier.specs.declared.fault.RunFault.{RunFault}
-use Rattle.ipx_carrier.specs.declared.fault.RunFault.TheVariants.{Device}
+use Rattle.ipx_carrier.specs.declared.fault.RunFault.TheVariants.{Device, OutOfMemory}
 use Rattle.ipx_carrier.specs.declared.report.Report.{Report}
 use Rattle.ipx_carrier.specs.Turns.{Given, Peers}
 use Rattle.ipx_carrier.specs.Runs.{EndsEarly, Runs}
@@ -12,49 +12,86 @@ use Rattle.ipx_site.specs.declared.turns.Burst.{Burst}
 abbrev pub counted : ℕ → ℕ
 counted n = min n (2 ^ 64 - 1)
 
--- a burst counts what its whole turns report
-abbrev pub Counts : List Report → Burst → Type 0
-Counts reports b = (b.heard ≡ counted (sum_by (λ r. r.heard) reports))
-    × (b.sent ≡ counted (sum_by (λ r. r.sent) reports))
-    × (b.unmapped ≡ counted (sum_by (λ r. r.unmapped) reports))
+-- a turn can be begun: the device has as many ports as the core, so many have lists of peers, and the
+-- device can count one more failure
+abbrev pub CanBegin : ℕ → ℕ → ℕ → ℕ → Type 0
+CanBegin ports device_ports peer_lists failed =
+    (device_ports ≡ ports) × (peer_lists ≡ ports) × (failed + 1 < 2 ^ 64)
 
--- the last of them neither heard nor sent
-abbrev pub EndsIdle : List Report → Type 0
-EndsIdle reports = (before : List Report) × (last : Report) × (reports ≡ before ++ last ∷ [])
-    × (last.heard ≡ 0) × (last.sent ≡ 0)
+-- a burst of no turns
+abbrev pub no_turns : Burst
+no_turns = record { heard = 0; sent = 0; unmapped = 0; fault = None; quiet = false }
+
+-- the burst where none can be begun: the first one fails, if there is one to take
+abbrev pub refused : ℕ → Burst
+refused zero = no_turns
+refused (suc n) = record no_turns { fault = Some Device }
+
+-- how often a device failed after a burst that this ended
+abbrev pub failed_after : Option RunFault → ℕ → ℕ
+failed_after None before = before
+failed_after (Some OutOfMemory) before = before
+failed_after (Some Device) before = before + 1
+
+-- a whole turn: what it reports, and how many datagrams its device had kept back before it and after
+pub record Taken : Type 0 where
+  pub report : Report
+  pub before : ℕ
+  pub after : ℕ
+
+-- it neither heard nor sent, and kept nothing back
+abbrev pub IsIdle : Taken → Type 0
+IsIdle t = (t.report.heard ≡ 0) × (t.report.sent ≡ 0) × (t.after ≡ t.before)
+
+-- none of these is idle
+abbrev pub AreBusy : List Taken → Type 0
+AreBusy turns = All (λ t. IsIdle t → ⊥) turns
+
+-- the last of them is idle, and no other
+abbrev pub EndsIdle : List Taken → Type 0
+EndsIdle turns = (busy : List Taken) × (last : Taken) × (turns ≡ busy ++ last ∷ [])
+    × AreBusy busy × IsIdle last
+
+-- a burst counts what its whole turns report
+abbrev pub Counts : List Taken → Burst → Type 0
+Counts turns b = (b.heard ≡ counted (sum_by (λ t. t.report.heard) turns))
+    × (b.sent ≡ counted (sum_by (λ t. t.report.sent) turns))
+    × (b.unmapped ≡ counted (sum_by (λ t. t.report.unmapped) turns))
 
 -- why no further turn is taken, of at most so many: a fault ends one; or it is quiet, since the last
--- one was idle; or there were so many
-abbrev pub Stops : ℕ → List Report → Option RunFault → Bool → Type 0
-Stops most reports (Some f) quiet = (length reports < most) × (quiet ≡ false)
-Stops most reports None true = (length reports ≤ most) × EndsIdle reports
-Stops most reports None false = length reports ≡ most
+-- one was idle; or there were so many. None before was idle
+abbrev pub Stops : ℕ → List Taken → Option RunFault → Bool → Type 0
+Stops most turns (Some f) quiet = (length turns < most) × AreBusy turns × (quiet ≡ false)
+Stops most turns None true = (length turns ≤ most) × EndsIdle turns
+Stops most turns None false = (length turns ≡ most) × AreBusy turns
 
 module _ {C : Type 0} (hears : C → ℕ → List ℕ → ℕ → C → Type 0)
     (gives : C → ℕ → Option Given → C → Type 0) {K : Type 0} (tells : K → ℕ → K → Type 0)
     (ports : ℕ) (peers : Peers) where
-  -- runs of one turn each, one after another, with their reports. What passed is told by the device
-  -- below
-  abbrev pub Chain : List Report → K → K → C → C → Type 0
-  Chain [] clock clock_after old new = (clock_after ≡ clock) × (new ≡ old)
-  Chain (r ∷ rs) clock clock_after old new = (tick : K) × (mid : C)
-      × Runs hears gives tells ports peers 1 None None clock tick old mid r
-      × Chain rs tick clock_after mid new
+  -- runs of one turn each, one after another, with what the device keeps back from the one count to
+  -- the other, which never falls. What passed is told by the device below
+  abbrev pub Chain : List Taken → ℕ → ℕ → K → K → C → C → Type 0
+  Chain [] kept kept_after clock clock_after old new =
+      (kept_after ≡ kept) × (clock_after ≡ clock) × (new ≡ old)
+  Chain (t ∷ ts) kept kept_after clock clock_after old new = (tick : K) × (mid : C)
+      × (t.before ≡ kept) × (kept ≤ t.after)
+      × Runs hears gives tells ports peers 1 None None clock tick old mid t.report
+      × Chain ts t.after kept_after tick clock_after mid new
 
 module _ {C : Type 0} (hears misses : C → ℕ → List ℕ → ℕ → C → Type 0)
     (gives : C → ℕ → Option Given → C → Type 0) (withholds : C → ℕ → C → Type 0)
     {K : Type 0} (tells : K → ℕ → K → Type 0) (ports : ℕ) (peers : Peers) where
-  -- no fault, and nothing more happens; or a fault ends a turn that was begun; or no turn can be
-  -- begun over the device
-  abbrev pub Ends : Option RunFault → K → K → C → C → Type 0
-  Ends None clock clock_after old new = (clock_after ≡ clock) × (new ≡ old)
-  Ends (Some f) clock clock_after old new =
-      ((f ≡ Device) × (clock_after ≡ clock) × (new ≡ old))
-      ⊎ EndsEarly hears misses gives withholds tells ports peers 1 None None clock clock_after f old new
+  -- no fault, and nothing more happens; or a fault ends a turn that was begun
+  abbrev pub Ends : Option RunFault → ℕ → ℕ → K → K → C → C → Type 0
+  Ends None kept kept_after clock clock_after old new =
+      (kept_after ≡ kept) × (clock_after ≡ clock) × (new ≡ old)
+  Ends (Some f) kept kept_after clock clock_after old new = (kept ≤ kept_after)
+      × EndsEarly hears misses gives withholds tells ports peers 1 None None clock clock_after f old new
 
   -- at most so many whole turns, which are counted, and then that
-  abbrev pub Bursts : ℕ → Burst → K → K → C → C → Type 0
-  Bursts most b clock clock_after old new = (reports : List Report) × (tick : K) × (mid : C)
-      × Chain hears gives tells ports peers reports clock tick old mid
-      × Ends b.fault tick clock_after mid new
-      × Counts reports b × Stops most reports b.fault b.quiet
+  abbrev pub Bursts : ℕ → Burst → ℕ → ℕ → K → K → C → C → Type 0
+  Bursts most b kept kept_after clock clock_after old new = (turns : List Taken)
+      × (kept_then : ℕ) × (tick : K) × (mid : C)
+      × Chain hears gives tells ports peers turns kept kept_then clock tick old mid
+      × Ends b.fault kept_then kept_after tick clock_after mid new
+      × Counts turns b × Stops most turns b.fault b.quiet

@@ -5,6 +5,7 @@ pub mod Port
 pub mod Site
 pub mod Ports
 pub mod Host
+pub mod Loading
 pub mod Peers
 pub mod Moments
 pub mod Bursts

@@ -1,9 +1,11 @@
 -- The ports of the router that a file describes, and who may speak there. All of it is own.
-use Rattle.std.specs.Prelude.{◌≡◌, ℕ, List, map}
+use Rattle.std.specs.Prelude.{◌≡◌, ℕ, List, Bool, true, false, map}
 use Rattle.ipx_router.specs.declared.port.Port.{Port}
+use Rattle.ipx_carrier.specs.Device.{Access}
 use Rattle.ipx_carrier.specs.Mapping.{node_at}
 use Rattle.ipx_site.specs.declared.peers.Guard.{Guard}
 use Rattle.ipx_site.specs.declared.site.Accept.{Accept}
+use Rattle.ipx_site.specs.declared.site.Accept.TheVariants.{Any, Peers}
 use Rattle.ipx_site.specs.declared.site.SitePort.{SitePort}
 
 -- a port of a file as one of the router: its node is two zero bytes and the IP address
@@ -21,17 +23,17 @@ udp_ports ports = map (λ p. p.udp_port) ports
 abbrev pub site_peers : List SitePort → List (List (List ℕ))
 site_peers ports = map (λ p. p.peers.items) ports
 
--- whom a port sends to, and who is heard there
-pub record Access : Type 0 where
-  pub peers : List (List ℕ)
-  pub accept : Accept
+-- whether everybody is heard
+abbrev pub is_any : Accept → Bool
+is_any Any = true
+is_any Peers = false
 
--- as its file says it, and as its guard does
+-- whom a port sends to, and who is heard there: as its file says it, and as its guard does
 abbrev pub access_of : SitePort → Access
-access_of p = record { peers = p.peers.items; accept = p.accept }
+access_of p = record { peers = p.peers.items; everybody = is_any p.accept }
 
 abbrev pub access_by : Guard → Access
-access_by g = record { peers = g.peers.items; accept = g.accept }
+access_by g = record { peers = g.peers.items; everybody = is_any g.accept }
 
 -- the guards are those of the ports, in order
 abbrev pub GuardPorts : List SitePort → List Guard → Type 0

@@ -1,8 +1,11 @@
 //! Files, read from where they lie.
 
-ghost use Rattle.std.specs.Prelude.{All, IfOk};
+ghost use Rattle.std.specs.Prelude.{◌≡◌, ◌⊎◌, ℕ, List, All, Err, IfErr, IfOk};
 ghost use Rattle.ipx_router.specs.NewRouter.{IsOwnNetwork};
+ghost use Rattle.ipx_site.specs.Host.{IsHostText, IsHostTextFault};
+ghost use Rattle.ipx_site.specs.Loading.{IsFileText, IsStatus, fault_status};
 ghost use Rattle.ipx_site.specs.Ports.{router_ports};
+ghost use Rattle.ipx_site.specs.Site.{IsSiteText, IsSiteTextFault};
 
 use crate::fault::FileFault;
 use crate::host::{HostFile, read_host};
@@ -18,18 +21,24 @@ use std::{io, str};
 const MOST: usize = 65_536;
 
 /// Tells what is wrong with a file, and answers the status that goes with it.
-fn tell<R: Eprint>(rt: &R, path: &str, what: &str) -> u8 {
+fn tell<R: Eprint>(rt: &R, path: &str, what: &str) -> u8
+    ensures { result ≡ 2 }
+{
     let _ = eprintln!(rt; "{path}: {what}");
     2
 }
 
-fn tell_no_memory<R: Eprint>(rt: &R, path: &str) -> u8 {
+fn tell_no_memory<R: Eprint>(rt: &R, path: &str) -> u8
+    ensures { result ≡ 1 }
+{
     let _ = eprintln!(rt; "{path}: out of memory");
     1
 }
 
 /// Tells the fault of a file's text, and answers its status.
-fn tell_fault<R: Eprint>(rt: &R, path: &str, fault: &FileFault) -> u8 {
+fn tell_fault<R: Eprint>(rt: &R, path: &str, fault: &FileFault) -> u8
+    ensures { result ≡ fault_status fault.now }
+{
     if let FileFault::OutOfMemory = fault {
         return tell_no_memory(rt, path);
     }
@@ -37,7 +46,10 @@ fn tell_fault<R: Eprint>(rt: &R, path: &str, fault: &FileFault) -> u8 {
     2
 }
 
-fn tell_unread<R: Eprint>(rt: &R, path: &str, kind: io::ErrorKind) -> u8 {
+/// Tells why a file is not read, and answers the status.
+fn tell_unread<R: Eprint>(rt: &R, path: &str, kind: io::ErrorKind) -> u8
+    ensures { (result ≡ 1) ⊎ (result ≡ 2) }
+{
     match kind {
         io::ErrorKind::OutOfMemory => tell_no_memory(rt, path),
         io::ErrorKind::NotFound => tell(rt, path, "there is no such file"),
@@ -47,7 +59,9 @@ fn tell_unread<R: Eprint>(rt: &R, path: &str, kind: io::ErrorKind) -> u8 {
 }
 
 /// The bytes of a file.
-fn read_bytes<R: Files + Eprint>(rt: &R, alloc: Global, path: &str) -> Result<Vec<u8>, u8> {
+fn read_bytes<R: Files + Eprint>(rt: &R, alloc: Global, path: &str) -> Result<Vec<u8>, u8>
+    ensures { IfErr result (λ status. (status ≡ 1) ⊎ (status ≡ 2)) }
+{
     let mut file = match File::open(rt, path) {
         Ok(file) => file,
         Err(error) => return Err(tell_unread(rt, path, error.kind())),
@@ -59,8 +73,11 @@ fn read_bytes<R: Files + Eprint>(rt: &R, alloc: Global, path: &str) -> Result<Ve
     }
 }
 
-/// The text of bytes that were read.
-fn text_of<'a, R: Eprint>(rt: &R, path: &str, bytes: &'a [u8]) -> Result<&'a str, u8> {
+/// The text that bytes are.
+fn text_of<'a, R: Eprint>(rt: &R, path: &str, bytes: &'a [u8]) -> Result<&'a str, u8>
+    ensures text { IfOk result (λ s. (s.now ≡ bytes.now) × IsFileText bytes.now) }
+    ensures fault { IfErr result (λ status. (status ≡ 2) × (IsFileText bytes.now → ⊥)) }
+{
     if bytes.len() > MOST {
         return Err(tell(rt, path, "the file is to have 65536 bytes at most"));
     }
@@ -70,25 +87,50 @@ fn text_of<'a, R: Eprint>(rt: &R, path: &str, bytes: &'a [u8]) -> Result<&'a str
     }
 }
 
-/// Reads the file of a router. What is wrong is told in one line on standard error that begins with
-/// the path; the error is the status then: 2, or 1 for want of memory.
-pub fn load_site<R: Files + Eprint>(rt: &R, alloc: Global, path: &str) -> Result<SiteFile, u8>
-    ensures { IfOk result (λ s. All IsOwnNetwork (router_ports s.ports.items)) }
+/// What the bytes of a router's file describe.
+fn site_in<R: Eprint>(rt: &R, alloc: Global, path: &str, bytes: &[u8]) -> Result<SiteFile, u8>
+    ensures site { IfOk result (λ s. IsFileText bytes.now × IsSiteText bytes.now s) }
+    ensures own { IfOk result (λ s. All IsOwnNetwork (router_ports s.ports.items)) }
+    ensures no_text { (IsFileText bytes.now → ⊥) → result ≡ Err 2 }
+    ensures fault { IfErr result (IsStatus (IsSiteTextFault bytes.now) bytes.now) }
 {
-    let bytes = read_bytes(rt, alloc, path)?;
-    let text = text_of(rt, path, &bytes)?;
+    let text = text_of(rt, path, bytes)?;
     match read_site(alloc, text) {
         Ok(site) => Ok(site),
         Err(fault) => Err(tell_fault(rt, path, &fault)),
     }
 }
 
-/// Reads the file of a host, likewise.
-pub fn load_host<R: Files + Eprint>(rt: &R, alloc: Global, path: &str) -> Result<HostFile, u8> {
-    let bytes = read_bytes(rt, alloc, path)?;
-    let text = text_of(rt, path, &bytes)?;
+/// What the bytes of a host's file describe.
+fn host_in<R: Eprint>(rt: &R, alloc: Global, path: &str, bytes: &[u8]) -> Result<HostFile, u8>
+    ensures host { IfOk result (λ h. IsFileText bytes.now × IsHostText bytes.now h) }
+    ensures no_text { (IsFileText bytes.now → ⊥) → result ≡ Err 2 }
+    ensures fault { IfErr result (IsStatus (IsHostTextFault bytes.now) bytes.now) }
+{
+    let text = text_of(rt, path, bytes)?;
     match read_host(alloc, text) {
         Ok(host) => Ok(host),
         Err(fault) => Err(tell_fault(rt, path, &fault)),
     }
+}
+
+/// Reads the file of a router. What is wrong is told in one line on standard error that begins with
+/// the path; the error is the status then: 2, or 1 for want of memory.
+pub fn load_site<R: Files + Eprint>(rt: &R, alloc: Global, path: &str) -> Result<SiteFile, u8>
+    // What it answers some text describes.
+    ensures site { IfOk result (λ s. (text : List ℕ) × IsFileText text × IsSiteText text s) }
+    ensures own { IfOk result (λ s. All IsOwnNetwork (router_ports s.ports.items)) }
+    ensures fault { IfErr result (λ status. (status ≡ 1) ⊎ (status ≡ 2)) }
+{
+    let bytes = read_bytes(rt, alloc, path)?;
+    site_in(rt, alloc, path, &bytes)
+}
+
+/// Reads the file of a host, likewise.
+pub fn load_host<R: Files + Eprint>(rt: &R, alloc: Global, path: &str) -> Result<HostFile, u8>
+    ensures host { IfOk result (λ h. (text : List ℕ) × IsFileText text × IsHostText text h) }
+    ensures fault { IfErr result (λ status. (status ≡ 1) ⊎ (status ≡ 2)) }
+{
+    let bytes = read_bytes(rt, alloc, path)?;
+    host_in(rt, alloc, path, &bytes)
 }

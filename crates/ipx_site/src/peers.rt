@@ -1,10 +1,11 @@
 //! A device that hears its peers alone, and sends to them alone.
 
-ghost use Rattle.std.specs.Prelude.{◌≡◌, ◌<◌, ◌≤◌, ◌+◌, ◌^◌, [], ◌∷◌, ℕ, true, false, Ok, Option, OnErr, OnOk, IfOk, IfSome, length, slice_get, option_copied};
+ghost use Rattle.std.specs.Prelude.{◌≡◌, ◌<◌, ◌≤◌, ◌+◌, ◌^◌, [], ◌∷◌, ℕ, true, false, Ok, Option, OnErr, OnOk, IfOk, IfSome, length, map, slice_get, option_copied};
 ghost use Rattle.ipx_carrier.specs.Device.{Passes, received_in};
 ghost use Rattle.ipx_carrier.specs.Fates.{raised};
 ghost use Rattle.ipx_carrier.specs.Fault.{device_failures};
 ghost use Rattle.ipx_site.specs.Peers.{HandsUp, hears_from, is_heard, is_peer, may_go};
+ghost use Rattle.ipx_site.specs.Ports.{access_by};
 
 use crate::senders::Senders;
 use crate::site::Accept;
@@ -21,7 +22,8 @@ pub struct Guard {
 
 /// A count goes up by one, and stays where it is the greatest.
 pub fn raise(count: &mut u64)
-    ensures { count.new ≡ raised count.old }
+    ensures counted { count.new ≡ raised count.old }
+    ensures grows { count.old ≤ count.new }
 {
     *count = count.saturating_add(1);
 }
@@ -124,6 +126,11 @@ impl<D: Senders + Drop> Datagrams for PeersOnly<D> {
     // What it lets down is told by the device below.
     ghost traffic = { λ p. None };
 
+    // Its guards say who may speak, and those who may not are strangers.
+    ghost access = { λ p. map access_by p.guards.items };
+
+    ghost kept_back = { λ p. p.strangers };
+
     fn ports(&self) -> usize {
         self.device.ports()
     }
@@ -172,6 +179,7 @@ impl<D: Senders + Drop> Datagrams for PeersOnly<D> {
         ensures within { IfOk result (λ up. IfSome up (λ n. n ≤ length room.old)) }
         ensures faulty { OnErr result ((D.traffic self.new.device ≡ D.traffic self.old.device)
             × (self.new.strangers ≡ self.old.strangers)) }
+        ensures kept_back { self.old.strangers ≤ self.new.strangers }
         ensures refused { self.new.refused ≡ self.old.refused }
         ensures guards { self.new.guards ≡ self.old.guards }
         ensures failures { D.failed self.new.device

@@ -1,5 +1,9 @@
 //! Waiting until something is to be read, or for some time.
 
+ghost use Rattle.std.specs.Prelude.{◌≡◌, ◌+◌, IfOk, OnOk, length};
+ghost use Rattle.ipx_carrier.specs.Fates.{raised};
+ghost use Rattle.ipx_site.specs.Bursts.{counted};
+
 use crate::sockets::SiteSockets;
 use ipx_carrier::Datagrams;
 use mio::unix::SourceFd;
@@ -28,6 +32,7 @@ const EVENTS: usize = 32;
 pub struct Readiness {
     poll: Poll,
     events: Events,
+    /// For how many descriptors it was asked to wait.
     watched: usize,
 }
 
@@ -37,7 +42,9 @@ impl Readiness {
         rt: &R,
         alloc: Global,
         sockets: &SiteSockets,
-    ) -> Result<Readiness, WaitFault> {
+    ) -> Result<Readiness, WaitFault>
+        ensures { IfOk result (λ r. r.watched ≡ length sockets.now.sockets.items) }
+    {
         let Ok(poll) = Poll::new(rt) else {
             return Err(WaitFault::System);
         };
@@ -53,7 +60,10 @@ impl Readiness {
         Ok(readiness)
     }
 
-    fn watch_sockets(&mut self, sockets: &SiteSockets) -> Result<(), WaitFault> {
+    fn watch_sockets(&mut self, sockets: &SiteSockets) -> Result<(), WaitFault>
+        ensures { OnOk result (self.new.watched
+            ≡ counted (self.old.watched + length sockets.now.sockets.items)) }
+    {
         for port in 0..sockets.ports() {
             if let Some(descriptor) = sockets.descriptor(port) {
                 if !self.watch_reading(descriptor) {
@@ -66,7 +76,9 @@ impl Readiness {
 
     /// Waits for this descriptor too, until it is readable. False where the system can't: a file of
     /// a disk always is.
-    pub fn watch_reading(&mut self, descriptor: RawFd) -> bool {
+    pub fn watch_reading(&mut self, descriptor: RawFd) -> bool
+        ensures { self.new.watched ≡ raised self.old.watched }
+    {
         let token = Token(self.watched);
         self.watched = self.watched.saturating_add(1);
         self.poll
@@ -77,7 +89,9 @@ impl Readiness {
 
     /// Waits until something is readable, a signal comes, or so many milliseconds are over. It
     /// answers whether something is.
-    pub fn wait(&mut self, most: u64) -> Result<bool, WaitFault> {
+    pub fn wait(&mut self, most: u64) -> Result<bool, WaitFault>
+        ensures { self.new.watched ≡ self.old.watched }
+    {
         let timeout = Duration::from_millis(most);
         match self.poll.poll(&mut self.events, Some(timeout)) {
             Ok(()) => Ok(!self.events.is_empty()),

@@ -1,9 +1,9 @@
 //! The command `route`.
 
-ghost use Rattle.std.specs.Prelude.{◌≡◌, All, IfOk};
+ghost use Rattle.std.specs.Prelude.{◌≡◌, ◌≤◌, ◌⊎◌, All, IfErr, IfOk, OnOk, is_ok, if◌then◌else◌, map};
 ghost use Rattle.ipx_router.specs.NewRouter.{IsOwnNetwork};
 ghost use Rattle.ipx_carrier.specs.Turns.{peers_of};
-ghost use Rattle.ipx_site.specs.Ports.{GuardPorts, access_by, access_of, router_port_of, router_ports, site_peers};
+ghost use Rattle.ipx_site.specs.Ports.{GuardPorts, access_by, access_of, router_port_of, router_ports, site_peers, udp_ports};
 
 use crate::bind_fault::BindFault;
 use crate::clock::SteadyClock;
@@ -158,6 +158,11 @@ fn start<'a, R: Net + Log + SystemClock>(
     ensures ports { IfOk result (λ s. s.core.router.ports ≡ router_ports site.ports.items) }
     ensures peers { IfOk result (λ s. peers_of s.peers.items ≡ site_peers site.ports.items) }
     ensures guards { IfOk result (λ s. GuardPorts site.ports.items s.device.guards.items) }
+    // Each has a socket, with the port of UDP of its peers.
+    ensures sockets { IfOk result (λ s. map (λ p. p.udp_port) s.device.device.sockets.items
+        ≡ udp_ports site.ports.items) }
+    ensures clock { IfOk result (λ s. s.clock.last ≡ 0) }
+    ensures asked { IfOk result (λ s. s.asked ≡ 0) }
 {
     let router = router_of(alloc, &site.ports)?;
     let peers = peers_by_port(alloc, &site.ports)?;
@@ -191,6 +196,36 @@ fn route<R: Net + Log + Files + SystemClock>(
     Ok(())
 }
 
+/// The status of a router that ended by itself, whose fault is told.
+fn tell_end<R: Eprint>(rt: &R, path: &str, end: Result<(), RouteFault>) -> u8
+    ensures { result ≡ if is_ok end then 0 else 1 }
+{
+    match end {
+        Ok(()) => 0,
+        Err(fault) => {
+            let _ = eprintln!(rt; "{path}: {fault}");
+            1
+        }
+    }
+}
+
+/// Routes by a file that was loaded, or answers the status where it wasn't.
+fn route_loaded<R: Net + Log + Files + SystemClock + Eprint>(
+    rt: &R,
+    alloc: Global,
+    path: &str,
+    loaded: Result<SiteFile, u8>,
+) -> u8
+    requires { IfOk loaded (λ s. All IsOwnNetwork (router_ports s.ports.items)) }
+    ensures unread { IfErr loaded (λ status. result ≡ status) }
+    ensures routed { OnOk loaded (result ≤ 1) }
+{
+    match loaded {
+        Ok(site) => tell_end(rt, path, route(rt, alloc, site)),
+        Err(status) => status,
+    }
+}
+
 /// The command `route`: reads the file of a router, binds a socket for each port, tells each port,
 /// and routes until it is ended from outside.
 ///
@@ -201,16 +236,9 @@ pub fn do_route<R: Net + Log + Files + SystemClock + Eprint>(
     rt: &R,
     alloc: Global,
     path: &str,
-) -> u8 {
-    let site = match load_site(rt, alloc, path) {
-        Ok(site) => site,
-        Err(status) => return status,
-    };
-    match route(rt, alloc, site) {
-        Ok(()) => 0,
-        Err(fault) => {
-            let _ = eprintln!(rt; "{path}: {fault}");
-            1
-        }
-    }
+) -> u8
+    ensures { result ≤ 2 }
+{
+    let loaded = load_site(rt, alloc, path);
+    route_loaded(rt, alloc, path, loaded)
 }

@@ -1,6 +1,6 @@
 //! Sockets of UDP, one for each port of a site.
 
-ghost use Rattle.std.specs.Prelude.{◌≡◌, ◌∷◌, [], IfOk, map};
+ghost use Rattle.std.specs.Prelude.{◌≡◌, ◌<◌, ◌↔◌, ◌∷◌, [], IfOk, IsSome, length, map};
 ghost use Rattle.ipx_carrier.specs.Fates.{raised};
 ghost use Rattle.ipx_site.specs.Ports.{udp_ports};
 
@@ -120,7 +120,9 @@ impl SiteSockets {
     }
 
     /// The descriptor of the socket of a port, to wait for it. The first port is 0.
-    pub fn descriptor(&self, port: usize) -> Option<RawFd> {
+    pub fn descriptor(&self, port: usize) -> Option<RawFd>
+        ensures { IsSome result ↔ port < length self.now.sockets.items }
+    {
         let port = self.sockets.get(port)?;
         Some(port.socket.as_raw_fd())
     }
@@ -135,13 +137,18 @@ impl SiteSockets {
 }
 
 impl Datagrams for SiteSockets {
-    ghost use Rattle.std.specs.Prelude.{None, length};
+    ghost use Rattle.std.specs.Prelude.{None};
 
     ghost port_count = { λ d. length d.sockets.items };
 
     ghost failed = { λ d. 0 };
 
     ghost traffic = { λ d. None };
+
+    // Whoever reaches them is heard.
+    ghost access = { λ d. [] };
+
+    ghost kept_back = { λ d. 0 };
 
     fn ports(&self) -> usize {
         self.sockets.len()

@@ -1,8 +1,9 @@
 //! A router with its sockets, and what is to be done besides its turns.
 
-ghost use Rattle.std.specs.Prelude.{◌≡◌, ◌≤◌};
+ghost use Rattle.std.specs.Prelude.{◌≡◌, ◌≤◌, length, map};
 ghost use Rattle.ipx_carrier.specs.Turns.{peers_of};
-ghost use Rattle.ipx_site.specs.Rounds.{AsksAgain, IsRound};
+ghost use Rattle.ipx_site.specs.Ports.{access_by};
+ghost use Rattle.ipx_site.specs.Rounds.{AsksAgain, IsRound, ReadsOnceMore};
 
 use crate::asking::asking_moment;
 use crate::clock::SteadyClock;
@@ -51,6 +52,9 @@ pub struct Station<'a, R: SystemClock> {
     responses: u64,
     /// When the figures were written last.
     written: Option<u64>,
+    // So a turn can always be begun.
+    ghost sockets: { length device.device.sockets.items ≡ length core.router.ports },
+    ghost lists: { length peers.items ≡ length core.router.ports },
 }
 
 /// The parts of a router that runs.
@@ -92,11 +96,15 @@ fn end_of(last: Option<u64>, period: u64) -> Option<u64> {
 }
 
 impl<'a, R: SystemClock> Station<'a, R> {
-    /// A router that begins to run.
+    /// A router that begins to run. The caller owes a socket and a list of peers for each port.
     pub fn new(alloc: Global, parts: Parts<'a, R>) -> Station<'a, R>
+        requires sockets { length parts.device.device.sockets.items
+            ≡ length parts.core.router.ports }
+        requires lists { length parts.peers.items ≡ length parts.core.router.ports }
         ensures core { result.core ≡ parts.entry.core }
         ensures device { result.device ≡ parts.entry.device }
         ensures peers { result.peers ≡ parts.entry.peers }
+        ensures clock { result.clock ≡ parts.entry.clock }
         ensures asked { result.asked ≡ 0 }
     {
         Station {
@@ -133,6 +141,7 @@ impl<'a, R: SystemClock> Station<'a, R> {
     /// Asks the neighbours again, if it is time.
     fn ask(&mut self, now: u64)
         ensures core { AsksAgain now self.old.asked self.new.asked self.old.core self.new.core }
+        ensures device { self.new.device ≡ self.old.device }
         ensures peers { self.new.peers ≡ self.old.peers }
         ensures clock { self.new.clock ≡ self.old.clock }
     {
@@ -147,6 +156,7 @@ impl<'a, R: SystemClock> Station<'a, R> {
     /// Tells what is newly known and what is lost, if it is time.
     fn look<L: Log>(&mut self, rt: &L, alloc: Global, now: u64)
         ensures core { self.new.core ≡ self.old.core }
+        ensures device { self.new.device ≡ self.old.device }
         ensures peers { self.new.peers ≡ self.old.peers }
         ensures clock { self.new.clock ≡ self.old.clock }
         ensures asked { self.new.asked ≡ self.old.asked }
@@ -164,6 +174,7 @@ impl<'a, R: SystemClock> Station<'a, R> {
     /// Writes the figures, if it is time and there is a file for them.
     fn write_figures<F: Files>(&mut self, rt: &F, alloc: Global, now: u64)
         ensures core { self.new.core ≡ self.old.core }
+        ensures device { self.new.device ≡ self.old.device }
         ensures peers { self.new.peers ≡ self.old.peers }
         ensures clock { self.new.clock ≡ self.old.clock }
         ensures asked { self.new.asked ≡ self.old.asked }
@@ -188,6 +199,7 @@ impl<'a, R: SystemClock> Station<'a, R> {
     /// Does what is to be done besides the turns.
     fn keep<S: Log + Files>(&mut self, rt: &S, alloc: Global, now: u64)
         ensures core { AsksAgain now self.old.asked self.new.asked self.old.core self.new.core }
+        ensures device { self.new.device ≡ self.old.device }
         ensures peers { self.new.peers ≡ self.old.peers }
         ensures clock { self.new.clock ≡ self.old.clock }
     {
@@ -212,10 +224,13 @@ impl<'a, R: SystemClock> Station<'a, R> {
 
     /// Does what is to be done now, and takes turns as long as there is something to hear or to send.
     fn round<S: Log + Files>(&mut self, rt: &S, alloc: Global) -> Burst
-        ensures core { IsRound self.old.clock
+        ensures core { IsRound self.old.clock self.new.clock
             (λ old moment new. (old.last ≤ moment) × (new.last ≡ moment))
-            (peers_of self.old.peers.items) self.old.asked self.new.asked self.old.core self.new.core }
+            (peers_of self.old.peers.items) self.old.device.strangers self.new.device.strangers
+            self.old.asked self.new.asked self.old.core self.new.core }
         ensures peers { self.new.peers ≡ self.old.peers }
+        ensures access { map access_by self.new.device.guards.items
+            ≡ map access_by self.old.device.guards.items }
     {
         let now = self.clock.now();
         self.keep(rt, alloc, now);
@@ -234,10 +249,16 @@ impl<'a, R: SystemClock> Station<'a, R> {
     /// Does what is to be done now, takes turns as long as there is something to hear or to send,
     /// and waits.
     pub fn step<S: Log + Files>(&mut self, rt: &S, alloc: Global) -> Result<(), WaitFault>
-        ensures core { IsRound self.old.clock
+        // A round, and behind it the clock is read once more at most.
+        ensures core { (between : SteadyClock R) × IsRound self.old.clock between
             (λ old moment new. (old.last ≤ moment) × (new.last ≡ moment))
-            (peers_of self.old.peers.items) self.old.asked self.new.asked self.old.core self.new.core }
+            (peers_of self.old.peers.items) self.old.device.strangers self.new.device.strangers
+            self.old.asked self.new.asked self.old.core self.new.core
+            × ReadsOnceMore between self.new.clock
+            (λ old moment new. (old.last ≤ moment) × (new.last ≡ moment)) }
         ensures peers { self.new.peers ≡ self.old.peers }
+        ensures access { map access_by self.new.device.guards.items
+            ≡ map access_by self.old.device.guards.items }
     {
         let burst = self.round(rt, alloc);
         if burst.fault.is_some() {

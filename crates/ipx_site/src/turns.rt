@@ -1,9 +1,11 @@
 //! Turns of a core over a device, one after another, as long as there is something to do.
 
-ghost use Rattle.std.specs.Prelude.{◌≡◌, ◌⊎◌, ◌<◌, ◌≤◌, ◌+◌, ◌^◌, true, false, IfOk, IfErr, Some, None, length};
+ghost use Rattle.std.specs.Prelude.{◌≡◌, ◌⊎◌, ◌<◌, ◌≤◌, ◌↔◌, ◌+◌, ◌^◌, true, false, IfOk, IfErr, IsTrue, Err, Some, None, length, map};
+ghost use Rattle.ipx_carrier.specs.Fault.{failures_after};
 ghost use Rattle.ipx_carrier.specs.Runs.{EndsEarly, Runs};
 ghost use Rattle.ipx_carrier.specs.Turns.{peers_of};
-ghost use Rattle.ipx_site.specs.Bursts.{Bursts, counted};
+ghost use Rattle.ipx_site.specs.Bursts.{Bursts, CanBegin, counted, failed_after, no_turns, refused};
+ghost use Rattle.ipx_site.specs.Ports.{access_by};
 
 use crate::peers::PeersOnly;
 use crate::senders::Senders;
@@ -34,8 +36,7 @@ fn count_of(count: u128) -> u64
 
 impl Burst {
     fn none() -> Burst
-        ensures counts { (result.heard ≡ 0) × (result.sent ≡ 0) × (result.unmapped ≡ 0) }
-        ensures goes_on { (result.fault ≡ None) × (result.quiet ≡ false) }
+        ensures { result ≡ no_turns }
     {
         Burst {
             heard: 0,
@@ -82,9 +83,18 @@ impl Burst {
 
 /// Whether what a report tells of neither heard nor sent.
 fn is_idle(report: Report) -> bool
-    ensures { result ≡ true → (report.heard ≡ 0) × (report.sent ≡ 0) }
+    ensures { IsTrue result ↔ (report.heard ≡ 0) × (report.sent ≡ 0) }
 {
     report.heard == 0 && report.sent == 0
+}
+
+/// Whether a turn can be begun.
+fn can_begin<C: Core, D: Datagrams>(core: &C, device: &D, peers: &[Vec<[u8; 4]>]) -> bool
+    ensures { IsTrue result ↔ CanBegin (C.port_count core.now) (D.port_count device.now)
+        (length peers.now) (D.failed device.now) }
+{
+    let ports = core.ports();
+    device.ports() == ports && peers.len() == ports && device.failures() < u64::MAX
 }
 
 /// Takes one turn, as `run` does. A device with other ports than the core, or one that failed too
@@ -101,17 +111,32 @@ pub fn take_turn<C: Core, D: Datagrams, K: Clock>(
         (D.traffic device.old) (D.traffic device.new) clock.old clock.new
         core.old core.new report) }
     ensures fault { IfErr result (λ f.
-        ((core.new ≡ core.old) × ((f ≡ RunFault.Device) × (device.new ≡ device.old)
-        × (clock.new ≡ clock.old)))
+        ((core.new ≡ core.old) × ((f ≡ RunFault.Device) × ((device.new ≡ device.old)
+        × (CanBegin (C.port_count core.old) (D.port_count device.old) (length peers.now)
+        (D.failed device.old) → ⊥)) × (clock.new ≡ clock.old)))
         ⊎ EndsEarly C.hears C.misses C.gives C.withholds K.tells
         (C.port_count core.old) (peers_of peers.now) 1
         (D.traffic device.old) (D.traffic device.new) clock.old clock.new
         f core.old core.new) }
+    // Where a turn can be begun one is, and else nothing happens.
+    ensures begins { CanBegin (C.port_count core.old) (D.port_count device.old)
+        (length peers.now) (D.failed device.old) → IfErr result (λ f.
+        EndsEarly C.hears C.misses C.gives C.withholds K.tells
+        (C.port_count core.old) (peers_of peers.now) 1
+        (D.traffic device.old) (D.traffic device.new) clock.old clock.new
+        f core.old core.new) }
+    ensures refused { (CanBegin (C.port_count core.old) (D.port_count device.old)
+        (length peers.now) (D.failed device.old) → ⊥) → (result ≡ Err RunFault.Device)
+        × (core.new ≡ core.old) × (device.new ≡ device.old) × (clock.new ≡ clock.old) }
+    ensures failures { CanBegin (C.port_count core.old) (D.port_count device.old)
+        (length peers.now) (D.failed device.old)
+        → D.failed device.new ≡ failures_after result (D.failed device.old) }
     ensures ports { C.port_count core.new ≡ C.port_count core.old }
+    ensures device_ports { D.port_count device.new ≡ D.port_count device.old }
+    ensures access { D.access device.new ≡ D.access device.old }
+    ensures kept_back { D.kept_back device.old ≤ D.kept_back device.new }
 {
-    let ports = core.ports();
-    let fits = device.ports() == ports && peers.len() == ports;
-    if !fits || device.failures() == u64::MAX {
+    if !can_begin(core, device, peers) {
         return Err(RunFault::Device);
     }
     run(alloc, core, device, peers, clock, 1)
@@ -129,11 +154,25 @@ pub fn run_burst<C: Core, D: Senders + Drop, K: Clock>(
     clock: &mut K,
     most: u32,
 ) -> Burst
-    // What the core and the clock are then comes of whole turns, each as `run` takes it, which are
-    // counted, and of a part of one where a fault ended it.
-    ensures turns { Bursts C.hears C.misses C.gives C.withholds K.tells (C.port_count core.old)
-        (peers_of peers.now) most result clock.old clock.new core.old core.new }
+    // Where turns can be begun, what the core and the clock are then comes of whole turns, each as
+    // `run` takes it, which are counted, and of a part of one where a fault ended it.
+    ensures turns { CanBegin (C.port_count core.old) (D.port_count device.old.device)
+        (length peers.now) (D.failed device.old.device)
+        → Bursts C.hears C.misses C.gives C.withholds K.tells (C.port_count core.old)
+        (peers_of peers.now) most result device.old.strangers device.new.strangers
+        clock.old clock.new core.old core.new }
+    // Where none can, nothing happens.
+    ensures refused { (CanBegin (C.port_count core.old) (D.port_count device.old.device)
+        (length peers.now) (D.failed device.old.device) → ⊥) → (result ≡ refused most)
+        × (core.new ≡ core.old) × (device.new ≡ device.old) × (clock.new ≡ clock.old) }
+    ensures failures { CanBegin (C.port_count core.old) (D.port_count device.old.device)
+        (length peers.now) (D.failed device.old.device)
+        → D.failed device.new.device ≡ failed_after result.fault (D.failed device.old.device) }
     ensures ports { C.port_count core.new ≡ C.port_count core.old }
+    ensures device_ports { D.port_count device.new.device ≡ D.port_count device.old.device }
+    // Who may speak stays.
+    ensures access { map access_by device.new.guards.items
+        ≡ map access_by device.old.guards.items }
 {
     let mut burst = Burst::none();
     for _turn in 0..most {

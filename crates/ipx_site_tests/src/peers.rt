@@ -11,13 +11,17 @@ struct Fountain {
 }
 
 impl Datagrams for Fountain {
-    ghost use Rattle.std.specs.Prelude.{None};
+    ghost use Rattle.std.specs.Prelude.{[], None};
 
     ghost port_count = { λ d. 1 };
 
     ghost failed = { λ d. 0 };
 
     ghost traffic = { λ d. None };
+
+    ghost access = { λ d. [] };
+
+    ghost kept_back = { λ d. 0 };
 
     fn ports(&self) -> usize {
         1

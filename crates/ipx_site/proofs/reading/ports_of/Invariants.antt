@@ -1,4 +1,4 @@
-use Rattle.std.proofs.Common.{◌≡◌, ℕ, ◌+◌, List, [], ◌++◌, drop}
+use Rattle.std.proofs.Common.{◌≡◌, ◌+◌, List, [], ◌++◌, drop}
 use Rattle.std.specs.Prelude.{vec_len}
 use Rattle.toml.specs.View.{items_view}
 use Rattle.ipx_site.specs.declared.fault.FileFault.{FileFault}

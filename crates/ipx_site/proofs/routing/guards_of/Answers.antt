@@ -1,4 +1,4 @@
-use Rattle.std.proofs.Common.{◌∙◌, ap, map, take}
+use Rattle.std.proofs.Common.{◌∙◌, ap, map}
 use Rattle.std.proofs.lemmas.List.{take_all}
 use Rattle.ipx_site.proofs.Ports.{one_more_mapped}
 use Rattle.ipx_site.specs.Ports.{access_by, access_of}

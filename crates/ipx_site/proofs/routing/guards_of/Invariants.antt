@@ -1,4 +1,4 @@
-use Rattle.std.proofs.Common.{◌≡◌, take}
+use Rattle.std.proofs.Common.{take}
 use Rattle.ipx_site.specs.Ports.{GuardPorts}
 use Rattle.ipx_site.proofs.routing.guards_of.Given as goal
 

@@ -1,7 +1,6 @@
-use Rattle.std.proofs.Common.{◌∙◌, ap, map, take}
+use Rattle.std.proofs.Common.{◌∙◌, ap, map}
 use Rattle.std.proofs.lemmas.List.{take_all}
 use Rattle.ipx_site.proofs.Ports.{one_more_mapped}
-use Rattle.ipx_site.specs.Ports.{site_peers}
 use Rattle.ipx_site.proofs.routing.peers_by_port.Goals as goal
 
 pub loop-port-preserved : goal.loop-port-preserved

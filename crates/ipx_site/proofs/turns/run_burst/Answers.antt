@@ -1,27 +1,66 @@
-use Rattle.std.proofs.Common.{◌∙◌, ◌+◌, arith}
+use Rattle.std.proofs.Common.{◌∙◌, arith, ap, sym}
+use Rattle.ipx_carrier.specs.declared.fault.RunFault.TheVariants.{Device}
 use Rattle.ipx_carrier.specs.Turns.{peers_of}
-use Rattle.ipx_site.proofs.Bursting.{ends_badly, ends_quietly, goes_on}
+use Rattle.ipx_site.proofs.Bursting.{begins_again, ends_badly, ends_quietly, goes_on, is_busy_so, no_fault, refused_first, refused_none, same_fault}
+use Rattle.ipx_site.proofs.turns.run_burst.Goals.{else-is_idle-via-then-is_idle+else-strangers, else-is_idle-via-else-is_idle}
 use Rattle.ipx_site.proofs.turns.run_burst.Goals as goal
 
 pub returns-in-Err-clause-turns : goal.returns-in-Err-clause-turns
 returns-in-Err-clause-turns g c =
-    let ports = g.C.Core.port_count c.args.core.now in
-    let here = g.C.Core.port_count c.loop-turn.core in
-    ends_badly g.C.Core.hears g.C.Core.misses g.C.Core.gives g.C.Core.withholds g.K.Clock.tells ports (peers_of c.args.peers.now) here c.loop-turn._turn c.args.most c.args.clock.now c.loop-turn.clock c.take_turn.new.clock c.args.core.now c.loop-turn.core c.take_turn.new.core c.loop-turn.burst c.ended_by.result c.in-Err.fault c.loop-turn.invariant.ports (omega (arith, c.loop-turn-test.true)) c.loop-turn.invariant.loud c.ended_by.ensures c.loop-turn.invariant.goes c.in-Err.ensures.fault
+    λ can.
+    let l = c.loop-turn in
+    let i = l.invariant in
+    let again = begins_again i.ports i.device_ports (i.failures can) can in
+    ends_badly g.C.Core.hears g.C.Core.misses g.C.Core.gives g.C.Core.withholds g.K.Clock.tells (g.C.Core.port_count c.args.core.now) (peers_of c.args.peers.now) (g.C.Core.port_count l.core) l._turn c.args.most c.args.device.now.strangers l.device.strangers c.take_turn.new.device.strangers c.args.clock.now l.clock c.take_turn.new.clock c.args.core.now l.core c.take_turn.new.core l.burst c.ended_by.result c.in-Err.fault i.ports (omega (arith, c.loop-turn-test.true)) i.loud c.ended_by.ensures (i.goes can) c.in-Err.ensures.kept_back (c.in-Err.ensures.begins again)
+
+pub returns-in-Err-clause-refused : goal.returns-in-Err-clause-refused
+returns-in-Err-clause-refused g c =
+    λ cannot.
+    let l = c.loop-turn in
+    let i = l.invariant in
+    let still = i.nothing cannot in
+    let same = ap (λ d. g.D.Datagrams.failed d.device) still.3 in
+    let none = c.in-Err.ensures.refused (λ can. cannot (begins_again (sym i.ports) (sym i.device_ports) (sym same) can)) in
+    (
+      refused_first l._turn c.args.most l.burst c.ended_by.result c.in-Err.fault (omega (arith, c.loop-turn-test.true)) still.1 (same_fault c.in-Err.fault Device none.0) c.ended_by.ensures,
+      none.1 ∙ still.2,
+      none.2 ∙ still.3,
+      none.3 ∙ still.4,
+    )
 
 pub returns-then-strangers-clause-turns : goal.returns-then-strangers-clause-turns
 returns-then-strangers-clause-turns g c =
-    let ports = g.C.Core.port_count c.args.core.now in
-    let here = g.C.Core.port_count c.loop-turn.core in
-    ends_quietly g.C.Core.hears g.C.Core.misses g.C.Core.gives g.C.Core.withholds g.K.Clock.tells ports (peers_of c.args.peers.now) here c.loop-turn._turn c.args.most c.args.clock.now c.loop-turn.clock c.take_turn.new.clock c.args.core.now c.loop-turn.core c.take_turn.new.core c.loop-turn.burst c.with-burst.result c.quieted.result c.in-Ok.report c.loop-turn.invariant.ports (omega (arith, c.loop-turn-test.true)) c.loop-turn.invariant.goes c.in-Ok.ensures.turn (c.is_idle.ensures c.if-is_idle.true) (c.with-burst.ensures.heard, c.with-burst.ensures.sent, c.with-burst.ensures.unmapped) (c.with-burst.ensures.rest.0 ∙ c.loop-turn.invariant.whole) c.quieted.ensures
+    λ can.
+    let l = c.loop-turn in
+    let i = l.invariant in
+    let report = c.in-Ok.report in
+    let counted = c.with-burst.ensures in
+    ends_quietly g.C.Core.hears g.C.Core.misses g.C.Core.gives g.C.Core.withholds g.K.Clock.tells (g.C.Core.port_count c.args.core.now) (peers_of c.args.peers.now) (g.C.Core.port_count l.core) l._turn c.args.most c.args.device.now.strangers l.device.strangers c.take_turn.new.device.strangers c.args.clock.now l.clock c.take_turn.new.clock c.args.core.now l.core c.take_turn.new.core l.burst c.with-burst.result c.quieted.result report i.ports (omega (arith, c.loop-turn-test.true)) (i.goes can) (sym c.strangers.ensures ∙ c.if-strangers.true ∙ c.strangers-strangers.ensures) c.in-Ok.ensures.turn (c.is_idle.ensures.0 c.if-is_idle.true) (counted.heard, counted.sent, counted.unmapped) (counted.rest.0 ∙ i.whole) c.quieted.ensures
 
 pub loop-turn-preserved : goal.loop-turn-preserved
 loop-turn-preserved g c =
-    let ports = g.C.Core.port_count c.args.core.now in
-    let here = g.C.Core.port_count c.loop-turn.core in
+    let l = c.loop-turn in
+    let i = l.invariant in
+    let report = c.in-Ok.report in
+    let counted = c.with-burst.ensures in
     record {
-      goes = goes_on g.C.Core.hears g.C.Core.gives g.K.Clock.tells ports (peers_of c.args.peers.now) here c.loop-turn._turn c.args.clock.now c.loop-turn.clock c.take_turn.new.clock c.args.core.now c.loop-turn.core c.take_turn.new.core c.loop-turn.burst c.with-burst.result c.in-Ok.report c.loop-turn.invariant.ports c.loop-turn.invariant.goes c.in-Ok.ensures.turn (c.with-burst.ensures.heard, c.with-burst.ensures.sent, c.with-burst.ensures.unmapped);
-      whole = c.with-burst.ensures.rest.0 ∙ c.loop-turn.invariant.whole;
-      loud = c.with-burst.ensures.rest.1 ∙ c.loop-turn.invariant.loud;
-      ports = c.in-Ok.ensures.ports ∙ c.loop-turn.invariant.ports;
+      failures = λ can. c.in-Ok.ensures.failures (begins_again i.ports i.device_ports (i.failures can) can) ∙ i.failures can;
+      goes = λ can. goes_on g.C.Core.hears g.C.Core.gives g.K.Clock.tells (g.C.Core.port_count c.args.core.now) (peers_of c.args.peers.now) (g.C.Core.port_count l.core) l._turn c.args.device.now.strangers l.device.strangers c.take_turn.new.device.strangers c.args.clock.now l.clock c.take_turn.new.clock c.args.core.now l.core c.take_turn.new.core l.burst c.with-burst.result report i.ports (i.goes can) c.in-Ok.ensures.kept_back c.in-Ok.ensures.turn (counted.heard, counted.sent, counted.unmapped)
+      (λ idle. elim c.else-is_idle.branch [ else-is_idle-via-then-is_idle+else-strangers w ↦ w.if-strangers.false (w.strangers.ensures ∙ idle.2 ∙ sym c.strangers-strangers.ensures) | else-is_idle-via-else-is_idle w ↦ is_busy_so c.is_idle.result report c.is_idle.ensures w.if-is_idle.false (idle.0, idle.1) ]);
+      nothing = λ cannot.
+      let still = i.nothing cannot in
+      let same = ap (λ d. g.D.Datagrams.failed d.device) still.3 in
+      absurd (no_fault report Device (c.in-Ok.ensures.refused (λ can. cannot (begins_again (sym i.ports) (sym i.device_ports) (sym same) can))).0);
+      whole = counted.rest.0 ∙ i.whole;
+      loud = counted.rest.1 ∙ i.loud;
+      ports = c.in-Ok.ensures.ports ∙ i.ports;
+      device_ports = c.in-Ok.ensures.device_ports ∙ i.device_ports;
+      access = c.in-Ok.ensures.access ∙ i.access;
     }
+
+pub returns-clause-refused : goal.returns-clause-refused
+returns-clause-refused g c =
+    λ cannot.
+    let l = c.loop-turn in
+    let still = l.invariant.nothing cannot in
+    (refused_none l._turn c.args.most l.burst still.0 (omega (arith, c.loop-turn-test.false, l.auto._turn-end)) still.1, still.2, still.3, still.4)

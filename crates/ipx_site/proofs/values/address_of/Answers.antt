@@ -1,6 +1,5 @@
 -- what reads as an address has a text that the parser takes
-use Rattle.std.proofs.Common.{◌≡◌, ℕ, List, Some, ap, sym, ◌∙◌, subst}
-use Rattle.std.specs.Net.Grammar.{IsDotted}
+use Rattle.std.proofs.Common.{◌≡◌, sym, ◌∙◌}
 use Rattle.std.proofs.lemmas.Option.{same_Some}
 use Rattle.ipx_site.proofs.values.address_of.Goals as goal
 

@@ -1,7 +1,5 @@
-use Rattle.std.proofs.Common.{◌≡◌, ℕ, ◌+◌, List, ◌++◌, ◌∷◌, [], drop, refl, sym, subst}
+use Rattle.std.proofs.Common.{◌≡◌, ◌∷◌, [], drop, refl}
 use Rattle.std.proofs.lemmas.List.{drop_all, append-nil, append_assoc}
-use Rattle.toml.specs.View.{items_view, view}
-use Rattle.ipx_site.specs.Values.{AreAddresses}
 use Rattle.ipx_site.proofs.Addresses.{item_left, none_there, one_less, one_more}
 use Rattle.ipx_site.proofs.values.addresses_of.Goals as goal
 
