@@ -39,7 +39,7 @@ pub record Taken : Type 0 where
   pub before : ℕ
   pub after : ℕ
 
--- it neither heard nor sent, and kept nothing back
+-- it neither heard nor sent, and no more was kept back than before
 abbrev pub IsIdle : Taken → Type 0
 IsIdle t = (t.report.heard ≡ 0) × (t.report.sent ≡ 0) × (t.after ≡ t.before)
 

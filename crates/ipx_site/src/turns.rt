@@ -97,8 +97,9 @@ fn can_begin<C: Core, D: Datagrams>(core: &C, device: &D, peers: &[Vec<[u8; 4]>]
     device.ports() == ports && peers.len() == ports && device.failures() < u64::MAX
 }
 
-/// Takes one turn, as `run` does. A device with other ports than the core, or one that failed too
-/// often to count once more, is a device that fails, and nothing else happens.
+/// Takes one turn, as `run` does. A device with other ports than the core, lists of peers for other
+/// ports, or a device that failed too often to count once more, is a device that fails: the error is
+/// `Device`, and nothing else happens.
 pub fn take_turn<C: Core, D: Datagrams, K: Clock>(
     alloc: Global,
     core: &mut C,
@@ -146,6 +147,7 @@ pub fn take_turn<C: Core, D: Datagrams, K: Clock>(
 /// fault ends one, or until there were so many.
 ///
 /// After a quiet burst nothing was left to read, so one waits; after another one takes the next.
+/// Where no turn can be begun, as `take_turn` says, the fault is `Device`, and nothing happens.
 pub fn run_burst<C: Core, D: Senders + Drop, K: Clock>(
     alloc: Global,
     core: &mut C,
