@@ -2,3 +2,4 @@ pub mod Counting
 pub mod Passed
 pub mod Written
 pub mod Turning
+pub mod Acknowledged
