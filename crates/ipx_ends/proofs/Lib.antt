@@ -3,3 +3,4 @@ pub mod Passed
 pub mod Written
 pub mod Turning
 pub mod Acknowledged
+pub mod Fed

@@ -1,4 +1,4 @@
-use Rattle.std.proofs.Common.{◌≡◌, ◌++◌, ◌∷◌, [], Some, None, arith, rules}
+use Rattle.std.proofs.Common.{◌≡◌, ◌∷◌, arith, rules}
 use Rattle.std.proofs.lemmas.Grind.{common_steps}
 use Rattle.ipx_ends.proofs.ledger.Ledger.close_first.Goals as goal
 
