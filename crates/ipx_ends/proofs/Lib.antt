@@ -2,3 +2,5 @@ pub mod Counting
 pub mod Passed
 pub mod Written
 pub mod Turning
+pub mod Acknowledged
+pub mod Fed

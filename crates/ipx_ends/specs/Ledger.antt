@@ -1,6 +1,7 @@
 -- What was handed in, counted. All of it is own.
-use Rattle.std.specs.Prelude.{ℕ, ◌-◌, ◌^◌, max, min}
+use Rattle.std.specs.Prelude.{◌≡◌, ◌<◌, ℕ, ◌+◌, ◌-◌, ◌*◌, ◌^◌, List, [], ◌∷◌, ◌++◌, max, min, sum}
 use Rattle.std.specs.Int.{div_ceil}
+use Rattle.std.specs.List.{sum_by}
 use Rattle.spx_link.specs.Marks.{distance}
 use Rattle.spx_link.specs.declared.numbers.Numbers.{Numbers}
 use Rattle.spx_units.specs.Message.{most_unit}
@@ -16,3 +17,27 @@ units_in bytes = max 1 (div_ceil bytes most_unit)
 -- the sequence number before which all is acknowledged
 abbrev pub base_of : Numbers → ℕ
 base_of n = distance n.next n.out
+
+-- how many bytes are acknowledged, of messages of these lengths of which so many units are: 534 for
+-- each unit of a message, and no more than the message has
+abbrev pub bytes_acknowledged : List ℕ → ℕ → ℕ
+bytes_acknowledged [] units = 0
+bytes_acknowledged (bytes ∷ more) units =
+    min bytes (most_unit * units) + bytes_acknowledged more (units - units_in bytes)
+
+-- all units of messages of these lengths
+abbrev pub all_units : List ℕ → ℕ
+all_units messages = sum_by units_in messages
+
+-- the first message, if there is one, is not acknowledged whole
+abbrev pub IsFirstOpen : List ℕ → ℕ → Type 0
+IsFirstOpen [] units = Unit {0}
+IsFirstOpen (bytes ∷ more) units = units < units_in bytes
+
+-- of messages of these lengths so many units are acknowledged: all of the first ones, which are gone,
+-- with so many bytes whole, and so many units of those that are left
+pub record Counts (given : List ℕ) (units : ℕ) (left : List ℕ) (begun whole : ℕ) : Type 0 where
+  pub gone : List ℕ
+  pub in_order : given ≡ gone ++ left
+  pub acknowledged : units ≡ all_units gone + begun
+  pub bytes : whole ≡ counted (sum gone)

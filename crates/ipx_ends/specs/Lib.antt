@@ -1,7 +1,9 @@
 pub mod Fate
+pub mod Feeding
 pub mod Ledger
 pub mod Outlet
 pub mod Passing
+pub mod Steps
 pub mod Stop
 pub mod Target
 pub mod Transfer

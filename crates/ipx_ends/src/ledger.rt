@@ -1,9 +1,9 @@
 //! How much of what was handed in is acknowledged.
 
-ghost use Rattle.std.specs.Prelude.{◌≡◌, ◌≤◌, ◌+◌, ◌-◌, ℕ, List, OnErr, OnOk, length, sum};
+ghost use Rattle.std.specs.Prelude.{◌≡◌, ◌<◌, ◌≤◌, ◌+◌, ◌-◌, ◌^◌, ℕ, List, [], ◌∷◌, ◌++◌, OnErr, OnOk, false, length, sum, true};
 ghost use Rattle.spx_link.specs.Marks.{distance};
 ghost use Rattle.spx_units.specs.Cut.{cut_of};
-ghost use Rattle.ipx_ends.specs.Ledger.{base_of, counted, units_in};
+ghost use Rattle.ipx_ends.specs.Ledger.{Counts, IsFirstOpen, all_units, base_of, bytes_acknowledged, counted, units_in};
 
 use spx_link::Numbers;
 use std::alloc::{AllocError, Global};
@@ -46,6 +46,8 @@ impl Ledger {
         ensures given { result.given ≡ 0 }
         ensures ahead { result.ahead ≡ 0 }
         ensures base { result.base ≡ 0 }
+        ensures counts { Counts [] 0 result.messages.items result.units result.whole }
+        ensures first { IsFirstOpen result.messages.items result.units }
     {
         Ledger {
             base: 0,
@@ -62,8 +64,20 @@ impl Ledger {
         ensures given { OnOk result (self.new.given ≡ counted (self.old.given + bytes)) }
         ensures ahead { OnOk result (self.new.ahead ≡ counted (self.old.ahead + units_in bytes)) }
         ensures base { self.new.base ≡ self.old.base }
+        // It stands behind those that were handed in before.
+        ensures counts { OnOk result ((given : List ℕ) (units : ℕ)
+            → Counts given units self.old.messages.items self.old.units self.old.whole
+            → Counts (given ++ bytes ∷ []) units
+                self.new.messages.items self.new.units self.new.whole) }
+        // Where no more units were acknowledged than were handed in.
+        ensures first { OnOk result ((given : List ℕ) (units : ℕ)
+            → Counts given units self.old.messages.items self.old.units self.old.whole
+            → units ≤ all_units given → IsFirstOpen self.old.messages.items self.old.units
+            → IsFirstOpen self.new.messages.items self.new.units) }
         ensures refused { OnErr result
-            ((self.new.given ≡ self.old.given) × (self.new.ahead ≡ self.old.ahead)) }
+            ((self.new.given ≡ self.old.given) × (self.new.ahead ≡ self.old.ahead)
+            × (self.new.messages.items ≡ self.old.messages.items)
+            × (self.new.units ≡ self.old.units) × (self.new.whole ≡ self.old.whole)) }
     {
         self.messages.push_back(bytes)?;
         self.ahead = self.ahead.saturating_add(units_of(bytes));
@@ -78,6 +92,15 @@ impl Ledger {
         ensures ahead { self.new.ahead
             ≡ self.old.ahead - distance (base_of numbers) self.old.base }
         ensures given { self.new.given ≡ self.old.given }
+        // As many units more are acknowledged, of all that was handed in.
+        ensures counts { (given : List ℕ) (units : ℕ)
+            → Counts given units self.old.messages.items self.old.units self.old.whole
+            → units + distance (base_of numbers) self.old.base < 2 ^ 64
+            → Counts given (units + distance (base_of numbers) self.old.base)
+                self.new.messages.items self.new.units self.new.whole }
+        // Each message is let go all of whose units are acknowledged.
+        ensures first { IsFirstOpen self.old.messages.items self.old.units
+            → IsFirstOpen self.new.messages.items self.new.units }
     {
         let base = numbers.next.wrapping_sub(numbers.out);
         let count = u64::from(base.wrapping_sub(self.base));
@@ -96,6 +119,12 @@ impl Ledger {
         ensures base { self.new.base ≡ self.old.base }
         ensures ahead { self.new.ahead ≡ self.old.ahead }
         ensures given { self.new.given ≡ self.old.given }
+        ensures closed { result ≡ true → (bytes : ℕ)
+            × (self.old.messages.items ≡ bytes ∷ self.new.messages.items)
+            × (self.old.units ≡ units_in bytes + self.new.units)
+            × (self.new.whole ≡ counted (self.old.whole + bytes)) }
+        ensures first { result ≡ false → (self.new ≡ self.old)
+            × IsFirstOpen self.old.messages.items self.old.units }
     {
         let Some(bytes) = self.messages.front().copied() else {
             return false;
@@ -121,6 +150,11 @@ impl Ledger {
     pub fn acknowledged(&self) -> u64
         ensures most { result ≤ self.now.given }
         ensures least { self.now.whole ≤ result }
+        // Of all that was handed in, while the first message that is left is not acknowledged whole.
+        ensures exact { (given : List ℕ) (units : ℕ)
+            → Counts given units self.now.messages.items self.now.units self.now.whole
+            → IsFirstOpen self.now.messages.items self.now.units
+            → result ≡ counted (bytes_acknowledged given units) }
     {
         let begun = match self.messages.front() {
             Some(bytes) => self.units.saturating_mul(UNIT).min(*bytes),

@@ -1,14 +1,19 @@
 //! The command `send`: a host that asks for a connection, and sends what it reads.
 
-ghost use Rattle.std.specs.Prelude.{◌≡◌, ◌≢◌, ◌<◌, ◌↔◌, ◌⊎◌, ℕ, false, IfErr, IfOk, IfSome, IsTrue, OnErr, OnOk, Err, Some};
+ghost use Rattle.std.specs.Prelude.{◌≡◌, ◌≢◌, ◌<◌, ◌≤◌, ◌+◌, ◌↔◌, ◌⊎◌, ℕ, List, false, true, length, IfErr, IfOk, IsTrue, OnErr, OnOk, Err, None, Option, Some};
+ghost use Rattle.std.specs.List.{concat};
+ghost use Rattle.std.specs.Io.KnownBytes.{Consumes, Keeps};
 ghost use Rattle.ipx_wire.specs.declared.address.Address.{Address};
 ghost use Rattle.spx_link.specs.Links.{count_of};
-ghost use Rattle.spx_link.specs.Offer.{dialed as link_dialed, offer_link};
-ghost use Rattle.spx_units.specs.Cut.{cut_of};
-ghost use Rattle.spx_messages.specs.Changes.{ChangesEnd};
-ghost use Rattle.spx_messages.specs.EndpointView.{held_at};
+ghost use Rattle.spx_link.specs.Offer.{dialed as link_dialed};
+ghost use Rattle.spx_messages.specs.EndpointView.{EndpointView, held_at};
+ghost use Rattle.ipx_ends.specs.Feeding.{Continues, Feeds, Feedings, HandsIn, Intake, KeepsQueue, ReadsOn, intake};
+ghost use Rattle.ipx_ends.specs.Ledger.{counted};
+ghost use Rattle.ipx_ends.specs.Steps.{Goes, IsFeedFault, IsStepFault, Sees};
 ghost use Rattle.ipx_ends.specs.Target.{Names};
 ghost use Rattle.ipx_ends.specs.Transfer.{IsConfirmedAt, IsWaiting, joined_at, left_at, state_at};
+ghost use Rattle.ipx_ends.specs.declared.end_core.EndCore.{EndCore};
+ghost use Rattle.ipx_ends.specs.declared.verdict.Verdict.{Verdict as AVerdict};
 ghost use Rattle.ipx_ends.specs.declared.verdict.Verdict.TheVariants as Verdicts;
 
 use crate::gate::Gate;
@@ -65,6 +70,10 @@ struct Sending<'a, R: Clock> {
     left: Option<u64>,
     shows: bool,
     next_shown: u64,
+    /// The end is queued only where all is read.
+    ghost order: { closed ≡ true → read ≡ true },
+    /// A read always has room.
+    ghost roomy: { 0 < length room.items },
 }
 
 /// How many ids the connection of this run passes over: the milliseconds of the day's clock tell
@@ -92,6 +101,9 @@ fn pass_ids(
 ) -> Result<(), EndFault>
     ensures none_left { (q : ℕ) → held_at endpoint.new q ≡ held_at endpoint.old q }
     ensures count { count_of endpoint.new.links ≡ count_of endpoint.old.links }
+    // Where it holds no link, that many: the next one has the id behind them.
+    ensures last { count_of endpoint.old.links ≡ 0 → endpoint.old.links.last + count < 65535
+        → OnOk result (endpoint.new.links.last ≡ endpoint.old.links.last + count) }
 {
     for _ in 0..count {
         let id = endpoint.dial(alloc, socket, to, 1, 0)?;
@@ -100,34 +112,35 @@ fn pass_ids(
     Ok(())
 }
 
-/// The id of a new connection.
-fn dialed<R: Clock>(
-    rt: &R,
+/// The id of a new connection, for which so many ids are passed over.
+fn dialed(
     alloc: Global,
     endpoint: &mut Endpoint,
     file: &HostFile,
     to: Address,
+    count: u16,
 ) -> Result<u16, EndFault>
     ensures held { IfOk result (λ id. held_at endpoint.new id ≡ Some (record {
       link = link_dialed id file.now.socket to file.now.buffers 0;
       rest = None;
     })) }
+    // Where it held no link, and the ids do not begin anew.
+    ensures id { count_of endpoint.old.links ≡ 0 → endpoint.old.links.last + count < 65534
+        → IfOk result (λ id. id ≡ endpoint.old.links.last + count + 1) }
     ensures others { IfOk result (λ id. (q : ℕ) → q ≢ id
         → held_at endpoint.new q ≡ held_at endpoint.old q) }
     ensures unchanged { OnErr result ((q : ℕ)
         → held_at endpoint.new q ≡ held_at endpoint.old q) }
 {
-    pass_ids(alloc, endpoint, file.socket, to, passed_ids(rt))?;
+    pass_ids(alloc, endpoint, file.socket, to, count)?;
     endpoint.dial(alloc, file.socket, to, file.buffers, 0)
 }
 
 /// Hands bytes in as one message.
 fn hand_in(alloc: Global, endpoint: &mut Endpoint, id: u16, bytes: &[u8]) -> Result<(), EndFault>
-    ensures whole { IfSome (held_at endpoint.old id) (λ h. OnOk result
-        (ChangesEnd endpoint.old endpoint.new id (record h {
-          link = offer_link h.link
-              (cut_of (record { stream = 0; body = bytes.now }));
-        }))) }
+    ensures whole { OnOk result (HandsIn endpoint.old endpoint.new id bytes.now) }
+    ensures refused { OnErr result ((q : ℕ)
+        → held_at endpoint.new q ≡ held_at endpoint.old q) }
 {
     let Ok(body) = Vec::from_slice(alloc, bytes) else {
         return Err(EndFault::Message(MessageFault::OutOfMemory));
@@ -135,20 +148,51 @@ fn hand_in(alloc: Global, endpoint: &mut Endpoint, id: u16, bytes: &[u8]) -> Res
     endpoint.send(alloc, id, &Message { stream: 0, body })
 }
 
+/// Takes what the link of an id holds first, and lets it go. It answers whether there was any.
+fn drop_first(alloc: Global, endpoint: &mut Endpoint, id: u16) -> bool
+    ensures queue { KeepsQueue (held_at endpoint.old id) (held_at endpoint.new id) }
+    ensures others { (q : ℕ) → q ≢ id → held_at endpoint.new q ≡ held_at endpoint.old q }
+{
+    let taken = endpoint.take(alloc, id);
+    !matches!(taken, Ok(Taken::Nothing) | Err(_))
+}
+
+/// Lets go what the peer of an id sends: its buffers are free again. What is queued stays.
+fn drop_what_came(alloc: Global, endpoint: &mut Endpoint, id: u16)
+    ensures queue { KeepsQueue (held_at endpoint.old id) (held_at endpoint.new id) }
+    ensures others { (q : ℕ) → q ≢ id → held_at endpoint.new q ≡ held_at endpoint.old q }
+{
+    for _ in 0..u16::MAX {
+        if !drop_first(alloc, endpoint, id) {
+            break;
+        }
+    }
+}
+
 impl<'a, R: Net + Log + Clock + Eprint> Sending<'a, R> {
+    /// A host that asks for a connection. Nothing was read, and nothing seen.
     fn open(
         rt: &'a R,
         alloc: Global,
         file: &HostFile,
         to: Address,
         shows: bool,
-    ) -> Result<Sending<'a, R>, StartFault> {
+    ) -> Result<Sending<'a, R>, StartFault>
+        ensures dialed { IfOk result (λ s. held_at s.station.core.endpoint s.id ≡ Some (record {
+          link = link_dialed s.id file.now.socket to file.now.buffers 0;
+          rest = None;
+        })) }
+        ensures joined { IfOk result (λ s. (s.joined ≡ false) × (s.left ≡ None)) }
+        ensures read { IfOk result (λ s. (s.read ≡ false) × (s.closed ≡ false)) }
+        ensures given { IfOk result (λ s. s.ledger.given ≡ 0) }
+    {
         let mut station = Station::open(rt, alloc, file)?;
-        let Ok(id) = dialed(rt, alloc, &mut station.core.endpoint, file, to) else {
-            return Err(StartFault::OutOfMemory);
-        };
         let gate = Gate::new(rt, alloc, STDIN, Interest::READABLE);
         station.watch(gate.fd());
+        let count = passed_ids(rt);
+        let Ok(id) = dialed(alloc, &mut station.core.endpoint, file, to, count) else {
+            return Err(StartFault::OutOfMemory);
+        };
         Ok(Sending {
             station,
             id,
@@ -169,7 +213,9 @@ impl<'a, R: Net + Log + Clock + Eprint> Sending<'a, R> {
         ensures state { result ≡ state_at self.old.station.core.endpoint self.old.id }
         ensures core { self.new.station.core ≡ self.old.station.core }
         ensures id { self.new.id ≡ self.old.id }
+        ensures read { self.new.read ≡ self.old.read }
         ensures closed { self.new.closed ≡ self.old.closed }
+        ensures given { self.new.ledger.given ≡ self.old.ledger.given }
         ensures joined { self.new.joined ≡ joined_at self.old.joined result }
         ensures left { self.new.left
             ≡ left_at self.old.left result self.old.station.core.moment }
@@ -203,8 +249,21 @@ impl<'a, R: Net + Log + Clock + Eprint> Sending<'a, R> {
     /// Reads once, and hands in what came as one message. It answers whether something came, or
     /// the end did.
     fn read_some<I: Read>(&mut self, alloc: Global, reader: &mut I) -> Result<bool, Verdict>
-        ensures fault { IfErr result (λ v.
-            (v ≡ Verdicts.Unread) ⊎ (v ≡ Verdicts.OutOfMemory)) }
+        ensures id { self.new.id ≡ self.old.id }
+        ensures joined { self.new.joined ≡ self.old.joined }
+        ensures left { self.new.left ≡ self.old.left }
+        // What comes is handed in whole, and counted.
+        ensures reads { self.old.read ≡ false → OnOk result ((bytes : List ℕ) × ReadsOn
+            (intake self.old.station.core.endpoint
+                self.old.read self.old.closed (I.remaining reader.old))
+            (intake self.new.station.core.endpoint
+                self.new.read self.new.closed (I.remaining reader.new))
+            self.old.id bytes
+            × (self.new.ledger.given ≡ counted (self.old.ledger.given + length bytes))) }
+        ensures unread { result ≡ Err Verdicts.Unread
+            → Keeps (I.remaining reader.old) (I.remaining reader.new)
+            × (self.new.station.core ≡ self.old.station.core) }
+        ensures fault { IfErr result IsFeedFault }
     {
         let count = match reader.read(&mut self.room) {
             Ok(count) => count,
@@ -231,8 +290,22 @@ impl<'a, R: Net + Log + Clock + Eprint> Sending<'a, R> {
     /// Reads where there is something to read and not too much is on its way, and queues the end
     /// behind it. It answers whether anything was queued.
     fn feed<I: Read>(&mut self, alloc: Global, reader: &mut I) -> Result<bool, Verdict>
-        ensures fault { IfErr result (λ v.
-            (v ≡ Verdicts.Unread) ⊎ (v ≡ Verdicts.OutOfMemory)) }
+        ensures id { self.new.id ≡ self.old.id }
+        ensures joined { self.new.joined ≡ self.old.joined }
+        ensures left { self.new.left ≡ self.old.left }
+        ensures feeds { OnOk result ((bytes : List ℕ) × Feeds
+            (intake self.old.station.core.endpoint
+                self.old.read self.old.closed (I.remaining reader.old))
+            (intake self.new.station.core.endpoint
+                self.new.read self.new.closed (I.remaining reader.new))
+            self.old.id bytes) }
+        // Where all is read, the end is queued at once.
+        ensures ends { self.old.read ≡ true → self.old.closed ≡ false
+            → OnOk result (self.new.closed ≡ true) }
+        // Nothing is read where all is, or too much is on its way.
+        ensures idle { (self.old.read ≡ true) ⊎ (2048 ≤ self.old.ledger.ahead)
+            → reader.new ≡ reader.old }
+        ensures fault { IfErr result IsFeedFault }
     {
         if self.read && !self.closed {
             if self.station.core.endpoint.close(alloc, self.id).is_err() {
@@ -247,18 +320,16 @@ impl<'a, R: Net + Log + Clock + Eprint> Sending<'a, R> {
         self.read_some(alloc, reader)
     }
 
-    /// Lets go what the peer sends: its buffers are free again.
-    fn drop_what_came(&mut self, alloc: Global) {
-        for _ in 0..u16::MAX {
-            match self.station.core.endpoint.take(alloc, self.id) {
-                Ok(Taken::Nothing) | Err(_) => break,
-                Ok(_) => {}
-            }
-        }
-    }
-
     /// Shows how far it is, once a second.
-    fn show(&mut self, rt: &R) {
+    fn show(&mut self, rt: &R)
+        ensures core { self.new.station.core ≡ self.old.station.core }
+        ensures id { self.new.id ≡ self.old.id }
+        ensures joined { self.new.joined ≡ self.old.joined }
+        ensures left { self.new.left ≡ self.old.left }
+        ensures read { self.new.read ≡ self.old.read }
+        ensures closed { self.new.closed ≡ self.old.closed }
+        ensures ledger { self.new.ledger ≡ self.old.ledger }
+    {
         let moment = self.station.moment();
         if !self.shows || moment < self.next_shown {
             return;
@@ -271,6 +342,18 @@ impl<'a, R: Net + Log + Clock + Eprint> Sending<'a, R> {
 
     /// Takes a turn, and reads. It answers whether there may be more to do at once.
     fn step<I: Read>(&mut self, rt: &R, alloc: Global, reader: &mut I) -> Result<bool, Verdict>
+        ensures id { self.new.id ≡ self.old.id }
+        // By what was seen behind the turn.
+        ensures steps { (seen : EndCore) × (verdict : Option AVerdict)
+            × Sees (record { joined = self.old.joined; left = self.old.left })
+                (record { joined = self.new.joined; left = self.new.left })
+                seen.endpoint seen.moment self.old.id self.old.closed verdict
+            × Goes IsFeedFault self.old.id seen.endpoint
+                (intake self.old.station.core.endpoint
+                    self.old.read self.old.closed (I.remaining reader.old))
+                (intake self.new.station.core.endpoint
+                    self.new.read self.new.closed (I.remaining reader.new))
+                verdict result }
         ensures done { result ≡ Err Verdicts.Done
             → IsConfirmedAt self.new.station.core.endpoint self.new.id }
         ensures unanswered { result ≡ Err Verdicts.Unanswered → self.new.joined ≡ false }
@@ -280,7 +363,7 @@ impl<'a, R: Net + Log + Clock + Eprint> Sending<'a, R> {
         if let Some(verdict) = verdict_of(state, self.joined, self.waits()) {
             return Err(verdict);
         }
-        self.drop_what_came(alloc);
+        drop_what_came(alloc, &mut self.station.core.endpoint, self.id);
         let fed = state == Some(State::Live) && self.feed(alloc, reader)?;
         self.show(rt);
         Ok(turn.active || fed)
@@ -293,6 +376,17 @@ impl<'a, R: Net + Log + Clock + Eprint> Sending<'a, R> {
         alloc: Global,
         reader: &mut I,
     ) -> Result<(), Verdict>
+        ensures id { self.new.id ≡ self.old.id }
+        // By what was seen behind the turn, up to what was fed then.
+        ensures steps { (seen : EndCore) × (verdict : Option AVerdict) × (fed : EndpointView)
+            × Sees (record { joined = self.old.joined; left = self.old.left })
+                (record { joined = self.new.joined; left = self.new.left })
+                seen.endpoint seen.moment self.old.id self.old.closed verdict
+            × Goes IsStepFault self.old.id seen.endpoint
+                (intake self.old.station.core.endpoint
+                    self.old.read self.old.closed (I.remaining reader.old))
+                (intake fed self.new.read self.new.closed (I.remaining reader.new))
+                verdict result }
         ensures done { result ≡ Err Verdicts.Done
             → IsConfirmedAt self.new.station.core.endpoint self.new.id }
         ensures unanswered { result ≡ Err Verdicts.Unanswered → self.new.joined ≡ false }
@@ -313,6 +407,16 @@ impl<'a, R: Net + Log + Clock + Eprint> Sending<'a, R> {
 
     /// Runs until the transfer is over.
     fn serve<I: Read>(&mut self, rt: &R, alloc: Global, reader: &mut I) -> Verdict
+        ensures id { self.new.id ≡ self.old.id }
+        // All that left the reader was handed in, in its order, one body behind the other.
+        ensures fed { result ≡ Verdicts.Done → (bodies : List (List ℕ)) × (last : Intake)
+            × Feedings self.old.id
+                (intake self.old.station.core.endpoint
+                    self.old.read self.old.closed (I.remaining reader.old))
+                bodies last
+            × Consumes (I.remaining reader.old) (I.remaining reader.new) (concat bodies)
+            × Continues last (intake self.new.station.core.endpoint
+                self.new.read self.new.closed (I.remaining reader.new)) }
         ensures done { result ≡ Verdicts.Done
             → IsConfirmedAt self.new.station.core.endpoint self.new.id }
         ensures unanswered { result ≡ Verdicts.Unanswered → self.new.joined ≡ false }
@@ -347,7 +451,18 @@ impl<'a, R: Net + Log + Clock + Eprint> Sending<'a, R> {
     /// Runs until the transfer is over, prints how it ended, and answers the status: 0 only where
     /// the peer has confirmed the end.
     fn finish<I: Read>(&mut self, rt: &R, alloc: Global, to: Address, reader: &mut I) -> u8
-        ensures { result ≡ 0 → IsConfirmedAt self.new.station.core.endpoint self.new.id }
+        ensures id { self.new.id ≡ self.old.id }
+        ensures status { result < 2 }
+        ensures done { result ≡ 0 → IsConfirmedAt self.new.station.core.endpoint self.new.id }
+        // Then all that left the reader was handed in, in its order, one body behind the other.
+        ensures fed { result ≡ 0 → (bodies : List (List ℕ)) × (last : Intake)
+            × Feedings self.old.id
+                (intake self.old.station.core.endpoint
+                    self.old.read self.old.closed (I.remaining reader.old))
+                bodies last
+            × Consumes (I.remaining reader.old) (I.remaining reader.new) (concat bodies)
+            × Continues last (intake self.new.station.core.endpoint
+                self.new.read self.new.closed (I.remaining reader.new)) }
     {
         let verdict = self.serve(rt, alloc, reader);
         self.tell(rt, to, verdict);
@@ -361,6 +476,46 @@ fn tell_nobody<R: Eprint>(rt: &R, to: Address) {
     let node = to.node;
     let socket = to.socket;
     let _ = eprintln!(rt; "nobody answers at {network} {node} {socket}");
+}
+
+/// Runs what was opened. Where nothing was, why not is told.
+fn send_opened<R: Net + Log + Clock + Eprint, I: Read>(
+    rt: &R,
+    alloc: Global,
+    path: &str,
+    opened: Result<Sending<'_, R>, StartFault>,
+    to: Address,
+    reader: &mut I,
+) -> u8
+    ensures status { result < 2 }
+    ensures unopened { OnErr opened.entry ((result ≡ 1) × (reader.new ≡ reader.old)) }
+{
+    match opened {
+        Ok(mut sending) => sending.finish(rt, alloc, to, reader),
+        Err(fault) => tell_start(rt, path, fault),
+    }
+}
+
+/// Runs the host of a file that was loaded. Where none was, the status is that of the fault, which
+/// is told already.
+fn send_loaded<R: Net + Log + Clock + Eprint, I: Read>(
+    rt: &R,
+    alloc: Global,
+    path: &str,
+    loaded: Result<HostFile, u8>,
+    to: Address,
+    reader: &mut I,
+    shows: bool,
+) -> u8
+    ensures status { OnOk loaded (result < 2) }
+    ensures unloaded { IfErr loaded (λ status. (result ≡ status) × (reader.new ≡ reader.old)) }
+{
+    let file = match loaded {
+        Ok(file) => file,
+        Err(status) => return status,
+    };
+    let opened = Sending::open(rt, alloc, &file, to, shows);
+    send_opened(rt, alloc, path, opened, to, reader)
 }
 
 /// The command `send`: runs the host of a file, asks for a connection to an address, sends what it
@@ -380,7 +535,8 @@ pub fn do_send<R: Net + Log + Files + Clock + Eprint, I: Read>(
     shows: bool,
 ) -> u8
     // Words that name no address are told, and nothing is read or bound.
-    ensures words { ((a : Address) → Names target.entry a → ⊥) → result ≡ 2 }
+    ensures words { ((a : Address) → Names target.entry a → ⊥)
+        → (result ≡ 2) × (reader.new ≡ reader.old) }
 {
     let to = match target.address() {
         Ok(to) => to,
@@ -389,13 +545,6 @@ pub fn do_send<R: Net + Log + Files + Clock + Eprint, I: Read>(
             return 2;
         }
     };
-    let file = match load_host(rt, alloc, path) {
-        Ok(file) => file,
-        Err(status) => return status,
-    };
-    let mut sending = match Sending::open(rt, alloc, &file, to, shows) {
-        Ok(sending) => sending,
-        Err(fault) => return tell_start(rt, path, fault),
-    };
-    sending.finish(rt, alloc, to, reader)
+    let loaded = load_host(rt, alloc, path);
+    send_loaded(rt, alloc, path, loaded, to, reader, shows)
 }

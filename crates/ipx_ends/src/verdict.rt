@@ -1,6 +1,6 @@
 //! How a transfer ends.
 
-ghost use Rattle.std.specs.Prelude.{◌≡◌, ◌↔◌, Some};
+ghost use Rattle.std.specs.Prelude.{◌≡◌, ◌≢◌, ◌↔◌, Some};
 ghost use Rattle.spx_link.specs.declared.state.State.TheVariants as States;
 ghost use Rattle.ipx_ends.specs.Transfer.{verdict_at};
 ghost use Rattle.ipx_ends.specs.declared.verdict.Verdict.TheVariants as Verdicts;
@@ -29,6 +29,7 @@ impl Verdict {
     /// The status that goes with it.
     pub fn status(&self) -> u8
         ensures done { (result ≡ 0) ↔ (self.now ≡ Verdicts.Done) }
+        ensures other { self.now ≢ Verdicts.Done → result ≡ 1 }
     {
         match self {
             Verdict::Done => 0,

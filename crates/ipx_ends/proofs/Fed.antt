@@ -1,0 +1,233 @@
+-- What a host that sends leaves of its link as it takes what came, and what it feeds.
+use Rattle.std.proofs.Common.{◌≡◌, ◌≢◌, ◌↔◌, ◌⊎◌, ℕ, zero, suc, ◌+◌, ◌<◌, ◌%◌, Bool, true, false, List, [], ◌∷◌, ◌++◌, length, Option, Some, None, Result, Ok, Err, inl, inr, refl, sym, ap, ◌∙◌, subst, arith, append_assoc}
+use Rattle.std.specs.Prelude.{IfSome, IsSome, IsTrue, if◌then◌else◌}
+use Rattle.std.specs.List.{concat}
+use Rattle.std.specs.Io.KnownBytes.{Consumes}
+use Rattle.spx_link.specs.declared.state.State.{State}
+use Rattle.spx_link.specs.declared.unit.Unit.{Unit as Piece}
+use Rattle.spx_link.specs.LinkView.{LinkView, is_end}
+use Rattle.spx_link.specs.Links.{IsNextFree, LinksView, count_of, link_of}
+use Rattle.spx_link.specs.Offer.{first_of as first_held, take_held}
+use Rattle.spx_units.specs.declared.fault.MessageFault.TheVariants as MessageFaults
+use Rattle.spx_units.specs.Joining.{is_overlong}
+use Rattle.spx_messages.specs.Changes.{ChangesEnd, SameBut}
+use Rattle.spx_messages.specs.EndpointView.{EndpointView, Held, held_at}
+use Rattle.spx_messages.specs.Taking.{IsPushed, PeerEnd, TakenView, joins_on, overlong, overrun, result_view, take_end, taken_held, takes_data, takes_first}
+use Rattle.spx_messages.specs.declared.fault.EndFault.{EndFault}
+use Rattle.spx_messages.specs.declared.fault.EndFault.TheVariants as EndFaults
+use Rattle.spx_messages.specs.declared.taken.Taken.{Taken}
+use Rattle.ipx_ends.specs.Feeding.{Continues, Feedings, Feeds, Intake, KeepsQueue, SameQueue, intake}
+use Rattle.ipx_ends.specs.Steps.{FeedsOn, Goes, IsFeedFault, IsStepFault, SeenSoFar, Sees}
+use Rattle.ipx_ends.specs.Transfer.{IsWaiting, joined_at, left_at, state_at, verdict_at}
+use Rattle.ipx_ends.specs.declared.end_core.EndCore.{EndCore}
+use Rattle.ipx_ends.specs.declared.verdict.Verdict.{Verdict}
+use Rattle.ipx_ends.specs.declared.verdict.Verdict.TheVariants.{Done, Unwaited}
+
+-- ---- what came is taken
+
+queue_kept : (l : LinkView) → SameQueue l l
+queue_kept l = record { queue = refl; out = refl; next = refl; ended = refl }
+
+queue_held : (l : LinkView) (us : List Piece) → SameQueue l (take_held l us).1
+queue_held l [] = queue_kept l
+queue_held l (u ∷ us) = record { queue = refl; out = refl; next = refl; ended = refl }
+
+queue_lost : (h : Held) → SameQueue h.link (overrun h).link
+queue_lost h =
+    let taken = queue_held h.link h.link.held in
+    record { queue = taken.queue; out = taken.out; next = taken.next; ended = taken.ended }
+
+either_one : {A : Type 0} (P : A → Type 0) (b : Bool) (x y : A) → P x → P y → P (if b then x else y)
+either_one P true x y p q = p
+either_one P false x y p q = q
+
+queue_first : (h : Held) (o : Option Piece) → SameQueue h.link (takes_first h o).1.link
+queue_first h None = queue_kept h.link
+queue_first h (Some u) =
+    let P : (Result TakenView EndFault × Held) → Type 0 = λ x. SameQueue h.link x.1.link in
+    let taken : SameQueue h.link (taken_held h).link = queue_held h.link h.link.held in
+    let joined : P (joins_on h u) = either_one P u.last _ _ taken taken in
+    let whole : P (takes_data h u) = either_one P (is_overlong h.rest u) (Err overlong, overrun h) (joins_on h u) (queue_lost h) joined in
+    either_one P (is_end u) (Ok PeerEnd, taken_held h) (takes_data h u) taken whole
+
+queue_taken : (h : Held) → SameQueue h.link (take_end h).1.link
+queue_taken h = queue_first h (first_held h.link.held)
+
+abbrev no_memory : EndFault
+no_memory = EndFaults.Message MessageFaults.OutOfMemory
+
+for_memory : (r : Result Taken EndFault) → (r ≡ Err no_memory) ⊎ (r ≢ Err no_memory)
+for_memory (Ok t) = inr (λ e. cc)
+for_memory (Err (EndFaults.Offer f)) = inr (λ e. cc)
+for_memory (Err (EndFaults.Message MessageFaults.OutOfMemory)) = inl refl
+for_memory (Err (EndFaults.Message (MessageFaults.TooLong n))) = inr (λ e. cc)
+for_memory (Err (EndFaults.Message (MessageFaults.BadStream n))) = inr (λ e. cc)
+for_memory (Err (EndFaults.Message MessageFaults.Overlong)) = inr (λ e. cc)
+for_memory (Err (EndFaults.Links f)) = inr (λ e. cc)
+for_memory (Err EndFaults.NoSuchEnd) = inr (λ e. cc)
+
+abbrev Leaves : EndpointView → EndpointView → ℕ → Option Held → Type 0
+Leaves old new id o = KeepsQueue o (held_at new id) × ((q : ℕ) → q ≢ id → held_at new q ≡ held_at old q)
+
+took_at : (old new : EndpointView) (id : ℕ) (r : Result Taken EndFault) (o : Option Held) → held_at old id ≡ o
+    → IfSome o (λ h. r ≢ Err no_memory → (result_view r ≡ (take_end h).0) × ChangesEnd old new id (take_end h).1)
+    → IfSome o (λ h. r ≡ Err no_memory → IsPushed h × SameBut old new) → (held_at old id ≡ None → SameBut old new) → Leaves old new id o
+took_at old new id r None is takes memory none =
+    let same = none is in
+    (subst (KeepsQueue None) (sym (same.held id ∙ is)) tt, λ q other. same.held q)
+took_at old new id r (Some h) is takes memory none =
+    elim (for_memory r) [
+      | inl e ↦ let same = (memory e).1 in (subst (KeepsQueue (Some h)) (sym (same.held id ∙ is)) (queue_kept h.link), λ q other. same.held q)
+      | inr e ↦ let change = (takes e).1 in (subst (KeepsQueue (Some h)) (sym change.held) (queue_taken h), change.others)
+    ]
+
+pub took : (old new : EndpointView) (id : ℕ) (r : Result Taken EndFault)
+    → IfSome (held_at old id) (λ h. r ≢ Err no_memory → (result_view r ≡ (take_end h).0) × ChangesEnd old new id (take_end h).1)
+    → IfSome (held_at old id) (λ h. r ≡ Err no_memory → IsPushed h × SameBut old new) → (held_at old id ≡ None → SameBut old new) → Leaves old new id (held_at old id)
+took old new id r takes memory none = took_at old new id r (held_at old id) refl takes memory none
+
+pub keeps_same : (a : Option Held) → KeepsQueue a a
+keeps_same None = tt
+keeps_same (Some h) = queue_kept h.link
+
+pub keeps_on : (a b c : Option Held) → KeepsQueue a b → KeepsQueue b c → KeepsQueue a c
+keeps_on None None None p q = tt
+keeps_on None None (Some z) p q = absurd q
+keeps_on None (Some y) c p q = absurd p
+keeps_on (Some x) None c p q = absurd p
+keeps_on (Some x) (Some y) None p q = absurd q
+keeps_on (Some x) (Some y) (Some z) p q =
+    record { queue = q.queue ∙ p.queue; out = q.out ∙ p.out; next = q.next ∙ p.next; ended = q.ended ∙ p.ended }
+
+-- ---- ids
+
+none_live : (links : List LinkView) (id : ℕ) → length links ≡ 0 → IsSome (link_of links id) → ⊥
+none_live [] id none live = absurd (cc)
+none_live (l ∷ ls) id none live = absurd (omega arith)
+
+-- where no link is held, the next id is the one behind the last
+free_next : (s : LinksView) (id steps : ℕ) → id ≡ (s.last + steps) % 65534 + 1 → ((k : ℕ) → k < steps → IsSome (link_of s.links ((s.last + k) % 65534 + 1)))
+    → count_of s ≡ 0 → s.last < 65534 → id ≡ s.last + 1
+free_next s id zero is passed none few = omega arith
+free_next s id (suc more) is passed none few = absurd (none_live s.links _ none (passed 0 (omega arith)))
+
+pub next_id : (s : LinksView) (id : ℕ) → IsNextFree s id → count_of s ≡ 0 → s.last < 65534 → id ≡ s.last + 1
+next_id s id next none few = free_next s id next.steps next.is next.passed none few
+
+-- ---- one step
+
+pub sees : (joined joined' : Bool) (left left' : Option ℕ) (core core' : EndCore) (id : ℕ) (closed closed' waits : Bool) (state : Option State) (verdict : Option Verdict)
+    → state ≡ state_at core.endpoint id → core' ≡ core → closed' ≡ closed → joined' ≡ joined_at joined state → left' ≡ left_at left state core.moment
+    → IsTrue waits ↔ IsWaiting closed' left' core'.moment → verdict ≡ verdict_at joined' waits state
+    → Sees (record { joined = joined; left = left }) (record { joined = joined'; left = left' }) core.endpoint core.moment id closed verdict
+sees joined joined' left left' core core' id closed closed' waits state verdict at same unclosed was gone waiting tells =
+    record {
+      joined = was ∙ ap (joined_at joined) at;
+      left = gone ∙ ap (λ s. left_at left s core.moment) at;
+      waits = waits;
+      waiting = subst (λ b. IsTrue waits ↔ IsWaiting b left' core.moment) unclosed (subst (λ (k : EndCore). IsTrue waits ↔ IsWaiting closed' left' k.moment) same waiting);
+      tells = tells ∙ ap (verdict_at joined' waits) at;
+    }
+
+-- what was noted stays so, as the step goes on
+pub sees_later : (joined joined' : Bool) (left left' : Option ℕ) (old : SeenSoFar) (seen : EndpointView) (moment id : ℕ) (closed : Bool) (verdict : Option Verdict) → joined' ≡ joined → left' ≡ left
+    → Sees old (record { joined = joined; left = left }) seen moment id closed verdict → Sees old (record { joined = joined'; left = left' }) seen moment id closed verdict
+sees_later joined joined' left left' old seen moment id closed verdict p q s =
+    record {
+      joined = p ∙ s.joined;
+      left = q ∙ s.left;
+      waits = s.waits;
+      waiting = subst (λ (l : Option ℕ). IsTrue s.waits ↔ IsWaiting closed l moment) (sym q) s.waiting;
+      tells = subst (λ (b : Bool). verdict ≡ verdict_at b s.waits (state_at seen id)) (sym p) s.tells;
+    }
+
+pub same_intake : (e e' : EndpointView) (r r' c c' : Bool) (k : Option (List ℕ)) → e' ≡ e → r' ≡ r → c' ≡ c → intake e' r' c' k ≡ intake e r c k
+same_intake e e' r r' c c' k p q s = cc
+
+-- what came was dropped, and then the link was fed
+pub stepped : (id id' : ℕ) (core core' : EndCore) (start dropped : EndpointView) (read read' closed closed' : Bool) (known : Option (List ℕ)) (new : Intake)
+    → id' ≡ id → core' ≡ core → read' ≡ read → closed' ≡ closed → KeepsQueue (held_at core'.endpoint id') (held_at dropped id')
+    → (bytes : List ℕ) × Feeds (intake dropped read' closed' known) new id' bytes → FeedsOn id core.endpoint (intake start read closed known) new
+stepped id id' core core' start dropped read read' closed closed' known new p q r s queue fed =
+    let kept : KeepsQueue (held_at core.endpoint id) (held_at dropped id) =
+    subst (λ (i : ℕ). KeepsQueue (held_at core.endpoint i) (held_at dropped i)) p (subst (λ (k : EndCore). KeepsQueue (held_at k.endpoint id') (held_at dropped id')) q queue) in
+    let feeds : Feeds (intake dropped read closed known) new id fed.0 =
+    subst (λ (i : ℕ). Feeds (intake dropped read closed known) new i fed.0) p
+    (subst (λ (b : Bool). Feeds (intake dropped b closed known) new id' fed.0) r
+    (subst (λ (b : Bool). Feeds (intake dropped read' b known) new id' fed.0) s fed.1)) in
+    (dropped, kept, fed.0, feeds)
+
+-- a step that goes on waits; its faults are faults of both
+pub goes_ok : (id : ℕ) (seen : EndpointView) (old new : Intake) (v : Option Verdict) (more : Bool) → Goes IsFeedFault id seen old new v (Ok more) → Goes {T = Unit {0}} IsStepFault id seen old new v (Ok tt)
+goes_ok id seen old new (Some w) more goes = absurd (let no = goes.0 in cc)
+goes_ok id seen old new None more goes = (tt, goes.1)
+
+pub goes_unwaited : (id : ℕ) (seen : EndpointView) (old new : Intake) (v : Option Verdict) (more : Bool) → Goes IsFeedFault id seen old new v (Ok more) → Goes {T = Unit {0}} IsStepFault id seen old new v (Err Unwaited)
+goes_unwaited id seen old new (Some w) more goes = absurd (let no = goes.0 in cc)
+goes_unwaited id seen old new None more goes = (inr refl, tt)
+
+pub goes_err : (id : ℕ) (seen : EndpointView) (old new : Intake) (v : Option Verdict) (f : Verdict) → Goes {T = Bool} IsFeedFault id seen old new v (Err f) → Goes {T = Unit {0}} IsStepFault id seen old new v (Err f)
+goes_err id seen old new (Some w) f goes =
+    let same : f ≡ w = (let is = goes.0 in cc) in
+    (subst (λ (x : Verdict). ◌≡◌ {A = Result (Unit {0}) Verdict} (Err f) (Err x)) same refl, goes.1)
+goes_err id seen old new None f goes = (inl goes.0, tt)
+
+-- ---- one feeding after another
+
+consumes_none : (a : Option (List ℕ)) → Consumes a a []
+consumes_none None = tt
+consumes_none (Some x) = refl
+
+consumes_on : (a b c : Option (List ℕ)) (bs cs : List ℕ) → Consumes a b bs → Consumes b c cs → Consumes a c (bs ++ cs)
+consumes_on None b c bs cs p q = tt
+consumes_on (Some x) None c bs cs p q = absurd p
+consumes_on (Some x) (Some y) None bs cs p q = absurd q
+consumes_on (Some x) (Some y) (Some z) bs cs p q = p ∙ ap (λ l. bs ++ l) q ∙ sym (append_assoc bs cs z)
+
+-- what left the reader in one feeding is its body
+fed_bytes : (old new : Intake) (id : ℕ) (bytes : List ℕ) → Feeds old new id bytes → Consumes old.known new.known bytes
+fed_bytes old new id bytes (inl reads) = reads.taken
+fed_bytes old new id bytes (inr (inl ends)) =
+    subst (λ l. Consumes old.known new.known l) (sym ends.none) (subst (λ (i : Intake). Consumes old.known i.known []) (sym ends.is) (consumes_none old.known))
+fed_bytes old new id bytes (inr (inr rests)) =
+    subst (λ l. Consumes old.known new.known l) (sym rests.none) (subst (λ (i : Intake). Consumes old.known i.known []) (sym rests.same) (consumes_none old.known))
+
+-- and in one after another the bodies, one behind the other
+pub feedings_bytes : (id : ℕ) (old : Intake) (bodies : List (List ℕ)) (new : Intake) → Feedings id old bodies new → Consumes old.known new.known (concat bodies)
+feedings_bytes id old [] new same = subst (λ (i : Intake). Consumes old.known i.known []) (sym same) (consumes_none old.known)
+feedings_bytes id old (bytes ∷ more) new (before, after, on, feeds, rest) =
+    let first : Consumes old.known after.known bytes = subst (λ k. Consumes k after.known bytes) on.known (fed_bytes before after id bytes feeds) in
+    consumes_on old.known after.known new.known bytes (concat more) first (feedings_bytes id after more new rest)
+
+-- one more
+pub feedings_more : (id : ℕ) (old : Intake) (bodies : List (List ℕ)) (mid before new : Intake) (bytes : List ℕ) → Feedings id old bodies mid → Continues mid before
+    → Feeds before new id bytes → Feedings id old (bodies ++ bytes ∷ []) new
+feedings_more id old [] mid before new bytes same on feeds =
+    (before, new, subst (λ (i : Intake). Continues i before) same on, feeds, refl)
+feedings_more id old (b ∷ more) mid before new bytes fed on feeds =
+    (fed.0, fed.1, fed.2, fed.3, feedings_more id fed.1 more mid before new bytes fed.4 on feeds)
+
+-- a run goes on by a step that answers no verdict
+pub feedings_step : (id id' : ℕ) (start last now new : Intake) (bodies : List (List ℕ)) (seen : EndpointView) (v : Option Verdict) → id' ≡ id → Feedings id start bodies last → Continues last now
+    → Goes {T = Unit {0}} IsStepFault id' seen now new v (Ok tt) → (more : List (List ℕ)) × Feedings id start more new
+feedings_step id id' start last now new bodies seen (Some w) same fed on goes = absurd (let no = goes.0 in cc)
+feedings_step id id' start last now new bodies seen None same fed on goes =
+    let step = goes.1 in
+    let feeds : Feeds (record now { endpoint = step.0 }) new id step.2 = subst (λ (i : ℕ). Feeds (record now { endpoint = step.0 }) new i step.2) same step.3 in
+    (bodies ++ step.2 ∷ [], feedings_more id start bodies last (record now { endpoint = step.0 }) new step.2 fed (record { read = on.read; closed = on.closed; known = on.known }) feeds)
+
+not_fault : IsStepFault Done → ⊥
+not_fault (inl (inl e)) = cc
+not_fault (inl (inr e)) = cc
+not_fault (inr e) = cc
+
+-- and feeds nothing more in the one that answers that it is done
+pub continues_done : (id : ℕ) (last now new : Intake) (seen : EndpointView) (v : Option Verdict) (f : Verdict) → f ≡ Done → Continues last now
+    → Goes {T = Unit {0}} IsStepFault id seen now new v (Err f) → Continues last new
+continues_done id last now new seen (Some w) f done on goes =
+    record {
+      read = ap (λ (i : Intake). i.read) goes.1 ∙ on.read;
+      closed = ap (λ (i : Intake). i.closed) goes.1 ∙ on.closed;
+      known = ap (λ (i : Intake). i.known) goes.1 ∙ on.known;
+    }
+continues_done id last now new seen None f done on goes = absurd (not_fault (subst IsStepFault done goes.0))
