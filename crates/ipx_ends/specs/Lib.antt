@@ -1,8 +1,11 @@
+pub mod Callers
 pub mod Fate
 pub mod Ledger
+pub mod Noting
 pub mod Outlet
 pub mod Passing
 pub mod Stop
 pub mod Target
+pub mod Tending
 pub mod Transfer
 pub mod Turning
