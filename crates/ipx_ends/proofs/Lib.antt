@@ -1,4 +1,6 @@
 pub mod Counting
+pub mod Holding
+pub mod Noted
 pub mod Passed
 pub mod Written
 pub mod Turning

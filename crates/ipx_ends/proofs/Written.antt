@@ -1,6 +1,6 @@
 -- What a writer took of what was left, a part after another.
 use Rattle.std.proofs.Common.{◌≡◌, ◌↔◌, ◌||◌, Bool, true, false, inl, inr, ℕ, ◌+◌, ◌-◌, ◌<◌, ◌≤◌, List, [], ◌++◌, length, take, drop, length-append, length-drop, length-take, Option, Some, None, refl, sym, ap, ◌∙◌, subst, arith, append_assoc, take-append-drop}
-use Rattle.std.proofs.lemmas.List.{drop-drop, drop_all, take-take, take_rest}
+use Rattle.std.proofs.lemmas.List.{append-nil, nil_from_length, drop-drop, drop_all, take-take, take_rest}
 use Rattle.std.proofs.lemmas.Bool.{cases_lt}
 use Rattle.std.specs.Prelude.{IsTrue}
 use Rattle.std.specs.Io.KnownBytes.{Appends}
@@ -49,3 +49,13 @@ wrote_on false false before now after p q first second = (
   λ t. absurd (cc),
   λ h. elim (cases_lt now before) [ inl less ↦ first.1 less | inr same ↦ second.1 (omega (arith, same, h)) ],
 )
+
+-- nothing is written
+pub writes_none : (x : List ℕ) (a : Option (List ℕ)) → Writes x x a a
+writes_none x None = ([], refl, tt)
+writes_none x (Some w) = ([], refl, sym (append-nil w))
+
+-- where nothing was left, nothing is left
+pub writes_nothing : (x y : List ℕ) (a b : Option (List ℕ)) → Writes x y a b → x ≡ [] → y ≡ []
+writes_nothing x y a b wrote none =
+    nil_from_length y (omega (arith, ap length wrote.1, length-append wrote.0 y, ap length none))

@@ -2,6 +2,8 @@
 use Rattle.std.specs.Prelude.{◌≡◌, ◌≢◌, ◌≤◌, ◌⊎◌, ℕ, Option, Some, None}
 use Rattle.spx_link.specs.declared.state.State.{State}
 use Rattle.spx_link.specs.declared.state.State.TheVariants as States
+use Rattle.ipx_ends.specs.declared.callers.Fate.{Fate}
+use Rattle.ipx_ends.specs.declared.callers.Fate.TheVariants.{Stays, Asks, Over, GivenUp}
 use Rattle.ipx_ends.specs.declared.callers.Standing.{Standing}
 use Rattle.ipx_ends.specs.declared.callers.Standing.TheVariants as Standings
 
@@ -18,6 +20,14 @@ IsOver standing state silent = (state ≡ None) ⊎ (state ≡ Some States.Confi
 abbrev pub IsToAsk : Standing → Option State → ℕ → Type 0
 IsToAsk standing state silent =
     IsHeld state × (standing ≡ Standings.Open) × (60000 ≤ silent)
+
+-- what becomes of it; it stays where nothing of this is so
+abbrev pub IsFate : Fate → Standing → Option State → ℕ → Type 0
+IsFate Stays standing state silent = (state ≢ Some States.Lost)
+    × (IsOver standing state silent → ⊥) × (IsToAsk standing state silent → ⊥)
+IsFate Asks standing state silent = IsToAsk standing state silent
+IsFate Over standing state silent = IsOver standing state silent
+IsFate GivenUp standing state silent = state ≡ Some States.Lost
 
 -- how a connection stands once it was heard: one that was asked is open again
 abbrev pub standing_heard : Standing → Standing

@@ -1,10 +1,13 @@
+pub mod Callers
 pub mod Fate
 pub mod Feeding
 pub mod Ledger
+pub mod Noting
 pub mod Outlet
 pub mod Passing
 pub mod Steps
 pub mod Stop
 pub mod Target
+pub mod Tending
 pub mod Transfer
 pub mod Turning

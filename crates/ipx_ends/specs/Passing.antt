@@ -1,6 +1,6 @@
 -- What passes from a connection to an outlet, by takes one after another. All of it is own.
-use Rattle.std.specs.Prelude.{◌≡◌, ◌≢◌, ℕ, zero, suc, List, [], ◌++◌, Option, Some, Result, Ok, Err}
-use Rattle.spx_messages.specs.Changes.{ChangesEnd}
+use Rattle.std.specs.Prelude.{◌≡◌, ◌≢◌, ℕ, zero, suc, List, [], ◌∷◌, ◌++◌, Option, Some, None, Result, Ok, Err}
+use Rattle.spx_messages.specs.Changes.{ChangesEnd, SameBut, SameSelf}
 use Rattle.spx_messages.specs.EndpointView.{EndpointView, Held, held_at}
 use Rattle.spx_messages.specs.Taking.{TakenView, Nothing, Part, PeerEnd, Whole, take_end}
 use Rattle.spx_messages.specs.declared.fault.EndFault.{EndFault}
@@ -40,7 +40,7 @@ pub record Takes (h : Held) (old new : EndpointView) (outlet outlet' : Outlet)
 -- nothing was taken of a connection, and nothing changes
 pub record TakesNothing (old new : EndpointView) (outlet outlet' : Outlet)
     (caller caller' : Caller) : Type 0 where
-  pub held : held_at new caller.id ≡ held_at old caller.id
+  pub held : SameBut old new
   pub kept : outlet' ≡ outlet
   pub same : caller' ≡ caller
 
@@ -59,3 +59,49 @@ bodies_after (suc n) h = bodies_after n h ++ left_with (take_end (held_after n h
 abbrev pub Passes : Held → Option Held → List ℕ → List ℕ → Option (List ℕ) → Option (List ℕ) → Type 0
 Passes h after waiting left written writes = (count : ℕ) × (after ≡ Some (held_after count h))
     × Writes (waiting ++ bodies_after count h) left written writes
+
+-- how a connection stands after so many takes
+abbrev pub standing_after : ℕ → Held → Standing → Standing
+standing_after zero h standing = standing
+standing_after (suc n) h standing =
+    standing_with (take_end (held_after n h)).0 (standing_after n h standing)
+
+-- what passes from a connection whose id holds this, if anything: its takes pass to the outlet and the
+-- writer, and tell how it stands; of one whose link is gone nothing is taken
+abbrev pub PassesFrom : Option Held → Option Held → List ℕ → List ℕ → Option (List ℕ) → Option (List ℕ) → Caller → Caller → Type 0
+PassesFrom None after waiting left written writes caller caller' =
+    (after ≡ None) × Writes waiting left written writes × (caller' ≡ caller)
+PassesFrom (Some h) after waiting left written writes caller caller' = (count : ℕ)
+    × (after ≡ Some (held_after count h))
+    × Writes (waiting ++ bodies_after count h) left written writes
+    × (caller' ≡ record caller { standing = standing_after count h caller.standing })
+
+-- what is held under any other id, and what listens, is as before
+pub record SameOthers (old new : EndpointView) (id : ℕ) : Type 0 where
+  pub others : (q : ℕ) → q ≢ id → held_at new q ≡ held_at old q
+  pub self : SameSelf old new
+  pub heard : new.heard ≡ old.heard
+
+-- what passes from one connection of a host. Behind an end that was taken nothing is taken: so where
+-- nothing was left to write before, nothing is left behind an end
+pub record PassesOne (old new : EndpointView) (waiting left : List ℕ)
+    (written writes : Option (List ℕ)) (caller caller' : Caller) : Type 0 where
+  pub from : PassesFrom (held_at old caller.id) (held_at new caller.id) waiting left written writes caller caller'
+  pub others : SameOthers old new caller.id
+  pub behind : (caller.standing ≡ Standings.Ended → waiting ≡ [])
+      → caller'.standing ≡ Standings.Ended → left ≡ []
+
+-- what passes from connections, one behind the other
+abbrev pub PassesEach : EndpointView → EndpointView → List ℕ → List ℕ → Option (List ℕ) → Option (List ℕ) → List Caller → List Caller → Type 0
+PassesEach old new waiting left written writes [] callers =
+    (callers ≡ []) × (new ≡ old) × (left ≡ waiting) × (writes ≡ written)
+PassesEach old new waiting left written writes (c ∷ cs) callers = (mid : EndpointView)
+    × (between : List ℕ) × (writing : Option (List ℕ)) × (c' : Caller) × (cs' : List Caller)
+    × (callers ≡ c' ∷ cs') × PassesOne old mid waiting between written writing c c'
+    × PassesEach mid new between left writing writes cs cs'
+
+-- the same, of the first ones; the others are as before
+abbrev pub PassesSome : EndpointView → EndpointView → List ℕ → List ℕ → Option (List ℕ) → Option (List ℕ) → List Caller → List Caller → Type 0
+PassesSome old new waiting left written writes callers callers' =
+    (first first' rest : List Caller) × (callers ≡ first ++ rest) × (callers' ≡ first' ++ rest)
+    × PassesEach old new waiting left written writes first first'

@@ -1,12 +1,27 @@
 -- How a host that listens stops. All of it is own.
-use Rattle.std.specs.Prelude.{ℕ, Result, Ok, Err}
+use Rattle.std.specs.Prelude.{ℕ, Bool, true, false, Option, Some, None, Result, Ok, Err}
+use Rattle.ipx_ends.specs.declared.callers.Fate.{Fate}
+use Rattle.ipx_ends.specs.declared.callers.Fate.TheVariants.{Over}
+use Rattle.ipx_ends.specs.declared.callers.Standing.{Standing}
+use Rattle.ipx_ends.specs.declared.callers.Standing.TheVariants as Standings
 use Rattle.ipx_ends.specs.declared.listening.Stop.{Stop}
 use Rattle.ipx_ends.specs.declared.listening.Stop.TheVariants.{Ended, Lost, Unwritten, Unwaited}
 
 -- the status that goes with it: 0 where the end of the first connection came
-abbrev pub stop_status : {T : Type 0} → Result T Stop → ℕ
-stop_status (Ok x) = 0
-stop_status (Err Ended) = 0
-stop_status (Err Lost) = 1
-stop_status (Err Unwritten) = 1
-stop_status (Err Unwaited) = 1
+abbrev pub stop_status : Stop → ℕ
+stop_status Ended = 0
+stop_status Lost = 1
+stop_status Unwritten = 1
+stop_status Unwaited = 1
+
+-- why a host stops, if it does
+abbrev pub stop_in : {T : Type 0} → Result T Stop → Option Stop
+stop_in (Ok x) = None
+stop_in (Err s) = Some s
+
+-- whether a host stops once a connection went: with `once` alone, and well where it is over and its
+-- end was taken
+abbrev pub parted : Bool → Fate → Standing → Option Stop
+parted false fate standing = None
+parted true Over Standings.Ended = Some Ended
+parted true fate standing = Some Lost

@@ -1,8 +1,9 @@
 //! The connections that a listening host accepted.
 
-ghost use Rattle.std.specs.Prelude.{◌≡◌, ◌↔◌, Some};
+ghost use Rattle.std.specs.Prelude.{◌≡◌, ◌↔◌, Some, map};
 ghost use Rattle.spx_link.specs.declared.state.State.TheVariants as States;
-ghost use Rattle.ipx_ends.specs.Fate.{IsOver, IsToAsk, standing_heard};
+ghost use Rattle.ipx_ends.specs.Fate.{IsFate, IsOver, IsToAsk, standing_heard};
+ghost use Rattle.ipx_ends.specs.Callers.{heard_by};
 ghost use Rattle.ipx_ends.specs.declared.callers.Fate.TheVariants as Fates;
 
 use ipx_wire::Address;
@@ -49,6 +50,24 @@ impl Caller {
             self.standing = Standing::Open;
         }
     }
+
+    /// It is heard at a moment, if it is the one that was heard.
+    fn note(&mut self, heard: Option<u16>, now: u64)
+        ensures { self.new ≡ heard_by heard now self.old }
+    {
+        if Some(self.id) == heard {
+            self.hear(now);
+        }
+    }
+}
+
+/// Notes in each connection which one was heard at a moment, if one was.
+pub fn hear_one(callers: &mut [Caller], heard: Option<u16>, moment: u64)
+    ensures { callers.new ≡ map (heard_by heard moment) callers.old }
+{
+    for caller in callers.iter_mut() {
+        caller.note(heard, moment);
+    }
 }
 
 /// What becomes of a connection.
@@ -67,6 +86,7 @@ pub enum Fate {
 /// What becomes of a connection of this standing, whose link has this state, or is gone, and that
 /// was silent for so many milliseconds.
 pub fn fate_of(standing: Standing, state: Option<State>, silent: u64) -> Fate
+    ensures fate { IsFate result standing state silent }
     ensures given_up { (result ≡ Fates.GivenUp) ↔ (state ≡ Some States.Lost) }
     ensures over { (result ≡ Fates.Over) ↔ IsOver standing state silent }
     ensures asks { (result ≡ Fates.Asks) ↔ IsToAsk standing state silent }

@@ -1,7 +1,11 @@
 //! The core of a host that one runs.
 
-ghost use Rattle.std.specs.Prelude.{◌≡◌, IfSome};
+ghost use Rattle.std.specs.Prelude.{◌≡◌, ℕ, IfSome, Some};
+ghost use Rattle.ipx_wire.specs.Ipx.{BeginsWith, PacketView};
+ghost use Rattle.spx_messages.specs.Arrives.{Arrives};
+ghost use Rattle.spx_messages.specs.EndpointView.{EndpointView};
 ghost use Rattle.spx_messages.specs.declared.arrived.Arrived.TheVariants as Arriveds;
+ghost use Rattle.ipx_ends.specs.Noting.{Notes};
 
 use ipx_carrier::Core;
 use ipx_wire::{Address, Node, OutOfMemory, decode};
@@ -25,7 +29,9 @@ pub struct EndCore {
 }
 
 /// The address that a packet is from.
-fn sender_of(bytes: &[u8]) -> Option<Address> {
+fn sender_of(bytes: &[u8]) -> Option<Address>
+    ensures { (p : PacketView) → BeginsWith bytes.now p → result ≡ Some p.header.from }
+{
     match decode(bytes) {
         Ok(packet) => Some(packet.header.from),
         Err(_) => None,
@@ -34,7 +40,10 @@ fn sender_of(bytes: &[u8]) -> Option<Address> {
 
 /// The connection that a datagram made.
 fn accepted_by(arrived: Arrived, bytes: &[u8]) -> Option<Accepted>
-    ensures { IfSome result (λ a. arrived ≡ Arriveds.Accepted a.id) }
+    ensures made { IfSome result (λ a. arrived ≡ Arriveds.Accepted a.id) }
+    // Of a datagram that an endpoint answered so.
+    ensures notes { (old new : EndpointView) (now : ℕ) → Arrives old bytes.now now arrived new
+        → Notes arrived bytes.now result }
 {
     let Arrived::Accepted(id) = arrived else {
         return None;
@@ -73,15 +82,20 @@ impl EndCore {
 }
 
 impl Core for EndCore {
-    ghost use Rattle.ipx_carrier.specs.HostCore.{Gives, Hears, Misses};
+    ghost use Rattle.std.specs.Prelude.{◌≡◌};
+    ghost use Rattle.ipx_carrier.specs.HostCore.{Gives, Misses};
+    ghost use Rattle.ipx_ends.specs.Noting.{HearsAndNotes};
 
     ghost port_count = { λ c. 1 };
 
-    ghost hears = { λ old port bytes now new. Hears old.endpoint bytes now new.endpoint };
+    ghost hears = { λ old port bytes now new.
+        HearsAndNotes old.endpoint bytes now new.endpoint new.accepted × (new.moment ≡ now) };
 
-    ghost gives = { λ old now given new. Gives old.endpoint now given new.endpoint };
+    ghost gives = { λ old now given new. Gives old.endpoint now given new.endpoint
+        × (new.accepted ≡ old.accepted) × (new.moment ≡ now) };
 
-    ghost misses = { λ old port bytes now new. Misses old.endpoint bytes new.endpoint };
+    ghost misses = { λ old port bytes now new. Misses old.endpoint bytes new.endpoint
+        × (new.accepted ≡ old.accepted) × (new.moment ≡ now) };
 
     ghost withholds = { λ old now new. ⊥ };
 

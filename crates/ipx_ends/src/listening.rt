@@ -1,13 +1,18 @@
 //! The command `listen`: a host that takes connections, and writes the messages that come.
 
-ghost use Rattle.std.specs.Prelude.{◌≡◌, ◌<◌, length, false, IfSome, IsTrue, None, Ok};
+ghost use Rattle.std.specs.Prelude.{◌≡◌, ◌≢◌, ◌<◌, ◌≤◌, ◌↔◌, [], length, map, remove, slice_get, slice_set, take, false, All, IfErr, IfOk, IfSome, IsTrue, MatchOption, None, OnErr, OnOk, Err, Ok, vec_capacity};
 ghost use Rattle.spx_messages.specs.EndpointView.{held_at};
 ghost use Rattle.spx_messages.specs.Taking.{PeerEnd as TheEnd, take_end};
+ghost use Rattle.ipx_ends.specs.Callers.{Admits, Asks, KeepsOne, LetsLinkGo, caller_of, heard_by, keeps_one_prop};
 ghost use Rattle.ipx_ends.specs.Outlet.{left_of};
-ghost use Rattle.ipx_ends.specs.Passing.{Passes, Takes, TakesNothing};
-ghost use Rattle.ipx_ends.specs.Stop.{stop_status};
+ghost use Rattle.ipx_ends.specs.Passing.{Passes, PassesEach, PassesOne, PassesSome, SameOthers, Takes, TakesNothing};
+ghost use Rattle.ipx_ends.specs.Stop.{parted, stop_in, stop_status};
+ghost use Rattle.ipx_ends.specs.Tending.{IsFateOf, JustStays, Tends};
+ghost use Rattle.ipx_ends.specs.declared.callers.Caller.{Caller};
+ghost use Rattle.ipx_ends.specs.declared.listening.Stop.TheVariants as Stops;
 
-use crate::callers::{Caller, Fate, LINGER, SILENCE, Standing, fate_of};
+use crate::callers::{Caller, Fate, LINGER, SILENCE, Standing, fate_of, hear_one};
+use crate::end_core::Accepted;
 use crate::gate::Gate;
 use crate::outlet::{Outlet, WriteFault};
 use crate::start::{StartFault, tell_start};
@@ -49,12 +54,22 @@ enum Stop {
 }
 
 impl From<WriteFault> for Stop {
+    ghost use Rattle.std.specs.Prelude.{◌≡◌};
+    ghost use Rattle.ipx_ends.specs.declared.listening.Stop.TheVariants.{Unwritten};
+
+    ghost from_gives = { λ _ e. e ≡ Unwritten };
+
     fn from(_fault: WriteFault) -> Stop {
         Stop::Unwritten
     }
 }
 
 impl From<WaitFault> for Stop {
+    ghost use Rattle.std.specs.Prelude.{◌≡◌};
+    ghost use Rattle.ipx_ends.specs.declared.listening.Stop.TheVariants.{Unwaited};
+
+    ghost from_gives = { λ _ e. e ≡ Unwaited };
+
     fn from(_fault: WaitFault) -> Stop {
         Stop::Unwaited
     }
@@ -67,6 +82,9 @@ struct Listening<'a, R: Clock> {
     callers: Vec<Caller>,
     outlet: Outlet,
     once: bool,
+    ghost room: { 16 ≤ vec_capacity callers },
+    ghost one: { KeepsOne once callers.items (left_of outlet) }
+        by { keeps_one_prop once callers.items (left_of outlet) },
 }
 
 /// Takes one unit of a connection, which may end a message. It answers whether there was one.
@@ -85,6 +103,7 @@ fn take_next(
         (take_end h).0 ≡ Ok TheEnd → IsTrue result) }
     ensures unknown { held_at endpoint.old caller.old.id ≡ None → result ≡ false }
     ensures id { caller.new.id ≡ caller.old.id }
+    ensures others { SameOthers endpoint.old endpoint.new caller.old.id }
 {
     match endpoint.take(alloc, caller.id) {
         Ok(Taken::Part) | Err(EndFault::Message(MessageFault::Overlong)) => true,
@@ -114,17 +133,50 @@ fn take_some<W: Write>(
     ensures passes { IfSome (held_at endpoint.old caller.old.id) (λ h.
         Passes h (held_at endpoint.new caller.old.id) (left_of outlet.old) (left_of outlet.new)
         (W.contents writer.old) (W.contents writer.new)) }
+    ensures one { PassesOne endpoint.old endpoint.new (left_of outlet.old) (left_of outlet.new)
+        (W.contents writer.old) (W.contents writer.new) caller.old caller.new }
     ensures id { caller.new.id ≡ caller.old.id }
 {
     let mut took = false;
     for _ in 0..MOST_TAKES {
         outlet.write(writer)?;
-        if !outlet.is_empty() || !take_next(alloc, endpoint, outlet, caller) {
+        let ended = caller.standing == Standing::Ended;
+        if ended || !outlet.is_empty() || !take_next(alloc, endpoint, outlet, caller) {
             break;
         }
         took = true;
     }
     Ok(took)
+}
+
+/// Takes from each connection, in their order. It answers whether there was anything.
+fn take_each<W: Write>(
+    alloc: Global,
+    endpoint: &mut Endpoint,
+    outlet: &mut Outlet,
+    callers: &mut [Caller],
+    writer: &mut W,
+) -> Result<bool, WriteFault>
+    ensures all { OnOk result (PassesEach endpoint.old endpoint.new (left_of outlet.old)
+        (left_of outlet.new) (W.contents writer.old) (W.contents writer.new)
+        callers.old callers.new) }
+    // Where the writer fails, so it is for those up to the one whose message it was.
+    ensures some { OnErr result (PassesSome endpoint.old endpoint.new (left_of outlet.old)
+        (left_of outlet.new) (W.contents writer.old) (W.contents writer.new)
+        callers.old callers.new) }
+{
+    let mut took = false;
+    for caller in callers.iter_mut() {
+        took |= take_some(alloc, endpoint, outlet, caller, writer)?;
+    }
+    Ok(took)
+}
+
+/// Forgets the link of an id.
+fn let_link_go(endpoint: &mut Endpoint, id: u16)
+    ensures { LetsLinkGo endpoint.old endpoint.new id }
+{
+    let _ = endpoint.release(id);
 }
 
 impl<'a, R: Net + Log + Clock> Listening<'a, R> {
@@ -133,7 +185,11 @@ impl<'a, R: Net + Log + Clock> Listening<'a, R> {
         alloc: Global,
         file: &HostFile,
         once: bool,
-    ) -> Result<Listening<'a, R>, StartFault> {
+    ) -> Result<Listening<'a, R>, StartFault>
+        ensures nobody { IfOk result (λ l. l.callers.items ≡ []) }
+        ensures nothing { IfOk result (λ l. left_of l.outlet ≡ []) }
+        ensures once { IfOk result (λ l. l.once ≡ once) }
+    {
         let mut station = Station::open(rt, alloc, file)?;
         station
             .core
@@ -150,22 +206,23 @@ impl<'a, R: Net + Log + Clock> Listening<'a, R> {
     }
 
     /// Whether a connection that comes is let go at once: with `once` the first one alone counts.
-    fn is_taken(&self) -> bool {
+    fn is_taken(&self) -> bool
+        ensures { IsTrue result ↔ (IsTrue self.now.once × (self.now.callers.items ≢ [])) }
+    {
         self.once && !self.callers.is_empty()
     }
 
-    /// Notes which connection the last datagram was of, or made.
-    fn note(&mut self) {
-        let moment = self.station.moment();
-        let heard = self.station.core.endpoint.heard();
-        for caller in self.callers.iter_mut() {
-            if Some(caller.id) == heard {
-                caller.hear(moment);
-            }
-        }
-        let Some(accepted) = self.station.core.take_accepted() else {
-            return;
-        };
+    /// Holds a connection that was accepted at a moment, where there is a place for it.
+    fn admit(&mut self, accepted: Accepted, moment: u64)
+        ensures admits { Admits self.old.once (caller_of accepted moment)
+            self.old.station.core.endpoint self.new.station.core.endpoint
+            self.old.callers.items self.new.callers.items }
+        ensures core { self.new.station.core ≡ record self.old.station.core {
+          endpoint = self.new.station.core.endpoint;
+        } }
+        ensures outlet { self.new.outlet ≡ self.old.outlet }
+        ensures once { self.new.once ≡ self.old.once }
+    {
         let caller = Caller {
             id: accepted.id,
             from: accepted.from,
@@ -173,22 +230,57 @@ impl<'a, R: Net + Log + Clock> Listening<'a, R> {
             standing: Standing::Open,
         };
         if self.is_taken() || self.callers.push(caller).is_err() {
-            let _ = self.station.core.endpoint.release(accepted.id);
+            let_link_go(&mut self.station.core.endpoint, accepted.id);
+        }
+    }
+
+    /// Notes which connection the last datagram was of, or made.
+    fn note(&mut self)
+        ensures callers { let core = self.old.station.core in
+            let heard = map (heard_by core.endpoint.heard core.moment) self.old.callers.items in
+            MatchOption core.accepted
+            ((self.new.callers.items ≡ heard)
+            × (self.new.station.core.endpoint ≡ core.endpoint))
+            (λ a. Admits self.old.once (caller_of a core.moment)
+            core.endpoint self.new.station.core.endpoint heard self.new.callers.items) }
+        ensures told { self.new.station.core.accepted ≡ None }
+        ensures moment { self.new.station.core.moment ≡ self.old.station.core.moment }
+        ensures outlet { self.new.outlet ≡ self.old.outlet }
+        ensures once { self.new.once ≡ self.old.once }
+    {
+        let moment = self.station.moment();
+        let heard = self.station.core.endpoint.heard();
+        hear_one(&mut self.callers, heard, moment);
+        if let Some(accepted) = self.station.core.take_accepted() {
+            self.admit(accepted, moment);
         }
     }
 
     /// Takes from each connection. It answers whether there was anything.
-    fn take_all<W: Write>(&mut self, alloc: Global, writer: &mut W) -> Result<bool, WriteFault> {
+    fn take_all<W: Write>(&mut self, alloc: Global, writer: &mut W) -> Result<bool, WriteFault>
+        ensures all { OnOk result (PassesEach
+            self.old.station.core.endpoint self.new.station.core.endpoint
+            (left_of self.old.outlet) (left_of self.new.outlet)
+            (W.contents writer.old) (W.contents writer.new)
+            self.old.callers.items self.new.callers.items) }
+        ensures some { OnErr result (PassesSome
+            self.old.station.core.endpoint self.new.station.core.endpoint
+            (left_of self.old.outlet) (left_of self.new.outlet)
+            (W.contents writer.old) (W.contents writer.new)
+            self.old.callers.items self.new.callers.items) }
+        ensures core { self.new.station.core ≡ record self.old.station.core {
+          endpoint = self.new.station.core.endpoint;
+        } }
+        ensures once { self.new.once ≡ self.old.once }
+    {
         let endpoint = &mut self.station.core.endpoint;
-        let mut took = false;
-        for caller in self.callers.iter_mut() {
-            took |= take_some(alloc, endpoint, &mut self.outlet, caller, writer)?;
-        }
-        Ok(took)
+        take_each(alloc, endpoint, &mut self.outlet, &mut self.callers, writer)
     }
 
     /// What becomes of a connection.
-    fn fate_of(&self, caller: &Caller) -> Fate {
+    fn fate_of(&self, caller: &Caller) -> Fate
+        ensures { IsFateOf self.now.station.core caller.now result }
+    {
         let state = self.station.core.endpoint.state(caller.id).ok();
         let silent = self.station.moment().saturating_sub(caller.heard);
         fate_of(caller.standing, state, silent)
@@ -196,11 +288,18 @@ impl<'a, R: Net + Log + Clock> Listening<'a, R> {
 
     /// The place of the first connection that does not just stay.
     fn first_to_tend(&self) -> Option<usize>
-        ensures { IfSome result (λ place. place < length self.now.callers.items) }
+        ensures there { IfSome result (λ place. place < length self.now.callers.items) }
+        ensures first { let core = self.now.station.core in
+            MatchOption result (All (JustStays core) self.now.callers.items)
+            (λ place. All (JustStays core) (take place self.now.callers.items)
+            × IfSome (slice_get self.now.callers.items place) (λ c. JustStays core c → ⊥)) }
     {
-        self.callers
-            .iter()
-            .position(|caller| self.fate_of(caller) != Fate::Stays)
+        for (place, caller) in self.callers.iter().enumerate() {
+            if self.fate_of(caller) != Fate::Stays {
+                return Some(place);
+            }
+        }
+        None
     }
 
     /// Asks whether a connection is still there, by a message of no bytes: a peer that is there
@@ -208,6 +307,15 @@ impl<'a, R: Net + Log + Clock> Listening<'a, R> {
     /// is refused, nothing goes out: the silence counts anew, and it is asked again after it.
     fn ask(&mut self, alloc: Global, place: usize)
         requires { place < length self.old.callers.items }
+        ensures asks { IfSome (slice_get self.old.callers.items place) (λ c. (c' : Caller)
+            × Asks self.old.station.core.moment
+            self.old.station.core.endpoint self.new.station.core.endpoint c c'
+            × (self.new.callers.items ≡ slice_set self.old.callers.items place c')) }
+        ensures core { self.new.station.core ≡ record self.old.station.core {
+          endpoint = self.new.station.core.endpoint;
+        } }
+        ensures outlet { self.new.outlet ≡ self.old.outlet }
+        ensures once { self.new.once ≡ self.old.once }
     {
         let moment = self.station.moment();
         let caller = &mut self.callers[place];
@@ -224,9 +332,22 @@ impl<'a, R: Net + Log + Clock> Listening<'a, R> {
     /// Lets a connection go. With `once` it is the only one, and all is over.
     fn let_go(&mut self, rt: &R, place: usize, fate: Fate) -> Result<(), Stop>
         requires { place < length self.old.callers.items }
+        ensures goes { self.new.callers.items ≡ remove self.old.callers.items place }
+        ensures released { IfSome (slice_get self.old.callers.items place) (λ c. LetsLinkGo
+            self.old.station.core.endpoint self.new.station.core.endpoint c.id) }
+        ensures stops { IfSome (slice_get self.old.callers.items place) (λ c.
+            stop_in result ≡ parted self.old.once fate c.standing) }
+        ensures only { OnErr result (IsTrue self.old.once) }
+        // With `once` the only connection goes, and what was taken of it is written.
+        ensures written { result ≡ Err Stops.Ended → left_of self.new.outlet ≡ [] }
+        ensures core { self.new.station.core ≡ record self.old.station.core {
+          endpoint = self.new.station.core.endpoint;
+        } }
+        ensures outlet { self.new.outlet ≡ self.old.outlet }
+        ensures once { self.new.once ≡ self.old.once }
     {
         let caller = self.callers.remove(place);
-        let _ = self.station.core.endpoint.release(caller.id);
+        let_link_go(&mut self.station.core.endpoint, caller.id);
         let ended = fate == Fate::Over && caller.standing == Standing::Ended;
         if !ended {
             let from = caller.from;
@@ -242,6 +363,16 @@ impl<'a, R: Net + Log + Clock> Listening<'a, R> {
     /// Does what is to be done with the connection at a place.
     fn tend(&mut self, rt: &R, alloc: Global, place: usize) -> Result<(), Stop>
         requires { place < length self.old.callers.items }
+        ensures tends { IfSome (slice_get self.old.callers.items place) (λ c. Tends
+            self.old.once self.old.station.core c place self.new.station.core.endpoint
+            self.old.callers.items self.new.callers.items (stop_in result)) }
+        ensures only { OnErr result (IsTrue self.old.once) }
+        ensures written { result ≡ Err Stops.Ended → left_of self.new.outlet ≡ [] }
+        ensures core { self.new.station.core ≡ record self.old.station.core {
+          endpoint = self.new.station.core.endpoint;
+        } }
+        ensures outlet { self.new.outlet ≡ self.old.outlet }
+        ensures once { self.new.once ≡ self.old.once }
     {
         match self.fate_of(&self.callers[place]) {
             Fate::Stays => Ok(()),
@@ -254,7 +385,15 @@ impl<'a, R: Net + Log + Clock> Listening<'a, R> {
     }
 
     /// Lets go the connections that are over or given up, and asks those that are silent.
-    fn tidy(&mut self, rt: &R, alloc: Global) -> Result<(), Stop> {
+    fn tidy(&mut self, rt: &R, alloc: Global) -> Result<(), Stop>
+        ensures written { result ≡ Err Stops.Ended → left_of self.new.outlet ≡ [] }
+        ensures only { OnErr result (IsTrue self.old.once) }
+        ensures core { self.new.station.core ≡ record self.old.station.core {
+          endpoint = self.new.station.core.endpoint;
+        } }
+        ensures outlet { self.new.outlet ≡ self.old.outlet }
+        ensures once { self.new.once ≡ self.old.once }
+    {
         for _ in 0..MOST_CALLERS {
             let Some(place) = self.first_to_tend() else {
                 break;
@@ -279,7 +418,11 @@ impl<'a, R: Net + Log + Clock> Listening<'a, R> {
     }
 
     /// Takes a turn, and all that came. It answers whether there may be more to do at once.
-    fn step<W: Write>(&mut self, rt: &R, alloc: Global, writer: &mut W) -> Result<bool, Stop> {
+    fn step<W: Write>(&mut self, rt: &R, alloc: Global, writer: &mut W) -> Result<bool, Stop>
+        ensures written { result ≡ Err Stops.Ended
+            → IsTrue self.new.once × (left_of self.new.outlet ≡ []) }
+        ensures once { self.new.once ≡ self.old.once }
+    {
         let turn = self.station.turn(rt, alloc);
         if turn.heard {
             self.note();
@@ -296,7 +439,11 @@ impl<'a, R: Net + Log + Clock> Listening<'a, R> {
         rt: &R,
         alloc: Global,
         writer: &mut W,
-    ) -> Result<(), Stop> {
+    ) -> Result<(), Stop>
+        ensures written { result ≡ Err Stops.Ended
+            → IsTrue self.new.once × (left_of self.new.outlet ≡ []) }
+        ensures once { self.new.once ≡ self.old.once }
+    {
         if !self.step(rt, alloc, writer)? {
             let rest = self.rest();
             self.station.wait(rest)?;
@@ -305,11 +452,30 @@ impl<'a, R: Net + Log + Clock> Listening<'a, R> {
     }
 
     /// Runs until it is to end.
-    fn serve<W: Write>(&mut self, rt: &R, alloc: Global, writer: &mut W) -> Result<(), Stop> {
+    fn serve<W: Write>(&mut self, rt: &R, alloc: Global, writer: &mut W) -> Stop
+        ensures written { result ≡ Stops.Ended
+            → IsTrue self.new.once × (left_of self.new.outlet ≡ []) }
+        ensures once { self.new.once ≡ self.old.once }
+    {
         for _ in 0..u64::MAX {
-            self.step_or_wait(rt, alloc, writer)?;
+            if let Err(stop) = self.step_or_wait(rt, alloc, writer) {
+                return stop;
+            }
         }
-        Ok(())
+        Stop::Lost
+    }
+}
+
+impl<'a, R: Net + Log + Clock + Eprint> Listening<'a, R> {
+    /// Runs until it is to end, prints why it ends, and answers the status: 0 only with `once`, and
+    /// where all that was taken is written.
+    fn finish<W: Write>(&mut self, rt: &R, alloc: Global, writer: &mut W) -> u8
+        ensures written { result ≡ 0 → IsTrue self.new.once × (left_of self.new.outlet ≡ []) }
+        ensures few { result ≤ 1 }
+        ensures once { self.new.once ≡ self.old.once }
+    {
+        let stopped = self.serve(rt, alloc, writer);
+        tell_stop(rt, stopped)
     }
 }
 
@@ -325,16 +491,59 @@ fn tell_place<R: Log>(rt: &R, file: &HostFile) {
 }
 
 /// Prints why a host stopped, where that is to be said, and answers its status.
-fn tell_stop<R: Eprint>(rt: &R, stopped: Result<(), Stop>) -> u8
+fn tell_stop<R: Eprint>(rt: &R, stopped: Stop) -> u8
     ensures { result ≡ stop_status stopped }
 {
     let _ = match stopped {
-        Ok(()) | Err(Stop::Ended) => return 0,
-        Err(Stop::Lost) => return 1,
-        Err(Stop::Unwritten) => eprintln!(rt; "standard output can't be written"),
-        Err(Stop::Unwaited) => eprintln!(rt; "the system can't wait for the socket"),
+        Stop::Ended => return 0,
+        Stop::Lost => return 1,
+        Stop::Unwritten => eprintln!(rt; "standard output can't be written"),
+        Stop::Unwaited => eprintln!(rt; "the system can't wait for the socket"),
     };
     1
+}
+
+/// Runs a host that was started, and answers its status. Why one was not is told, and is 1.
+fn run_listening<R: Net + Log + Clock + Eprint, W: Write>(
+    rt: &R,
+    alloc: Global,
+    path: &str,
+    file: &HostFile,
+    started: Result<Listening<'_, R>, StartFault>,
+    writer: &mut W,
+) -> u8
+    ensures unstarted { OnErr started.entry (result ≡ 1) }
+    ensures few { result ≤ 1 }
+    ensures once { result ≡ 0 → IfOk started.entry (λ l. IsTrue l.once) }
+{
+    let mut listening = match started {
+        Ok(listening) => listening,
+        Err(fault) => return tell_start(rt, path, fault),
+    };
+    tell_place(rt, file);
+    listening.finish(rt, alloc, writer)
+}
+
+/// Runs the host of a file that was loaded. The status of one that was not is passed on.
+fn listen_by<R: Net + Log + Clock + Eprint, W: Write>(
+    rt: &R,
+    alloc: Global,
+    path: &str,
+    loaded: Result<HostFile, u8>,
+    once: bool,
+    writer: &mut W,
+) -> u8
+    ensures unloaded { IfErr loaded (λ status. result ≡ status) }
+    ensures few { OnOk loaded (result ≤ 1) }
+    // Without `once` a host that was loaded never ends well.
+    ensures once { OnOk loaded (result ≡ 0 → IsTrue once) }
+{
+    let file = match loaded {
+        Ok(file) => file,
+        Err(status) => return status,
+    };
+    let started = Listening::open(rt, alloc, &file, once);
+    run_listening(rt, alloc, path, &file, started, writer)
 }
 
 /// The command `listen`: runs the host of a file, takes connections at its socket, and writes the
@@ -352,15 +561,6 @@ pub fn do_listen<R: Net + Log + Files + Clock + Eprint, W: Write>(
     once: bool,
     writer: &mut W,
 ) -> u8 {
-    let file = match load_host(rt, alloc, path) {
-        Ok(file) => file,
-        Err(status) => return status,
-    };
-    let mut listening = match Listening::open(rt, alloc, &file, once) {
-        Ok(listening) => listening,
-        Err(fault) => return tell_start(rt, path, fault),
-    };
-    tell_place(rt, &file);
-    let stopped = listening.serve(rt, alloc, writer);
-    tell_stop(rt, stopped)
+    let loaded = load_host(rt, alloc, path);
+    listen_by(rt, alloc, path, loaded, once, writer)
 }

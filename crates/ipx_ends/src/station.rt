@@ -1,13 +1,16 @@
 //! A host by its file: its endpoint, its socket and its clock.
 
-ghost use Rattle.std.specs.Prelude.{◌≡◌, ◌≤◌};
+ghost use Rattle.std.specs.Prelude.{◌≡◌, ◌≤◌, ◌∷◌, [], IfOk, None, OnErr, length};
+ghost use Rattle.ipx_carrier.specs.Runs.{EndsEarly, Runs};
 ghost use Rattle.ipx_carrier.specs.Turns.{peers_of};
-ghost use Rattle.ipx_ends.specs.Turning.{TakesTurn};
+ghost use Rattle.ipx_carrier.specs.declared.fault.RunFault.TheVariants as RunFaults;
+ghost use Rattle.ipx_ends.specs.Turning.{TakesTurn, gives, hears, misses, withholds};
 
 use crate::end_core::EndCore;
 use crate::start::{StartFault, check_streams};
-use ipx_carrier::{RunFault, node_of};
-use ipx_site::{Cause, HostFile, Readiness, SiteSockets, SteadyClock, WaitFault, take_turn};
+use ipx_carrier::{Report, node_of, run};
+use ipx_site::{Cause, HostFile, Readiness, SiteSockets, SteadyClock, WaitFault};
+use ipx_wire::OutOfMemory;
 use log::{Log, warn};
 use spx_messages::Endpoint;
 use std::alloc::Global;
@@ -20,16 +23,25 @@ use std::rt::Clock;
 pub struct Turn {
     /// A datagram was heard.
     pub heard: bool,
-    /// A datagram was heard or sent: the next turn may have something to do as well.
+    /// A datagram was heard or sent, a packet had no IP address to go to, or memory was refused:
+    /// the next turn may have something to do as well.
     pub active: bool,
+}
+
+/// The socket of a host, and its peers: there is one port, so a turn can always be begun.
+#[derive(Drop)]
+struct Wire {
+    sockets: SiteSockets,
+    peers: Vec<Vec<[u8; 4]>>,
+    ghost one_socket: { length sockets.sockets.items ≡ 1 },
+    ghost one_list: { length peers.items ≡ 1 },
 }
 
 /// A host that runs.
 #[derive(Drop)]
 pub struct Station<'a, R: Clock> {
     pub core: EndCore,
-    sockets: SiteSockets,
-    peers: Vec<Vec<[u8; 4]>>,
+    wire: Wire,
     clock: SteadyClock<'a, R>,
     readiness: Readiness,
     unheard: u64,
@@ -37,9 +49,41 @@ pub struct Station<'a, R: Clock> {
     of_system: Cause,
 }
 
+impl Wire {
+    /// Takes one turn. Sockets never fail, so what ends one is that memory is refused.
+    fn run<R: Clock>(
+        &mut self,
+        alloc: Global,
+        core: &mut EndCore,
+        clock: &mut SteadyClock<'_, R>,
+    ) -> Result<Report, OutOfMemory>
+        ensures turn { IfOk result (λ report. Runs hears gives
+            (λ old moment new. (old.last ≤ moment) × (new.last ≡ moment))
+            1 (peers_of self.old.peers.items) 1 None None clock.old clock.new
+            core.old core.new report) }
+        ensures fault { OnErr result (EndsEarly hears misses gives withholds
+            (λ old moment new. (old.last ≤ moment) × (new.last ≡ moment))
+            1 (peers_of self.old.peers.items) 1 None None clock.old clock.new
+            RunFaults.OutOfMemory core.old core.new) }
+        ensures peers { self.new.peers ≡ self.old.peers }
+    {
+        match run(alloc, core, &mut self.sockets, &self.peers, clock, 1) {
+            Ok(report) => Ok(report),
+            Err(_) => Err(OutOfMemory),
+        }
+    }
+}
+
 impl<'a, R: Net + Log + Clock> Station<'a, R> {
     /// A host that is bound as its file says. It hears whoever reaches its socket.
-    pub fn open(rt: &'a R, alloc: Global, file: &HostFile) -> Result<Station<'a, R>, StartFault> {
+    pub fn open(rt: &'a R, alloc: Global, file: &HostFile) -> Result<Station<'a, R>, StartFault>
+        ensures network { IfOk result (λ s. s.core.endpoint.network ≡ file.now.network) }
+        ensures nobody { IfOk result (λ s. s.core.endpoint.heard ≡ None) }
+        ensures accepted { IfOk result (λ s. s.core.accepted ≡ None) }
+        // Its router is its one peer.
+        ensures peers { IfOk result (λ s.
+            peers_of s.wire.peers.items ≡ (file.now.router ∷ []) ∷ []) }
+    {
         check_streams(rt)?;
         let node = node_of(file.address);
         let endpoint = Endpoint::new(alloc, file.network, node, node_of(file.router));
@@ -48,8 +92,10 @@ impl<'a, R: Net + Log + Clock> Station<'a, R> {
         let readiness = Readiness::new(rt, alloc, &sockets)?;
         Ok(Station {
             core: EndCore::new(endpoint),
-            sockets,
-            peers: vec![in alloc; router]?,
+            wire: Wire {
+                sockets,
+                peers: vec![in alloc; router]?,
+            },
             clock: SteadyClock::new(rt),
             readiness,
             unheard: 0,
@@ -59,7 +105,11 @@ impl<'a, R: Net + Log + Clock> Station<'a, R> {
     }
 
     /// Ends a wait when this descriptor is readable, too.
-    pub fn watch(&mut self, fd: Option<RawFd>) {
+    pub fn watch(&mut self, fd: Option<RawFd>)
+        ensures core { self.new.core ≡ self.old.core }
+        ensures clock { self.new.clock ≡ self.old.clock }
+        ensures peers { self.new.wire.peers ≡ self.old.wire.peers }
+    {
         if let Some(fd) = fd {
             let _ = self.readiness.watch_reading(fd);
         }
@@ -76,11 +126,13 @@ impl<'a, R: Net + Log + Clock> Station<'a, R> {
     pub fn turn(&mut self, rt: &R, alloc: Global) -> Turn
         ensures core { TakesTurn self.old.clock self.new.clock
             (λ old moment new. (old.last ≤ moment) × (new.last ≡ moment))
-            (peers_of self.old.peers.items) self.old.core self.new.core }
+            (peers_of self.old.wire.peers.items) self.old.core self.new.core result }
+        ensures peers { self.new.wire.peers ≡ self.old.wire.peers }
+        ensures readiness { self.new.readiness ≡ self.old.readiness }
     {
         let turn = self.take_turn(alloc);
         let now = self.core.moment();
-        let faults = self.sockets.faults();
+        let faults = self.wire.sockets.faults();
         if let Some(more) = self.of_system.tell(faults, now) {
             warn!(rt; target: "ipx",
                 "{more} datagrams the system refused ({faults} since the start)");
@@ -92,31 +144,24 @@ impl<'a, R: Net + Log + Clock> Station<'a, R> {
         turn
     }
 
+    /// One turn over the socket. The datagram of a turn that memory ends is lost.
     fn take_turn(&mut self, alloc: Global) -> Turn
         ensures core { TakesTurn self.old.clock self.new.clock
             (λ old moment new. (old.last ≤ moment) × (new.last ≡ moment))
-            (peers_of self.old.peers.items) self.old.core self.new.core }
+            (peers_of self.old.wire.peers.items) self.old.core self.new.core result }
+        ensures peers { self.new.wire.peers ≡ self.old.wire.peers }
+        ensures readiness { self.new.readiness ≡ self.old.readiness }
     {
-        let ran = take_turn(
-            alloc,
-            &mut self.core,
-            &mut self.sockets,
-            &self.peers,
-            &mut self.clock,
-        );
-        match ran {
+        match self.wire.run(alloc, &mut self.core, &mut self.clock) {
             Ok(report) => Turn {
                 heard: report.heard > 0,
                 active: report.heard > 0 || report.sent > 0 || report.unmapped > 0,
             },
-            Err(fault) => {
-                // Sockets never fail: Device is that they have other ports than the core, which no
-                // turn mends.
-                let is_memory = fault == RunFault::OutOfMemory;
-                self.unheard = self.unheard.saturating_add(u64::from(is_memory));
+            Err(OutOfMemory) => {
+                self.unheard = self.unheard.saturating_add(1);
                 Turn {
                     heard: false,
-                    active: is_memory,
+                    active: true,
                 }
             }
         }
@@ -124,7 +169,11 @@ impl<'a, R: Net + Log + Clock> Station<'a, R> {
 
     /// Waits until something may be done: a datagram came, a descriptor that is watched is
     /// readable, the endpoint has something to send, or so many milliseconds are over.
-    pub fn wait(&mut self, most: u64) -> Result<(), WaitFault> {
+    pub fn wait(&mut self, most: u64) -> Result<(), WaitFault>
+        ensures core { self.new.core ≡ self.old.core }
+        ensures clock { self.new.clock ≡ self.old.clock }
+        ensures wire { self.new.wire ≡ self.old.wire }
+    {
         let now = self.core.moment();
         let due = match self.core.endpoint.next_due() {
             Some(due) => due.saturating_sub(now),
