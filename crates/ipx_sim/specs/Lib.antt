@@ -3,3 +3,7 @@ pub mod ActLine
 pub mod Act
 pub mod Summary
 pub mod Script
+pub mod Fields
+pub mod Places
+pub mod Reading
+pub mod Going

@@ -3,6 +3,7 @@
 ghost use Rattle.std.specs.Prelude.{◌≡◌, IfErr, IfOk, Result};
 ghost use Rattle.std.specs.Io.KnownBytes.{Appends};
 ghost use Rattle.ipx_net.specs.AnswerView.{AnswerView};
+ghost use Rattle.ipx_net.specs.NetEvents.{IsOwed};
 ghost use Rattle.ipx_net.specs.declared.fault.NetFault.{NetFault};
 ghost use Rattle.ipx_sim.specs.Act.{IsActOwed, Stepped, outcome_view};
 ghost use Rattle.ipx_sim.specs.ActLine.{act_lines, act_status, moment_of};
@@ -24,8 +25,8 @@ fn moment_of(event: &Event) -> Option<u64>
 }
 
 /// The step itself: whatever came, it is what the network's own contract has of that event.
-fn step(alloc: Global, net: &mut Net, event: Event) -> Result<Answer, NetFault>
-    requires { IsActOwed event }
+pub fn step(alloc: Global, net: &mut Net, event: Event) -> Result<Answer, NetFault>
+    requires { IsOwed event }
     ensures { Stepped net.old event (outcome_view result) net.new }
 {
     net.step(alloc, event)

@@ -1,8 +1,14 @@
 //! The fields of a script's lines.
 
-ghost use Rattle.std.specs.Prelude.{◌≢◌, ◌<◌, ◌≤◌, IfSome};
+ghost use Rattle.std.specs.Prelude.{◌≡◌, ◌≢◌, ◌<◌, ◌≤◌, ◌+◌, ◌*◌, ◌^◌, true, IfOk, IfSome};
+ghost use Rattle.std.specs.Char.{digit_value, is_digit};
+ghost use Rattle.std.specs.List.{list_all};
+ghost use Rattle.std.specs.Option.{SomeIff, option_map};
+ghost use Rattle.std.specs.Result.{result_ok};
+ghost use Rattle.hex.specs.Hex.{decode_of};
 ghost use Rattle.ipx_wire.specs.Assigned.{all_networks, local_network};
 ghost use Rattle.spx_link.specs.Limits.{most_units};
+ghost use Rattle.ipx_sim.specs.Fields.{address_in, buffers_in, bytes_in, fields_view, is_blank_line, is_name_byte, is_name_text, line_fields, network_in, node_in, number_in, numeral_up_to, own_network_in, short_in, socket_in, stream_in, within};
 
 use hex::FromHexError;
 use ipx_wire::{Address, Network, Node, OutOfMemory, Socket};
@@ -13,60 +19,98 @@ use std::alloc::{AllocError, Global};
 const MOST_NUMBER: u32 = 1_000_000_000;
 
 /// Whether a line holds nothing but blanks.
-pub fn is_blank(line: &[u8]) -> bool {
+pub fn is_blank(line: &[u8]) -> bool
+    ensures { result ≡ is_blank_line line.now }
+{
     line.iter().all(|byte| *byte == b' ')
 }
 
 /// The fields of a line, parted by one blank.
-pub fn fields_of<'a>(alloc: Global, line: &'a [u8]) -> Result<Vec<&'a [u8]>, AllocError> {
+pub fn fields_of<'a>(alloc: Global, line: &'a [u8]) -> Result<Vec<&'a [u8]>, AllocError>
+    ensures { IfOk result (λ v. fields_view v.items ≡ line_fields line.now) }
+{
     line.split(|byte| *byte == b' ').collect(alloc)
 }
 
-/// A name has 1 to 16 of `a` to `z` and digits.
-pub fn is_name(field: &[u8]) -> bool {
-    let plain = field
+fn are_name_bytes(field: &[u8]) -> bool
+    ensures { result ≡ list_all is_name_byte field.now }
+{
+    field
         .iter()
-        .all(|byte| matches!(*byte, b'a'..=b'z' | b'0'..=b'9'));
-    plain && !field.is_empty() && field.len() <= 16
+        .all(|byte| matches!(*byte, b'a'..=b'z' | b'0'..=b'9'))
 }
 
-fn decimal_digit(byte: u8) -> Option<u32> {
-    match byte {
-        b'0'..=b'9' => Some(u32::from(byte - b'0')),
-        _ => None,
-    }
+/// A name has 1 to 16 of `a` to `z` and digits.
+pub fn is_name(field: &[u8]) -> bool
+    ensures { result ≡ is_name_text field.now }
+{
+    are_name_bytes(field) && !field.is_empty() && field.len() <= 16
 }
 
-/// A number in decimal digits alone, at most 1,000,000,000.
-pub fn number_of(field: &[u8]) -> Option<u32> {
-    if field.is_empty() {
-        return None;
-    }
+/// A number with one more digit behind it.
+fn with_digit(number: u32, radix: u32, byte: u8) -> Option<u32>
+    requires low { 2 ≤ radix }
+    requires high { radix ≤ 36 }
+    ensures { SomeIff result
+        ((is_digit byte radix ≡ true) × (number * radix + digit_value byte < 2 ^ 32))
+        (number * radix + digit_value byte) }
+{
+    let digit = char::from(byte).to_digit(radix)?;
+    number.checked_mul(radix)?.checked_add(digit)
+}
+
+/// What digits stand for, where all are digits and it is at most so much.
+fn numeral_of(field: &[u8], radix: u32, most: u32) -> Option<u32>
+    requires low { 2 ≤ radix }
+    requires high { radix ≤ 36 }
+    ensures { result ≡ numeral_up_to most radix field.now }
+{
     let mut number: u32 = 0;
     for byte in field {
-        let digit = decimal_digit(*byte)?;
-        number = number.checked_mul(10)?.checked_add(digit)?;
+        number = with_digit(number, radix, *byte)?;
     }
-    if number > MOST_NUMBER {
+    if number > most {
         return None;
     }
     Some(number)
 }
 
+/// A number in decimal digits alone, at most 1,000,000,000.
+pub fn number_of(field: &[u8]) -> Option<u32>
+    ensures { result ≡ number_in field.now }
+{
+    if field.is_empty() {
+        return None;
+    }
+    numeral_of(field, 10, MOST_NUMBER)
+}
+
 /// Such a number, of an end or a parcel.
-pub fn index_of(field: &[u8]) -> Option<usize> {
+pub fn index_of(field: &[u8]) -> Option<usize>
+    ensures { result ≡ number_in field.now }
+{
     let number = number_of(field)?;
     Some(number as usize)
 }
 
+/// A number, where it has at most 16 bits.
+fn short_from(number: Option<u32>) -> Option<u16>
+    ensures { result ≡ within 0 65535 number }
+{
+    u16::try_from(number?).ok()
+}
+
 /// A number of 16 bits.
-pub fn short_of(field: &[u8]) -> Option<u16> {
-    u16::try_from(number_of(field)?).ok()
+pub fn short_of(field: &[u8]) -> Option<u16>
+    ensures { result ≡ short_in field.now }
+{
+    short_from(number_of(field))
 }
 
 /// Buffers of a link: 1 to 8,192.
 pub fn buffers_of(field: &[u8]) -> Option<u16>
-    ensures { IfSome result (λ b. (0 < b) × (b ≤ most_units)) }
+    ensures value { result ≡ buffers_in field.now }
+    ensures owed { IfSome result (λ b. (0 < b) × (b ≤ most_units)) }
 {
     let buffers = short_of(field)?;
     if buffers == 0 || buffers > MOST_UNITS {
@@ -75,37 +119,20 @@ pub fn buffers_of(field: &[u8]) -> Option<u16>
     Some(buffers)
 }
 
-fn hex_digit(byte: u8) -> Option<u32> {
-    match byte {
-        b'0'..=b'9' => Some(u32::from(byte - b'0')),
-        b'a'..=b'f' => Some(u32::from(byte - b'a') + 10),
-        b'A'..=b'F' => Some(u32::from(byte - b'A') + 10),
-        _ => None,
-    }
-}
-
-/// What hex digits stand for, at most eight of them.
-fn hex_number_of(field: &[u8]) -> Option<u32> {
-    let mut number: u32 = 0;
-    for byte in field {
-        let digit = hex_digit(*byte)?;
-        number = number.checked_mul(16)?.checked_add(digit)?;
-    }
-    Some(number)
-}
-
 /// A network, in 1 to 8 hex digits.
-pub fn network_of(field: &[u8]) -> Option<Network> {
+pub fn network_of(field: &[u8]) -> Option<Network>
+    ensures { result ≡ network_in field.now }
+{
     if field.is_empty() || field.len() > 8 {
         return None;
     }
-    let number = hex_number_of(field)?;
-    Some(Network(number))
+    numeral_of(field, 16, u32::MAX).map(Network)
 }
 
 /// A network that a host or a port may have: neither 0 nor ffffffff.
 pub fn own_network_of(field: &[u8]) -> Option<Network>
-    ensures { IfSome result (λ n. (n.0 ≢ local_network) × (n.0 ≢ all_networks)) }
+    ensures value { result ≡ own_network_in field.now }
+    ensures owed { IfSome result (λ n. (n.0 ≢ local_network) × (n.0 ≢ all_networks)) }
 {
     let network = network_of(field)?;
     if network.0 == Network::LOCAL.0 || network.0 == Network::ALL.0 {
@@ -115,7 +142,9 @@ pub fn own_network_of(field: &[u8]) -> Option<Network>
 }
 
 /// A node, in 12 hex digits.
-pub fn node_of(field: &[u8]) -> Option<Node> {
+pub fn node_of(field: &[u8]) -> Option<Node>
+    ensures { result ≡ node_in field.now }
+{
     let mut bytes = [0; 6];
     match hex::decode_to_slice(field, &mut bytes) {
         Ok(()) => Some(Node(bytes)),
@@ -124,24 +153,29 @@ pub fn node_of(field: &[u8]) -> Option<Node> {
 }
 
 /// A socket, in 4 hex digits.
-pub fn socket_of(field: &[u8]) -> Option<Socket> {
+pub fn socket_of(field: &[u8]) -> Option<Socket>
+    ensures { result ≡ socket_in field.now }
+{
     if field.len() != 4 {
         return None;
     }
-    let number = u16::try_from(hex_number_of(field)?).ok()?;
-    Some(Socket(number))
+    short_from(numeral_of(field, 16, 0xffff)).map(Socket)
 }
 
 /// A datastream type, in 2 hex digits.
-pub fn stream_of(field: &[u8]) -> Option<u8> {
+pub fn stream_of(field: &[u8]) -> Option<u8>
+    ensures { result ≡ stream_in field.now }
+{
     if field.len() != 2 {
         return None;
     }
-    u8::try_from(hex_number_of(field)?).ok()
+    u8::try_from(numeral_of(field, 16, 0xff)?).ok()
 }
 
 /// A network, a node and a socket.
-pub fn address_of(network: &[u8], node: &[u8], socket: &[u8]) -> Option<Address> {
+pub fn address_of(network: &[u8], node: &[u8], socket: &[u8]) -> Option<Address>
+    ensures { result ≡ address_in network.now node.now socket.now }
+{
     Some(Address {
         network: network_of(network)?,
         node: node_of(node)?,
@@ -149,7 +183,9 @@ pub fn address_of(network: &[u8], node: &[u8], socket: &[u8]) -> Option<Address>
     })
 }
 
-fn hex_bytes_of(alloc: Global, field: &[u8]) -> Result<Option<Vec<u8>>, OutOfMemory> {
+fn hex_bytes_of(alloc: Global, field: &[u8]) -> Result<Option<Vec<u8>>, OutOfMemory>
+    ensures { IfOk result (λ b. option_map (λ v. v.items) b ≡ result_ok (decode_of field.now)) }
+{
     match hex::decode(alloc, field) {
         Ok(bytes) => Ok(Some(bytes)),
         Err(FromHexError::OutOfMemory) => Err(OutOfMemory),
@@ -158,7 +194,9 @@ fn hex_bytes_of(alloc: Global, field: &[u8]) -> Result<Option<Vec<u8>>, OutOfMem
 }
 
 /// Bytes in hex, `-` for none. `None` is a field that is neither.
-pub fn bytes_of(alloc: Global, field: &[u8]) -> Result<Option<Vec<u8>>, OutOfMemory> {
+pub fn bytes_of(alloc: Global, field: &[u8]) -> Result<Option<Vec<u8>>, OutOfMemory>
+    ensures { IfOk result (λ b. option_map (λ v. v.items) b ≡ bytes_in field.now) }
+{
     match field {
         [] => Ok(None),
         b"-" => Ok(Some(Vec::new(alloc))),

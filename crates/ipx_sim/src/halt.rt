@@ -1,5 +1,8 @@
 //! Why a script goes no further.
 
+ghost use Rattle.std.specs.Prelude.{◌≡◌};
+ghost use Rattle.ipx_sim.specs.declared.halt.Halt.TheVariants as Halts;
+
 use ipx_wire::OutOfMemory;
 use std::alloc::{AllocError, AllocFailed};
 
@@ -15,18 +18,24 @@ pub enum Halt {
 }
 
 impl From<OutOfMemory> for Halt {
+    ghost from_gives = { λ _ e. e ≡ Halts.Memory };
+
     fn from(_error: OutOfMemory) -> Halt {
         Halt::Memory
     }
 }
 
 impl From<AllocError> for Halt {
+    ghost from_gives = { λ _ e. e ≡ Halts.Memory };
+
     fn from(_error: AllocError) -> Halt {
         Halt::Memory
     }
 }
 
 impl<T: Drop> From<AllocFailed<T>> for Halt {
+    ghost from_gives = { λ _ e. e ≡ Halts.Memory };
+
     fn from(_error: AllocFailed<T>) -> Halt {
         Halt::Memory
     }

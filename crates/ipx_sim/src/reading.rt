@@ -1,7 +1,12 @@
 //! How a line of a script is read.
 
-ghost use Rattle.std.specs.Prelude.{IfOk, IfSome};
+ghost use Rattle.std.specs.Prelude.{◌≡◌, IfOk, IfSome, option_copied, option_map, true};
+ghost use Rattle.std.specs.Str.{bytes_eq};
 ghost use Rattle.ipx_sim.specs.Act.{IsActOwed};
+ghost use Rattle.ipx_sim.specs.Fields.{fields_view};
+ghost use Rattle.ipx_sim.specs.Places.{map_view};
+ghost use Rattle.ipx_sim.specs.Reading.{Act, Close, Reads, ReadsLine, Release, counted_in, deliver_in, dial_in, end_in, event_in, event_view, fill_in, inject_in, line_view, only_in, plain_in, poll_in, send_in};
+ghost use Rattle.ipx_sim.specs.Reading.{Pump, Run, Take, Tick};
 ghost use Rattle.ipx_sim.specs.Script.{IsLineOwed};
 
 use crate::fields::{
@@ -15,8 +20,17 @@ use ipx_net::Event;
 use spx_units::Message;
 use std::alloc::Global;
 
+/// Whether a word is this one.
+fn is_word(word: &[u8], known: &[u8]) -> bool
+    ensures { result ≡ bytes_eq word.now known.now }
+{
+    word == known
+}
+
 /// The one field that is there.
-fn only<'a>(args: &[&'a [u8]]) -> Option<&'a [u8]> {
+fn only<'a>(args: &[&'a [u8]]) -> Option<&'a [u8]>
+    ensures { option_copied result ≡ only_in (fields_view args.now) }
+{
     match args {
         [field] => Some(*field),
         _ => None,
@@ -25,7 +39,9 @@ fn only<'a>(args: &[&'a [u8]]) -> Option<&'a [u8]> {
 
 /// `HOST SOCKET NET NODE SOCKET BUFFERS`.
 fn dial_of(map: &Map, args: &[&[u8]]) -> Option<Event>
-    ensures { IfSome result IsActOwed }
+    ensures value { option_map event_view result
+        ≡ dial_in (map_view map.now) (fields_view args.now) }
+    ensures owed { IfSome result IsActOwed }
 {
     let [host, socket, network, node, far, buffers] = args else {
         return None;
@@ -39,21 +55,27 @@ fn dial_of(map: &Map, args: &[&[u8]]) -> Option<Event>
 }
 
 fn close_of(args: &[&[u8]]) -> Option<Event>
-    ensures { IfSome result IsActOwed }
+    ensures value { option_map event_view result
+        ≡ end_in Close (fields_view args.now) }
+    ensures owed { IfSome result IsActOwed }
 {
     let who = index_of(only(args)?)?;
     Some(Event::Close { who })
 }
 
 fn release_of(args: &[&[u8]]) -> Option<Event>
-    ensures { IfSome result IsActOwed }
+    ensures value { option_map event_view result
+        ≡ end_in Release (fields_view args.now) }
+    ensures owed { IfSome result IsActOwed }
 {
     let who = index_of(only(args)?)?;
     Some(Event::Release { who })
 }
 
 fn poll_of(map: &Map, args: &[&[u8]]) -> Option<Event>
-    ensures { IfSome result IsActOwed }
+    ensures value { option_map event_view result
+        ≡ poll_in (map_view map.now) (fields_view args.now) }
+    ensures owed { IfSome result IsActOwed }
 {
     let member = map.member(only(args)?)?;
     Some(Event::Poll { member })
@@ -61,7 +83,9 @@ fn poll_of(map: &Map, args: &[&[u8]]) -> Option<Event>
 
 /// `N PLACE`.
 fn deliver_of(map: &Map, args: &[&[u8]]) -> Option<Event>
-    ensures { IfSome result IsActOwed }
+    ensures value { option_map event_view result
+        ≡ deliver_in (map_view map.now) (fields_view args.now) }
+    ensures owed { IfSome result IsActOwed }
 {
     let [parcel, place] = args else {
         return None;
@@ -74,21 +98,32 @@ fn deliver_of(map: &Map, args: &[&[u8]]) -> Option<Event>
 
 /// An event that takes no memory to be read.
 fn event_of(map: &Map, command: &[u8], args: &[&[u8]]) -> Option<Event>
-    ensures { IfSome result IsActOwed }
+    ensures value { option_map event_view result
+        ≡ event_in (map_view map.now) command.now (fields_view args.now) }
+    ensures owed { IfSome result IsActOwed }
 {
-    match command {
-        b"dial" => dial_of(map, args),
-        b"close" => close_of(args),
-        b"release" => release_of(args),
-        b"poll" => poll_of(map, args),
-        b"deliver" => deliver_of(map, args),
-        _ => None,
+    if is_word(command, b"dial") {
+        return dial_of(map, args);
     }
+    if is_word(command, b"close") {
+        return close_of(args);
+    }
+    if is_word(command, b"release") {
+        return release_of(args);
+    }
+    if is_word(command, b"poll") {
+        return poll_of(map, args);
+    }
+    if is_word(command, b"deliver") {
+        return deliver_of(map, args);
+    }
+    None
 }
 
 /// `E N`.
 fn fill_of(args: &[&[u8]]) -> Option<Line>
-    ensures { IfSome result IsLineOwed }
+    ensures value { option_map line_view result ≡ fill_in (fields_view args.now) }
+    ensures owed { IfSome result IsLineOwed }
 {
     let [end, count] = args else {
         return None;
@@ -100,42 +135,73 @@ fn fill_of(args: &[&[u8]]) -> Option<Line>
 }
 
 fn take_of(args: &[&[u8]]) -> Option<Line>
-    ensures { IfSome result IsLineOwed }
+    ensures value { option_map line_view result ≡ counted_in Take (fields_view args.now) }
+    ensures owed { IfSome result IsLineOwed }
 {
     let end = index_of(only(args)?)?;
     Some(Line::Take(end))
 }
 
-/// A line with one number.
-fn counted_of(command: &[u8], args: &[&[u8]]) -> Option<Line>
-    ensures { IfSome result IsLineOwed }
+fn tick_of(args: &[&[u8]]) -> Option<Line>
+    ensures value { option_map line_view result ≡ counted_in Tick (fields_view args.now) }
+    ensures owed { IfSome result IsLineOwed }
 {
-    let count = number_of(only(args)?)?;
-    match command {
-        b"tick" => Some(Line::Tick(count)),
-        b"run" => Some(Line::Run(count)),
-        b"pump" => Some(Line::Pump(count)),
-        _ => None,
-    }
+    let milliseconds = number_of(only(args)?)?;
+    Some(Line::Tick(milliseconds))
+}
+
+fn run_of(args: &[&[u8]]) -> Option<Line>
+    ensures value { option_map line_view result ≡ counted_in Run (fields_view args.now) }
+    ensures owed { IfSome result IsLineOwed }
+{
+    let rounds = number_of(only(args)?)?;
+    Some(Line::Run(rounds))
+}
+
+fn pump_of(args: &[&[u8]]) -> Option<Line>
+    ensures value { option_map line_view result ≡ counted_in Pump (fields_view args.now) }
+    ensures owed { IfSome result IsLineOwed }
+{
+    let rounds = number_of(only(args)?)?;
+    Some(Line::Pump(rounds))
+}
+
+fn act_of(event: Option<Event>) -> Option<Line>
+    requires { IfSome event IsActOwed }
+    ensures value { option_map line_view result ≡ option_map Act (option_map event_view event) }
+    ensures owed { IfSome result IsLineOwed }
+{
+    Some(Line::Act(event?))
 }
 
 /// A line that takes no memory to be read.
 fn plain_of(map: &Map, command: &[u8], args: &[&[u8]]) -> Option<Line>
-    ensures { IfSome result IsLineOwed }
+    ensures value { option_map line_view result
+        ≡ plain_in (map_view map.now) command.now (fields_view args.now) }
+    ensures owed { IfSome result IsLineOwed }
 {
-    match command {
-        b"fill" => fill_of(args),
-        b"take" => take_of(args),
-        _ => match event_of(map, command, args) {
-            Some(event) => Some(Line::Act(event)),
-            None => counted_of(command, args),
-        },
+    if is_word(command, b"fill") {
+        return fill_of(args);
     }
+    if is_word(command, b"take") {
+        return take_of(args);
+    }
+    if is_word(command, b"tick") {
+        return tick_of(args);
+    }
+    if is_word(command, b"run") {
+        return run_of(args);
+    }
+    if is_word(command, b"pump") {
+        return pump_of(args);
+    }
+    act_of(event_of(map, command, args))
 }
 
 /// `E SS HEX`.
 fn send_of(alloc: Global, args: &[&[u8]]) -> Result<Line, Halt>
-    ensures { IfOk result IsLineOwed }
+    ensures read { Reads (send_in (fields_view args.now)) true result }
+    ensures owed { IfOk result IsLineOwed }
 {
     let [end, stream, body] = args else {
         return Err(Halt::Bad);
@@ -151,7 +217,8 @@ fn send_of(alloc: Global, args: &[&[u8]]) -> Result<Line, Halt>
 
 /// `NET NODE HEX`.
 fn inject_of(alloc: Global, args: &[&[u8]]) -> Result<Line, Halt>
-    ensures { IfOk result IsLineOwed }
+    ensures read { Reads (inject_in (fields_view args.now)) true result }
+    ensures owed { IfOk result IsLineOwed }
 {
     let [network, node, bytes] = args else {
         return Err(Halt::Bad);
@@ -168,14 +235,20 @@ fn inject_of(alloc: Global, args: &[&[u8]]) -> Result<Line, Halt>
 
 /// Reads the fields of a line that is not blank, behind the layout. What it names is there.
 pub fn read_line(alloc: Global, map: &Map, fields: &[&[u8]]) -> Result<Line, Halt>
-    ensures { IfOk result IsLineOwed }
+    ensures read { ReadsLine (map_view map.now) (fields_view fields.now) result }
+    ensures owed { IfOk result IsLineOwed }
 {
     let Some((command, args)) = fields.split_first() else {
         return Err(Halt::Bad);
     };
-    match *command {
-        b"send" => send_of(alloc, args),
-        b"inject" => inject_of(alloc, args),
-        _ => plain_of(map, command, args).ok_or(Halt::Bad),
+    if is_word(command, b"send") {
+        return send_of(alloc, args);
+    }
+    if is_word(command, b"inject") {
+        return inject_of(alloc, args);
+    }
+    match plain_of(map, command, args) {
+        Some(line) => Ok(line),
+        None => Err(Halt::Bad),
     }
 }

@@ -1,5 +1,15 @@
 //! Rounds: all members are polled, and all that was not delivered yet is delivered.
 
+ghost use Rattle.std.specs.Prelude.{◌≡◌, Result};
+ghost use Rattle.std.specs.Result.{result_err};
+ghost use Rattle.ipx_net.specs.AnswerView.{AnswerView};
+ghost use Rattle.ipx_net.specs.declared.event.Event.TheVariants as Events;
+ghost use Rattle.ipx_net.specs.declared.fault.NetFault.{NetFault};
+ghost use Rattle.ipx_sim.specs.Act.{Stepped, outcome_view};
+ghost use Rattle.ipx_sim.specs.declared.rounds.Stop.TheVariants as Stops;
+ghost use Rattle.ipx_sim.specs.Going.{GoesOn, IsDelivery, IsOfRound, IsPoll, IsPollOf, IsSendAt, IsTake, IsTakeAt, SendsByte, made_of, stop_of, taken_of, taken_result};
+
+use crate::acting::step;
 use crate::map::{Map, Spot};
 use ipx_net::{Answer, Event, Member, Net, NetFault, Place};
 use ipx_wire::{Network, Node};
@@ -19,18 +29,24 @@ pub enum Stop {
 }
 
 impl From<NetFault> for Stop {
+    ghost from_gives = { λ f e. e ≡ Stops.Fault f };
+
     fn from(fault: NetFault) -> Stop {
         Stop::Fault(fault)
     }
 }
 
 impl From<AllocError> for Stop {
+    ghost from_gives = { λ _ e. e ≡ Stops.Memory };
+
     fn from(_error: AllocError) -> Stop {
         Stop::Memory
     }
 }
 
 impl<T: Drop> From<AllocFailed<T>> for Stop {
+    ghost from_gives = { λ _ e. e ≡ Stops.Memory };
+
     fn from(_error: AllocFailed<T>) -> Stop {
         Stop::Memory
     }
@@ -74,27 +90,51 @@ impl Delivered {
     }
 }
 
-/// Takes from an end once.
-pub fn take_one(net: &mut Net, alloc: Global, end: usize) -> Result<Taken, Stop> {
-    match net.step(alloc, Event::Take { who: end })? {
+/// What was taken, or why nothing could be.
+fn taken_from(outcome: Result<Answer, NetFault>) -> Result<Taken, Stop>
+    ensures { taken_result result ≡ taken_of (outcome_view outcome) }
+{
+    match outcome? {
         Answer::Taken(taken) => Ok(taken),
         Answer::Refused(fault) => Err(Stop::Refused(fault)),
         _ => Ok(Taken::Nothing),
     }
 }
 
-/// Hands in a message of one byte.
-fn send_byte(alloc: Global, net: &mut Net, end: usize, byte: u8) -> Result<(), Stop> {
-    let body = vec![in alloc; byte]?;
-    let message = Message { stream: 0, body };
-    match net.step(alloc, Event::Send { who: end, message })? {
+/// Takes from an end once.
+pub fn take_one(net: &mut Net, alloc: Global, end: usize) -> Result<Taken, Stop>
+    ensures took { (outcome : Result AnswerView NetFault)
+        × Stepped net.old (Events.Take end) outcome net.new
+        × (taken_result result ≡ taken_of outcome) }
+    ensures goes { GoesOn (IsTakeAt end) net.old net.new }
+{
+    taken_from(step(alloc, net, Event::Take { who: end }))
+}
+
+/// Why a message was refused, if it was.
+fn sent(outcome: Result<Answer, NetFault>) -> Result<(), Stop>
+    ensures { result_err result ≡ stop_of (outcome_view outcome) }
+{
+    match outcome? {
         Answer::Refused(fault) => Err(Stop::Refused(fault)),
         _ => Ok(()),
     }
 }
 
+/// Hands in a message of one byte.
+fn send_byte(alloc: Global, net: &mut Net, end: usize, byte: u8) -> Result<(), Stop>
+    ensures sends { SendsByte end byte net.old (result_err result) net.new }
+    ensures goes { GoesOn (IsSendAt end) net.old net.new }
+{
+    let body = vec![in alloc; byte]?;
+    let message = Message { stream: 0, body };
+    sent(step(alloc, net, Event::Send { who: end, message }))
+}
+
 /// Hands in messages of one byte, which counts them from 0, modulo 256.
-pub fn fill(alloc: Global, net: &mut Net, end: usize, count: u32) -> Result<(), Stop> {
+pub fn fill(alloc: Global, net: &mut Net, end: usize, count: u32) -> Result<(), Stop>
+    ensures { GoesOn (IsSendAt end) net.old net.new }
+{
     let mut byte: u8 = 0;
     for _ in 0..count {
         send_byte(alloc, net, end, byte)?;
@@ -103,26 +143,42 @@ pub fn fill(alloc: Global, net: &mut Net, end: usize, count: u32) -> Result<(), 
     Ok(())
 }
 
-/// Polls a member once, and answers whether it sent something.
-fn poll_once(alloc: Global, net: &mut Net, member: Member) -> Result<bool, Stop> {
-    match net.step(alloc, Event::Poll { member })? {
+/// Whether a parcel was made.
+fn made_some(outcome: Result<Answer, NetFault>) -> Result<bool, Stop>
+    ensures { result ≡ made_of (outcome_view outcome) }
+{
+    match outcome? {
         Answer::Parcels(made) => Ok(!made.is_empty()),
         _ => Ok(false),
     }
 }
 
+/// Polls a member once, and answers whether it sent something.
+fn poll_once(alloc: Global, net: &mut Net, member: Member) -> Result<bool, Stop>
+    ensures polled { (outcome : Result AnswerView NetFault)
+        × Stepped net.old (Events.Poll member) outcome net.new × (result ≡ made_of outcome) }
+    ensures goes { GoesOn (IsPollOf member) net.old net.new }
+{
+    made_some(step(alloc, net, Event::Poll { member }))
+}
+
 /// Polls a member until it is quiet.
-fn poll_out(alloc: Global, net: &mut Net, member: Member) -> Result<(), Stop> {
+fn poll_out(alloc: Global, net: &mut Net, member: Member) -> Result<(), Stop>
+    ensures { GoesOn (IsPollOf member) net.old net.new }
+{
     for _ in 0..u64::MAX {
-        if !poll_once(alloc, net, member)? {
-            break;
+        let made = poll_once(alloc, net, member)?;
+        if !made {
+            return Ok(());
         }
     }
     Ok(())
 }
 
 /// Polls all members, each until it is quiet.
-fn poll_all(alloc: Global, net: &mut Net, members: &[Member]) -> Result<(), Stop> {
+fn poll_all(alloc: Global, net: &mut Net, members: &[Member]) -> Result<(), Stop>
+    ensures { GoesOn IsPoll net.old net.new }
+{
     for member in members {
         poll_out(alloc, net, *member)?;
     }
@@ -158,6 +214,24 @@ fn comes_to(way: Way, spot: &Spot) -> bool {
     way.next == spot.node
 }
 
+/// Delivers a parcel to a place where it comes there, and answers whether it does.
+fn deliver_to(
+    alloc: Global,
+    net: &mut Net,
+    spot: &Spot,
+    parcel: usize,
+    way: Way,
+) -> Result<bool, Stop>
+    ensures { GoesOn IsDelivery net.old net.new }
+{
+    if !comes_to(way, spot) {
+        return Ok(false);
+    }
+    let place = spot.place;
+    step(alloc, net, Event::Deliver { parcel, place })?;
+    Ok(true)
+}
+
 /// Delivers a parcel to each place to which it comes, and answers whether there was one.
 fn deliver_one(
     alloc: Global,
@@ -165,16 +239,31 @@ fn deliver_one(
     spots: &[Spot],
     parcel: usize,
     way: Way,
-) -> Result<bool, Stop> {
+) -> Result<bool, Stop>
+    ensures { GoesOn IsDelivery net.old net.new }
+{
     let mut any = false;
     for spot in spots {
-        if comes_to(way, spot) {
-            let place = spot.place;
-            net.step(alloc, Event::Deliver { parcel, place })?;
-            any = true;
-        }
+        any |= deliver_to(alloc, net, spot, parcel, way)?;
     }
     Ok(any)
+}
+
+/// Delivers a parcel as `deliver_one` does, unless it was delivered.
+fn deliver_unless(
+    alloc: Global,
+    net: &mut Net,
+    spots: &[Spot],
+    parcel: usize,
+    way: Way,
+    delivered: bool,
+) -> Result<bool, Stop>
+    ensures { GoesOn IsDelivery net.old net.new }
+{
+    if delivered {
+        return Ok(false);
+    }
+    deliver_one(alloc, net, spots, parcel, way)
 }
 
 /// Delivers each parcel that was never delivered, in order of number, those too that arise
@@ -184,26 +273,29 @@ fn deliver_all(
     net: &mut Net,
     spots: &[Spot],
     delivered: &mut Delivered,
-) -> Result<bool, Stop> {
+) -> Result<bool, Stop>
+    ensures { GoesOn IsDelivery net.old net.new }
+{
     let mut any = false;
     for parcel in delivered.below..usize::MAX {
         let Some(way) = way_of(net, parcel) else {
-            break;
+            return Ok(any);
         };
-        if !delivered.is_marked(parcel) && deliver_one(alloc, net, spots, parcel, way)? {
-            any = true;
-        }
+        let marked = delivered.is_marked(parcel);
+        any |= deliver_unless(alloc, net, spots, parcel, way, marked)?;
         delivered.below = parcel + 1;
     }
     Ok(any)
 }
 
 /// Takes from an end until nothing is held, and answers whether a unit was taken.
-fn drain(alloc: Global, net: &mut Net, end: usize) -> Result<bool, Stop> {
+fn drain(alloc: Global, net: &mut Net, end: usize) -> Result<bool, Stop>
+    ensures { GoesOn (IsTakeAt end) net.old net.new }
+{
     let mut any = false;
     for _ in 0..u64::MAX {
         match take_one(net, alloc, end)? {
-            Taken::Nothing => break,
+            Taken::Nothing => return Ok(any),
             _ => any = true,
         }
     }
@@ -218,15 +310,35 @@ fn stands(net: &Net, end: usize) -> bool {
     }
 }
 
+/// Takes from an end as `drain` does, unless it was released.
+fn drain_standing(alloc: Global, net: &mut Net, end: usize) -> Result<bool, Stop>
+    ensures { GoesOn (IsTakeAt end) net.old net.new }
+{
+    if !stands(net, end) {
+        return Ok(false);
+    }
+    drain(alloc, net, end)
+}
+
 /// Takes from each end that was not released until nothing is held there.
-fn drain_all(alloc: Global, net: &mut Net) -> Result<bool, Stop> {
+fn drain_all(alloc: Global, net: &mut Net) -> Result<bool, Stop>
+    ensures { GoesOn IsTake net.old net.new }
+{
     let mut any = false;
     for end in 0..net.ends().len() {
-        if stands(net, end) && drain(alloc, net, end)? {
-            any = true;
-        }
+        any |= drain_standing(alloc, net, end)?;
     }
     Ok(any)
+}
+
+/// Takes from each end, where the round takes.
+fn drain_if(alloc: Global, net: &mut Net, takes: bool) -> Result<bool, Stop>
+    ensures { GoesOn (IsOfRound takes) net.old net.new }
+{
+    if takes {
+        return drain_all(alloc, net);
+    }
+    Ok(false)
 }
 
 /// One round. It answers whether a parcel was made or delivered, or a unit taken.
@@ -236,12 +348,15 @@ fn run_round(
     map: &Map,
     delivered: &mut Delivered,
     takes: bool,
-) -> Result<bool, Stop> {
+) -> Result<bool, Stop>
+    ensures { GoesOn (IsOfRound takes) net.old net.new }
+{
     let before = net.parcels().len();
     poll_all(alloc, net, &map.members)?;
     let any = deliver_all(alloc, net, &map.spots, delivered)?;
-    let taken = takes && drain_all(alloc, net)?;
-    Ok(any || taken || net.parcels().len() > before)
+    let taken = drain_if(alloc, net, takes)?;
+    let made = net.parcels().len() > before;
+    Ok(any | taken | made)
 }
 
 /// At most so many rounds. One in which nothing comes about is the last.
@@ -252,10 +367,13 @@ pub fn run_rounds(
     delivered: &mut Delivered,
     rounds: u32,
     takes: bool,
-) -> Result<(), Stop> {
+) -> Result<(), Stop>
+    ensures { GoesOn (IsOfRound takes) net.old net.new }
+{
     for _ in 0..rounds {
-        if !run_round(alloc, net, map, delivered, takes)? {
-            break;
+        let any = run_round(alloc, net, map, delivered, takes)?;
+        if !any {
+            return Ok(());
         }
     }
     Ok(())

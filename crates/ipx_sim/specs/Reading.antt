@@ -1,0 +1,184 @@
+-- What the lines of a script behind the layout name. All of it is own.
+use Rattle.std.specs.Prelude.{ℕ, ◌≡◌, ◌==◌, ◌||◌, Bool, false, true, if◌then◌else◌, List, [], ◌∷◌, codes, length, slice_index_or, Option, Some, None, option_map, Result, Ok, Err}
+use Rattle.std.specs.Str.{bytes_eq}
+use Rattle.spx_units.specs.Message.{MessageView, message_view}
+use Rattle.ipx_wire.specs.declared.address.Address.{Address}
+use Rattle.ipx_wire.specs.declared.address.Network.{Network}
+use Rattle.ipx_wire.specs.declared.address.Node.{Node}
+use Rattle.ipx_wire.specs.declared.address.Socket.{Socket}
+use Rattle.ipx_net.specs.declared.event.Event as code
+use Rattle.ipx_net.specs.declared.event.Event.TheVariants as Events
+use Rattle.ipx_net.specs.declared.event.Member.{Member}
+use Rattle.ipx_net.specs.declared.place.Place.{Place}
+use Rattle.ipx_sim.specs.Fields.{address_in, buffers_in, bytes_in, network_in, node_in, number_in, socket_in, stream_in}
+use Rattle.ipx_sim.specs.Places.{MapView, host_in, member_in, place_in}
+use Rattle.ipx_sim.specs.declared.halt.Halt.{Halt}
+use Rattle.ipx_sim.specs.declared.halt.Halt.TheVariants as Halts
+use Rattle.ipx_sim.specs.declared.line.Line.{Line}
+use Rattle.ipx_sim.specs.declared.line.Line.TheVariants as Lines
+
+-- an event, without where its bytes lie in memory
+pub data EventView : Type 0 where
+  Dial : ℕ → Socket → Address → ℕ → EventView
+  Send : ℕ → MessageView → EventView
+  TakeOne : ℕ → EventView
+  Close : ℕ → EventView
+  Release : ℕ → EventView
+  Now : ℕ → EventView
+  Poll : Member → EventView
+  Deliver : ℕ → Place → EventView
+  Inject : Network → Node → List ℕ → EventView
+
+abbrev pub event_view : code.Event → EventView
+event_view (Events.Dial host socket to buffers) = Dial host socket to buffers
+event_view (Events.Send who message) = Send who (message_view message)
+event_view (Events.Take who) = TakeOne who
+event_view (Events.Close who) = Close who
+event_view (Events.Release who) = Release who
+event_view (Events.Tick now) = Now now
+event_view (Events.Poll member) = Poll member
+event_view (Events.Deliver parcel place) = Deliver parcel place
+event_view (Events.Inject segment next bytes) = Inject segment next bytes.items
+
+-- and so a line
+pub data LineView : Type 0 where
+  Act : EventView → LineView
+  Tick : ℕ → LineView
+  Fill : ℕ → ℕ → LineView
+  Take : ℕ → LineView
+  Run : ℕ → LineView
+  Pump : ℕ → LineView
+
+abbrev pub line_view : Line → LineView
+line_view (Lines.Act event) = Act (event_view event)
+line_view (Lines.Tick milliseconds) = Tick milliseconds
+line_view (Lines.Fill end count) = Fill end count
+line_view (Lines.Take end) = Take end
+line_view (Lines.Run rounds) = Run rounds
+line_view (Lines.Pump rounds) = Pump rounds
+
+-- what is named by what was named before, if that was
+infixl 10 ◌>>=◌
+abbrev pub ◌>>=◌ : {A B : Type 0} → Option A → (A → Option B) → Option B
+Some x >>= f = f x
+None >>= f = None
+
+-- the field of a place, from 0
+abbrev pub arg : List (List ℕ) → ℕ → List ℕ
+arg args place = slice_index_or args place []
+
+-- the fields, where there are just so many
+abbrev pub exactly : ℕ → List (List ℕ) → Option (List (List ℕ))
+exactly count args = if length args == count then Some args else None
+
+-- the one field that is there
+abbrev pub only_in : List (List ℕ) → Option (List ℕ)
+only_in args = option_map (λ fields. arg fields 0) (exactly 1 args)
+
+-- ---- events
+
+-- `dial HOST SOCKET NET NODE SOCKET BUFFERS`
+abbrev pub dial_in : MapView → List (List ℕ) → Option EventView
+dial_in m args = do
+  fields ← exactly 6 args
+  host ← host_in m (arg fields 0)
+  socket ← socket_in (arg fields 1)
+  to ← address_in (arg fields 2) (arg fields 3) (arg fields 4)
+  buffers ← buffers_in (arg fields 5)
+  Some (Dial host socket to buffers)
+
+-- `close E`, `release E` and `poll NAME`
+abbrev pub end_in : (ℕ → EventView) → List (List ℕ) → Option EventView
+end_in event args = do
+  field ← only_in args
+  option_map event (number_in field)
+
+abbrev pub poll_in : MapView → List (List ℕ) → Option EventView
+poll_in m args = do
+  field ← only_in args
+  option_map Poll (member_in m field)
+
+-- `deliver N PLACE`
+abbrev pub deliver_in : MapView → List (List ℕ) → Option EventView
+deliver_in m args = do
+  fields ← exactly 2 args
+  parcel ← number_in (arg fields 0)
+  place ← place_in m (arg fields 1)
+  Some (Deliver parcel place)
+
+-- by its word, an event whose reading wants no memory
+abbrev pub event_in : MapView → List ℕ → List (List ℕ) → Option EventView
+event_in m word args =
+    if bytes_eq word (codes "dial") then dial_in m args
+    else if bytes_eq word (codes "close") then end_in Close args
+    else if bytes_eq word (codes "release") then end_in Release args
+    else if bytes_eq word (codes "poll") then poll_in m args
+    else if bytes_eq word (codes "deliver") then deliver_in m args
+    else None
+
+-- `send E SS HEX`
+abbrev pub send_in : List (List ℕ) → Option LineView
+send_in args = do
+  fields ← exactly 3 args
+  end ← number_in (arg fields 0)
+  stream ← stream_in (arg fields 1)
+  body ← bytes_in (arg fields 2)
+  Some (Act (Send end (record { stream = stream; body = body })))
+
+-- `inject NET NODE HEX`
+abbrev pub inject_in : List (List ℕ) → Option LineView
+inject_in args = do
+  fields ← exactly 3 args
+  segment ← network_in (arg fields 0)
+  next ← node_in (arg fields 1)
+  bytes ← bytes_in (arg fields 2)
+  Some (Act (Inject segment next bytes))
+
+-- ---- lines
+
+-- `fill E N`
+abbrev pub fill_in : List (List ℕ) → Option LineView
+fill_in args = do
+  fields ← exactly 2 args
+  end ← number_in (arg fields 0)
+  count ← number_in (arg fields 1)
+  Some (Fill end count)
+
+-- `take E`, `tick N`, `run N` and `pump N`
+abbrev pub counted_in : (ℕ → LineView) → List (List ℕ) → Option LineView
+counted_in line args = do
+  field ← only_in args
+  option_map line (number_in field)
+
+-- by its word, a line whose reading wants no memory
+abbrev pub plain_in : MapView → List ℕ → List (List ℕ) → Option LineView
+plain_in m word args =
+    if bytes_eq word (codes "fill") then fill_in args
+    else if bytes_eq word (codes "take") then counted_in Take args
+    else if bytes_eq word (codes "tick") then counted_in Tick args
+    else if bytes_eq word (codes "run") then counted_in Run args
+    else if bytes_eq word (codes "pump") then counted_in Pump args
+    else option_map Act (event_in m word args)
+
+-- a line by its fields, of which the first one is its word
+abbrev pub line_in : MapView → List (List ℕ) → Option LineView
+line_in m [] = None
+line_in m (word ∷ args) =
+    if bytes_eq word (codes "send") then send_in args
+    else if bytes_eq word (codes "inject") then inject_in args
+    else plain_in m word args
+
+-- whether it brings bytes, whose reading wants memory
+abbrev pub brings_bytes : List (List ℕ) → Bool
+brings_bytes [] = false
+brings_bytes (word ∷ args) = bytes_eq word (codes "send") || bytes_eq word (codes "inject")
+
+-- what is read is the line that is named; none is bad; and only bytes can want memory
+abbrev pub Reads : Option LineView → Bool → Result Line Halt → Type 0
+Reads named wants (Ok line) = named ≡ Some (line_view line)
+Reads named wants (Err Halts.Bad) = named ≡ None
+Reads named wants (Err Halts.Memory) = wants ≡ true
+Reads named wants (Err Halts.Ended) = ⊥
+
+abbrev pub ReadsLine : MapView → List (List ℕ) → Result Line Halt → Type 0
+ReadsLine m fields result = Reads (line_in m fields) (brings_bytes fields) result
