@@ -16,10 +16,10 @@ pub is_round : {K : Type 0} (tells : K → ℕ → K → Type 0) (clock told tic
     (i j n : ℕ) (now times times_after : ℕ) (old mid new : CoreView) (b : Burst) → tells clock now told → tick ≡ told
     → AsksAgain now times times_after old mid → here ≡ peers → j ≡ i
     → Bursts Hears Misses Gives Withholds tells (length mid.router.ports) here 256 b j n tick clock_after mid new
-    → IsRound clock clock_after tells peers i n times times_after old new
+    → IsRound clock clock_after tells peers i n times times_after old new b
 is_round tells clock told tick clock_after peers here i j n now times times_after old mid new b h e asks f g bursts =
     let at = subst (λ ports. Bursts Hears Misses Gives Withholds tells ports here 256 b j n tick clock_after mid new)
     (same_ports now times times_after old mid asks) bursts in
     let by = subst (λ (it : Peers). Bursts Hears Misses Gives Withholds tells (length old.router.ports) it 256 b j n tick clock_after mid new) f at in
     let kept = subst (λ it. Bursts Hears Misses Gives Withholds tells (length old.router.ports) peers 256 b it n tick clock_after mid new) g by in
-    (now, tick, mid, b, subst (λ it. tells clock now it) (sym e) h, asks, kept)
+    (now, tick, mid, subst (λ it. tells clock now it) (sym e) h, asks, kept)

@@ -17,10 +17,10 @@ AsksAgain now times times_after old new =
     ⊎ ((IsToAskAgain times now → ⊥) × (times_after ≡ times) × (new ≡ old))
 
 -- one round, at the moment that the clock tells: it asks again where it is time, and takes a burst of
--- at most 256 turns, in which its device keeps back from the one count to the other
-abbrev pub IsRound : {K : Type 0} → K → K → (K → ℕ → K → Type 0) → Peers → ℕ → ℕ → ℕ → ℕ → CoreView → CoreView → Type 0
-IsRound {K} clock clock_after tells peers kept kept_after times times_after old new = (now : ℕ) × (tick : K)
-    × (mid : CoreView) × (b : Burst) × tells clock now tick
+-- at most 256 turns, this one, in which its device keeps back from the one count to the other
+abbrev pub IsRound : {K : Type 0} → K → K → (K → ℕ → K → Type 0) → Peers → ℕ → ℕ → ℕ → ℕ → CoreView → CoreView → Burst → Type 0
+IsRound {K} clock clock_after tells peers kept kept_after times times_after old new b = (now : ℕ) × (tick : K)
+    × (mid : CoreView) × tells clock now tick
     × AsksAgain now times times_after old mid
     × Bursts Hears Misses Gives Withholds tells (length old.router.ports) peers 256 b kept kept_after tick clock_after mid new
 

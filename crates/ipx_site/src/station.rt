@@ -227,7 +227,7 @@ impl<'a, R: SystemClock> Station<'a, R> {
         ensures core { IsRound self.old.clock self.new.clock
             (λ old moment new. (old.last ≤ moment) × (new.last ≡ moment))
             (peers_of self.old.peers.items) self.old.device.strangers self.new.device.strangers
-            self.old.asked self.new.asked self.old.core self.new.core }
+            self.old.asked self.new.asked self.old.core self.new.core result }
         ensures peers { self.new.peers ≡ self.old.peers }
         ensures access { map access_by self.new.device.guards.items
             ≡ map access_by self.old.device.guards.items }
@@ -250,10 +250,11 @@ impl<'a, R: SystemClock> Station<'a, R> {
     /// and waits.
     pub fn step<S: Log + Files>(&mut self, rt: &S, alloc: Global) -> Result<(), WaitFault>
         // A round, and behind it the clock is read once more at most.
-        ensures core { (between : SteadyClock R) × IsRound self.old.clock between
+        ensures core { (between : SteadyClock R) × (burst : Burst)
+            × IsRound self.old.clock between
             (λ old moment new. (old.last ≤ moment) × (new.last ≡ moment))
             (peers_of self.old.peers.items) self.old.device.strangers self.new.device.strangers
-            self.old.asked self.new.asked self.old.core self.new.core
+            self.old.asked self.new.asked self.old.core self.new.core burst
             × ReadsOnceMore between self.new.clock
             (λ old moment new. (old.last ≤ moment) × (new.last ≡ moment)) }
         ensures peers { self.new.peers ≡ self.old.peers }
