@@ -22,8 +22,8 @@ abbrev pub received_in : List ℕ → Option ℕ → Option (List ℕ)
 received_in room None = None
 received_in room (Some count) = Some (take count room)
 
--- who may speak at a port: what is sent goes to these IP addresses alone, and what comes is heard
--- from them, or from everybody
+-- who may speak at a port, as a device says it: what is sent goes to these IP addresses alone, and what
+-- comes is heard from them, or from everybody
 pub record Access : Type 0 where
   pub peers : List (List ℕ)
   pub everybody : Bool

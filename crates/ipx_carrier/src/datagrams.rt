@@ -11,7 +11,8 @@ use crate::fault::DeviceFault;
 /// It counts how often it failed, which no one else can raise. What it received and sent is known
 /// of a device that keeps it, as one in memory; a contract over datagrams speaks of what the
 /// device tells, and says nothing of it where it tells none, as one of sockets. A device may let pass
-/// only what comes from and goes to some: then it says who they are, and how much it kept back.
+/// only what comes from and goes to some: then it says who they are, and how much it kept back, and
+/// its own clauses say that it does so.
 pub trait Datagrams {
     /// How many ports there are.
     ghost port_count: { Self → ℕ };

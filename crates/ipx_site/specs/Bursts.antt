@@ -69,7 +69,7 @@ module _ {C : Type 0} (hears : C → ℕ → List ℕ → ℕ → C → Type 0)
     (gives : C → ℕ → Option Given → C → Type 0) {K : Type 0} (tells : K → ℕ → K → Type 0)
     (ports : ℕ) (peers : Peers) where
   -- runs of one turn each, one after another, with what the device keeps back from the one count to
-  -- the other, which never falls. What passed is told by the device below
+  -- the other, which never falls. What passed at its sockets is not told
   abbrev pub Chain : List Taken → ℕ → ℕ → K → K → C → C → Type 0
   Chain [] kept kept_after clock clock_after old new =
       (kept_after ≡ kept) × (clock_after ≡ clock) × (new ≡ old)
