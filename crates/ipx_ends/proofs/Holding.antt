@@ -1,15 +1,18 @@
 -- Connections of a host, one behind the other.
-use Rattle.std.proofs.Common.{◌≡◌, ℕ, zero, suc, ◌+◌, ◌<◌, ◌==◌, Bool, true, false, cond, List, [], ◌∷◌, ◌++◌, length, take, drop, set, get_or, length-drop, take-append-drop, Option, Some, None, map, Result, Ok, Err, refl, sym, ap, ◌∙◌, subst, arith, append-nil}
+use Rattle.std.proofs.Common.{◌≡◌, ◌||◌, inl, inr, slice_get, ℕ, zero, suc, ◌+◌, ◌<◌, ◌==◌, Bool, true, false, cond, List, [], ◌∷◌, ◌++◌, length, take, drop, set, get_or, length-drop, take-append-drop, Option, Some, None, map, Result, Ok, Err, refl, sym, ap, ◌∙◌, subst, arith, append-nil}
 use Rattle.std.proofs.lemmas.List.{drop_more, drop-set-lt, get_or_default, take_more, take_more_set}
 use Rattle.std.proofs.lemmas.List.Edits.{map_over_more}
 use Rattle.std.proofs.lemmas.List.Elements.{All-more}
-use Rattle.std.specs.Prelude.{All, IsTrue, OnErr, remove}
+use Rattle.std.specs.Prelude.{All, IfSome, IsTrue, OnErr, remove}
 use Rattle.spx_link.specs.declared.state.State.{State}
-use Rattle.spx_messages.specs.EndpointView.{EndpointView}
-use Rattle.ipx_ends.specs.Callers.{KeepsOne, heard_by, once_heard}
+use Rattle.spx_messages.specs.EndpointView.{EndpointView, held_at}
+use Rattle.ipx_ends.specs.Callers.{Asks as IsAsked, EndedAlone, KeepsOne, heard_by, once_heard}
 use Rattle.ipx_ends.specs.Outlet.{Writes}
-use Rattle.ipx_ends.specs.Tending.{IsFateOf, JustStays}
+use Rattle.ipx_ends.specs.Tending.{Does, IsFateOf, JustStays, Tends}
 use Rattle.ipx_ends.specs.declared.end_core.EndCore.{EndCore}
+use Rattle.ipx_ends.specs.Stop.{parted}
+use Rattle.ipx_ends.specs.declared.listening.Stop.{Stop}
+use Rattle.ipx_ends.specs.declared.listening.Stop.TheVariants as Stops
 use Rattle.ipx_ends.specs.Fate.{IsFate, standing_heard}
 use Rattle.ipx_ends.specs.Passing.{PassesEach, PassesOne, PassesSome}
 use Rattle.ipx_ends.specs.declared.callers.Caller.{Caller}
@@ -159,3 +162,64 @@ pub first_more : (core : EndCore) (items xs : List Caller) (i : ℕ) (d : Caller
 first_more core items xs i d f same within all is stays =
     let fate : JustStays core (get_or items i d) = subst (λ (l : List Caller). JustStays core (get_or l i d)) same (subst (λ (g : Fate). IsFateOf core (get_or xs i d) g) stays is) in
     All-more (JustStays core) items i d (omega (arith, within, ap length same)) all fate
+
+-- where nothing was taken, and nothing then, all that is held is as it was
+pub still_more : (took more : Bool) (a b c : EndpointView) → (took ≡ false → (id : ℕ) → held_at b id ≡ held_at a id)
+    → (more ≡ false → (id : ℕ) → held_at c id ≡ held_at b id) → (took || more) ≡ false → (id : ℕ) → held_at c id ≡ held_at a id
+still_more false more a b c before here none id = here none id ∙ before refl id
+still_more true more a b c before here none id = absurd (cc)
+
+-- with `once` all ends, whatever connection goes; and well where its end was taken
+parted_some : (fate : Fate) (standing : Standing) → None ≡ parted true fate standing → ⊥
+parted_some Stays standing e = absurd (cc)
+parted_some Asks standing e = absurd (cc)
+parted_some Over Standings.Open e = absurd (cc)
+parted_some Over Standings.Asked e = absurd (cc)
+parted_some Over Standings.Ended e = absurd (cc)
+parted_some GivenUp standing e = absurd (cc)
+
+parted_ended : (fate : Fate) (standing : Standing) → Some Stops.Ended ≡ parted true fate standing → standing ≡ Standings.Ended
+parted_ended Stays standing e = absurd (cc)
+parted_ended Asks standing e = absurd (cc)
+parted_ended Over Standings.Open e = absurd (cc)
+parted_ended Over Standings.Asked e = absurd (cc)
+parted_ended Over Standings.Ended e = refl
+parted_ended GivenUp standing e = absurd (cc)
+
+-- a connection that is asked is not ended by that
+asked_ended : (now : ℕ) (old new : EndpointView) (c c' : Caller) → IsAsked now old new c c' → c'.standing ≡ Standings.Ended → c.standing ≡ Standings.Ended
+asked_ended now old new c c' (inl p) ended =
+    let asked : c'.standing ≡ Standings.Asked = ap (λ (k : Caller). k.standing) p.3 in absurd (cc)
+asked_ended now old new c c' (inr p) ended = sym (ap (λ (k : Caller). k.standing) p.1) ∙ ended
+
+done_on : (now : ℕ) (c : Caller) (fate : Fate) (old new : EndpointView) (cs' : List Caller) → Does true now c 0 fate old new (c ∷ []) cs' None → EndedAlone cs' → EndedAlone (c ∷ [])
+done_on now c Stays old new cs' does alone = subst EndedAlone does.1 alone
+done_on now c Asks old new cs' does alone =
+    let same = same_head does.0 alone.0 [] [] (sym does.2 ∙ alone.1) in
+    (c, refl, asked_ended now old new c does.0 does.1 (ap (λ (k : Caller). k.standing) same.0 ∙ alone.2))
+done_on now c Over old new cs' does alone = absurd (parted_some Over c.standing does.2)
+done_on now c GivenUp old new cs' does alone = absurd (parted_some GivenUp c.standing does.2)
+
+done_ends : (now : ℕ) (c : Caller) (fate : Fate) (old new : EndpointView) (cs' : List Caller) → Does true now c 0 fate old new (c ∷ []) cs' (Some Stops.Ended) → c.standing ≡ Standings.Ended
+done_ends now c Stays old new cs' does = let no : Some Stops.Ended ≡ None = does.2 in absurd (cc)
+done_ends now c Asks old new cs' does = let no : Some Stops.Ended ≡ None = does.3 in absurd (cc)
+done_ends now c Over old new cs' does = parted_ended Over c.standing does.2
+done_ends now c GivenUp old new cs' does = parted_ended GivenUp c.standing does.2
+
+-- with `once`, where all goes on, the only connection is ended just where it was
+pub tended_on : (once : Bool) (core : EndCore) (new : EndpointView) (cs cs' : List Caller) (left : List ℕ) (place : ℕ) → IsTrue once → place < length cs → KeepsOne once cs left
+    → IfSome (slice_get cs place) (λ c. Tends once core c place new cs cs' None) → EndedAlone cs' → EndedAlone cs
+tended_on false core new cs cs' left place is within keeps tends alone = absurd (cc)
+tended_on true core new [] cs' left place is within keeps tends alone = absurd (omega arith)
+tended_on true core new (c ∷ []) cs' left zero is within keeps tends alone = done_on core.moment c tends.0 core.endpoint new cs' tends.2 alone
+tended_on true core new (c ∷ []) cs' left (suc n) is within keeps tends alone = absurd (omega arith)
+tended_on true core new (c ∷ d ∷ cs) cs' left place is within keeps tends alone = absurd keeps
+
+-- and where all ends well, it was
+pub tended_ends : (once : Bool) (core : EndCore) (new : EndpointView) (cs cs' : List Caller) (left : List ℕ) (place : ℕ) → IsTrue once → place < length cs → KeepsOne once cs left
+    → IfSome (slice_get cs place) (λ c. Tends once core c place new cs cs' (Some Stops.Ended)) → EndedAlone cs
+tended_ends false core new cs cs' left place is within keeps tends = absurd (cc)
+tended_ends true core new [] cs' left place is within keeps tends = absurd (omega arith)
+tended_ends true core new (c ∷ []) cs' left zero is within keeps tends = (c, refl, done_ends core.moment c tends.0 core.endpoint new cs' tends.2)
+tended_ends true core new (c ∷ []) cs' left (suc n) is within keeps tends = absurd (omega arith)
+tended_ends true core new (c ∷ d ∷ cs) cs' left place is within keeps tends = absurd keeps

@@ -35,7 +35,8 @@ pub record LetsLinkGo (old new : EndpointView) (id : ℕ) : Type 0 where
 abbrev pub IsFull : Bool → List Caller → Type 0
 IsFull once callers = (IsTrue once × (callers ≢ [])) ⊎ (16 ≤ length callers)
 
--- a connection comes: it is the last one then; or there is no place, and its link is let go
+-- a connection comes: it is the last one then; or there is no place, and its link is let go. That no more
+-- than 16 are held is of the endpoint: it accepts none where it has 16 links
 abbrev pub Admits : Bool → Caller → EndpointView → EndpointView → List Caller → List Caller → Type 0
 Admits once c old new callers callers' =
     ((IsTrue once → callers ≡ []) × (callers' ≡ callers ++ c ∷ []) × (new ≡ old))
@@ -56,6 +57,10 @@ KeepsOne false callers left = Unit {0}
 KeepsOne true [] left = Unit {0}
 KeepsOne true (c ∷ []) left = c.standing ≡ Standings.Ended → left ≡ []
 KeepsOne true (c ∷ d ∷ cs) left = ⊥
+
+-- there is one connection, and its end was taken
+abbrev pub EndedAlone : List Caller → Type 0
+EndedAlone callers = (c : Caller) × (callers ≡ c ∷ []) × (c.standing ≡ Standings.Ended)
 
 pub keeps_one_prop : (once : Bool) (callers : List Caller) (left : List ℕ) → IsProp (KeepsOne once callers left)
 keeps_one_prop false callers left = Unit-prop

@@ -82,8 +82,8 @@ pub record SameOthers (old new : EndpointView) (id : ℕ) : Type 0 where
   pub self : SameSelf old new
   pub heard : new.heard ≡ old.heard
 
--- what passes from one connection of a host. Behind an end that was taken nothing is taken: so where
--- nothing was left to write before, nothing is left behind an end
+-- what passes from one connection of a host. Where an end that was taken before left nothing to write,
+-- one that is taken now leaves nothing, either
 pub record PassesOne (old new : EndpointView) (waiting left : List ℕ)
     (written writes : Option (List ℕ)) (caller caller' : Caller) : Type 0 where
   pub from : PassesFrom (held_at old caller.id) (held_at new caller.id) waiting left written writes caller caller'

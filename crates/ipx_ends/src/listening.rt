@@ -1,9 +1,12 @@
 //! The command `listen`: a host that takes connections, and writes the messages that come.
 
-ghost use Rattle.std.specs.Prelude.{◌≡◌, ◌≢◌, ◌<◌, ◌≤◌, ◌↔◌, [], length, map, remove, slice_get, slice_set, take, false, All, IfErr, IfOk, IfSome, IsTrue, MatchOption, None, OnErr, OnOk, Err, Ok, vec_capacity};
-ghost use Rattle.spx_messages.specs.EndpointView.{held_at};
+ghost use Rattle.std.specs.Prelude.{◌≡◌, ◌≢◌, ◌<◌, ◌≤◌, ◌↔◌, ◌∷◌, [], ℕ, length, map, remove, slice_get, slice_set, take, false, All, IfErr, IfOk, IfSome, IsTrue, MatchOption, None, OnErr, OnOk, Some, Err, Ok, vec_capacity};
+ghost use Rattle.ipx_carrier.specs.Mapping.{node_at};
+ghost use Rattle.ipx_carrier.specs.Turns.{peers_of};
+ghost use Rattle.ipx_wire.specs.declared.address.Socket.{Socket};
+ghost use Rattle.spx_messages.specs.EndpointView.{buffers_at, held_at};
 ghost use Rattle.spx_messages.specs.Taking.{PeerEnd as TheEnd, take_end};
-ghost use Rattle.ipx_ends.specs.Callers.{Admits, Asks, KeepsOne, LetsLinkGo, caller_of, heard_by, keeps_one_prop};
+ghost use Rattle.ipx_ends.specs.Callers.{Admits, Asks, EndedAlone, KeepsOne, LetsLinkGo, caller_of, heard_by, keeps_one_prop};
 ghost use Rattle.ipx_ends.specs.Outlet.{left_of};
 ghost use Rattle.ipx_ends.specs.Passing.{Passes, PassesEach, PassesOne, PassesSome, SameOthers, Takes, TakesNothing};
 ghost use Rattle.ipx_ends.specs.Stop.{parted, stop_in, stop_status};
@@ -136,6 +139,9 @@ fn take_some<W: Write>(
     ensures one { PassesOne endpoint.old endpoint.new (left_of outlet.old) (left_of outlet.new)
         (W.contents writer.old) (W.contents writer.new) caller.old caller.new }
     ensures id { caller.new.id ≡ caller.old.id }
+    // Where it took nothing, all that is held is as it was.
+    ensures still { result ≡ Ok false
+        → (id : ℕ) → held_at endpoint.new id ≡ held_at endpoint.old id }
 {
     let mut took = false;
     for _ in 0..MOST_TAKES {
@@ -160,10 +166,12 @@ fn take_each<W: Write>(
     ensures all { OnOk result (PassesEach endpoint.old endpoint.new (left_of outlet.old)
         (left_of outlet.new) (W.contents writer.old) (W.contents writer.new)
         callers.old callers.new) }
-    // Where the writer fails, so it is for those up to the one whose message it was.
+    // Where the writer fails, so it is of the first ones, and the others are as they were.
     ensures some { OnErr result (PassesSome endpoint.old endpoint.new (left_of outlet.old)
         (left_of outlet.new) (W.contents writer.old) (W.contents writer.new)
         callers.old callers.new) }
+    ensures still { result ≡ Ok false
+        → (id : ℕ) → held_at endpoint.new id ≡ held_at endpoint.old id }
 {
     let mut took = false;
     for caller in callers.iter_mut() {
@@ -189,6 +197,21 @@ impl<'a, R: Net + Log + Clock> Listening<'a, R> {
         ensures nobody { IfOk result (λ l. l.callers.items ≡ []) }
         ensures nothing { IfOk result (λ l. left_of l.outlet ≡ []) }
         ensures once { IfOk result (λ l. l.once ≡ once) }
+        // It listens at the socket of its file, with the buffers of it, and nowhere else.
+        ensures listens { IfOk result (λ l.
+            buffers_at l.station.core.endpoint file.now.socket ≡ Some file.now.buffers) }
+        ensures alone { IfOk result (λ l. (socket : Socket) → socket.0 ≢ file.now.socket.0
+            → buffers_at l.station.core.endpoint socket ≡ None) }
+        ensures network { IfOk result (λ l.
+            l.station.core.endpoint.network ≡ file.now.network) }
+        ensures node { IfOk result (λ l.
+            l.station.core.endpoint.node ≡ node_at file.now.address) }
+        ensures router { IfOk result (λ l.
+            l.station.core.endpoint.router ≡ node_at file.now.router) }
+        ensures links { IfOk result (λ l. (id : ℕ) → held_at l.station.core.endpoint id ≡ None) }
+        ensures accepted { IfOk result (λ l. l.station.core.accepted ≡ None) }
+        ensures peers { IfOk result (λ l.
+            peers_of l.station.wire.peers.items ≡ (file.now.router ∷ []) ∷ []) }
     {
         let mut station = Station::open(rt, alloc, file)?;
         station
@@ -268,6 +291,9 @@ impl<'a, R: Net + Log + Clock> Listening<'a, R> {
             (left_of self.old.outlet) (left_of self.new.outlet)
             (W.contents writer.old) (W.contents writer.new)
             self.old.callers.items self.new.callers.items) }
+        ensures still { result ≡ Ok false → (id : ℕ) →
+            held_at self.new.station.core.endpoint id
+            ≡ held_at self.old.station.core.endpoint id }
         ensures core { self.new.station.core ≡ record self.old.station.core {
           endpoint = self.new.station.core.endpoint;
         } }
@@ -386,6 +412,7 @@ impl<'a, R: Net + Log + Clock> Listening<'a, R> {
 
     /// Lets go the connections that are over or given up, and asks those that are silent.
     fn tidy(&mut self, rt: &R, alloc: Global) -> Result<(), Stop>
+        ensures ended { result ≡ Err Stops.Ended → EndedAlone self.old.callers.items }
         ensures written { result ≡ Err Stops.Ended → left_of self.new.outlet ≡ [] }
         ensures only { OnErr result (IsTrue self.old.once) }
         ensures core { self.new.station.core ≡ record self.old.station.core {
@@ -560,7 +587,11 @@ pub fn do_listen<R: Net + Log + Files + Clock + Eprint, W: Write>(
     path: &str,
     once: bool,
     writer: &mut W,
-) -> u8 {
+) -> u8
+    ensures few { result ≤ 2 }
+    // Without `once` it never ends well.
+    ensures once { result ≡ 0 → IsTrue once }
+{
     let loaded = load_host(rt, alloc, path);
     listen_by(rt, alloc, path, loaded, once, writer)
 }

@@ -1,9 +1,13 @@
 //! A host by its file: its endpoint, its socket and its clock.
 
-ghost use Rattle.std.specs.Prelude.{◌≡◌, ◌≤◌, ◌∷◌, [], IfOk, None, OnErr, length};
+ghost use Rattle.std.specs.Prelude.{◌≡◌, ◌≤◌, ◌∷◌, [], ℕ, IfOk, None, OnErr, length, map};
+ghost use Rattle.ipx_carrier.specs.Mapping.{node_at};
 ghost use Rattle.ipx_carrier.specs.Runs.{EndsEarly, Runs};
 ghost use Rattle.ipx_carrier.specs.Turns.{peers_of};
 ghost use Rattle.ipx_carrier.specs.declared.fault.RunFault.TheVariants as RunFaults;
+ghost use Rattle.ipx_wire.specs.declared.address.Socket.{Socket};
+ghost use Rattle.spx_link.specs.Links.{count_of};
+ghost use Rattle.spx_messages.specs.EndpointView.{buffers_at, held_at};
 ghost use Rattle.ipx_ends.specs.Turning.{TakesTurn, gives, hears, misses, withholds};
 
 use crate::end_core::EndCore;
@@ -78,11 +82,22 @@ impl<'a, R: Net + Log + Clock> Station<'a, R> {
     /// A host that is bound as its file says. It hears whoever reaches its socket.
     pub fn open(rt: &'a R, alloc: Global, file: &HostFile) -> Result<Station<'a, R>, StartFault>
         ensures network { IfOk result (λ s. s.core.endpoint.network ≡ file.now.network) }
+        ensures node { IfOk result (λ s. s.core.endpoint.node ≡ node_at file.now.address) }
+        ensures router { IfOk result (λ s. s.core.endpoint.router ≡ node_at file.now.router) }
+        // No link is there yet, and no id was given; and no socket listens.
+        ensures links { IfOk result (λ s. (id : ℕ) → held_at s.core.endpoint id ≡ None) }
+        ensures last { IfOk result (λ s. s.core.endpoint.links.last ≡ 0) }
+        ensures count { IfOk result (λ s. count_of s.core.endpoint.links ≡ 0) }
+        ensures deaf { IfOk result (λ s.
+            (socket : Socket) → buffers_at s.core.endpoint socket ≡ None) }
         ensures nobody { IfOk result (λ s. s.core.endpoint.heard ≡ None) }
         ensures accepted { IfOk result (λ s. s.core.accepted ≡ None) }
         // Its router is its one peer.
         ensures peers { IfOk result (λ s.
             peers_of s.wire.peers.items ≡ (file.now.router ∷ []) ∷ []) }
+        // Its one socket has the UDP port of the file.
+        ensures udp_port { IfOk result (λ s.
+            map (λ s. s.udp_port) s.wire.sockets.sockets.items ≡ file.now.udp_port ∷ []) }
     {
         check_streams(rt)?;
         let node = node_of(file.address);

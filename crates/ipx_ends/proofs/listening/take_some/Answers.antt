@@ -34,6 +34,7 @@ loop-preserved g c =
     record {
       one = one_taken first c.loop.endpoint c.take_next.new.endpoint c.write.new.self c.take_next.new.outlet waiting a b c.args.caller.now c.loop.caller c.take_next.new.caller (c.is_empty.ensures.0 empty) not c.loop.invariant.id written
           (λ none. let no = c.take_next.ensures.unknown none in absurd (cc)) takes c.take_next.ensures.others;
+      still = λ none. absurd (cc);
       id = c.take_next.ensures.id ∙ c.loop.invariant.id;
     }
 
