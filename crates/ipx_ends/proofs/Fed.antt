@@ -1,8 +1,7 @@
 -- What a host that sends leaves of its link as it takes what came, and what it feeds.
-use Rattle.std.proofs.Common.{◌≡◌, ◌≢◌, ◌↔◌, ◌⊎◌, ℕ, zero, suc, ◌+◌, ◌<◌, ◌%◌, Bool, true, false, List, [], ◌∷◌, ◌++◌, length, Option, Some, None, Result, Ok, Err, inl, inr, refl, sym, ap, ◌∙◌, subst, arith, append_assoc}
+use Rattle.std.proofs.Common.{◌≡◌, ◌≢◌, ◌↔◌, ◌⊎◌, ℕ, zero, suc, ◌+◌, ◌<◌, ◌%◌, Bool, true, false, List, [], ◌∷◌, length, Option, Some, None, Result, Ok, Err, inl, inr, refl, sym, ap, ◌∙◌, subst, arith}
 use Rattle.std.specs.Prelude.{IfSome, IsSome, IsTrue, if◌then◌else◌}
-use Rattle.std.specs.List.{concat}
-use Rattle.std.specs.Io.KnownBytes.{Consumes}
+use Rattle.std.specs.Option.{option_map}
 use Rattle.spx_link.specs.declared.state.State.{State}
 use Rattle.spx_link.specs.declared.unit.Unit.{Unit as Piece}
 use Rattle.spx_link.specs.LinkView.{LinkView, is_end}
@@ -16,12 +15,15 @@ use Rattle.spx_messages.specs.Taking.{IsPushed, PeerEnd, TakenView, joins_on, ov
 use Rattle.spx_messages.specs.declared.fault.EndFault.{EndFault}
 use Rattle.spx_messages.specs.declared.fault.EndFault.TheVariants as EndFaults
 use Rattle.spx_messages.specs.declared.taken.Taken.{Taken}
-use Rattle.ipx_ends.specs.Feeding.{Continues, Feedings, Feeds, Intake, KeepsQueue, SameQueue, intake}
+use Rattle.ipx_ends.specs.Feeding.{Feeds, Intake, KeepsQueue, SameQueue, intake}
 use Rattle.ipx_ends.specs.Steps.{FeedsOn, Goes, IsFeedFault, IsStepFault, SeenSoFar, Sees}
-use Rattle.ipx_ends.specs.Transfer.{IsWaiting, joined_at, left_at, state_at, verdict_at}
+use Rattle.ipx_ends.specs.Transfer.{IsWaiting, ended_at, joined_at, left_at, state_at, verdict_at}
+use Rattle.ipx_carrier.specs.Turns.{Peers}
+use Rattle.ipx_ends.specs.Turning.{TakesTurn}
+use Rattle.ipx_ends.specs.declared.station.Turn.{Turn}
 use Rattle.ipx_ends.specs.declared.end_core.EndCore.{EndCore}
 use Rattle.ipx_ends.specs.declared.verdict.Verdict.{Verdict}
-use Rattle.ipx_ends.specs.declared.verdict.Verdict.TheVariants.{Done, Unwaited}
+use Rattle.ipx_ends.specs.declared.verdict.Verdict.TheVariants.{Unwaited}
 
 -- ---- what came is taken
 
@@ -119,14 +121,14 @@ next_id s id next none few = free_next s id next.steps next.is next.passed none 
 pub sees : (joined joined' : Bool) (left left' : Option ℕ) (core core' : EndCore) (id : ℕ) (closed closed' waits : Bool) (state : Option State) (verdict : Option Verdict)
     → state ≡ state_at core.endpoint id → core' ≡ core → closed' ≡ closed → joined' ≡ joined_at joined state → left' ≡ left_at left state core.moment
     → IsTrue waits ↔ IsWaiting closed' left' core'.moment → verdict ≡ verdict_at joined' waits state
-    → Sees (record { joined = joined; left = left }) (record { joined = joined'; left = left' }) core.endpoint core.moment id closed verdict
+    → Sees (record { joined = joined; left = left }) (record { joined = joined'; left = left' }) core.endpoint core.moment id closed (option_map (ended_at closed) verdict)
 sees joined joined' left left' core core' id closed closed' waits state verdict at same unclosed was gone waiting tells =
     record {
       joined = was ∙ ap (joined_at joined) at;
       left = gone ∙ ap (λ s. left_at left s core.moment) at;
       waits = waits;
       waiting = subst (λ b. IsTrue waits ↔ IsWaiting b left' core.moment) unclosed (subst (λ (k : EndCore). IsTrue waits ↔ IsWaiting closed' left' k.moment) same waiting);
-      tells = tells ∙ ap (verdict_at joined' waits) at;
+      tells = ap (option_map (ended_at closed)) (tells ∙ ap (verdict_at joined' waits) at);
     }
 
 -- what was noted stays so, as the step goes on
@@ -138,7 +140,7 @@ sees_later joined joined' left left' old seen moment id closed verdict p q s =
       left = q ∙ s.left;
       waits = s.waits;
       waiting = subst (λ (l : Option ℕ). IsTrue s.waits ↔ IsWaiting closed l moment) (sym q) s.waiting;
-      tells = subst (λ (b : Bool). verdict ≡ verdict_at b s.waits (state_at seen id)) (sym p) s.tells;
+      tells = subst (λ (b : Bool). verdict ≡ option_map (ended_at closed) (verdict_at b s.waits (state_at seen id))) (sym p) s.tells;
     }
 
 pub same_intake : (e e' : EndpointView) (r r' c c' : Bool) (k : Option (List ℕ)) → e' ≡ e → r' ≡ r → c' ≡ c → intake e' r' c' k ≡ intake e r c k
@@ -157,6 +159,21 @@ stepped id id' core core' start dropped read read' closed closed' known new p q 
     (subst (λ (b : Bool). Feeds (intake dropped read' b known) new id' fed.0) s fed.1)) in
     (dropped, kept, fed.0, feeds)
 
+-- the clock is as the turn left it
+pub turned : {K : Type 0} (clock now after : K) (tells : K → ℕ → K → Type 0) (peers : Peers) (old seen : EndCore) (turn : Turn)
+    → after ≡ now → TakesTurn clock now tells peers old seen turn → TakesTurn clock after tells peers old seen turn
+turned {K} clock now after tells peers old seen turn same taken = subst (λ (k : K). TakesTurn clock k tells peers old seen turn) (sym same) taken
+
+-- and the core, but for its endpoint
+pub same_core : (seen core : EndCore) → core ≡ seen → core ≡ record seen { endpoint = core.endpoint }
+same_core seen core same = subst (λ (k : EndCore). k ≡ record seen { endpoint = k.endpoint }) (sym same) refl
+
+pub went_on : (seen look mid shown : EndCore) → look ≡ seen → mid ≡ record look { endpoint = mid.endpoint } → shown ≡ mid
+    → shown ≡ record seen { endpoint = shown.endpoint }
+went_on seen look mid shown looked fed showed =
+    let on : mid ≡ record seen { endpoint = mid.endpoint } = subst (λ (k : EndCore). mid ≡ record k { endpoint = mid.endpoint }) looked fed in
+    subst (λ (k : EndCore). k ≡ record seen { endpoint = k.endpoint }) (sym showed) on
+
 -- a step that goes on waits; its faults are faults of both
 pub goes_ok : (id : ℕ) (seen : EndpointView) (old new : Intake) (v : Option Verdict) (more : Bool) → Goes IsFeedFault id seen old new v (Ok more) → Goes {T = Unit {0}} IsStepFault id seen old new v (Ok tt)
 goes_ok id seen old new (Some w) more goes = absurd (let no = goes.0 in cc)
@@ -171,63 +188,3 @@ goes_err id seen old new (Some w) f goes =
     let same : f ≡ w = (let is = goes.0 in cc) in
     (subst (λ (x : Verdict). ◌≡◌ {A = Result (Unit {0}) Verdict} (Err f) (Err x)) same refl, goes.1)
 goes_err id seen old new None f goes = (inl goes.0, tt)
-
--- ---- one feeding after another
-
-consumes_none : (a : Option (List ℕ)) → Consumes a a []
-consumes_none None = tt
-consumes_none (Some x) = refl
-
-consumes_on : (a b c : Option (List ℕ)) (bs cs : List ℕ) → Consumes a b bs → Consumes b c cs → Consumes a c (bs ++ cs)
-consumes_on None b c bs cs p q = tt
-consumes_on (Some x) None c bs cs p q = absurd p
-consumes_on (Some x) (Some y) None bs cs p q = absurd q
-consumes_on (Some x) (Some y) (Some z) bs cs p q = p ∙ ap (λ l. bs ++ l) q ∙ sym (append_assoc bs cs z)
-
--- what left the reader in one feeding is its body
-fed_bytes : (old new : Intake) (id : ℕ) (bytes : List ℕ) → Feeds old new id bytes → Consumes old.known new.known bytes
-fed_bytes old new id bytes (inl reads) = reads.taken
-fed_bytes old new id bytes (inr (inl ends)) =
-    subst (λ l. Consumes old.known new.known l) (sym ends.none) (subst (λ (i : Intake). Consumes old.known i.known []) (sym ends.is) (consumes_none old.known))
-fed_bytes old new id bytes (inr (inr rests)) =
-    subst (λ l. Consumes old.known new.known l) (sym rests.none) (subst (λ (i : Intake). Consumes old.known i.known []) (sym rests.same) (consumes_none old.known))
-
--- and in one after another the bodies, one behind the other
-pub feedings_bytes : (id : ℕ) (old : Intake) (bodies : List (List ℕ)) (new : Intake) → Feedings id old bodies new → Consumes old.known new.known (concat bodies)
-feedings_bytes id old [] new same = subst (λ (i : Intake). Consumes old.known i.known []) (sym same) (consumes_none old.known)
-feedings_bytes id old (bytes ∷ more) new (before, after, on, feeds, rest) =
-    let first : Consumes old.known after.known bytes = subst (λ k. Consumes k after.known bytes) on.known (fed_bytes before after id bytes feeds) in
-    consumes_on old.known after.known new.known bytes (concat more) first (feedings_bytes id after more new rest)
-
--- one more
-pub feedings_more : (id : ℕ) (old : Intake) (bodies : List (List ℕ)) (mid before new : Intake) (bytes : List ℕ) → Feedings id old bodies mid → Continues mid before
-    → Feeds before new id bytes → Feedings id old (bodies ++ bytes ∷ []) new
-feedings_more id old [] mid before new bytes same on feeds =
-    (before, new, subst (λ (i : Intake). Continues i before) same on, feeds, refl)
-feedings_more id old (b ∷ more) mid before new bytes fed on feeds =
-    (fed.0, fed.1, fed.2, fed.3, feedings_more id fed.1 more mid before new bytes fed.4 on feeds)
-
--- a run goes on by a step that answers no verdict
-pub feedings_step : (id id' : ℕ) (start last now new : Intake) (bodies : List (List ℕ)) (seen : EndpointView) (v : Option Verdict) → id' ≡ id → Feedings id start bodies last → Continues last now
-    → Goes {T = Unit {0}} IsStepFault id' seen now new v (Ok tt) → (more : List (List ℕ)) × Feedings id start more new
-feedings_step id id' start last now new bodies seen (Some w) same fed on goes = absurd (let no = goes.0 in cc)
-feedings_step id id' start last now new bodies seen None same fed on goes =
-    let step = goes.1 in
-    let feeds : Feeds (record now { endpoint = step.0 }) new id step.2 = subst (λ (i : ℕ). Feeds (record now { endpoint = step.0 }) new i step.2) same step.3 in
-    (bodies ++ step.2 ∷ [], feedings_more id start bodies last (record now { endpoint = step.0 }) new step.2 fed (record { read = on.read; closed = on.closed; known = on.known }) feeds)
-
-not_fault : IsStepFault Done → ⊥
-not_fault (inl (inl e)) = cc
-not_fault (inl (inr e)) = cc
-not_fault (inr e) = cc
-
--- and feeds nothing more in the one that answers that it is done
-pub continues_done : (id : ℕ) (last now new : Intake) (seen : EndpointView) (v : Option Verdict) (f : Verdict) → f ≡ Done → Continues last now
-    → Goes {T = Unit {0}} IsStepFault id seen now new v (Err f) → Continues last new
-continues_done id last now new seen (Some w) f done on goes =
-    record {
-      read = ap (λ (i : Intake). i.read) goes.1 ∙ on.read;
-      closed = ap (λ (i : Intake). i.closed) goes.1 ∙ on.closed;
-      known = ap (λ (i : Intake). i.known) goes.1 ∙ on.known;
-    }
-continues_done id last now new seen None f done on goes = absurd (not_fault (subst IsStepFault done goes.0))

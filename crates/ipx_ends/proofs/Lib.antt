@@ -6,3 +6,4 @@ pub mod Written
 pub mod Turning
 pub mod Acknowledged
 pub mod Fed
+pub mod Rounded

@@ -1,5 +1,5 @@
 -- How what a host that sends reads becomes messages of its link, and how its end comes behind them.
--- The entry points are `Feeds`, of one step, and `Feedings`, of one after another. All of it is own.
+-- The entry point is `Feeds`, of one step; Rounds says it of one after another. All of it is own.
 use Rattle.std.specs.Prelude.{◌≡◌, ◌⊎◌, ℕ, Bool, true, false, List, [], ◌∷◌, Option, Some, None}
 use Rattle.std.specs.Io.KnownBytes.{Consumes, IsAtEnd}
 use Rattle.spx_link.specs.LinkView.{LinkView}
@@ -76,15 +76,3 @@ pub record Rests (old new : Intake) (bytes : List ℕ) : Type 0 where
 -- what one step feeds into a link, of the bytes that leave the reader
 abbrev pub Feeds : Intake → Intake → ℕ → List ℕ → Type 0
 Feeds old new id bytes = ReadsOn old new id bytes ⊎ EndsInput old new id bytes ⊎ Rests old new bytes
-
--- the endpoint went on, and nothing was read or queued
-pub record Continues (old new : Intake) : Type 0 where
-  pub read : new.read ≡ old.read
-  pub closed : new.closed ≡ old.closed
-  pub known : new.known ≡ old.known
-
--- one feeding after another, of these bytes each
-abbrev pub Feedings : ℕ → Intake → List (List ℕ) → Intake → Type 0
-Feedings id old [] new = new ≡ old
-Feedings id old (bytes ∷ more) new = (before after : Intake) × Continues old before
-    × Feeds before after id bytes × Feedings id after more new

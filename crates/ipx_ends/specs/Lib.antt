@@ -5,6 +5,7 @@ pub mod Ledger
 pub mod Noting
 pub mod Outlet
 pub mod Passing
+pub mod Rounds
 pub mod Steps
 pub mod Stop
 pub mod Target

@@ -1,9 +1,10 @@
 -- One step of a host that sends: what it sees, what that tells, and what it feeds then. All of it is
 -- own.
 use Rattle.std.specs.Prelude.{◌≡◌, ◌↔◌, ◌⊎◌, ℕ, Bool, IsTrue, List, Option, Some, None, Result, Err, IfErr, OnOk}
+use Rattle.std.specs.Option.{option_map}
 use Rattle.spx_messages.specs.EndpointView.{EndpointView, held_at}
 use Rattle.ipx_ends.specs.Feeding.{Feeds, Intake, KeepsQueue}
-use Rattle.ipx_ends.specs.Transfer.{IsWaiting, joined_at, left_at, state_at, verdict_at}
+use Rattle.ipx_ends.specs.Transfer.{IsWaiting, ended_at, joined_at, left_at, state_at, verdict_at}
 use Rattle.ipx_ends.specs.declared.verdict.Verdict.{Verdict}
 use Rattle.ipx_ends.specs.declared.verdict.Verdict.TheVariants as Verdicts
 
@@ -19,7 +20,8 @@ pub record Sees (old new : SeenSoFar) (seen : EndpointView) (moment id : ℕ) (c
   pub left : new.left ≡ left_at old.left (state_at seen id) moment
   pub waits : Bool
   pub waiting : IsTrue waits ↔ IsWaiting closed new.left moment
-  pub tells : verdict ≡ verdict_at new.joined waits (state_at seen id)
+  pub tells : verdict
+      ≡ option_map (ended_at closed) (verdict_at new.joined waits (state_at seen id))
 
 -- what came is dropped, and nothing that was queued; and then the link is fed
 abbrev pub FeedsOn : ℕ → EndpointView → Intake → Intake → Type 0

@@ -22,6 +22,17 @@ verdict_at joined waits (Some Confirmed) = Some Verdicts.Done
 verdict_at true waits (Some Lost) = Some Verdicts.GivenUp
 verdict_at false waits (Some Lost) = Some Verdicts.Unanswered
 
+-- a transfer is done only where its end is queued; where it is not, it is given up
+abbrev pub ended_at : Bool → Verdict → Verdict
+ended_at true v = v
+ended_at false Verdicts.Done = Verdicts.GivenUp
+ended_at false Verdicts.Unanswered = Verdicts.Unanswered
+ended_at false Verdicts.GivenUp = Verdicts.GivenUp
+ended_at false Verdicts.PeerLeft = Verdicts.PeerLeft
+ended_at false Verdicts.Unread = Verdicts.Unread
+ended_at false Verdicts.OutOfMemory = Verdicts.OutOfMemory
+ended_at false Verdicts.Unwaited = Verdicts.Unwaited
+
 -- the state of the link of an id, if it is there
 abbrev pub state_at : EndpointView → ℕ → Option State
 state_at e id = option_map (λ h. h.link.state) (held_at e id)

@@ -2,17 +2,21 @@
 
 ghost use Rattle.std.specs.Prelude.{◌≡◌, ◌≢◌, ◌<◌, ◌≤◌, ◌+◌, ◌↔◌, ◌⊎◌, ℕ, List, false, true, length, IfErr, IfOk, IsTrue, OnErr, OnOk, Err, None, Option, Some};
 ghost use Rattle.std.specs.List.{concat};
-ghost use Rattle.std.specs.Io.KnownBytes.{Consumes, Keeps};
+ghost use Rattle.std.specs.Io.KnownBytes.{Consumes, IsAtEnd, Keeps};
+ghost use Rattle.ipx_carrier.specs.Turns.{peers_of};
 ghost use Rattle.ipx_wire.specs.declared.address.Address.{Address};
 ghost use Rattle.spx_link.specs.Links.{count_of};
 ghost use Rattle.spx_link.specs.Offer.{dialed as link_dialed};
-ghost use Rattle.spx_messages.specs.EndpointView.{EndpointView, held_at};
-ghost use Rattle.ipx_ends.specs.Feeding.{Continues, Feeds, Feedings, HandsIn, Intake, KeepsQueue, ReadsOn, intake};
+ghost use Rattle.spx_messages.specs.EndpointView.{held_at};
+ghost use Rattle.ipx_ends.specs.Feeding.{Feeds, HandsIn, KeepsQueue, ReadsOn, intake};
 ghost use Rattle.ipx_ends.specs.Ledger.{counted};
+ghost use Rattle.ipx_ends.specs.Rounds.{RunsOut, place};
 ghost use Rattle.ipx_ends.specs.Steps.{Goes, IsFeedFault, IsStepFault, Sees};
 ghost use Rattle.ipx_ends.specs.Target.{Names};
 ghost use Rattle.ipx_ends.specs.Transfer.{IsConfirmedAt, IsWaiting, joined_at, left_at, state_at};
+ghost use Rattle.ipx_ends.specs.Turning.{TakesTurn};
 ghost use Rattle.ipx_ends.specs.declared.end_core.EndCore.{EndCore};
+ghost use Rattle.ipx_ends.specs.declared.station.Turn.{Turn};
 ghost use Rattle.ipx_ends.specs.declared.verdict.Verdict.{Verdict as AVerdict};
 ghost use Rattle.ipx_ends.specs.declared.verdict.Verdict.TheVariants as Verdicts;
 
@@ -21,7 +25,7 @@ use crate::ledger::Ledger;
 use crate::start::{StartFault, tell_start};
 use crate::station::Station;
 use crate::target::Target;
-use crate::verdict::{Verdict, verdict_of};
+use crate::verdict::{Verdict, ended_by, verdict_of};
 use ipx_site::{HostFile, load_host};
 use ipx_wire::{Address, Socket};
 use log::Log;
@@ -212,6 +216,8 @@ impl<'a, R: Net + Log + Clock + Eprint> Sending<'a, R> {
     fn look(&mut self) -> Option<State>
         ensures state { result ≡ state_at self.old.station.core.endpoint self.old.id }
         ensures core { self.new.station.core ≡ self.old.station.core }
+        ensures clock { self.new.station.clock ≡ self.old.station.clock }
+        ensures peers { self.new.station.wire.peers ≡ self.old.station.wire.peers }
         ensures id { self.new.id ≡ self.old.id }
         ensures read { self.new.read ≡ self.old.read }
         ensures closed { self.new.closed ≡ self.old.closed }
@@ -249,6 +255,10 @@ impl<'a, R: Net + Log + Clock + Eprint> Sending<'a, R> {
     /// Reads once, and hands in what came as one message. It answers whether something came, or
     /// the end did.
     fn read_some<I: Read>(&mut self, alloc: Global, reader: &mut I) -> Result<bool, Verdict>
+        ensures core { self.new.station.core
+            ≡ record self.old.station.core { endpoint = self.new.station.core.endpoint } }
+        ensures clock { self.new.station.clock ≡ self.old.station.clock }
+        ensures peers { self.new.station.wire.peers ≡ self.old.station.wire.peers }
         ensures id { self.new.id ≡ self.old.id }
         ensures joined { self.new.joined ≡ self.old.joined }
         ensures left { self.new.left ≡ self.old.left }
@@ -290,6 +300,10 @@ impl<'a, R: Net + Log + Clock + Eprint> Sending<'a, R> {
     /// Reads where there is something to read and not too much is on its way, and queues the end
     /// behind it. It answers whether anything was queued.
     fn feed<I: Read>(&mut self, alloc: Global, reader: &mut I) -> Result<bool, Verdict>
+        ensures core { self.new.station.core
+            ≡ record self.old.station.core { endpoint = self.new.station.core.endpoint } }
+        ensures clock { self.new.station.clock ≡ self.old.station.clock }
+        ensures peers { self.new.station.wire.peers ≡ self.old.station.wire.peers }
         ensures id { self.new.id ≡ self.old.id }
         ensures joined { self.new.joined ≡ self.old.joined }
         ensures left { self.new.left ≡ self.old.left }
@@ -323,6 +337,8 @@ impl<'a, R: Net + Log + Clock + Eprint> Sending<'a, R> {
     /// Shows how far it is, once a second.
     fn show(&mut self, rt: &R)
         ensures core { self.new.station.core ≡ self.old.station.core }
+        ensures clock { self.new.station.clock ≡ self.old.station.clock }
+        ensures peers { self.new.station.wire.peers ≡ self.old.station.wire.peers }
         ensures id { self.new.id ≡ self.old.id }
         ensures joined { self.new.joined ≡ self.old.joined }
         ensures left { self.new.left ≡ self.old.left }
@@ -343,7 +359,7 @@ impl<'a, R: Net + Log + Clock + Eprint> Sending<'a, R> {
     /// Takes a turn, and reads. It answers whether there may be more to do at once.
     fn step<I: Read>(&mut self, rt: &R, alloc: Global, reader: &mut I) -> Result<bool, Verdict>
         ensures id { self.new.id ≡ self.old.id }
-        // By what was seen behind the turn.
+        // By what the turn left.
         ensures steps { (seen : EndCore) × (verdict : Option AVerdict)
             × Sees (record { joined = self.old.joined; left = self.old.left })
                 (record { joined = self.new.joined; left = self.new.left })
@@ -353,15 +369,24 @@ impl<'a, R: Net + Log + Clock + Eprint> Sending<'a, R> {
                     self.old.read self.old.closed (I.remaining reader.old))
                 (intake self.new.station.core.endpoint
                     self.new.read self.new.closed (I.remaining reader.new))
-                verdict result }
+                verdict result
+            × (turn : Turn) × TakesTurn self.old.station.clock self.new.station.clock
+                (λ old moment new. (old.last ≤ moment) × (new.last ≡ moment))
+                (peers_of self.old.station.wire.peers.items) self.old.station.core seen turn
+            × (self.new.station.core
+                ≡ record seen { endpoint = self.new.station.core.endpoint }) }
+        ensures peers { self.new.station.wire.peers ≡ self.old.station.wire.peers }
         ensures done { result ≡ Err Verdicts.Done
             → IsConfirmedAt self.new.station.core.endpoint self.new.id }
+        // Then all is read, and the end is queued.
+        ensures ended { result ≡ Err Verdicts.Done
+            → (self.new.closed ≡ true) × (self.new.read ≡ true) }
         ensures unanswered { result ≡ Err Verdicts.Unanswered → self.new.joined ≡ false }
     {
         let turn = self.station.turn(rt, alloc);
         let state = self.look();
         if let Some(verdict) = verdict_of(state, self.joined, self.waits()) {
-            return Err(verdict);
+            return Err(ended_by(verdict, self.closed));
         }
         drop_what_came(alloc, &mut self.station.core.endpoint, self.id);
         let fed = state == Some(State::Live) && self.feed(alloc, reader)?;
@@ -377,18 +402,28 @@ impl<'a, R: Net + Log + Clock + Eprint> Sending<'a, R> {
         reader: &mut I,
     ) -> Result<(), Verdict>
         ensures id { self.new.id ≡ self.old.id }
-        // By what was seen behind the turn, up to what was fed then.
-        ensures steps { (seen : EndCore) × (verdict : Option AVerdict) × (fed : EndpointView)
+        // By what the turn left.
+        ensures steps { (seen : EndCore) × (verdict : Option AVerdict)
             × Sees (record { joined = self.old.joined; left = self.old.left })
                 (record { joined = self.new.joined; left = self.new.left })
                 seen.endpoint seen.moment self.old.id self.old.closed verdict
             × Goes IsStepFault self.old.id seen.endpoint
                 (intake self.old.station.core.endpoint
                     self.old.read self.old.closed (I.remaining reader.old))
-                (intake fed self.new.read self.new.closed (I.remaining reader.new))
-                verdict result }
+                (intake self.new.station.core.endpoint
+                    self.new.read self.new.closed (I.remaining reader.new))
+                verdict result
+            × (turn : Turn) × TakesTurn self.old.station.clock self.new.station.clock
+                (λ old moment new. (old.last ≤ moment) × (new.last ≡ moment))
+                (peers_of self.old.station.wire.peers.items) self.old.station.core seen turn
+            × (self.new.station.core
+                ≡ record seen { endpoint = self.new.station.core.endpoint }) }
+        ensures peers { self.new.station.wire.peers ≡ self.old.station.wire.peers }
         ensures done { result ≡ Err Verdicts.Done
             → IsConfirmedAt self.new.station.core.endpoint self.new.id }
+        // Then all is read, and the end is queued.
+        ensures ended { result ≡ Err Verdicts.Done
+            → (self.new.closed ≡ true) × (self.new.read ≡ true) }
         ensures unanswered { result ≡ Err Verdicts.Unanswered → self.new.joined ≡ false }
     {
         if self.step(rt, alloc, reader)? {
@@ -408,15 +443,21 @@ impl<'a, R: Net + Log + Clock + Eprint> Sending<'a, R> {
     /// Runs until the transfer is over.
     fn serve<I: Read>(&mut self, rt: &R, alloc: Global, reader: &mut I) -> Verdict
         ensures id { self.new.id ≡ self.old.id }
-        // All that left the reader was handed in, in its order, one body behind the other.
-        ensures fed { result ≡ Verdicts.Done → (bodies : List (List ℕ)) × (last : Intake)
-            × Feedings self.old.id
-                (intake self.old.station.core.endpoint
+        // Round by round: all that left the reader was handed in, in its order, one body behind the
+        // other.
+        ensures fed { result ≡ Verdicts.Done → (bodies : List (List ℕ))
+            × RunsOut
+                (place self.old.station.clock self.old.station.core
                     self.old.read self.old.closed (I.remaining reader.old))
-                bodies last
-            × Consumes (I.remaining reader.old) (I.remaining reader.new) (concat bodies)
-            × Continues last (intake self.new.station.core.endpoint
-                self.new.read self.new.closed (I.remaining reader.new)) }
+                bodies
+                (place self.new.station.clock self.new.station.core
+                    self.new.read self.new.closed (I.remaining reader.new))
+                (λ old moment new. (old.last ≤ moment) × (new.last ≡ moment))
+                (peers_of self.old.station.wire.peers.items) self.old.id
+            × Consumes (I.remaining reader.old) (I.remaining reader.new) (concat bodies) }
+        // And the reader has nothing left.
+        ensures all { result ≡ Verdicts.Done → (self.old.read ≡ true → IsAtEnd (I.remaining reader.old))
+            → IsAtEnd (I.remaining reader.new) }
         ensures done { result ≡ Verdicts.Done
             → IsConfirmedAt self.new.station.core.endpoint self.new.id }
         ensures unanswered { result ≡ Verdicts.Unanswered → self.new.joined ≡ false }
@@ -454,15 +495,21 @@ impl<'a, R: Net + Log + Clock + Eprint> Sending<'a, R> {
         ensures id { self.new.id ≡ self.old.id }
         ensures status { result < 2 }
         ensures done { result ≡ 0 → IsConfirmedAt self.new.station.core.endpoint self.new.id }
-        // Then all that left the reader was handed in, in its order, one body behind the other.
-        ensures fed { result ≡ 0 → (bodies : List (List ℕ)) × (last : Intake)
-            × Feedings self.old.id
-                (intake self.old.station.core.endpoint
+        // Then, round by round, all that left the reader was handed in, in its order, one body
+        // behind the other.
+        ensures fed { result ≡ 0 → (bodies : List (List ℕ))
+            × RunsOut
+                (place self.old.station.clock self.old.station.core
                     self.old.read self.old.closed (I.remaining reader.old))
-                bodies last
-            × Consumes (I.remaining reader.old) (I.remaining reader.new) (concat bodies)
-            × Continues last (intake self.new.station.core.endpoint
-                self.new.read self.new.closed (I.remaining reader.new)) }
+                bodies
+                (place self.new.station.clock self.new.station.core
+                    self.new.read self.new.closed (I.remaining reader.new))
+                (λ old moment new. (old.last ≤ moment) × (new.last ≡ moment))
+                (peers_of self.old.station.wire.peers.items) self.old.id
+            × Consumes (I.remaining reader.old) (I.remaining reader.new) (concat bodies) }
+        // And the reader has nothing left.
+        ensures all { result ≡ 0 → (self.old.read ≡ true → IsAtEnd (I.remaining reader.old))
+            → IsAtEnd (I.remaining reader.new) }
     {
         let verdict = self.serve(rt, alloc, reader);
         self.tell(rt, to, verdict);
@@ -489,6 +536,9 @@ fn send_opened<R: Net + Log + Clock + Eprint, I: Read>(
 ) -> u8
     ensures status { result < 2 }
     ensures unopened { OnErr opened.entry ((result ≡ 1) × (reader.new ≡ reader.old)) }
+    // Where what was opened has read nothing, all is read.
+    ensures all { IfOk opened.entry (λ s. (s.read ≡ false) × (s.closed ≡ false)) → result ≡ 0
+        → IsAtEnd (I.remaining reader.new) }
 {
     match opened {
         Ok(mut sending) => sending.finish(rt, alloc, to, reader),
@@ -508,6 +558,7 @@ fn send_loaded<R: Net + Log + Clock + Eprint, I: Read>(
     shows: bool,
 ) -> u8
     ensures status { OnOk loaded (result < 2) }
+    ensures all { OnOk loaded (result ≡ 0 → IsAtEnd (I.remaining reader.new)) }
     ensures unloaded { IfErr loaded (λ status. (result ≡ status) × (reader.new ≡ reader.old)) }
 {
     let file = match loaded {

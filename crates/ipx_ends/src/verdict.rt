@@ -2,7 +2,7 @@
 
 ghost use Rattle.std.specs.Prelude.{◌≡◌, ◌≢◌, ◌↔◌, Some};
 ghost use Rattle.spx_link.specs.declared.state.State.TheVariants as States;
-ghost use Rattle.ipx_ends.specs.Transfer.{verdict_at};
+ghost use Rattle.ipx_ends.specs.Transfer.{ended_at, verdict_at};
 ghost use Rattle.ipx_ends.specs.declared.verdict.Verdict.TheVariants as Verdicts;
 
 use spx_link::State;
@@ -51,5 +51,17 @@ pub fn verdict_of(state: Option<State>, joined: bool, waits: bool) -> Option<Ver
         Some(State::Confirmed) => Some(Verdict::Done),
         Some(State::Lost) if !joined => Some(Verdict::Unanswered),
         Some(State::Lost) | None => Some(Verdict::GivenUp),
+    }
+}
+
+/// How a transfer ends whose end is queued, or is not. A link is Confirmed only where its end was
+/// queued, so there is nothing to give up here: but it is seen from this alone that a transfer is
+/// done only where all of the input is read.
+pub fn ended_by(verdict: Verdict, closed: bool) -> Verdict
+    ensures { result ≡ ended_at closed verdict }
+{
+    match verdict {
+        Verdict::Done if !closed => Verdict::GivenUp,
+        _ => verdict,
     }
 }

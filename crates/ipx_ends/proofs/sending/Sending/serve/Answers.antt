@@ -1,15 +1,13 @@
-use Rattle.std.proofs.Common.{◌∙◌, ℕ, List, [], Option, refl, sym, subst}
+use Rattle.std.proofs.Common.{◌∙◌, ℕ, Bool, List, [], Option, Err, refl, sym, subst, ap}
 use Rattle.std.specs.List.{concat}
-use Rattle.std.specs.Io.KnownBytes.{Consumes}
-use Rattle.ipx_ends.specs.Feeding.{intake}
-use Rattle.ipx_ends.proofs.Fed.{continues_done, feedings_bytes, feedings_step}
+use Rattle.std.specs.Io.KnownBytes.{Consumes, IsAtEnd}
+use Rattle.ipx_carrier.specs.Turns.{peers_of}
+use Rattle.ipx_ends.specs.Rounds.{place}
+use Rattle.ipx_ends.proofs.Rounded.{last_round, rounds_bytes, rounds_end, rounds_step}
 use Rattle.ipx_ends.proofs.sending.Sending.serve.Goals as goal
 
 pub loop-init : goal.loop-init
-loop-init g c =
-    let old = c.args.self.now in
-    let start = intake old.station.core.endpoint old.read old.closed (g.I.Read.remaining c.args.reader.now) in
-    record { id = refl; fed = ([], start, refl, record { read = refl; closed = refl; known = refl }) }
+loop-init g c = record { id = refl; peers = refl; fed = ([], refl) }
 
 pub loop-preserved : goal.loop-preserved
 loop-preserved g c =
@@ -18,13 +16,14 @@ loop-preserved g c =
     let new = c.step_or_wait.new.self in
     let fed = c.loop.invariant.fed in
     let steps = c.in_default.ensures.steps in
-    let start = intake old.station.core.endpoint old.read old.closed (g.I.Read.remaining c.args.reader.now) in
-    let before = intake now.station.core.endpoint now.read now.closed (g.I.Read.remaining c.loop.reader) in
-    let after = intake steps.2 new.read new.closed (g.I.Read.remaining c.step_or_wait.new.reader) in
-    let more = feedings_step old.id now.id start fed.1 before after fed.0 steps.0.endpoint steps.1 c.loop.invariant.id fed.2 fed.3 steps.4 in
+    let start = place old.station.clock old.station.core old.read old.closed (g.I.Read.remaining c.args.reader.now) in
+    let before = place now.station.clock now.station.core now.read now.closed (g.I.Read.remaining c.loop.reader) in
+    let after = place new.station.clock new.station.core new.read new.closed (g.I.Read.remaining c.step_or_wait.new.reader) in
+    let among = ap (λ l. peers_of l.items) c.loop.invariant.peers in
     record {
       id = c.step_or_wait.ensures.id ∙ c.loop.invariant.id;
-      fed = (more.0, after, more.1, record { read = refl; closed = refl; known = refl });
+      peers = c.step_or_wait.ensures.peers ∙ c.loop.invariant.peers;
+      fed = rounds_step start fed.0 before after _ _ _ old.id now.id steps.0 steps.1 steps.4 c.loop.invariant.id among fed.1 steps.3 steps.5 steps.6;
     }
 
 pub returns-in-Err-clause-fed : goal.returns-in-Err-clause-fed
@@ -35,14 +34,28 @@ returns-in-Err-clause-fed g c = λ done.
     let fed = c.loop.invariant.fed in
     let steps = c.in-Err.ensures.steps in
     let known = g.I.Read.remaining c.args.reader.now in
-    let start = intake old.station.core.endpoint old.read old.closed known in
-    let before = intake now.station.core.endpoint now.read now.closed (g.I.Read.remaining c.loop.reader) in
-    let after = intake steps.2 new.read new.closed (g.I.Read.remaining c.step_or_wait.new.reader) in
-    let on = continues_done now.id fed.1 before after steps.0.endpoint steps.1 c.in-Err.verdict done fed.3 steps.4 in
+    let start = place old.station.clock old.station.core old.read old.closed known in
+    let before = place now.station.clock now.station.core now.read now.closed (g.I.Read.remaining c.loop.reader) in
+    let after = place new.station.clock new.station.core new.read new.closed (g.I.Read.remaining c.step_or_wait.new.reader) in
+    let among = ap (λ l. peers_of l.items) c.loop.invariant.peers in
+    let last = last_round before after _ _ _ now.id steps.0 steps.1 c.in-Err.verdict steps.4 done among steps.3 steps.5 steps.6 in
     (
       fed.0,
-      fed.1,
-      fed.2,
-      subst (λ (k : Option (List ℕ)). Consumes known k (concat fed.0)) (sym on.known) (feedings_bytes old.id start fed.0 fed.1 fed.2),
-      record { read = on.read; closed = on.closed; known = on.known },
+      (before, fed.1, last),
+      subst (λ (k : Option (List ℕ)). Consumes known k (concat fed.0)) (sym last.known) (rounds_bytes start fed.0 before _ _ _ fed.1),
     )
+
+pub returns-in-Err-clause-all : goal.returns-in-Err-clause-all
+returns-in-Err-clause-all g c = λ done was.
+    let old = c.args.self.now in
+    let now = c.loop.self in
+    let new = c.step_or_wait.new.self in
+    let fed = c.loop.invariant.fed in
+    let steps = c.in-Err.ensures.steps in
+    let start = place old.station.clock old.station.core old.read old.closed (g.I.Read.remaining c.args.reader.now) in
+    let before = place now.station.clock now.station.core now.read now.closed (g.I.Read.remaining c.loop.reader) in
+    let after = place new.station.clock new.station.core new.read new.closed (g.I.Read.remaining c.step_or_wait.new.reader) in
+    let among = ap (λ l. peers_of l.items) c.loop.invariant.peers in
+    let last = last_round before after _ _ _ now.id steps.0 steps.1 c.in-Err.verdict steps.4 done among steps.3 steps.5 steps.6 in
+    let all = (c.in-Err.ensures.ended (ap (λ v. Err v) done)).1 in
+    subst (λ (k : Option (List ℕ)). IsAtEnd k) (sym last.known) (rounds_end start fed.0 before _ _ _ fed.1 was (sym last.read ∙ all))

@@ -1,10 +1,12 @@
-use Rattle.std.proofs.Common.{◌≡◌, ℕ, List}
-use Rattle.ipx_ends.specs.Feeding.{Continues, Feedings, Intake, intake}
+use Rattle.std.proofs.Common.{◌≡◌, ◌≤◌, ℕ, List}
+use Rattle.ipx_carrier.specs.Turns.{peers_of}
+use Rattle.ipx_ends.specs.Rounds.{Rounds, place}
 use Rattle.ipx_ends.proofs.sending.Sending.serve.Given as goal
 
 -- what was fed so far
 abbrev pub invariant-loop : goal.invariant-loop
 invariant-loop g l = record {
   id : l.self.id ≡ l.fn.self.id;
-  fed : (bodies : List (List ℕ)) × (last : Intake) × Feedings l.fn.self.id (intake l.fn.self.station.core.endpoint l.fn.self.read l.fn.self.closed (g.I.Read.remaining l.fn.reader)) bodies last × Continues last (intake l.self.station.core.endpoint l.self.read l.self.closed (g.I.Read.remaining l.reader));
+  peers : l.self.station.wire.peers ≡ l.fn.self.station.wire.peers;
+  fed : (bodies : List (List ℕ)) × Rounds (place l.fn.self.station.clock l.fn.self.station.core l.fn.self.read l.fn.self.closed (g.I.Read.remaining l.fn.reader)) bodies (place l.self.station.clock l.self.station.core l.self.read l.self.closed (g.I.Read.remaining l.reader)) (λ old moment new. (old.last ≤ moment) × (new.last ≡ moment)) (peers_of l.fn.self.station.wire.peers.items) l.fn.self.id;
 }
