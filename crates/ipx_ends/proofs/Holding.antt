@@ -11,7 +11,6 @@ use Rattle.ipx_ends.specs.Outlet.{Writes}
 use Rattle.ipx_ends.specs.Tending.{Does, IsFateOf, JustStays, Tends}
 use Rattle.ipx_ends.specs.declared.end_core.EndCore.{EndCore}
 use Rattle.ipx_ends.specs.Stop.{parted}
-use Rattle.ipx_ends.specs.declared.listening.Stop.{Stop}
 use Rattle.ipx_ends.specs.declared.listening.Stop.TheVariants as Stops
 use Rattle.ipx_ends.specs.Fate.{IsFate, standing_heard}
 use Rattle.ipx_ends.specs.Passing.{PassesEach, PassesOne, PassesSome}
