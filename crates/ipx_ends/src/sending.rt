@@ -588,6 +588,9 @@ pub fn do_send<R: Net + Log + Files + Clock + Eprint, I: Read>(
     // Words that name no address are told, and nothing is read or bound.
     ensures words { ((a : Address) → Names target.entry a → ⊥)
         → (result ≡ 2) × (reader.new ≡ reader.old) }
+    ensures few { result ≤ 2 }
+    // Where it ends well, the reader has nothing left.
+    ensures all { result ≡ 0 → IsAtEnd (I.remaining reader.new) }
 {
     let to = match target.address() {
         Ok(to) => to,
