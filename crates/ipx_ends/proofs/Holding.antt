@@ -48,7 +48,7 @@ each_more old mid new x y z a b d was now i k c' within rest passes one =
     let before : take (i + 1) was ≡ take i was ++ get_or was i k ∷ [] = take_more was i k there in
     let after : take (i + 1) (set now i c') ≡ take i now ++ c' ∷ [] = take_more_set now i c' within in (
       subst (λ (l : List Caller). PassesEach old new x z a d l (take (i + 1) (set now i c'))) (sym before)
-      (subst (λ (l : List Caller). PassesEach old new x z a d (take i was ++ get_or was i k ∷ []) l) (sym after) all),
+          (subst (λ (l : List Caller). PassesEach old new x z a d (take i was ++ get_or was i k ∷ []) l) (sym after) all),
       drop-set-lt (i + 1) now i c' (omega arith) ∙ same.1,
     )
 

@@ -70,7 +70,7 @@ pub rounds_step : {K : Type 0} (old : Place K) (bodies : List (List ℕ)) (last 
 rounds_step old bodies last new tells peers here id id' seen (Some w) turn same among run goes turned core = absurd (let no = goes.0 in cc)
 rounds_step old bodies last new tells peers here id id' seen None turn same among run goes turned core =
     let step : FeedsOn id seen.endpoint (intake_of last) (intake_of new) =
-        subst (λ (i : ℕ). FeedsOn i seen.endpoint (intake_of last) (intake_of new)) same goes.1 in
+    subst (λ (i : ℕ). FeedsOn i seen.endpoint (intake_of last) (intake_of new)) same goes.1 in
     let round : Round last new step.2 tells peers id = record {
       seen = seen;
       turn = turn;
@@ -95,7 +95,7 @@ pub last_round : {K : Type 0} (last new : Place K) (tells : K → ℕ → K → 
 last_round last new tells peers here id seen (Some w) f turn done among goes turned core =
     let at : new.core ≡ seen = subst (λ (e : EndpointView). new.core ≡ record seen { endpoint = e }) (ap (λ (i : Intake). i.endpoint) goes.1) core in
     let took : TakesTurn last.clock new.clock tells peers last.core seen turn =
-        subst (λ (p : Peers). TakesTurn last.clock new.clock tells p last.core seen turn) among turned in
+    subst (λ (p : Peers). TakesTurn last.clock new.clock tells p last.core seen turn) among turned in
     record {
       turn = turn;
       turned = subst (λ (k : EndCore). TakesTurn last.clock new.clock tells peers last.core k turn) (sym at) took;

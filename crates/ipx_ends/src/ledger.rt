@@ -68,7 +68,7 @@ impl Ledger {
         ensures counts { OnOk result ((given : List ℕ) (units : ℕ)
             → Counts given units self.old.messages.items self.old.units self.old.whole
             → Counts (given ++ bytes ∷ []) units
-                self.new.messages.items self.new.units self.new.whole) }
+            self.new.messages.items self.new.units self.new.whole) }
         // Where no more units were acknowledged than were handed in.
         ensures first { OnOk result ((given : List ℕ) (units : ℕ)
             → Counts given units self.old.messages.items self.old.units self.old.whole
@@ -97,7 +97,7 @@ impl Ledger {
             → Counts given units self.old.messages.items self.old.units self.old.whole
             → units + distance (base_of numbers) self.old.base < 2 ^ 64
             → Counts given (units + distance (base_of numbers) self.old.base)
-                self.new.messages.items self.new.units self.new.whole }
+            self.new.messages.items self.new.units self.new.whole }
         // Each message is let go all of whose units are acknowledged.
         ensures first { IsFirstOpen self.old.messages.items self.old.units
             → IsFirstOpen self.new.messages.items self.new.units }

@@ -86,8 +86,7 @@ struct Listening<'a, R: Clock> {
     outlet: Outlet,
     once: bool,
     ghost room: { 16 ≤ vec_capacity callers },
-    ghost one: { KeepsOne once callers.items (left_of outlet) }
-        by { keeps_one_prop once callers.items (left_of outlet) },
+    ghost one: { KeepsOne once callers.items (left_of outlet) } by { keeps_one_prop once callers.items (left_of outlet) },
 }
 
 /// Takes one unit of a connection, which may end a message. It answers whether there was one.
@@ -461,12 +460,7 @@ impl<'a, R: Net + Log + Clock> Listening<'a, R> {
     }
 
     /// Takes a turn, and waits where there is nothing to do.
-    fn step_or_wait<W: Write>(
-        &mut self,
-        rt: &R,
-        alloc: Global,
-        writer: &mut W,
-    ) -> Result<(), Stop>
+    fn step_or_wait<W: Write>(&mut self, rt: &R, alloc: Global, writer: &mut W) -> Result<(), Stop>
         ensures written { result ≡ Err Stops.Ended
             → IsTrue self.new.once × (left_of self.new.outlet ≡ []) }
         ensures once { self.new.once ≡ self.old.once }

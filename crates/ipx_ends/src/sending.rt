@@ -265,9 +265,9 @@ impl<'a, R: Net + Log + Clock + Eprint> Sending<'a, R> {
         // What comes is handed in whole, and counted.
         ensures reads { self.old.read ≡ false → OnOk result ((bytes : List ℕ) × ReadsOn
             (intake self.old.station.core.endpoint
-                self.old.read self.old.closed (I.remaining reader.old))
+            self.old.read self.old.closed (I.remaining reader.old))
             (intake self.new.station.core.endpoint
-                self.new.read self.new.closed (I.remaining reader.new))
+            self.new.read self.new.closed (I.remaining reader.new))
             self.old.id bytes
             × (self.new.ledger.given ≡ counted (self.old.ledger.given + length bytes))) }
         ensures unread { result ≡ Err Verdicts.Unread
@@ -309,9 +309,9 @@ impl<'a, R: Net + Log + Clock + Eprint> Sending<'a, R> {
         ensures left { self.new.left ≡ self.old.left }
         ensures feeds { OnOk result ((bytes : List ℕ) × Feeds
             (intake self.old.station.core.endpoint
-                self.old.read self.old.closed (I.remaining reader.old))
+            self.old.read self.old.closed (I.remaining reader.old))
             (intake self.new.station.core.endpoint
-                self.new.read self.new.closed (I.remaining reader.new))
+            self.new.read self.new.closed (I.remaining reader.new))
             self.old.id bytes) }
         // Where all is read, the end is queued at once.
         ensures ends { self.old.read ≡ true → self.old.closed ≡ false
@@ -362,19 +362,19 @@ impl<'a, R: Net + Log + Clock + Eprint> Sending<'a, R> {
         // By what the turn left.
         ensures steps { (seen : EndCore) × (verdict : Option AVerdict)
             × Sees (record { joined = self.old.joined; left = self.old.left })
-                (record { joined = self.new.joined; left = self.new.left })
-                seen.endpoint seen.moment self.old.id self.old.closed verdict
+            (record { joined = self.new.joined; left = self.new.left })
+            seen.endpoint seen.moment self.old.id self.old.closed verdict
             × Goes IsFeedFault self.old.id seen.endpoint
-                (intake self.old.station.core.endpoint
-                    self.old.read self.old.closed (I.remaining reader.old))
-                (intake self.new.station.core.endpoint
-                    self.new.read self.new.closed (I.remaining reader.new))
-                verdict result
+            (intake self.old.station.core.endpoint
+            self.old.read self.old.closed (I.remaining reader.old))
+            (intake self.new.station.core.endpoint
+            self.new.read self.new.closed (I.remaining reader.new))
+            verdict result
             × (turn : Turn) × TakesTurn self.old.station.clock self.new.station.clock
-                (λ old moment new. (old.last ≤ moment) × (new.last ≡ moment))
-                (peers_of self.old.station.wire.peers.items) self.old.station.core seen turn
+            (λ old moment new. (old.last ≤ moment) × (new.last ≡ moment))
+            (peers_of self.old.station.wire.peers.items) self.old.station.core seen turn
             × (self.new.station.core
-                ≡ record seen { endpoint = self.new.station.core.endpoint }) }
+            ≡ record seen { endpoint = self.new.station.core.endpoint }) }
         ensures peers { self.new.station.wire.peers ≡ self.old.station.wire.peers }
         ensures done { result ≡ Err Verdicts.Done
             → IsConfirmedAt self.new.station.core.endpoint self.new.id }
@@ -405,19 +405,19 @@ impl<'a, R: Net + Log + Clock + Eprint> Sending<'a, R> {
         // By what the turn left.
         ensures steps { (seen : EndCore) × (verdict : Option AVerdict)
             × Sees (record { joined = self.old.joined; left = self.old.left })
-                (record { joined = self.new.joined; left = self.new.left })
-                seen.endpoint seen.moment self.old.id self.old.closed verdict
+            (record { joined = self.new.joined; left = self.new.left })
+            seen.endpoint seen.moment self.old.id self.old.closed verdict
             × Goes IsStepFault self.old.id seen.endpoint
-                (intake self.old.station.core.endpoint
-                    self.old.read self.old.closed (I.remaining reader.old))
-                (intake self.new.station.core.endpoint
-                    self.new.read self.new.closed (I.remaining reader.new))
-                verdict result
+            (intake self.old.station.core.endpoint
+            self.old.read self.old.closed (I.remaining reader.old))
+            (intake self.new.station.core.endpoint
+            self.new.read self.new.closed (I.remaining reader.new))
+            verdict result
             × (turn : Turn) × TakesTurn self.old.station.clock self.new.station.clock
-                (λ old moment new. (old.last ≤ moment) × (new.last ≡ moment))
-                (peers_of self.old.station.wire.peers.items) self.old.station.core seen turn
+            (λ old moment new. (old.last ≤ moment) × (new.last ≡ moment))
+            (peers_of self.old.station.wire.peers.items) self.old.station.core seen turn
             × (self.new.station.core
-                ≡ record seen { endpoint = self.new.station.core.endpoint }) }
+            ≡ record seen { endpoint = self.new.station.core.endpoint }) }
         ensures peers { self.new.station.wire.peers ≡ self.old.station.wire.peers }
         ensures done { result ≡ Err Verdicts.Done
             → IsConfirmedAt self.new.station.core.endpoint self.new.id }
@@ -447,13 +447,13 @@ impl<'a, R: Net + Log + Clock + Eprint> Sending<'a, R> {
         // other.
         ensures fed { result ≡ Verdicts.Done → (bodies : List (List ℕ))
             × RunsOut
-                (place self.old.station.clock self.old.station.core
-                    self.old.read self.old.closed (I.remaining reader.old))
-                bodies
-                (place self.new.station.clock self.new.station.core
-                    self.new.read self.new.closed (I.remaining reader.new))
-                (λ old moment new. (old.last ≤ moment) × (new.last ≡ moment))
-                (peers_of self.old.station.wire.peers.items) self.old.id
+            (place self.old.station.clock self.old.station.core
+            self.old.read self.old.closed (I.remaining reader.old))
+            bodies
+            (place self.new.station.clock self.new.station.core
+            self.new.read self.new.closed (I.remaining reader.new))
+            (λ old moment new. (old.last ≤ moment) × (new.last ≡ moment))
+            (peers_of self.old.station.wire.peers.items) self.old.id
             × Consumes (I.remaining reader.old) (I.remaining reader.new) (concat bodies) }
         // And the reader has nothing left.
         ensures all { result ≡ Verdicts.Done → (self.old.read ≡ true → IsAtEnd (I.remaining reader.old))
@@ -499,13 +499,13 @@ impl<'a, R: Net + Log + Clock + Eprint> Sending<'a, R> {
         // behind the other.
         ensures fed { result ≡ 0 → (bodies : List (List ℕ))
             × RunsOut
-                (place self.old.station.clock self.old.station.core
-                    self.old.read self.old.closed (I.remaining reader.old))
-                bodies
-                (place self.new.station.clock self.new.station.core
-                    self.new.read self.new.closed (I.remaining reader.new))
-                (λ old moment new. (old.last ≤ moment) × (new.last ≡ moment))
-                (peers_of self.old.station.wire.peers.items) self.old.id
+            (place self.old.station.clock self.old.station.core
+            self.old.read self.old.closed (I.remaining reader.old))
+            bodies
+            (place self.new.station.clock self.new.station.core
+            self.new.read self.new.closed (I.remaining reader.new))
+            (λ old moment new. (old.last ≤ moment) × (new.last ≡ moment))
+            (peers_of self.old.station.wire.peers.items) self.old.id
             × Consumes (I.remaining reader.old) (I.remaining reader.new) (concat bodies) }
         // And the reader has nothing left.
         ensures all { result ≡ 0 → (self.old.read ≡ true → IsAtEnd (I.remaining reader.old))

@@ -28,11 +28,11 @@ pub stopped : (most radix : ℕ) (ds : List ℕ) (i n : ℕ) → 1 ≤ radix →
     → ((is_digit (get_or ds i 0) radix ≡ true) × (n * radix + digit_value (get_or ds i 0) < 2 ^ 32) → ⊥) → None ≡ numeral_up_to most radix ds
 stopped most radix ds i n some small lt is not_so =
     elim (cases_Bool (is_digit (get_or ds i 0) radix)) [
-      inl digit ↦
+      | inl digit ↦
           let full : 2 ^ 32 ≤ n * radix + digit_value (get_or ds i 0) =
           elim (cases_lt (n * radix + digit_value (get_or ds i 0)) (2 ^ 32)) [ inl less ↦ absurd (not_so (digit, less)) | inr enough ↦ enough ] in
           too_much most radix ds (i + 1) some (omega (arith, longer radix ds i n lt is, full, small))
-    | inr other ↦ no_digit most radix ds i lt other
+      | inr other ↦ no_digit most radix ds i lt other
     ]
 
 -- one digit more

@@ -100,6 +100,6 @@ stop_of (Err f) = Some (Stops.Fault f)
 abbrev pub SendsByte : ℕ → ℕ → NetView → Option Stop → NetView → Type 0
 SendsByte end byte old stop new =
     ((message : Message) × (outcome : Result AnswerView NetFault)
-        × (message_view message ≡ record { stream = 0; body = byte ∷ [] })
-        × Stepped old (Events.Send end message) outcome new × (stop ≡ stop_of outcome))
+    × (message_view message ≡ record { stream = 0; body = byte ∷ [] })
+    × Stepped old (Events.Send end message) outcome new × (stop ≡ stop_of outcome))
     ⊎ ((stop ≡ Some Stops.Memory) × (new ≡ old))

@@ -87,8 +87,7 @@ module _ {C K : Type 0} (hears : C → ℕ → List ℕ → ℕ → C → Type 0
       → t.before ≡ j → j ≤ t.after → Runs hears gives tells ports peers 1 None None l m b c t.report
       → Chain hears gives tells ports peers (ts ++ t ∷ []) i t.after k m a c
   chain_on [] t i j k l m a b c h e le ran =
-      let ran' = subst (λ l. Runs hears gives tells ports peers 1 None None l m b c t.report) h.1 ran in
-      (
+      let ran' = subst (λ l. Runs hears gives tells ports peers 1 None None l m b c t.report) h.1 ran in (
         m,
         c,
         rw (← h.0) e,

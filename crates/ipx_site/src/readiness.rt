@@ -38,11 +38,7 @@ pub struct Readiness {
 
 impl Readiness {
     /// Waits for each of the sockets.
-    pub fn new<R: Net>(
-        rt: &R,
-        alloc: Global,
-        sockets: &SiteSockets,
-    ) -> Result<Readiness, WaitFault>
+    pub fn new<R: Net>(rt: &R, alloc: Global, sockets: &SiteSockets) -> Result<Readiness, WaitFault>
         ensures { IfOk result (λ r. r.watched ≡ length sockets.now.sockets.items) }
     {
         let Ok(poll) = Poll::new(rt) else {

@@ -20,8 +20,7 @@ returns-in-Err-clause-refused g c =
     let i = l.invariant in
     let still = i.nothing cannot in
     let same = ap (λ d. g.D.Datagrams.failed d.device) still.3 in
-    let none = c.in-Err.ensures.refused (λ can. cannot (begins_again (sym i.ports) (sym i.device_ports) (sym same) can)) in
-    (
+    let none = c.in-Err.ensures.refused (λ can. cannot (begins_again (sym i.ports) (sym i.device_ports) (sym same) can)) in (
       refused_first l._turn c.args.most l.burst c.ended_by.result c.in-Err.fault (omega (arith, c.loop-turn-test.true)) still.1 (same_fault c.in-Err.fault Device none.0) c.ended_by.ensures,
       none.1 ∙ still.2,
       none.2 ∙ still.3,
@@ -46,11 +45,11 @@ loop-turn-preserved g c =
     record {
       failures = λ can. c.in-Ok.ensures.failures (begins_again i.ports i.device_ports (i.failures can) can) ∙ i.failures can;
       goes = λ can. goes_on g.C.Core.hears g.C.Core.gives g.K.Clock.tells (g.C.Core.port_count c.args.core.now) (peers_of c.args.peers.now) (g.C.Core.port_count l.core) l._turn c.args.device.now.strangers l.device.strangers c.take_turn.new.device.strangers c.args.clock.now l.clock c.take_turn.new.clock c.args.core.now l.core c.take_turn.new.core l.burst c.with-burst.result report i.ports (i.goes can) c.in-Ok.ensures.kept_back c.in-Ok.ensures.turn (counted.heard, counted.sent, counted.unmapped)
-      (λ idle. elim c.else-is_idle.branch [ else-is_idle-via-then-is_idle+else-strangers w ↦ w.if-strangers.false (w.strangers.ensures ∙ idle.2 ∙ sym c.strangers-strangers.ensures) | else-is_idle-via-else-is_idle w ↦ is_busy_so c.is_idle.result report c.is_idle.ensures w.if-is_idle.false (idle.0, idle.1) ]);
+          (λ idle. elim c.else-is_idle.branch [ else-is_idle-via-then-is_idle+else-strangers w ↦ w.if-strangers.false (w.strangers.ensures ∙ idle.2 ∙ sym c.strangers-strangers.ensures) | else-is_idle-via-else-is_idle w ↦ is_busy_so c.is_idle.result report c.is_idle.ensures w.if-is_idle.false (idle.0, idle.1) ]);
       nothing = λ cannot.
-      let still = i.nothing cannot in
-      let same = ap (λ d. g.D.Datagrams.failed d.device) still.3 in
-      absurd (no_fault report Device (c.in-Ok.ensures.refused (λ can. cannot (begins_again (sym i.ports) (sym i.device_ports) (sym same) can))).0);
+          let still = i.nothing cannot in
+          let same = ap (λ d. g.D.Datagrams.failed d.device) still.3 in
+          absurd (no_fault report Device (c.in-Ok.ensures.refused (λ can. cannot (begins_again (sym i.ports) (sym i.device_ports) (sym same) can))).0);
       whole = counted.rest.0 ∙ i.whole;
       loud = counted.rest.1 ∙ i.loud;
       ports = c.in-Ok.ensures.ports ∙ i.ports;

@@ -38,8 +38,7 @@ returns-in-Err-clause-fed g c = λ done.
     let before = place now.station.clock now.station.core now.read now.closed (g.I.Read.remaining c.loop.reader) in
     let after = place new.station.clock new.station.core new.read new.closed (g.I.Read.remaining c.step_or_wait.new.reader) in
     let among = ap (λ l. peers_of l.items) c.loop.invariant.peers in
-    let last = last_round before after _ _ _ now.id steps.0 steps.1 c.in-Err.verdict steps.4 done among steps.3 steps.5 steps.6 in
-    (
+    let last = last_round before after _ _ _ now.id steps.0 steps.1 c.in-Err.verdict steps.4 done among steps.3 steps.5 steps.6 in (
       fed.0,
       (before, fed.1, last),
       subst (λ (k : Option (List ℕ)). Consumes known k (concat fed.0)) (sym last.known) (rounds_bytes start fed.0 before _ _ _ fed.1),

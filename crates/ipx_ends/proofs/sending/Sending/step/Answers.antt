@@ -32,13 +32,15 @@ returns-then-turn-clause-steps g c =
     let goes : mid.station.core ≡ record look.station.core { endpoint = mid.station.core.endpoint } = elim c.if-eq.branch [ then-eq+in_ok-fed w ↦ rw w.self-is w.feed.ensures.core | else-eq w ↦ rw w.self-is refl ] in
     let shows = same_intake mid.station.core.endpoint shown.station.core.endpoint mid.read shown.read mid.closed shown.closed left (ap (λ (k : EndCore). k.endpoint) same.core) same.read same.closed in
     let new = intake shown.station.core.endpoint shown.read shown.closed left in
-    let seeing = sees old.joined look.joined old.left look.left seen look.station.core old.id old.closed look.closed c.waits.result c.look-state.result None told.state told.core told.closed told.joined told.left c.waits.ensures c.in_default.ensures.verdict in
-    (
+    let seeing = sees old.joined look.joined old.left look.left seen look.station.core old.id old.closed look.closed c.waits.result c.look-state.result None told.state told.core told.closed told.joined told.left c.waits.ensures c.in_default.ensures.verdict in (
       seen,
       None,
       sees_later look.joined shown.joined look.left shown.left (record { joined = old.joined; left = old.left }) seen.endpoint seen.moment old.id old.closed None (same.joined ∙ joined) (same.left ∙ gone) seeing,
-      (tt, stepped old.id look.id seen look.station.core old.station.core.endpoint dropped old.read look.read old.closed look.closed known new told.id told.core told.read told.closed c.drop_what_came.ensures.queue
-      (subst (λ (i : Intake). (bytes : List ℕ) × Feeds start i look.id bytes) (sym shows) fed)),
+      (
+        tt,
+        stepped old.id look.id seen look.station.core old.station.core.endpoint dropped old.read look.read old.closed look.closed known new told.id told.core told.read told.closed c.drop_what_came.ensures.queue
+            (subst (λ (i : Intake). (bytes : List ℕ) × Feeds start i look.id bytes) (sym shows) fed),
+      ),
       c.turn-turn.result,
       turned _ _ _ _ _ _ _ _ (same.clock ∙ ticks ∙ told.clock) c.turn-turn.ensures.core,
       went_on seen look.station.core mid.station.core shown.station.core told.core goes same.core,
@@ -68,13 +70,15 @@ returns-else-turn-clause-steps g c =
     let goes : mid.station.core ≡ record look.station.core { endpoint = mid.station.core.endpoint } = elim c.if-eq.branch [ then-eq+in_ok-fed w ↦ rw w.self-is w.feed.ensures.core | else-eq w ↦ rw w.self-is refl ] in
     let shows = same_intake mid.station.core.endpoint shown.station.core.endpoint mid.read shown.read mid.closed shown.closed left (ap (λ (k : EndCore). k.endpoint) same.core) same.read same.closed in
     let new = intake shown.station.core.endpoint shown.read shown.closed left in
-    let seeing = sees old.joined look.joined old.left look.left seen look.station.core old.id old.closed look.closed c.waits.result c.look-state.result None told.state told.core told.closed told.joined told.left c.waits.ensures c.in_default.ensures.verdict in
-    (
+    let seeing = sees old.joined look.joined old.left look.left seen look.station.core old.id old.closed look.closed c.waits.result c.look-state.result None told.state told.core told.closed told.joined told.left c.waits.ensures c.in_default.ensures.verdict in (
       seen,
       None,
       sees_later look.joined shown.joined look.left shown.left (record { joined = old.joined; left = old.left }) seen.endpoint seen.moment old.id old.closed None (same.joined ∙ joined) (same.left ∙ gone) seeing,
-      (tt, stepped old.id look.id seen look.station.core old.station.core.endpoint dropped old.read look.read old.closed look.closed known new told.id told.core told.read told.closed c.drop_what_came.ensures.queue
-      (subst (λ (i : Intake). (bytes : List ℕ) × Feeds start i look.id bytes) (sym shows) fed)),
+      (
+        tt,
+        stepped old.id look.id seen look.station.core old.station.core.endpoint dropped old.read look.read old.closed look.closed known new told.id told.core told.read told.closed c.drop_what_came.ensures.queue
+            (subst (λ (i : Intake). (bytes : List ℕ) × Feeds start i look.id bytes) (sym shows) fed),
+      ),
       c.turn-turn.result,
       turned _ _ _ _ _ _ _ _ (same.clock ∙ ticks ∙ told.clock) c.turn-turn.ensures.core,
       went_on seen look.station.core mid.station.core shown.station.core told.core goes same.core,
@@ -87,8 +91,7 @@ returns-in-Some-clause-steps g c =
     let look = c.look-state.new.self in
     let told = c.look-state.ensures in
     let verdict = c.in-Some.verdict in
-    let known = g.I.Read.remaining c.args.reader.now in
-    (
+    let known = g.I.Read.remaining c.args.reader.now in (
       seen,
       Some (ended_at old.closed verdict),
       sees old.joined look.joined old.left look.left seen look.station.core old.id old.closed look.closed c.waits.result c.look-state.result (Some verdict) told.state told.core told.closed told.joined told.left c.waits.ensures c.in-Some.ensures.verdict,

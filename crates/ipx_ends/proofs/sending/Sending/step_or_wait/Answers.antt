@@ -16,8 +16,7 @@ returns-in-Ok-clause-steps g c =
     let waited = c.wait.new.self in
     let before = intake old.station.core.endpoint old.read old.closed (g.I.Read.remaining c.args.reader.now) in
     let left = g.I.Read.remaining c.step.new.reader in
-    let goes = goes_ok old.id seen.endpoint before (intake new.station.core.endpoint new.read new.closed left) steps.1 c.in_ok-step.field-0 steps.3 in
-    (
+    let goes = goes_ok old.id seen.endpoint before (intake new.station.core.endpoint new.read new.closed left) steps.1 c.in_ok-step.field-0 steps.3 in (
       seen,
       steps.1,
       steps.2,
@@ -36,8 +35,7 @@ returns-in-Err-clause-steps g c =
     let waited = c.wait.new.self in
     let before = intake old.station.core.endpoint old.read old.closed (g.I.Read.remaining c.args.reader.now) in
     let left = g.I.Read.remaining c.step.new.reader in
-    let goes = goes_unwaited old.id seen.endpoint before (intake new.station.core.endpoint new.read new.closed left) steps.1 c.in_ok-step.field-0 steps.3 in
-    (
+    let goes = goes_unwaited old.id seen.endpoint before (intake new.station.core.endpoint new.read new.closed left) steps.1 c.in_ok-step.field-0 steps.3 in (
       seen,
       steps.1,
       steps.2,
@@ -53,7 +51,14 @@ returns-in_err-step-clause-steps g c =
     let new = c.step.new.self in
     let steps = c.in_err-step.ensures.steps in
     let p = err_from_is_err_and c.from_residual.result c.from_residual.ensures.1 in
-    rw (p.1, p.2)
-    (steps.0, steps.1, steps.2, goes_err old.id steps.0.endpoint
-    (intake old.station.core.endpoint old.read old.closed (g.I.Read.remaining c.args.reader.now))
-    (intake new.station.core.endpoint new.read new.closed (g.I.Read.remaining c.step.new.reader)) steps.1 _ steps.3, steps.4, steps.5, steps.6)
+    rw (p.1, p.2) (
+      steps.0,
+      steps.1,
+      steps.2,
+      goes_err old.id steps.0.endpoint
+          (intake old.station.core.endpoint old.read old.closed (g.I.Read.remaining c.args.reader.now))
+          (intake new.station.core.endpoint new.read new.closed (g.I.Read.remaining c.step.new.reader)) steps.1 _ steps.3,
+      steps.4,
+      steps.5,
+      steps.6,
+    )
