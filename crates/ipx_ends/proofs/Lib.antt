@@ -6,4 +6,5 @@ pub mod Written
 pub mod Turning
 pub mod Acknowledged
 pub mod Fed
+pub mod Hosted
 pub mod Rounded

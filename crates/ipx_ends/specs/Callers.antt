@@ -1,5 +1,5 @@
 -- The connections that a listening host holds, as they come, are heard, and go. All of it is own.
-use Rattle.std.specs.Prelude.{◌≡◌, ◌≢◌, ◌≤◌, ◌⊎◌, ◌==◌, ℕ, Bool, true, false, IsTrue, List, [], ◌∷◌, ◌++◌, length, Option, Some, None, if◌then◌else◌}
+use Rattle.std.specs.Prelude.{◌≡◌, ◌≢◌, ◌≤◌, ◌⊎◌, ◌==◌, ℕ, Bool, true, false, IsTrue, List, [], ◌∷◌, ◌++◌, length, map, Option, Some, None, MatchOption, if◌then◌else◌}
 use Rattle.std.specs.Coded.{Unit-prop}
 use Rattle.std.proofs.Props.{props}
 use Rattle.spx_link.specs.Offer.{offer_link}
@@ -10,6 +10,7 @@ use Rattle.ipx_ends.specs.Fate.{standing_heard}
 use Rattle.ipx_ends.specs.declared.callers.Caller.{Caller}
 use Rattle.ipx_ends.specs.declared.callers.Standing.TheVariants as Standings
 use Rattle.ipx_ends.specs.declared.end_core.Accepted.{Accepted}
+use Rattle.ipx_ends.specs.declared.end_core.EndCore.{EndCore}
 
 -- a connection that is heard at a moment
 abbrev pub once_heard : ℕ → Caller → Caller
@@ -35,12 +36,24 @@ pub record LetsLinkGo (old new : EndpointView) (id : ℕ) : Type 0 where
 abbrev pub IsFull : Bool → List Caller → Type 0
 IsFull once callers = (IsTrue once × (callers ≢ [])) ⊎ (16 ≤ length callers)
 
--- a connection comes: it is the last one then; or there is no place, and its link is let go. That no more
--- than 16 are held is of the endpoint: it accepts none where it has 16 links
+-- a connection comes: where there is a place it is the last one then, and else its link is let go
 abbrev pub Admits : Bool → Caller → EndpointView → EndpointView → List Caller → List Caller → Type 0
 Admits once c old new callers callers' =
-    ((IsTrue once → callers ≡ []) × (callers' ≡ callers ++ c ∷ []) × (new ≡ old))
+    ((IsFull once callers → ⊥) × (callers' ≡ callers ++ c ∷ []) × (new ≡ old))
     ⊎ (IsFull once callers × (callers' ≡ callers) × LetsLinkGo old new c.id)
+
+-- the connections of a host once the datagram that its core read last is heard
+abbrev pub heard_in : EndCore → List Caller → List Caller
+heard_in core callers = map (heard_by core.endpoint.heard core.moment) callers
+
+-- what the core of a host heard last is noted: the connection that it was of is heard, and the one that
+-- it made comes, if it made one, which is told once
+abbrev pub NotesHeard : Bool → EndCore → EndCore → List Caller → List Caller → Type 0
+NotesHeard once old new callers callers' =
+    (new ≡ record old { endpoint = new.endpoint; accepted = None })
+    × MatchOption old.accepted
+    ((callers' ≡ heard_in old callers) × (new.endpoint ≡ old.endpoint))
+    (λ a. Admits once (caller_of a old.moment) old.endpoint new.endpoint (heard_in old callers) callers')
 
 -- a connection is asked whether it is there: a message of no bytes is queued on its link; or that is
 -- refused, and its silence counts anew

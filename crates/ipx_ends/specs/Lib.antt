@@ -1,6 +1,7 @@
 pub mod Callers
 pub mod Fate
 pub mod Feeding
+pub mod Hosting
 pub mod Ledger
 pub mod Noting
 pub mod Outlet

@@ -105,3 +105,17 @@ abbrev pub PassesSome : EndpointView → EndpointView → List ℕ → List ℕ 
 PassesSome old new waiting left written writes callers callers' =
     (first first' rest : List Caller) × (callers ≡ first ++ rest) × (callers' ≡ first' ++ rest)
     × PassesEach old new waiting left written writes first first'
+
+-- the bodies of the messages that passed from one connection, one behind the other
+abbrev pub given_from : (before after : Option Held) (waiting left : List ℕ) (written writes : Option (List ℕ)) (caller caller' : Caller)
+    → PassesFrom before after waiting left written writes caller caller' → List ℕ
+given_from None after waiting left written writes caller caller' p = []
+given_from (Some h) after waiting left written writes caller caller' p = bodies_after p.0 h
+
+-- and from connections, one behind the other
+abbrev pub given_each : (old new : EndpointView) (waiting left : List ℕ) (written writes : Option (List ℕ)) (callers callers' : List Caller)
+    → PassesEach old new waiting left written writes callers callers' → List ℕ
+given_each old new waiting left written writes [] callers' p = []
+given_each old new waiting left written writes (c ∷ cs) callers' p =
+    given_from (held_at old c.id) (held_at p.0 c.id) waiting p.1 written p.2 c p.3 p.6.from
+    ++ given_each p.0 new p.1 left p.2 writes cs p.4 p.7

@@ -1,5 +1,5 @@
 -- What is done with a connection that a listening host holds. All of it is own.
-use Rattle.std.specs.Prelude.{◌≡◌, ◌-◌, ℕ, Bool, List, remove, slice_set, Option, None}
+use Rattle.std.specs.Prelude.{◌≡◌, ◌≤◌, ◌<◌, ◌-◌, ℕ, zero, suc, Bool, List, All, take, remove, slice_get, slice_set, Option, Some, None}
 use Rattle.spx_messages.specs.EndpointView.{EndpointView}
 use Rattle.ipx_ends.specs.Callers.{Asks, LetsLinkGo}
 use Rattle.ipx_ends.specs.Fate.{IsFate}
@@ -39,3 +39,28 @@ Does once now c place Fates.GivenUp old new callers callers' stop =
 abbrev pub Tends : Bool → EndCore → Caller → ℕ → EndpointView → List Caller → List Caller → Option Stop → Type 0
 Tends once core c place new callers callers' stop = (fate : Fate) × IsFateOf core c fate
     × Does once core.moment c place fate core.endpoint new callers callers' stop
+
+-- one tending: of the first connection that does not just stay
+pub record TendsFirst (once : Bool) (old new : EndCore) (callers callers' : List Caller)
+    (stop : Option Stop) : Type 0 where
+  pub place : ℕ
+  pub caller : Caller
+  pub there : slice_get callers place ≡ Some caller
+  pub first : All (JustStays old) (take place callers)
+  pub something : JustStays old caller → ⊥
+  pub tends : Tends once old caller place new.endpoint callers callers' stop
+  pub core : new ≡ record old { endpoint = new.endpoint }
+
+-- so many, one after another, none of which stops the host
+abbrev pub TendsOn : ℕ → Bool → EndCore → EndCore → List Caller → List Caller → Type 0
+TendsOn zero once old new callers callers' = (new ≡ old) × (callers' ≡ callers)
+TendsOn (suc n) once old new callers callers' = (mid : EndCore) × (among : List Caller)
+    × TendsOn n once old mid callers among × TendsFirst once mid new among callers' None
+
+-- one after another, until all just stay or there were 16; or until one stops the host
+abbrev pub Tidies : Bool → EndCore → EndCore → List Caller → List Caller → Option Stop → Type 0
+Tidies once old new callers callers' None = (count : ℕ) × (count ≤ 16)
+    × TendsOn count once old new callers callers' × (count < 16 → All (JustStays new) callers')
+Tidies once old new callers callers' (Some stop) = (count : ℕ) × (count < 16)
+    × (mid : EndCore) × (among : List Caller) × TendsOn count once old mid callers among
+    × TendsFirst once mid new among callers' (Some stop)

@@ -1,17 +1,21 @@
 //! The command `listen`: a host that takes connections, and writes the messages that come.
 
-ghost use Rattle.std.specs.Prelude.{◌≡◌, ◌≢◌, ◌<◌, ◌≤◌, ◌↔◌, ◌∷◌, [], ℕ, length, map, remove, slice_get, slice_set, take, false, All, IfErr, IfOk, IfSome, IsTrue, MatchOption, None, OnErr, OnOk, Some, Err, Ok, vec_capacity};
+ghost use Rattle.std.specs.Prelude.{◌≡◌, ◌≢◌, ◌<◌, ◌≤◌, ◌↔◌, ◌∷◌, ◌++◌, [], ℕ, List, length, remove, slice_get, slice_set, take, false, All, IfErr, IfOk, IfSome, IsTrue, MatchOption, None, OnErr, OnOk, Some, Err, Ok, vec_capacity};
+ghost use Rattle.std.specs.Io.KnownBytes.{Appends};
 ghost use Rattle.ipx_carrier.specs.Mapping.{node_at};
-ghost use Rattle.ipx_carrier.specs.Turns.{peers_of};
+ghost use Rattle.ipx_carrier.specs.Turns.{Peers, peers_of};
+ghost use Rattle.ipx_site.specs.declared.clock.SteadyClock.{SteadyClock};
 ghost use Rattle.ipx_wire.specs.declared.address.Socket.{Socket};
 ghost use Rattle.spx_messages.specs.EndpointView.{buffers_at, held_at};
 ghost use Rattle.spx_messages.specs.Taking.{PeerEnd as TheEnd, take_end};
-ghost use Rattle.ipx_ends.specs.Callers.{Admits, Asks, EndedAlone, KeepsOne, LetsLinkGo, caller_of, heard_by, keeps_one_prop};
-ghost use Rattle.ipx_ends.specs.Outlet.{left_of};
+ghost use Rattle.ipx_ends.specs.Callers.{Admits, Asks, EndedAlone, KeepsOne, LetsLinkGo, NotesHeard, caller_of, keeps_one_prop};
+ghost use Rattle.ipx_ends.specs.Hosting.{Begins, Hears, Host, Moves, MovesSome, Serves, ServesWell, StepsTo, host};
+ghost use Rattle.ipx_ends.specs.Outlet.{Writes, left_of};
 ghost use Rattle.ipx_ends.specs.Passing.{Passes, PassesEach, PassesOne, PassesSome, SameOthers, Takes, TakesNothing};
 ghost use Rattle.ipx_ends.specs.Stop.{parted, stop_in, stop_status};
-ghost use Rattle.ipx_ends.specs.Tending.{IsFateOf, JustStays, Tends};
+ghost use Rattle.ipx_ends.specs.Tending.{IsFateOf, JustStays, Tends, Tidies};
 ghost use Rattle.ipx_ends.specs.declared.callers.Caller.{Caller};
+ghost use Rattle.ipx_ends.specs.declared.listening.Stop.{Stop as AStop};
 ghost use Rattle.ipx_ends.specs.declared.listening.Stop.TheVariants as Stops;
 
 use crate::callers::{Caller, Fate, LINGER, SILENCE, Standing, fate_of, hear_one};
@@ -19,7 +23,7 @@ use crate::end_core::Accepted;
 use crate::gate::Gate;
 use crate::outlet::{Outlet, WriteFault};
 use crate::start::{StartFault, tell_start};
-use crate::station::Station;
+use crate::station::{Station, Turn};
 use ipx_carrier::node_of;
 use ipx_site::{HostFile, WaitFault, load_host};
 use log::{Log, info, warn};
@@ -242,6 +246,8 @@ impl<'a, R: Net + Log + Clock> Listening<'a, R> {
         ensures core { self.new.station.core ≡ record self.old.station.core {
           endpoint = self.new.station.core.endpoint;
         } }
+        ensures clock { self.new.station.clock ≡ self.old.station.clock }
+        ensures peers { self.new.station.wire.peers ≡ self.old.station.wire.peers }
         ensures outlet { self.new.outlet ≡ self.old.outlet }
         ensures once { self.new.once ≡ self.old.once }
     {
@@ -251,22 +257,18 @@ impl<'a, R: Net + Log + Clock> Listening<'a, R> {
             heard: moment,
             standing: Standing::Open,
         };
-        if self.is_taken() || self.callers.push(caller).is_err() {
+        let is_full = self.is_taken() || self.callers.len() >= MOST_CALLERS;
+        if is_full || self.callers.push(caller).is_err() {
             let_link_go(&mut self.station.core.endpoint, accepted.id);
         }
     }
 
     /// Notes which connection the last datagram was of, or made.
     fn note(&mut self)
-        ensures callers { let core = self.old.station.core in
-            let heard = map (heard_by core.endpoint.heard core.moment) self.old.callers.items in
-            MatchOption core.accepted
-            ((self.new.callers.items ≡ heard)
-            × (self.new.station.core.endpoint ≡ core.endpoint))
-            (λ a. Admits self.old.once (caller_of a core.moment)
-            core.endpoint self.new.station.core.endpoint heard self.new.callers.items) }
-        ensures told { self.new.station.core.accepted ≡ None }
-        ensures moment { self.new.station.core.moment ≡ self.old.station.core.moment }
+        ensures notes { NotesHeard self.old.once self.old.station.core self.new.station.core
+            self.old.callers.items self.new.callers.items }
+        ensures clock { self.new.station.clock ≡ self.old.station.clock }
+        ensures peers { self.new.station.wire.peers ≡ self.old.station.wire.peers }
         ensures outlet { self.new.outlet ≡ self.old.outlet }
         ensures once { self.new.once ≡ self.old.once }
     {
@@ -296,10 +298,35 @@ impl<'a, R: Net + Log + Clock> Listening<'a, R> {
         ensures core { self.new.station.core ≡ record self.old.station.core {
           endpoint = self.new.station.core.endpoint;
         } }
+        ensures clock { self.new.station.clock ≡ self.old.station.clock }
+        ensures peers { self.new.station.wire.peers ≡ self.old.station.wire.peers }
         ensures once { self.new.once ≡ self.old.once }
     {
         let endpoint = &mut self.station.core.endpoint;
         take_each(alloc, endpoint, &mut self.outlet, &mut self.callers, writer)
+    }
+
+    /// Writes what is left to write, and then takes from each connection. It answers whether it
+    /// wrote or took anything.
+    fn pass<W: Write>(&mut self, alloc: Global, writer: &mut W) -> Result<bool, WriteFault>
+        ensures all { OnOk result ((bytes : List ℕ) × Moves
+            self.old.station.core self.new.station.core
+            self.old.callers.items self.new.callers.items
+            (left_of self.old.outlet) (left_of self.new.outlet)
+            (W.contents writer.old) (W.contents writer.new) bytes) }
+        // Where the writer fails, so it is of the first ones, and the others are as they were.
+        ensures some { OnErr result ((bytes : List ℕ) × MovesSome
+            self.old.station.core self.new.station.core
+            self.old.callers.items self.new.callers.items
+            (left_of self.old.outlet) (left_of self.new.outlet)
+            (W.contents writer.old) (W.contents writer.new) bytes) }
+        ensures clock { self.new.station.clock ≡ self.old.station.clock }
+        ensures peers { self.new.station.wire.peers ≡ self.old.station.wire.peers }
+        ensures once { self.new.once ≡ self.old.once }
+    {
+        let wrote = self.outlet.write(writer)?;
+        let took = self.take_all(alloc, writer)?;
+        Ok(wrote || took)
     }
 
     /// What becomes of a connection.
@@ -339,6 +366,8 @@ impl<'a, R: Net + Log + Clock> Listening<'a, R> {
         ensures core { self.new.station.core ≡ record self.old.station.core {
           endpoint = self.new.station.core.endpoint;
         } }
+        ensures clock { self.new.station.clock ≡ self.old.station.clock }
+        ensures peers { self.new.station.wire.peers ≡ self.old.station.wire.peers }
         ensures outlet { self.new.outlet ≡ self.old.outlet }
         ensures once { self.new.once ≡ self.old.once }
     {
@@ -368,6 +397,8 @@ impl<'a, R: Net + Log + Clock> Listening<'a, R> {
         ensures core { self.new.station.core ≡ record self.old.station.core {
           endpoint = self.new.station.core.endpoint;
         } }
+        ensures clock { self.new.station.clock ≡ self.old.station.clock }
+        ensures peers { self.new.station.wire.peers ≡ self.old.station.wire.peers }
         ensures outlet { self.new.outlet ≡ self.old.outlet }
         ensures once { self.new.once ≡ self.old.once }
     {
@@ -396,6 +427,8 @@ impl<'a, R: Net + Log + Clock> Listening<'a, R> {
         ensures core { self.new.station.core ≡ record self.old.station.core {
           endpoint = self.new.station.core.endpoint;
         } }
+        ensures clock { self.new.station.clock ≡ self.old.station.clock }
+        ensures peers { self.new.station.wire.peers ≡ self.old.station.wire.peers }
         ensures outlet { self.new.outlet ≡ self.old.outlet }
         ensures once { self.new.once ≡ self.old.once }
     {
@@ -411,16 +444,20 @@ impl<'a, R: Net + Log + Clock> Listening<'a, R> {
 
     /// Lets go the connections that are over or given up, and asks those that are silent.
     fn tidy(&mut self, rt: &R, alloc: Global) -> Result<(), Stop>
+        ensures tidies { Tidies self.old.once self.old.station.core self.new.station.core
+            self.old.callers.items self.new.callers.items (stop_in result) }
         ensures ended { result ≡ Err Stops.Ended → EndedAlone self.old.callers.items }
         ensures written { result ≡ Err Stops.Ended → left_of self.new.outlet ≡ [] }
         ensures only { OnErr result (IsTrue self.old.once) }
         ensures core { self.new.station.core ≡ record self.old.station.core {
           endpoint = self.new.station.core.endpoint;
         } }
+        ensures clock { self.new.station.clock ≡ self.old.station.clock }
+        ensures peers { self.new.station.wire.peers ≡ self.old.station.wire.peers }
         ensures outlet { self.new.outlet ≡ self.old.outlet }
         ensures once { self.new.once ≡ self.old.once }
     {
-        for _ in 0..MOST_CALLERS {
+        for _tended in 0..MOST_CALLERS {
             let Some(place) = self.first_to_tend() else {
                 break;
             };
@@ -443,24 +480,56 @@ impl<'a, R: Net + Log + Clock> Listening<'a, R> {
         }
     }
 
-    /// Takes a turn, and all that came. It answers whether there may be more to do at once.
-    fn step<W: Write>(&mut self, rt: &R, alloc: Global, writer: &mut W) -> Result<bool, Stop>
-        ensures written { result ≡ Err Stops.Ended
-            → IsTrue self.new.once × (left_of self.new.outlet ≡ []) }
+    /// Takes a turn, and notes the datagram that it heard.
+    fn hear(&mut self, rt: &R, alloc: Global) -> Turn
+        ensures hears { Hears self.old.station.clock self.new.station.clock
+            self.old.station.core self.new.station.core
+            self.old.callers.items self.new.callers.items self.old.once
+            (λ old moment new. (old.last ≤ moment) × (new.last ≡ moment))
+            (peers_of self.old.station.wire.peers.items) }
+        ensures peers { self.new.station.wire.peers ≡ self.old.station.wire.peers }
+        ensures outlet { self.new.outlet ≡ self.old.outlet }
         ensures once { self.new.once ≡ self.old.once }
     {
         let turn = self.station.turn(rt, alloc);
         if turn.heard {
             self.note();
         }
-        let wrote = self.outlet.write(writer)?;
-        let took = self.take_all(alloc, writer)?;
+        turn
+    }
+
+    /// Takes a turn, and all that came. It answers whether there may be more to do at once.
+    fn step<W: Write>(&mut self, rt: &R, alloc: Global, writer: &mut W) -> Result<bool, Stop>
+        ensures steps { (bytes : List ℕ) × StepsTo
+            (host self.old.station.clock self.old.station.core
+            self.old.callers.items (left_of self.old.outlet) (W.contents writer.old))
+            (host self.new.station.clock self.new.station.core
+            self.new.callers.items (left_of self.new.outlet) (W.contents writer.new))
+            self.old.once (stop_in result)
+            (λ old moment new. (old.last ≤ moment) × (new.last ≡ moment))
+            (peers_of self.old.station.wire.peers.items) bytes }
+        ensures peers { self.new.station.wire.peers ≡ self.old.station.wire.peers }
+        ensures written { result ≡ Err Stops.Ended
+            → IsTrue self.new.once × (left_of self.new.outlet ≡ []) }
+        ensures once { self.new.once ≡ self.old.once }
+    {
+        let turn = self.hear(rt, alloc);
+        let moved = self.pass(alloc, writer)?;
         self.tidy(rt, alloc)?;
-        Ok(turn.active || wrote || took)
+        Ok(turn.active || moved)
     }
 
     /// Takes a turn, and waits where there is nothing to do.
     fn step_or_wait<W: Write>(&mut self, rt: &R, alloc: Global, writer: &mut W) -> Result<(), Stop>
+        ensures steps { (bytes : List ℕ) × StepsTo
+            (host self.old.station.clock self.old.station.core
+            self.old.callers.items (left_of self.old.outlet) (W.contents writer.old))
+            (host self.new.station.clock self.new.station.core
+            self.new.callers.items (left_of self.new.outlet) (W.contents writer.new))
+            self.old.once (stop_in result)
+            (λ old moment new. (old.last ≤ moment) × (new.last ≡ moment))
+            (peers_of self.old.station.wire.peers.items) bytes }
+        ensures peers { self.new.station.wire.peers ≡ self.old.station.wire.peers }
         ensures written { result ≡ Err Stops.Ended
             → IsTrue self.new.once × (left_of self.new.outlet ≡ []) }
         ensures once { self.new.once ≡ self.old.once }
@@ -474,11 +543,23 @@ impl<'a, R: Net + Log + Clock> Listening<'a, R> {
 
     /// Runs until it is to end.
     fn serve<W: Write>(&mut self, rt: &R, alloc: Global, writer: &mut W) -> Stop
+        // What was left to write, and then the bodies that the takes gave, are what the writer
+        // took, and then what is left to write: also from one step to the next.
+        ensures serves { (bytes : List ℕ) × Serves
+            (host self.old.station.clock self.old.station.core
+            self.old.callers.items (left_of self.old.outlet) (W.contents writer.old))
+            (host self.new.station.clock self.new.station.core
+            self.new.callers.items (left_of self.new.outlet) (W.contents writer.new))
+            self.old.once result
+            (λ old moment new. (old.last ≤ moment) × (new.last ≡ moment))
+            (peers_of self.old.station.wire.peers.items) bytes
+            × Writes (left_of self.old.outlet ++ bytes) (left_of self.new.outlet)
+            (W.contents writer.old) (W.contents writer.new) }
         ensures written { result ≡ Stops.Ended
             → IsTrue self.new.once × (left_of self.new.outlet ≡ []) }
         ensures once { self.new.once ≡ self.old.once }
     {
-        for _ in 0..u64::MAX {
+        for _step in 0..u64::MAX {
             if let Err(stop) = self.step_or_wait(rt, alloc, writer) {
                 return stop;
             }
@@ -491,6 +572,16 @@ impl<'a, R: Net + Log + Clock + Eprint> Listening<'a, R> {
     /// Runs until it is to end, prints why it ends, and answers the status: 0 only with `once`, and
     /// where all that was taken is written.
     fn finish<W: Write>(&mut self, rt: &R, alloc: Global, writer: &mut W) -> u8
+        ensures serves { (stop : AStop) × (result ≡ stop_status stop) × (bytes : List ℕ) × Serves
+            (host self.old.station.clock self.old.station.core
+            self.old.callers.items (left_of self.old.outlet) (W.contents writer.old))
+            (host self.new.station.clock self.new.station.core
+            self.new.callers.items (left_of self.new.outlet) (W.contents writer.new))
+            self.old.once stop
+            (λ old moment new. (old.last ≤ moment) × (new.last ≡ moment))
+            (peers_of self.old.station.wire.peers.items) bytes
+            × Writes (left_of self.old.outlet ++ bytes) (left_of self.new.outlet)
+            (W.contents writer.old) (W.contents writer.new) }
         ensures written { result ≡ 0 → IsTrue self.new.once × (left_of self.new.outlet ≡ []) }
         ensures few { result ≤ 1 }
         ensures once { self.new.once ≡ self.old.once }
@@ -534,6 +625,13 @@ fn run_listening<R: Net + Log + Clock + Eprint, W: Write>(
     writer: &mut W,
 ) -> u8
     ensures unstarted { OnErr started.entry (result ≡ 1) }
+    // Where it ends well, the writer took the bodies that the takes gave, one behind the other.
+    ensures well { result ≡ 0 → IfOk started.entry (λ l. (bytes : List ℕ) × ServesWell
+        (host l.station.clock l.station.core l.callers.items (left_of l.outlet)
+        (W.contents writer.old))
+        l.once (W.contents writer.new)
+        (λ old moment new. (old.last ≤ moment) × (new.last ≡ moment))
+        (peers_of l.station.wire.peers.items) bytes) }
     ensures few { result ≤ 1 }
     ensures once { result ≡ 0 → IfOk started.entry (λ l. IsTrue l.once) }
 {
@@ -558,6 +656,13 @@ fn listen_by<R: Net + Log + Clock + Eprint, W: Write>(
     ensures few { OnOk loaded (result ≤ 1) }
     // Without `once` a host that was loaded never ends well.
     ensures once { OnOk loaded (result ≡ 0 → IsTrue once) }
+    // Where it ends well, a host began with no connection and nothing to write, and its writer took
+    // the bodies that the takes gave, one behind the other.
+    ensures well { OnOk loaded (result ≡ 0 → (start : Host (SteadyClock R))
+        × (peers : Peers) × (bytes : List ℕ) × Begins start (W.contents writer.old)
+        × ServesWell start once (W.contents writer.new)
+        (λ old moment new. (old.last ≤ moment) × (new.last ≡ moment)) peers bytes
+        × Appends (W.contents writer.old) (W.contents writer.new) bytes) }
 {
     let file = match loaded {
         Ok(file) => file,
@@ -585,6 +690,13 @@ pub fn do_listen<R: Net + Log + Files + Clock + Eprint, W: Write>(
     ensures few { result ≤ 2 }
     // Without `once` it never ends well.
     ensures once { result ≡ 0 → IsTrue once }
+    // Where it ends well, a host began with no connection and nothing to write, and its writer took
+    // the bodies of the messages that were taken, one behind the other, and nothing else.
+    ensures well { result ≡ 0 → (start : Host (SteadyClock R))
+        × (peers : Peers) × (bytes : List ℕ) × Begins start (W.contents writer.old)
+        × ServesWell start once (W.contents writer.new)
+        (λ old moment new. (old.last ≤ moment) × (new.last ≡ moment)) peers bytes
+        × Appends (W.contents writer.old) (W.contents writer.new) bytes }
 {
     let loaded = load_host(rt, alloc, path);
     listen_by(rt, alloc, path, loaded, once, writer)

@@ -1,0 +1,116 @@
+-- What a host that listens does, one step after another: each is a turn, of which it notes what came;
+-- then what waits is written, the connections pass what they hold, and they are tidied. The entry point
+-- is `Serves`, of a whole run. All of it is own.
+use Rattle.std.specs.Prelude.{◌≡◌, ◌⊎◌, ◌-◌, ◌^◌, ℕ, zero, suc, Bool, true, false, List, [], ◌++◌, Option, Some, None}
+use Rattle.std.specs.Io.KnownBytes.{Appends}
+use Rattle.ipx_carrier.specs.Turns.{Peers}
+use Rattle.ipx_ends.specs.Callers.{NotesHeard}
+use Rattle.ipx_ends.specs.Outlet.{Writes}
+use Rattle.ipx_ends.specs.Passing.{PassesEach, given_each}
+use Rattle.ipx_ends.specs.Tending.{Tidies}
+use Rattle.ipx_ends.specs.Turning.{TakesTurn}
+use Rattle.ipx_ends.specs.declared.callers.Caller.{Caller}
+use Rattle.ipx_ends.specs.declared.end_core.EndCore.{EndCore}
+use Rattle.ipx_ends.specs.declared.listening.Stop.{Stop}
+use Rattle.ipx_ends.specs.declared.listening.Stop.TheVariants.{Ended, Lost, Unwritten, Unwaited}
+use Rattle.ipx_ends.specs.declared.station.Turn.{Turn}
+
+-- where it is between two steps: its clock and its core, its connections, what is left to write, and
+-- what its writer took, where that is known
+pub record Host (K : Type 0) : Type 0 where
+  pub clock : K
+  pub core : EndCore
+  pub callers : List Caller
+  pub left : List ℕ
+  pub written : Option (List ℕ)
+
+abbrev pub host : {K : Type 0} → K → EndCore → List Caller → List ℕ → Option (List ℕ) → Host K
+host clock core callers left written =
+    record { clock = clock; core = core; callers = callers; left = left; written = written }
+
+-- where a datagram was heard it is noted, and else all is as it was
+abbrev pub NotesIf : Bool → Bool → EndCore → EndCore → List Caller → List Caller → Type 0
+NotesIf true once old new callers callers' = NotesHeard once old new callers callers'
+NotesIf false once old new callers callers' = (new ≡ old) × (callers' ≡ callers)
+
+-- a turn, and what is noted of it
+pub record Hears {K : Type 0} (clock clock' : K) (old new : EndCore) (callers callers' : List Caller)
+    (once : Bool) (tells : K → ℕ → K → Type 0) (peers : Peers) : Type 0 where
+  pub seen : EndCore
+  pub turn : Turn
+  pub turned : TakesTurn clock clock' tells peers old seen turn
+  pub noted : NotesIf turn.heard once seen new callers callers'
+
+-- what waits is written, and then each connection passes what it holds: these bytes in all
+pub record Moves (old new : EndCore) (callers callers' : List Caller) (waiting left : List ℕ)
+    (written writes : Option (List ℕ)) (bytes : List ℕ) : Type 0 where
+  pub between : List ℕ
+  pub writing : Option (List ℕ)
+  pub first : Writes waiting between written writing
+  pub passes : PassesEach old.endpoint new.endpoint between left writing writes callers callers'
+  pub given : bytes ≡ given_each old.endpoint new.endpoint between left writing writes callers callers' passes
+  pub core : new ≡ record old { endpoint = new.endpoint }
+
+-- the same, of the first connections; the others are as before
+pub record MovesSome (old new : EndCore) (callers callers' : List Caller) (waiting left : List ℕ)
+    (written writes : Option (List ℕ)) (bytes : List ℕ) : Type 0 where
+  pub front : List Caller
+  pub front' : List Caller
+  pub rest : List Caller
+  pub before : callers ≡ front ++ rest
+  pub after : callers' ≡ front' ++ rest
+  pub moves : Moves old new front front' waiting left written writes bytes
+
+-- one step
+pub record Steps {K : Type 0} (old new : Host K) (once : Bool) (stop : Option Stop)
+    (tells : K → ℕ → K → Type 0) (peers : Peers) (bytes : List ℕ) : Type 0 where
+  pub heard : EndCore
+  pub there : List Caller
+  pub hears : Hears old.clock new.clock old.core heard old.callers there once tells peers
+  pub moved : EndCore
+  pub still : List Caller
+  pub moves : Moves heard moved there still old.left new.left old.written new.written bytes
+  pub tidied : Tidies once moved new.core still new.callers stop
+
+-- one that the writer breaks off
+pub record BreaksOff {K : Type 0} (old new : Host K) (once : Bool) (tells : K → ℕ → K → Type 0)
+    (peers : Peers) (bytes : List ℕ) : Type 0 where
+  pub heard : EndCore
+  pub there : List Caller
+  pub hears : Hears old.clock new.clock old.core heard old.callers there once tells peers
+  pub moves : MovesSome heard new.core there new.callers old.left new.left old.written new.written bytes
+
+-- what a step does by why it stops the host, if it does; the wait behind a step changes nothing
+abbrev pub StepsTo : {K : Type 0} → Host K → Host K → Bool → Option Stop → (K → ℕ → K → Type 0) → Peers → List ℕ → Type 0
+StepsTo old new once None tells peers bytes = Steps old new once None tells peers bytes
+StepsTo old new once (Some Ended) tells peers bytes = Steps old new once (Some Ended) tells peers bytes
+StepsTo old new once (Some Lost) tells peers bytes = Steps old new once (Some Lost) tells peers bytes
+StepsTo old new once (Some Unwritten) tells peers bytes = BreaksOff old new once tells peers bytes
+StepsTo old new once (Some Unwaited) tells peers bytes = Steps old new once None tells peers bytes
+
+-- so many steps, one after another, none of which stops the host: these bytes in all
+abbrev pub StepsOn : {K : Type 0} → ℕ → Host K → Host K → Bool → (K → ℕ → K → Type 0) → Peers → List ℕ → Type 0
+StepsOn zero old new once tells peers bytes = (new ≡ old) × (bytes ≡ [])
+StepsOn {K} (suc n) old new once tells peers bytes = (last : Host K) × (before now : List ℕ)
+    × (bytes ≡ before ++ now) × StepsOn n old last once tells peers before
+    × Steps last new once None tells peers now
+
+-- a whole run: steps, and one that stops the host. Lost is told, too, where none of 2^64 - 1 steps did
+abbrev pub Serves : {K : Type 0} → Host K → Host K → Bool → Stop → (K → ℕ → K → Type 0) → Peers → List ℕ → Type 0
+Serves {K} old new once stop tells peers bytes =
+    ((count : ℕ) × (last : Host K) × (before now : List ℕ) × (bytes ≡ before ++ now)
+    × StepsOn count old last once tells peers before
+    × StepsTo last new once (Some stop) tells peers now)
+    ⊎ ((stop ≡ Lost) × (count : ℕ) × (count ≡ 2 ^ 64 - 1)
+    × StepsOn count old new once tells peers bytes)
+
+-- a run that ends well: its writer took what was left to write, and then these bytes, and nothing is
+-- left
+abbrev pub ServesWell : {K : Type 0} → Host K → Bool → Option (List ℕ) → (K → ℕ → K → Type 0) → Peers → List ℕ → Type 0
+ServesWell {K} old once writes tells peers bytes = (new : Host K)
+    × Serves old new once Ended tells peers bytes × (new.left ≡ []) × (new.written ≡ writes)
+    × Appends old.written writes (old.left ++ bytes)
+
+-- there is no connection yet, and nothing to write
+abbrev pub Begins : {K : Type 0} → Host K → Option (List ℕ) → Type 0
+Begins start written = (start.callers ≡ []) × (start.left ≡ []) × (start.written ≡ written)
