@@ -1,11 +1,10 @@
 -- What a host that listens does, one step after another.
-use Rattle.std.proofs.Common.{◌≡◌, ℕ, zero, suc, ◌+◌, ◌<◌, ◌≤◌, Bool, true, false, List, [], ◌∷◌, ◌++◌, length, take, Option, Some, None, Result, Ok, Err, ◌⊎◌, inl, inr, refl, sym, ap, ◌∙◌, subst, arith, append_assoc, append-nil}
+use Rattle.std.proofs.Common.{◌≡◌, ℕ, zero, suc, ◌+◌, ◌<◌, Bool, true, false, List, [], ◌∷◌, ◌++◌, length, take, Option, Some, None, Result, Ok, Err, ◌⊎◌, inl, inr, refl, sym, ap, ◌∙◌, subst, arith, append_assoc, append-nil}
 use Rattle.std.specs.Prelude.{All, IfErr, IfOk, IfSome, OnErr, OnOk, slice_get}
 use Rattle.std.specs.Io.KnownBytes.{Appends}
 use Rattle.ipx_carrier.specs.Turns.{Peers}
 use Rattle.spx_messages.specs.EndpointView.{EndpointView, Held, held_at}
-use Rattle.ipx_ends.specs.Callers.{NotesHeard}
-use Rattle.ipx_ends.specs.Hosting.{Begins, BreaksOff, Hears, Host, Moves, MovesSome, NotesIf, Serves, ServesWell, Steps, StepsOn, StepsTo, host}
+use Rattle.ipx_ends.specs.Hosting.{Begins, Hears, Host, Moves, MovesSome, Serves, ServesWell, Steps, StepsOn, StepsTo, host}
 use Rattle.ipx_ends.specs.Outlet.{Writes, left_of}
 use Rattle.ipx_ends.specs.Passing.{PassesEach, PassesFrom, PassesSome, given_each, given_from}
 use Rattle.ipx_ends.specs.Stop.{parted, stop_status}
@@ -126,12 +125,6 @@ moved_none core cs x y a b wrote = moved_some core core cs cs x y y a b b wrote 
 
 -- ---- one step
 
-pub noted_so : (heard once : Bool) (old new : EndCore) (cs cs' : List Caller) → heard ≡ true → NotesHeard once old new cs cs' → NotesIf heard once old new cs cs'
-noted_so heard once old new cs cs' is notes = subst (λ (b : Bool). NotesIf b once old new cs cs') (sym is) notes
-
-pub noted_none : (heard once : Bool) (core : EndCore) (cs : List Caller) → heard ≡ false → NotesIf heard once core core cs cs
-noted_none heard once core cs is = subst (λ (b : Bool). NotesIf b once core core cs cs) (sym is) (refl, refl)
-
 pub stepped : {K : Type 0} (clock clock1 clock2 clock3 : K) (core core1 core2 core3 : EndCore) (cs cs1 cs2 cs3 : List Caller) (o o1 o2 o3 : Outlet) (once once' : Bool) (a b : Option (List ℕ))
     (stop : Option Stop) (tells : K → ℕ → K → Type 0) (peers : Peers) (bytes : List ℕ)
     → Hears clock clock1 core core1 cs cs1 once tells peers → o1 ≡ o → clock2 ≡ clock1 → once' ≡ once
@@ -147,18 +140,6 @@ stepped {K} clock clock1 clock2 clock3 core core1 core2 core3 cs cs1 cs2 cs3 o o
       moves = subst (λ (k : Outlet). Moves core1 core2 cs1 cs2 (left_of k) (left_of o3) a b bytes) unheard
           (subst (λ (k : Outlet). Moves core1 core2 cs1 cs2 (left_of o1) (left_of k) a b bytes) (sym unwritten) moves);
       tidied = subst (λ (k : Bool). Tidies k core2 core3 cs2 cs3 stop) same tidies;
-    }
-
-pub broken : {K : Type 0} (clock clock1 clock2 : K) (core core1 core2 : EndCore) (cs cs1 cs2 : List Caller) (o o1 o2 : Outlet) (once : Bool) (a b : Option (List ℕ))
-    (tells : K → ℕ → K → Type 0) (peers : Peers) (bytes : List ℕ) → Hears clock clock1 core core1 cs cs1 once tells peers → o1 ≡ o → clock2 ≡ clock1
-    → MovesSome core1 core2 cs1 cs2 (left_of o1) (left_of o2) a b bytes
-    → BreaksOff (host clock core cs (left_of o) a) (host clock2 core2 cs2 (left_of o2) b) once tells peers bytes
-broken {K} clock clock1 clock2 core core1 core2 cs cs1 cs2 o o1 o2 once a b tells peers bytes hears unheard ticks moves =
-    record {
-      heard = core1;
-      there = cs1;
-      hears = subst (λ (k : K). Hears clock k core core1 cs cs1 once tells peers) (sym ticks) hears;
-      moves = subst (λ (k : Outlet). MovesSome core1 core2 cs1 cs2 (left_of k) (left_of o2) a b bytes) unheard moves;
     }
 
 -- a step that is tidied stops the host so
