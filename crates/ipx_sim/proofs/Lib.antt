@@ -4,4 +4,4 @@ pub mod Telling
 pub mod Ends
 pub mod Numerals
 pub mod Positions
-pub mod Goings
+pub mod Deeds

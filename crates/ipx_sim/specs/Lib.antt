@@ -6,4 +6,7 @@ pub mod Script
 pub mod Fields
 pub mod Places
 pub mod Reading
+pub mod Doing
+pub mod Delivering
 pub mod Going
+pub mod Sim

@@ -4,6 +4,7 @@
 #![tactic(auto)]
 
 mod acting;
+mod delivering;
 mod fields;
 mod halt;
 mod layout;
@@ -14,7 +15,9 @@ mod reading;
 mod rounds;
 mod sim;
 mod simulation;
+mod stop;
 mod summing;
+mod taking;
 mod words;
 
 pub use acting::act;

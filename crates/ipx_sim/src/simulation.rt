@@ -1,17 +1,29 @@
 //! A network on which a script runs, line by line.
 
+ghost use Rattle.std.specs.Prelude.{◌≡◌, ◌≢◌, [], IfErr, IfOk, IsOkAnd, List, OnOk, ℕ, string_bytes};
+ghost use Rattle.std.specs.Io.KnownBytes.{Appends};
+ghost use Rattle.spx_messages.specs.Taking.{Whole, taken_view};
 ghost use Rattle.ipx_sim.specs.Act.{IsActOwed};
+ghost use Rattle.ipx_sim.specs.Delivering.{delivered_view};
+ghost use Rattle.ipx_sim.specs.Places.{map_view};
+ghost use Rattle.ipx_sim.specs.Reading.{event_view};
 ghost use Rattle.ipx_sim.specs.Script.{IsLineOwed};
+ghost use Rattle.ipx_sim.specs.Sim.{MarksWhere, TellsTake, last_text, parcel_of, sim_view, stop_status, stop_text, taken_line};
+ghost use Rattle.ipx_sim.specs.Summary.{Summarizes};
+ghost use Rattle.ipx_sim.specs.declared.halt.Halt.TheVariants as Halts;
 
 use crate::acting::act;
+use crate::delivering::Delivered;
 use crate::fields::{fields_of, is_blank};
 use crate::halt::Halt;
 use crate::line::Line;
 use crate::lines::{bytes_to_text, fault_to_line, refused_to_line};
 use crate::map::Map;
 use crate::reading::read_line;
-use crate::rounds::{Delivered, Stop, fill, run_rounds, take_one};
+use crate::rounds::{fill, run_rounds};
+use crate::stop::Stop;
 use crate::summing::summary;
+use crate::taking::{is_unit, take_one};
 use ipx_net::{Event, Net};
 use spx_messages::Taken;
 use std::alloc::{AllocError, Global};
@@ -27,15 +39,23 @@ pub struct Simulation {
     delivered: Delivered,
 }
 
-fn say<W: Write>(writer: &mut W, line: Result<String, AllocError>) -> Result<(), Halt> {
+fn say<W: Write>(writer: &mut W, line: Result<String, AllocError>) -> Result<(), Halt>
+    ensures said { OnOk result (IsOkAnd line (λ l.
+        Appends (W.contents writer.old) (W.contents writer.new) (string_bytes l))) }
+    ensures halted { IfErr result (λ halt. halt ≢ Halts.Bad) }
+{
     let line = line?;
     writer.write_all(line.as_bytes()).map_err(|_| Halt::Ended)
 }
 
 /// The line of what stopped a line of the script, and the line's status.
-fn tell<W: Write>(alloc: Global, done: Result<(), Stop>, writer: &mut W) -> Result<u8, Halt> {
+fn tell<W: Write>(alloc: Global, done: Result<bool, Stop>, writer: &mut W) -> Result<u8, Halt>
+    ensures told { IfOk result (λ status. (status ≡ stop_status done)
+        × Appends (W.contents writer.old) (W.contents writer.new) (stop_text done)) }
+    ensures halted { IfErr result (λ halt. halt ≢ Halts.Bad) }
+{
     match done {
-        Ok(()) => return Ok(0),
+        Ok(_) => return Ok(0),
         Err(Stop::Fault(fault)) => say(writer, fault_to_line(alloc, fault))?,
         Err(Stop::Refused(fault)) => say(writer, refused_to_line(alloc, fault))?,
         Err(Stop::Memory) => return Err(Halt::Memory),
@@ -43,59 +63,85 @@ fn tell<W: Write>(alloc: Global, done: Result<(), Stop>, writer: &mut W) -> Resu
     Ok(1)
 }
 
-fn message_to_line(
-    alloc: Global,
-    end: usize,
-    stream: u8,
-    body: &[u8],
-) -> Result<String, AllocError> {
+fn message_to_line(alloc: Global, end: usize, stream: u8, body: &[u8]) -> Result<String, AllocError>
+    ensures { IfOk result (λ t. string_bytes t ≡ taken_line end
+        (Whole (record { stream = stream; body = body.now }))) }
+{
     let stream = hex::encode(alloc, [stream])?;
     let body = bytes_to_text(alloc, body)?;
     format!(in alloc; "end {end} got {stream} {body}\n")
 }
 
-/// The line of what was taken, if it has one.
-fn tell_taken<W: Write>(
-    alloc: Global,
-    end: usize,
-    taken: &Taken,
-    writer: &mut W,
-) -> Result<(), Halt> {
+/// The line of what was taken: none of nothing and of a part.
+fn taken_to_line(alloc: Global, end: usize, taken: &Taken) -> Result<String, AllocError>
+    ensures { IfOk result (λ t. string_bytes t ≡ taken_line end (taken_view taken.now)) }
+{
     match taken {
-        Taken::Nothing => Ok(()),
-        Taken::Part => Ok(()),
-        Taken::Whole(message) => say(
-            writer,
-            message_to_line(alloc, end, message.stream, &message.body),
-        ),
-        Taken::PeerEnd => say(writer, format!(in alloc; "end {end} peer-end\n")),
+        Taken::Nothing => Ok(String::new(alloc)),
+        Taken::Part => Ok(String::new(alloc)),
+        Taken::Whole(message) => message_to_line(alloc, end, message.stream, &message.body),
+        Taken::PeerEnd => format!(in alloc; "end {end} peer-end\n"),
     }
 }
 
-/// Takes from an end until nothing is held, and tells what came.
+/// Takes from an end once, and tells what came. It answers whether a unit came, or what stopped it.
+fn take_told_once<W: Write>(
+    alloc: Global,
+    net: &mut Net,
+    end: usize,
+    writer: &mut W,
+) -> Result<Result<bool, Stop>, Halt>
+    ensures took { IfOk result (λ done. (text : List ℕ)
+        × TellsTake end (record { net = net.old; text = [] }) done
+        (record { net = net.new; text = text })
+        × Appends (W.contents writer.old) (W.contents writer.new) text) }
+    ensures halted { IfErr result (λ halt. halt ≢ Halts.Bad) }
+{
+    match take_one(net, alloc, end) {
+        Ok(taken) => {
+            say(writer, taken_to_line(alloc, end, &taken))?;
+            Ok(Ok(is_unit(&taken)))
+        }
+        Err(stop) => Ok(Err(stop)),
+    }
+}
+
+/// Takes from an end until nothing is held, and tells what came. It answers whether a unit came, or
+/// what stopped it.
 fn take_told<W: Write>(
     alloc: Global,
     net: &mut Net,
     end: usize,
     writer: &mut W,
-) -> Result<u8, Halt> {
-    let mut held = false;
+) -> Result<Result<bool, Stop>, Halt> {
+    let mut any = false;
     for _ in 0..u64::MAX {
-        match take_one(net, alloc, end) {
-            Ok(Taken::Nothing) => break,
-            Ok(taken) => tell_taken(alloc, end, &taken, writer)?,
-            Err(stop) => return tell(alloc, Err(stop), writer),
+        match take_told_once(alloc, net, end, writer)? {
+            Ok(true) => any = true,
+            Ok(false) => return Ok(Ok(any)),
+            Err(stop) => return Ok(Err(stop)),
         }
-        held = true;
     }
-    if !held {
+    Ok(Ok(any))
+}
+
+/// Tells that nothing was held, or what stopped a take.
+fn tell_taken<W: Write>(alloc: Global, done: Result<bool, Stop>, writer: &mut W) -> Result<u8, Halt>
+    ensures told { IfOk result (λ status. (status ≡ stop_status done)
+        × Appends (W.contents writer.old) (W.contents writer.new) (last_text done)) }
+    ensures halted { IfErr result (λ halt. halt ≢ Halts.Bad) }
+{
+    if let Ok(false) = done {
         say(writer, String::from_str(alloc, "nothing\n"))?;
+        return Ok(0);
     }
-    Ok(0)
+    tell(alloc, done, writer)
 }
 
 /// The parcel that an event delivers, if it delivers one.
-fn parcel_of(event: &Event) -> Option<usize> {
+fn parcel_of(event: &Event) -> Option<usize>
+    ensures { result ≡ parcel_of (event_view event.now) }
+{
     match event {
         Event::Deliver { parcel, .. } => Some(*parcel),
         _ => None,
@@ -104,13 +150,37 @@ fn parcel_of(event: &Event) -> Option<usize> {
 
 impl Simulation {
     /// A network in which nothing happened yet.
-    pub fn new(alloc: Global, net: Net, map: Map) -> Simulation {
+    pub fn new(alloc: Global, net: Net, map: Map) -> Simulation
+        ensures { sim_view result ≡ record {
+          net = net;
+          map = map_view map;
+          moment = 0;
+          delivered = record { below = 0; marks = [] };
+        } }
+    {
         Simulation {
             net,
             map,
             moment: 0,
             delivered: Delivered::new(alloc),
         }
+    }
+
+    /// A parcel counts as delivered where it was, which status 0 says: a delivery is never refused
+    /// by an end, so that another status is a fault.
+    fn mark(&mut self, parcel: Option<usize>, status: u8) -> Result<(), Halt>
+        ensures marks { OnOk result (MarksWhere parcel status
+            (delivered_view self.old.delivered) (delivered_view self.new.delivered)) }
+        ensures net { self.new.net ≡ self.old.net }
+        ensures map { map_view self.new.map ≡ map_view self.old.map }
+        ensures moment { self.new.moment ≡ self.old.moment }
+        ensures halted { IfErr result (λ halt. halt ≢ Halts.Bad) }
+    {
+        match parcel {
+            Some(parcel) if status == 0 => self.delivered.mark(parcel)?,
+            _ => {}
+        }
+        Ok(())
     }
 
     /// Does one event and tells of it.
@@ -124,11 +194,7 @@ impl Simulation {
     {
         let parcel = parcel_of(&event);
         let status = act(alloc, &mut self.net, event, writer).map_err(|_| Halt::Ended)?;
-        match parcel {
-            // A delivery is never refused by an end: a status other than 0 is a fault.
-            Some(parcel) if status == 0 => self.delivered.mark(parcel)?,
-            _ => {}
-        }
+        self.mark(parcel, status)?;
         Ok(status)
     }
 
@@ -137,6 +203,24 @@ impl Simulation {
         self.moment = self.moment.saturating_add(u64::from(by));
         let now = self.moment;
         self.do_event(alloc, Event::Tick { now }, writer)
+    }
+
+    /// Hands in messages of one byte.
+    fn fill<W: Write>(
+        &mut self,
+        alloc: Global,
+        end: usize,
+        count: u32,
+        writer: &mut W,
+    ) -> Result<u8, Halt> {
+        let done = fill(alloc, &mut self.net, end, count);
+        tell(alloc, done, writer)
+    }
+
+    /// Takes from an end until nothing is held.
+    fn take<W: Write>(&mut self, alloc: Global, end: usize, writer: &mut W) -> Result<u8, Halt> {
+        let done = take_told(alloc, &mut self.net, end, writer)?;
+        tell_taken(alloc, done, writer)
     }
 
     /// At most so many rounds, with a take of each end or without.
@@ -165,18 +249,15 @@ impl Simulation {
         match line {
             Line::Act(event) => self.do_event(alloc, event, writer),
             Line::Tick(by) => self.tick(alloc, by, writer),
-            Line::Fill { end, count } => {
-                let done = fill(alloc, &mut self.net, end, count);
-                tell(alloc, done, writer)
-            }
-            Line::Take(end) => take_told(alloc, &mut self.net, end, writer),
+            Line::Fill { end, count } => self.fill(alloc, end, count, writer),
+            Line::Take(end) => self.take(alloc, end, writer),
             Line::Run(rounds) => self.run(alloc, rounds, false, writer),
             Line::Pump(rounds) => self.run(alloc, rounds, true, writer),
         }
     }
 
     /// Reads and runs a line behind the layout, and answers its status: 1 where an end refused, or
-    /// the network met a fault, else 0.
+    /// the network met a fault, else 0. A bad line does nothing.
     pub fn do_line<W: Write>(
         &mut self,
         alloc: Global,
@@ -192,7 +273,12 @@ impl Simulation {
     }
 
     /// Writes the last lines.
-    pub fn finish<W: Write>(&self, writer: &mut W) -> Result<(), Halt> {
+    pub fn finish<W: Write>(&self, writer: &mut W) -> Result<(), Halt>
+        ensures written { OnOk result ((text : List ℕ)
+            × Summarizes self.now.net (map_view self.now.map).hosts text
+            × Appends (W.contents writer.old) (W.contents writer.new) text) }
+        ensures fault { IfErr result (λ halt. halt ≡ Halts.Ended) }
+    {
         summary(&self.net, &self.map.hosts, writer).map_err(|_| Halt::Ended)
     }
 }

@@ -1,5 +1,8 @@
-use Rattle.ipx_sim.specs.Going.{GoesOn, IsSendAt}
+use Rattle.std.proofs.Common.{Ok}
+use Rattle.std.specs.List.{range_with_len}
+use Rattle.ipx_sim.specs.Doing.{Each}
+use Rattle.ipx_sim.specs.Going.{SendsNumber}
 use Rattle.ipx_sim.proofs.rounds.fill.Given as goal
 
-abbrev pub invariant-loop : goal.invariant-loop
-invariant-loop l = GoesOn (IsSendAt l.end) l.fn.net l.net
+abbrev pub invariant-loop-number : goal.invariant-loop-number
+invariant-loop-number l = Each (SendsNumber l.end) (range_with_len 0 l.number) l.fn.net (Ok l.any) l.net

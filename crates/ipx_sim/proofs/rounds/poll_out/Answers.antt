@@ -1,11 +1,9 @@
-use Rattle.ipx_sim.proofs.Goings.{onward}
+use Rattle.std.proofs.Common.{Bool, Ok, subst}
+use Rattle.ipx_sim.specs.Going.{PollsOnce}
+use Rattle.ipx_sim.proofs.Deeds.{going_more}
 use Rattle.ipx_sim.proofs.rounds.poll_out.Goals as goal
 
-pub returns-in_err-made : goal.returns-in_err-made
-returns-in_err-made c = onward c.loop.invariant c.poll_once.ensures.goes
-
-pub returns-then-not-made : goal.returns-then-not-made
-returns-then-not-made c = onward c.loop.invariant c.poll_once.ensures.goes
-
 pub loop-preserved : goal.loop-preserved
-loop-preserved c = onward c.loop.invariant c.poll_once.ensures.goes
+loop-preserved c =
+    let more = subst (λ (b : Bool). PollsOnce c.args.member c.loop.net (Ok b) c.poll_once.new.net) c.if-not-made.false c.in_ok-made.ensures in
+    going_more (PollsOnce c.args.member) c.args.net.now c.loop.net c.poll_once.new.net c.loop.counter c.loop.any c.loop.invariant more

@@ -1,0 +1,103 @@
+-- A script's network between two lines, what a delivery marks, and what lines of several steps print.
+-- All of it is own.
+use Rattle.std.specs.Prelude.{ℕ, ◌≡◌, ◌==◌, Bool, true, false, MatchBool, List, [], ◌∷◌, ◌++◌, codes, Option, Some, None, Result, Ok, Err}
+use Rattle.std.specs.Fmt.{decimal}
+use Rattle.hex.specs.Hex.{encode_lower}
+use Rattle.spx_messages.specs.Taking.{TakenView, Nothing, Part, PeerEnd, Whole}
+use Rattle.ipx_net.specs.AnswerView.{AnswerView}
+use Rattle.ipx_net.specs.NetView.{NetView}
+use Rattle.ipx_net.specs.declared.event.Event.TheVariants as Events
+use Rattle.ipx_net.specs.declared.fault.NetFault.{NetFault}
+use Rattle.ipx_sim.specs.Act.{Stepped}
+use Rattle.ipx_sim.specs.ActLine.{bytes_text, fault_line, refused_line}
+use Rattle.ipx_sim.specs.Delivering.{DeliveredView, Marks, delivered_view}
+use Rattle.ipx_sim.specs.Going.{taken_of, unit_of}
+use Rattle.ipx_sim.specs.Places.{MapView, map_view}
+use Rattle.ipx_sim.specs.Reading.{EventView, Close, Deliver, Dial, Inject, Now, Poll, Release, Send, TakeOne}
+use Rattle.ipx_sim.specs.declared.simulation.Simulation.{Simulation}
+use Rattle.ipx_sim.specs.declared.stop.Stop.{Stop}
+use Rattle.ipx_sim.specs.declared.stop.Stop.TheVariants as Stops
+
+-- a network, the names in it, the moment in milliseconds, and which parcels were delivered
+pub record SimView : Type 0 where
+  pub net : NetView
+  pub map : MapView
+  pub moment : ℕ
+  pub delivered : DeliveredView
+
+abbrev pub sim_view : Simulation → SimView
+sim_view s =
+    record {
+      net = s.net;
+      map = map_view s.map;
+      moment = s.moment;
+      delivered = delivered_view s.delivered;
+    }
+
+-- ---- events
+
+-- the parcel that an event delivers
+abbrev pub parcel_of : EventView → Option ℕ
+parcel_of (Deliver parcel place) = Some parcel
+parcel_of (Dial host socket to buffers) = None
+parcel_of (Send who message) = None
+parcel_of (TakeOne who) = None
+parcel_of (Close who) = None
+parcel_of (Release who) = None
+parcel_of (Now now) = None
+parcel_of (Poll member) = None
+parcel_of (Inject segment next bytes) = None
+
+-- it counts as delivered where that took place, which status 0 says
+abbrev pub MarksWhere : Option ℕ → ℕ → DeliveredView → DeliveredView → Type 0
+MarksWhere None status old new = new ≡ old
+MarksWhere (Some parcel) status old new =
+    MatchBool (status == 0) (Marks parcel old new) (new ≡ old)
+
+-- ---- several steps
+
+-- what ends a line before it is done; want of memory ends the script, and has no line
+abbrev pub stop_line : Stop → List ℕ
+stop_line (Stops.Fault f) = fault_line f
+stop_line (Stops.Refused f) = refused_line f
+stop_line Stops.Memory = []
+
+abbrev pub stop_text : Result Bool Stop → List ℕ
+stop_text (Ok any) = []
+stop_text (Err stop) = stop_line stop
+
+abbrev pub stop_status : Result Bool Stop → ℕ
+stop_status (Ok any) = 0
+stop_status (Err stop) = 1
+
+-- ---- `take`
+
+abbrev pub taken_line : ℕ → TakenView → List ℕ
+taken_line end Nothing = []
+taken_line end Part = []
+taken_line end (Whole m) =
+    codes "end " ++ (decimal end ++ (codes " got " ++ (encode_lower (m.stream ∷ [])
+    ++ (codes " " ++ (bytes_text m.body ++ 10 ∷ [])))))
+taken_line end PeerEnd = codes "end " ++ (decimal end ++ codes " peer-end\n")
+
+abbrev pub taken_text : ℕ → Result TakenView Stop → List ℕ
+taken_text end (Ok t) = taken_line end t
+taken_text end (Err stop) = []
+
+-- a network, and what was printed so far
+pub record Told : Type 0 where
+  pub net : NetView
+  pub text : List ℕ
+
+-- one is taken and told
+abbrev pub TellsTake : ℕ → Told → Result Bool Stop → Told → Type 0
+TellsTake end old result new =
+    (outcome : Result AnswerView NetFault) × Stepped old.net (Events.Take end) outcome new.net
+    × (result ≡ unit_of (taken_of outcome))
+    × (new.text ≡ old.text ++ taken_text end (taken_of outcome))
+
+-- and at the end that nothing was held at first, or what ended it
+abbrev pub last_text : Result Bool Stop → List ℕ
+last_text (Ok true) = []
+last_text (Ok false) = codes "nothing\n"
+last_text (Err stop) = stop_line stop

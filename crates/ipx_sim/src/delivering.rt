@@ -1,0 +1,168 @@
+//! Parcels that are delivered to the places to which they come.
+
+ghost use Rattle.std.specs.Prelude.{◌≡◌, ◌==◌, ◌||◌, [], OnOk, false, option_map, slice_index_or, ℕ};
+ghost use Rattle.ipx_net.specs.Parcels.{parcel_view, place_view};
+ghost use Rattle.ipx_sim.specs.Act.{outcome_view};
+ghost use Rattle.ipx_sim.specs.Doing.{Each};
+ghost use Rattle.ipx_sim.specs.Delivering.{DeliversAll, DeliversNew, DeliversTo, Marks, comes_to, delivered_view, is_due, is_marked, is_sender, reached_of};
+
+use crate::acting::step;
+use crate::map::Spot;
+use crate::stop::Stop;
+use ipx_net::{Answer, Event, Net, NetFault, Parcel, Place};
+use ipx_wire::Node;
+use std::alloc::{AllocError, Global};
+
+/// Which parcels were delivered. Rounds are over with all below a number, so that none of these is
+/// looked at again.
+#[derive(Drop)]
+pub struct Delivered {
+    below: usize,
+    marks: Vec<bool>,
+}
+
+/// True at a place, and false at each before it that was not there.
+fn mark_at(marks: &mut Vec<bool>, place: usize) -> Result<(), AllocError>
+    ensures { OnOk result ((k : ℕ) → slice_index_or marks.new.items k false
+        ≡ (slice_index_or marks.old.items k false || (k == place))) }
+{
+    for _ in marks.len()..place {
+        marks.push(false)?;
+    }
+    if place < marks.len() {
+        marks[place] = true;
+        return Ok(());
+    }
+    marks.push(true)?;
+    Ok(())
+}
+
+impl Delivered {
+    /// None was.
+    pub fn new(alloc: Global) -> Delivered
+        ensures { delivered_view result ≡ record { below = 0; marks = [] } }
+    {
+        Delivered {
+            below: 0,
+            marks: Vec::new(alloc),
+        }
+    }
+
+    /// A parcel was delivered. The caller owes one that is there.
+    pub fn mark(&mut self, parcel: usize) -> Result<(), AllocError>
+        ensures { OnOk result (Marks parcel (delivered_view self.old) (delivered_view self.new)) }
+    {
+        if parcel < self.below {
+            return Ok(());
+        }
+        mark_at(&mut self.marks, parcel)
+    }
+
+    /// Whether a parcel was delivered by a line of its own.
+    fn is_marked(&self, parcel: usize) -> bool
+        ensures { result ≡ is_marked (delivered_view self.now) parcel }
+    {
+        self.marks.get(parcel).copied() == Some(true)
+    }
+}
+
+/// Whether a place sent a parcel.
+fn is_sender(sent_by: Option<Place>, place: Place) -> bool
+    ensures { result ≡ is_sender (option_map place_view sent_by) place }
+{
+    match sent_by {
+        Some(sender) => sender == place,
+        None => false,
+    }
+}
+
+/// Whether a parcel comes to a place of its network: that whose node is next, or by broadcast all
+/// but its sender's.
+fn comes_to(parcel: &Parcel, spot: &Spot) -> bool
+    ensures { result ≡ comes_to (parcel_view parcel.now) spot.now }
+{
+    if parcel.segment != spot.network {
+        return false;
+    }
+    if parcel.next == Node::BROADCAST {
+        return !is_sender(parcel.sent_by, spot.place);
+    }
+    parcel.next == spot.node
+}
+
+/// Whether the parcel of a number comes to a place.
+fn is_due(net: &Net, parcel: usize, spot: &Spot) -> bool
+    ensures { result ≡ is_due net.now parcel spot.now }
+{
+    match net.parcels().get(parcel) {
+        Some(parcel) => comes_to(parcel, spot),
+        None => false,
+    }
+}
+
+/// Whether a delivery took place.
+fn reached(outcome: Result<Answer, NetFault>) -> Result<bool, Stop>
+    ensures { result ≡ reached_of (outcome_view outcome) }
+{
+    let _answer = outcome?;
+    Ok(true)
+}
+
+/// Delivers a parcel to a place where it comes there, and answers whether it does.
+fn deliver_to(alloc: Global, net: &mut Net, spot: &Spot, parcel: usize) -> Result<bool, Stop>
+    ensures { DeliversTo parcel spot.now net.old result net.new }
+{
+    if !is_due(net, parcel, spot) {
+        return Ok(false);
+    }
+    let place = spot.place;
+    reached(step(alloc, net, Event::Deliver { parcel, place }))
+}
+
+/// Delivers a parcel to each place to which it comes, and answers whether there was one.
+fn deliver_one(alloc: Global, net: &mut Net, spots: &[Spot], parcel: usize) -> Result<bool, Stop>
+    ensures { Each (DeliversTo parcel) spots.now net.old result net.new }
+{
+    let mut any = false;
+    for spot in spots {
+        any |= deliver_to(alloc, net, spot, parcel)?;
+    }
+    Ok(any)
+}
+
+/// Delivers a parcel as `deliver_one` does, unless it was delivered.
+fn deliver_unless(
+    alloc: Global,
+    net: &mut Net,
+    spots: &[Spot],
+    parcel: usize,
+    delivered: &Delivered,
+) -> Result<bool, Stop>
+    ensures { DeliversNew (delivered_view delivered.now) spots.now parcel net.old result net.new }
+{
+    if delivered.is_marked(parcel) {
+        return Ok(false);
+    }
+    deliver_one(alloc, net, spots, parcel)
+}
+
+/// Delivers each parcel that was never delivered, in order of number, those too that arise
+/// meanwhile. It answers whether one was delivered.
+pub fn deliver_all(
+    alloc: Global,
+    net: &mut Net,
+    spots: &[Spot],
+    delivered: &mut Delivered,
+) -> Result<bool, Stop>
+    ensures { DeliversAll spots.now
+        (record { net = net.old; delivered = delivered_view delivered.old }) result
+        (record { net = net.new; delivered = delivered_view delivered.new }) }
+{
+    let mut any = false;
+    while delivered.below < net.parcels().len() {
+        let parcel = delivered.below;
+        any |= deliver_unless(alloc, net, spots, parcel, delivered)?;
+        delivered.below = parcel + 1;
+    }
+    Ok(any)
+}

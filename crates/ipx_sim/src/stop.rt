@@ -1,0 +1,43 @@
+//! What ends a line of a script before it is done.
+
+ghost use Rattle.std.specs.Prelude.{◌≡◌};
+ghost use Rattle.ipx_sim.specs.declared.stop.Stop.TheVariants as Stops;
+
+use ipx_net::NetFault;
+use spx_messages::EndFault;
+use std::alloc::{AllocError, AllocFailed};
+
+/// What ends a line of a script before it is done.
+#[derive(Clone, Copy, Debug, PartialEq, Eq)]
+pub enum Stop {
+    /// The network refused an event.
+    Fault(NetFault),
+    /// An end refused a call.
+    Refused(EndFault),
+    /// Memory was refused outside the network.
+    Memory,
+}
+
+impl From<NetFault> for Stop {
+    ghost from_gives = { λ f e. e ≡ Stops.Fault f };
+
+    fn from(fault: NetFault) -> Stop {
+        Stop::Fault(fault)
+    }
+}
+
+impl From<AllocError> for Stop {
+    ghost from_gives = { λ _ e. e ≡ Stops.Memory };
+
+    fn from(_error: AllocError) -> Stop {
+        Stop::Memory
+    }
+}
+
+impl<T: Drop> From<AllocFailed<T>> for Stop {
+    ghost from_gives = { λ _ e. e ≡ Stops.Memory };
+
+    fn from(_error: AllocFailed<T>) -> Stop {
+        Stop::Memory
+    }
+}
