@@ -6,4 +6,8 @@ pub mod Written
 pub mod Turning
 pub mod Acknowledged
 pub mod Fed
+pub mod Dropped
+pub mod Dialed
+pub mod Reading
 pub mod Rounded
+pub mod Whole
