@@ -3,6 +3,7 @@ use Rattle.std.proofs.Common.{◌≡◌, ◌≢◌, ◌↔◌, ◌⊎◌, ℕ, z
 use Rattle.std.specs.Prelude.{IfSome, IsSome, IsTrue, if◌then◌else◌}
 use Rattle.std.specs.Option.{option_map}
 use Rattle.spx_link.specs.declared.state.State.{State}
+use Rattle.spx_link.specs.declared.state.State.TheVariants.{Live}
 use Rattle.spx_link.specs.declared.unit.Unit.{Unit as Piece}
 use Rattle.spx_link.specs.LinkView.{LinkView, is_end}
 use Rattle.spx_link.specs.Links.{IsNextFree, LinksView, count_of, link_of}
@@ -15,13 +16,17 @@ use Rattle.spx_messages.specs.Taking.{IsPushed, PeerEnd, TakenView, joins_on, ov
 use Rattle.spx_messages.specs.declared.fault.EndFault.{EndFault}
 use Rattle.spx_messages.specs.declared.fault.EndFault.TheVariants as EndFaults
 use Rattle.spx_messages.specs.declared.taken.Taken.{Taken}
-use Rattle.ipx_ends.specs.Feeding.{Feeds, Intake, KeepsQueue, SameQueue, intake}
+use Rattle.ipx_ends.specs.Books.{Follows}
+use Rattle.ipx_ends.specs.Dropping.{DropsCame}
+use Rattle.ipx_ends.specs.Feeding.{Feeds, Intake, KeepsQueue, Rests, SameQueue, intake}
+use Rattle.ipx_ends.specs.Rounds.{IsStep, Place, intake_of, place}
 use Rattle.ipx_ends.specs.Steps.{FeedsOn, Goes, IsFeedFault, IsStepFault, SeenSoFar, Sees}
 use Rattle.ipx_ends.specs.Transfer.{IsWaiting, ended_at, joined_at, left_at, state_at, verdict_at}
 use Rattle.ipx_carrier.specs.Turns.{Peers}
 use Rattle.ipx_ends.specs.Turning.{TakesTurn}
 use Rattle.ipx_ends.specs.declared.station.Turn.{Turn}
 use Rattle.ipx_ends.specs.declared.end_core.EndCore.{EndCore}
+use Rattle.ipx_ends.specs.declared.ledger.Ledger.{Ledger}
 use Rattle.ipx_ends.specs.declared.verdict.Verdict.{Verdict}
 use Rattle.ipx_ends.specs.declared.verdict.Verdict.TheVariants.{Unwaited}
 
@@ -39,7 +44,7 @@ queue_lost h =
     let taken = queue_held h.link h.link.held in
     record { queue = taken.queue; out = taken.out; next = taken.next; ended = taken.ended }
 
-either_one : {A : Type 0} (P : A → Type 0) (b : Bool) (x y : A) → P x → P y → P (if b then x else y)
+pub either_one : {A : Type 0} (P : A → Type 0) (b : Bool) (x y : A) → P x → P y → P (if b then x else y)
 either_one P true x y p q = p
 either_one P false x y p q = q
 
@@ -55,10 +60,10 @@ queue_first h (Some u) =
 queue_taken : (h : Held) → SameQueue h.link (take_end h).1.link
 queue_taken h = queue_first h (first_held h.link.held)
 
-abbrev no_memory : EndFault
+abbrev pub no_memory : EndFault
 no_memory = EndFaults.Message MessageFaults.OutOfMemory
 
-for_memory : (r : Result Taken EndFault) → (r ≡ Err no_memory) ⊎ (r ≢ Err no_memory)
+pub for_memory : (r : Result Taken EndFault) → (r ≡ Err no_memory) ⊎ (r ≢ Err no_memory)
 for_memory (Ok t) = inr (λ e. cc)
 for_memory (Err (EndFaults.Offer f)) = inr (λ e. cc)
 for_memory (Err (EndFaults.Message MessageFaults.OutOfMemory)) = inl refl
@@ -143,21 +148,26 @@ sees_later joined joined' left left' old seen moment id closed verdict p q s =
       tells = subst (λ (b : Bool). verdict ≡ option_map (ended_at closed) (verdict_at b s.waits (state_at seen id))) (sym p) s.tells;
     }
 
-pub same_intake : (e e' : EndpointView) (r r' c c' : Bool) (k : Option (List ℕ)) → e' ≡ e → r' ≡ r → c' ≡ c → intake e' r' c' k ≡ intake e r c k
-same_intake e e' r r' c c' k p q s = cc
+pub same_intake : (e e' : EndpointView) (r r' c c' : Bool) (l l' : Ledger) (k : Option (List ℕ)) → e' ≡ e → r' ≡ r → c' ≡ c → l' ≡ l → intake e' r' c' l' k ≡ intake e r c l k
+same_intake e e' r r' c c' l l' k p q s t = cc
 
--- what came was dropped, and then the link was fed
-pub stepped : (id id' : ℕ) (core core' : EndCore) (start dropped : EndpointView) (read read' closed closed' : Bool) (known : Option (List ℕ)) (new : Intake)
-    → id' ≡ id → core' ≡ core → read' ≡ read → closed' ≡ closed → KeepsQueue (held_at core'.endpoint id') (held_at dropped id')
-    → (bytes : List ℕ) × Feeds (intake dropped read' closed' known) new id' bytes → FeedsOn id core.endpoint (intake start read closed known) new
-stepped id id' core core' start dropped read read' closed closed' known new p q r s queue fed =
-    let kept : KeepsQueue (held_at core.endpoint id) (held_at dropped id) =
-    subst (λ (i : ℕ). KeepsQueue (held_at core.endpoint i) (held_at dropped i)) p (subst (λ (k : EndCore). KeepsQueue (held_at k.endpoint id') (held_at dropped id')) q queue) in
-    let feeds : Feeds (intake dropped read closed known) new id fed.0 =
-    subst (λ (i : ℕ). Feeds (intake dropped read closed known) new i fed.0) p
-    (subst (λ (b : Bool). Feeds (intake dropped b closed known) new id' fed.0) r
-    (subst (λ (b : Bool). Feeds (intake dropped read' b known) new id' fed.0) s fed.1)) in
-    (dropped, kept, fed.0, feeds)
+-- what the link acknowledges was counted, what came was dropped, and then the link was fed
+pub stepped : (id id' : ℕ) (core core' : EndCore) (start dropped : EndpointView) (read read' closed closed' : Bool) (ledger ledger' : Ledger) (known : Option (List ℕ)) (new : Intake) (bytes : List ℕ)
+    → id' ≡ id → core' ≡ core → read' ≡ read → closed' ≡ closed → Follows (held_at core.endpoint id) ledger ledger' → DropsCame core'.endpoint dropped id'
+    → Feeds (intake dropped read' closed' ledger' known) new id' bytes → (state_at core.endpoint id ≢ Some Live → Rests (intake dropped read' closed' ledger' known) new bytes)
+    → FeedsOn id core.endpoint (intake start read closed ledger known) new bytes
+stepped id id' core core' start dropped read read' closed closed' ledger ledger' known new bytes p q r s follows drops fed only =
+    record {
+      ledger = ledger';
+      follows = follows;
+      dropped = dropped;
+      drops = subst (λ (i : ℕ). DropsCame core.endpoint dropped i) p (subst (λ (k : EndCore). DropsCame k.endpoint dropped id') q drops);
+      feeds = subst (λ (i : ℕ). Feeds (intake dropped read closed ledger' known) new i bytes) p
+          (subst (λ (b : Bool). Feeds (intake dropped b closed ledger' known) new id' bytes) r
+          (subst (λ (b : Bool). Feeds (intake dropped read' b ledger' known) new id' bytes) s fed));
+      only = λ other. subst (λ (b : Bool). Rests (intake dropped b closed ledger' known) new bytes) r
+          (subst (λ (b : Bool). Rests (intake dropped read' b ledger' known) new bytes) s (only other));
+    }
 
 -- the clock is as the turn left it
 pub turned : {K : Type 0} (clock now after : K) (tells : K → ℕ → K → Type 0) (peers : Peers) (old seen : EndCore) (turn : Turn)
@@ -175,16 +185,62 @@ went_on seen look mid shown looked fed showed =
     subst (λ (k : EndCore). k ≡ record seen { endpoint = k.endpoint }) (sym showed) on
 
 -- a step that goes on waits; its faults are faults of both
-pub goes_ok : (id : ℕ) (seen : EndpointView) (old new : Intake) (v : Option Verdict) (more : Bool) → Goes IsFeedFault id seen old new v (Ok more) → Goes {T = Unit {0}} IsStepFault id seen old new v (Ok tt)
+goes_ok : (id : ℕ) (seen : EndpointView) (old new : Intake) (v : Option Verdict) (more : Bool) → Goes IsFeedFault id seen old new v (Ok more) → Goes {T = Unit {0}} IsStepFault id seen old new v (Ok tt)
 goes_ok id seen old new (Some w) more goes = absurd (let no = goes.0 in cc)
 goes_ok id seen old new None more goes = (tt, goes.1)
 
-pub goes_unwaited : (id : ℕ) (seen : EndpointView) (old new : Intake) (v : Option Verdict) (more : Bool) → Goes IsFeedFault id seen old new v (Ok more) → Goes {T = Unit {0}} IsStepFault id seen old new v (Err Unwaited)
+goes_unwaited : (id : ℕ) (seen : EndpointView) (old new : Intake) (v : Option Verdict) (more : Bool) → Goes IsFeedFault id seen old new v (Ok more) → Goes {T = Unit {0}} IsStepFault id seen old new v (Err Unwaited)
 goes_unwaited id seen old new (Some w) more goes = absurd (let no = goes.0 in cc)
 goes_unwaited id seen old new None more goes = (inr refl, tt)
 
-pub goes_err : (id : ℕ) (seen : EndpointView) (old new : Intake) (v : Option Verdict) (f : Verdict) → Goes {T = Bool} IsFeedFault id seen old new v (Err f) → Goes {T = Unit {0}} IsStepFault id seen old new v (Err f)
+goes_err : (id : ℕ) (seen : EndpointView) (old new : Intake) (v : Option Verdict) (f : Verdict) → Goes {T = Bool} IsFeedFault id seen old new v (Err f) → Goes {T = Unit {0}} IsStepFault id seen old new v (Err f)
 goes_err id seen old new (Some w) f goes =
     let same : f ≡ w = (let is = goes.0 in cc) in
     (subst (λ (x : Verdict). ◌≡◌ {A = Result (Unit {0}) Verdict} (Err f) (Err x)) same refl, goes.1)
 goes_err id seen old new None f goes = (inl goes.0, tt)
+
+pub step_ok : {K : Type 0} (old new : Place K) (more : Bool) (tells : K → ℕ → K → Type 0) (peers : Peers) (id : ℕ)
+    → IsStep IsFeedFault old new (Ok more) tells peers id → IsStep {T = Unit {0}} IsStepFault old new (Ok tt) tells peers id
+step_ok old new more tells peers id s = record {
+  seen = s.seen;
+  turn = s.turn;
+  turned = s.turned;
+  verdict = s.verdict;
+  sees = s.sees;
+  goes = goes_ok id s.seen.endpoint (intake_of old) (intake_of new) s.verdict more s.goes;
+  core = s.core;
+}
+
+pub step_unwaited : {K : Type 0} (old new : Place K) (more : Bool) (tells : K → ℕ → K → Type 0) (peers : Peers) (id : ℕ)
+    → IsStep IsFeedFault old new (Ok more) tells peers id → IsStep {T = Unit {0}} IsStepFault old new (Err Unwaited) tells peers id
+step_unwaited old new more tells peers id s = record {
+  seen = s.seen;
+  turn = s.turn;
+  turned = s.turned;
+  verdict = s.verdict;
+  sees = s.sees;
+  goes = goes_unwaited id s.seen.endpoint (intake_of old) (intake_of new) s.verdict more s.goes;
+  core = s.core;
+}
+
+pub step_err : {K : Type 0} (old new : Place K) (f : Verdict) (tells : K → ℕ → K → Type 0) (peers : Peers) (id : ℕ)
+    → IsStep {T = Bool} IsFeedFault old new (Err f) tells peers id → IsStep {T = Unit {0}} IsStepFault old new (Err f) tells peers id
+step_err old new f tells peers id s = record {
+  seen = s.seen;
+  turn = s.turn;
+  turned = s.turned;
+  verdict = s.verdict;
+  sees = s.sees;
+  goes = goes_err id s.seen.endpoint (intake_of old) (intake_of new) s.verdict f s.goes;
+  core = s.core;
+}
+
+-- where the clock and the core stay, a place does
+pub same_place : {K : Type 0} (clock clock' : K) (core core' : EndCore) (n : SeenSoFar) (r c : Bool) (l : Ledger) (k : Option (List ℕ))
+    → clock' ≡ clock → core' ≡ core → place clock core n r c l k ≡ place clock' core' n r c l k
+same_place clock clock' core core' n r c l k p q = cc
+
+pub step_waited : {K : Type 0} (old : Place K) (clock clock' : K) (core core' : EndCore) (n : SeenSoFar) (r c : Bool) (l : Ledger) (k : Option (List ℕ)) (answer : Result (Unit {0}) Verdict) (tells : K → ℕ → K → Type 0) (peers : Peers) (id : ℕ)
+    → clock' ≡ clock → core' ≡ core → IsStep IsStepFault old (place clock core n r c l k) answer tells peers id → IsStep IsStepFault old (place clock' core' n r c l k) answer tells peers id
+step_waited {K} old clock clock' core core' n r c l k answer tells peers id p q s =
+    subst (λ (x : Place K). IsStep IsStepFault old x answer tells peers id) (same_place clock clock' core core' n r c l k p q) s

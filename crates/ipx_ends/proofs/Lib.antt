@@ -7,4 +7,8 @@ pub mod Turning
 pub mod Acknowledged
 pub mod Fed
 pub mod Hosted
+pub mod Dropped
+pub mod Dialed
+pub mod Reading
 pub mod Rounded
+pub mod Whole

@@ -4,22 +4,27 @@ use Rattle.std.specs.Prelude.{◌≡◌, ◌⊎◌, ℕ, Bool, true, false, List
 use Rattle.std.specs.Io.KnownBytes.{Consumes, IsAtEnd}
 use Rattle.spx_link.specs.LinkView.{LinkView}
 use Rattle.spx_link.specs.Offer.{end_link, offer_link}
+use Rattle.spx_link.specs.declared.state.State.TheVariants as States
 use Rattle.spx_units.specs.Cut.{cut_of}
 use Rattle.spx_messages.specs.Changes.{ChangesEnd}
 use Rattle.spx_messages.specs.EndpointView.{EndpointView, Held, held_at}
+use Rattle.ipx_ends.specs.Books.{EntersRead}
+use Rattle.ipx_ends.specs.declared.ledger.Ledger.{Ledger}
 
--- bytes are handed in as one message, behind all that was handed in before
+-- bytes are handed in as one message, behind all that was handed in before, to a link that is Live
 pub record HandsIn (old new : EndpointView) (id : ℕ) (bytes : List ℕ) : Type 0 where
   pub held : Held
   pub before : held_at old id ≡ Some held
+  pub live : held.link.state ≡ States.Live
   pub after : ChangesEnd old new id (record held {
     link = offer_link held.link (cut_of (record { stream = 0; body = bytes }));
   })
 
--- the end is queued, behind all that was handed in
+-- the end is queued, behind all that was handed in, where the link is Live
 pub record QueuesEnd (old new : EndpointView) (id : ℕ) : Type 0 where
   pub held : Held
   pub before : held_at old id ≡ Some held
+  pub live : held.link.state ≡ States.Live
   pub after : ChangesEnd old new id (record held { link = end_link held.link })
 
 -- what becomes of bytes that were read: one message, and nothing where none came
@@ -41,22 +46,30 @@ KeepsQueue (Some old) None = ⊥
 KeepsQueue (Some old) (Some new) = SameQueue old.link new.link
 
 -- where a transfer stands between its reader and its link: whether all is read, whether the end is
--- queued, and what the reader has left, where that is known
+-- queued, what is counted, and what the reader has left, where that is known
 pub record Intake : Type 0 where
   pub endpoint : EndpointView
   pub read : Bool
   pub closed : Bool
+  pub ledger : Ledger
   pub known : Option (List ℕ)
 
-abbrev pub intake : EndpointView → Bool → Bool → Option (List ℕ) → Intake
-intake endpoint read closed known =
-    record { endpoint = endpoint; read = read; closed = closed; known = known }
+abbrev pub intake : EndpointView → Bool → Bool → Ledger → Option (List ℕ) → Intake
+intake endpoint read closed ledger known = record {
+  endpoint = endpoint;
+  read = read;
+  closed = closed;
+  ledger = ledger;
+  known = known;
+}
 
--- the reader gives these bytes, which are handed in; where all is read then, it has none left
+-- the reader gives these bytes, which are handed in and counted; where all is read then, it has none
+-- left
 pub record ReadsOn (old new : Intake) (id : ℕ) (bytes : List ℕ) : Type 0 where
   pub unread : old.read ≡ false
   pub taken : Consumes old.known new.known bytes
   pub handed : HandsOn old.endpoint new.endpoint id bytes
+  pub entered : EntersRead old.ledger new.ledger bytes
   pub same : new.closed ≡ old.closed
   pub all : new.read ≡ true → (bytes ≡ []) × IsAtEnd new.known
 
@@ -68,7 +81,7 @@ pub record EndsInput (old new : Intake) (id : ℕ) (bytes : List ℕ) : Type 0 w
   pub is : new ≡ record old { endpoint = new.endpoint; closed = true }
   pub none : bytes ≡ []
 
--- nothing is read, handed in or queued
+-- nothing is read, handed in, queued or counted
 pub record Rests (old new : Intake) (bytes : List ℕ) : Type 0 where
   pub same : new ≡ old
   pub none : bytes ≡ []

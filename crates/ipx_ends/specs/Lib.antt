@@ -1,4 +1,6 @@
+pub mod Books
 pub mod Callers
+pub mod Dropping
 pub mod Fate
 pub mod Feeding
 pub mod Hosting
@@ -7,6 +9,7 @@ pub mod Noting
 pub mod Outlet
 pub mod Passing
 pub mod Rounds
+pub mod Sent
 pub mod Steps
 pub mod Stop
 pub mod Target

@@ -1,10 +1,15 @@
 -- One step of a host that sends: what it sees, what that tells, and what it feeds then. All of it is
 -- own.
-use Rattle.std.specs.Prelude.{◌≡◌, ◌↔◌, ◌⊎◌, ℕ, Bool, IsTrue, List, Option, Some, None, Result, Err, IfErr, OnOk}
+use Rattle.std.specs.Prelude.{◌≡◌, ◌≢◌, ◌↔◌, ◌⊎◌, ℕ, Bool, IsTrue, List, Option, Some, None, Result, Err, IfErr, OnOk}
 use Rattle.std.specs.Option.{option_map}
+use Rattle.spx_link.specs.declared.state.State.{State}
+use Rattle.spx_link.specs.declared.state.State.TheVariants.{Live}
 use Rattle.spx_messages.specs.EndpointView.{EndpointView, held_at}
-use Rattle.ipx_ends.specs.Feeding.{Feeds, Intake, KeepsQueue}
+use Rattle.ipx_ends.specs.Books.{Follows}
+use Rattle.ipx_ends.specs.Dropping.{DropsCame}
+use Rattle.ipx_ends.specs.Feeding.{Feeds, Intake, Rests}
 use Rattle.ipx_ends.specs.Transfer.{IsWaiting, ended_at, joined_at, left_at, state_at, verdict_at}
+use Rattle.ipx_ends.specs.declared.ledger.Ledger.{Ledger}
 use Rattle.ipx_ends.specs.declared.verdict.Verdict.{Verdict}
 use Rattle.ipx_ends.specs.declared.verdict.Verdict.TheVariants as Verdicts
 
@@ -12,6 +17,9 @@ use Rattle.ipx_ends.specs.declared.verdict.Verdict.TheVariants as Verdicts
 pub record SeenSoFar : Type 0 where
   pub joined : Bool
   pub left : Option ℕ
+
+abbrev pub noted : Bool → Option ℕ → SeenSoFar
+noted joined left = record { joined = joined; left = left }
 
 -- the endpoint was seen at a moment, and this is noted and told then
 pub record Sees (old new : SeenSoFar) (seen : EndpointView) (moment id : ℕ) (closed : Bool)
@@ -23,22 +31,36 @@ pub record Sees (old new : SeenSoFar) (seen : EndpointView) (moment id : ℕ) (c
   pub tells : verdict
       ≡ option_map (ended_at closed) (verdict_at new.joined waits (state_at seen id))
 
--- what came is dropped, and nothing that was queued; and then the link is fed
-abbrev pub FeedsOn : ℕ → EndpointView → Intake → Intake → Type 0
-FeedsOn id seen old new = (before : EndpointView) × KeepsQueue (held_at seen id) (held_at before id)
-    × (bytes : List ℕ) × Feeds (record old { endpoint = before }) new id bytes
+-- what the link that was seen acknowledges is counted; what came is let go; and then the link is fed
+-- these bytes, where it was seen Live, and nothing else
+pub record FeedsOn (id : ℕ) (seen : EndpointView) (old new : Intake) (bytes : List ℕ) : Type 0 where
+  pub ledger : Ledger
+  pub follows : Follows (held_at seen id) old.ledger ledger
+  pub dropped : EndpointView
+  pub drops : DropsCame seen dropped id
+  pub feeds : Feeds (record old { endpoint = dropped; ledger = ledger }) new id bytes
+  pub only : state_at seen id ≢ Some Live
+      → Rests (record old { endpoint = dropped; ledger = ledger }) new bytes
+
+-- what the link that was seen acknowledges is counted, and nothing is dropped or fed
+pub record FeedsNothing (id : ℕ) (seen : EndpointView) (old new : Intake) : Type 0 where
+  pub follows : Follows (held_at seen id) old.ledger new.ledger
+  pub is : new ≡ record old { endpoint = seen; ledger = new.ledger }
 
 -- a verdict ends the transfer, and nothing is fed; with none it goes on, but for faults of its own
-abbrev pub Goes : {T : Type 0} → (Verdict → Type 0) → ℕ → EndpointView → Intake → Intake → Option Verdict → Result T Verdict → Type 0
-Goes faults id seen old new (Some v) answer =
-    (answer ≡ Err v) × (new ≡ record old { endpoint = seen })
-Goes faults id seen old new None answer =
-    IfErr answer faults × OnOk answer (FeedsOn id seen old new)
+abbrev pub Goes : {T : Type 0} → (Option State → Verdict → Type 0) → ℕ → EndpointView → Intake → Intake → Option Verdict → Result T Verdict → Type 0
+Goes faults id seen old new (Some v) answer = (answer ≡ Err v) × FeedsNothing id seen old new
+Goes faults id seen old new None answer = IfErr answer (faults (state_at seen id))
+    × OnOk answer ((bytes : List ℕ) × FeedsOn id seen old new bytes)
 
 -- the faults of what reads, hands in and queues
-abbrev pub IsFeedFault : Verdict → Type 0
-IsFeedFault v = (v ≡ Verdicts.Unread) ⊎ (v ≡ Verdicts.OutOfMemory)
+abbrev pub IsReadFault : Verdict → Type 0
+IsReadFault v = (v ≡ Verdicts.Unread) ⊎ (v ≡ Verdicts.OutOfMemory)
+
+-- which come only where the link was seen Live
+abbrev pub IsFeedFault : Option State → Verdict → Type 0
+IsFeedFault state v = (state ≡ Some Live) × IsReadFault v
 
 -- and of what waits
-abbrev pub IsStepFault : Verdict → Type 0
-IsStepFault v = IsFeedFault v ⊎ (v ≡ Verdicts.Unwaited)
+abbrev pub IsStepFault : Option State → Verdict → Type 0
+IsStepFault state v = IsFeedFault state v ⊎ (v ≡ Verdicts.Unwaited)

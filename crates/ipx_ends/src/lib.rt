@@ -8,6 +8,8 @@
 mod callers;
 mod end_core;
 mod gate;
+mod handing;
+mod ids;
 mod ledger;
 mod listening;
 mod outlet;

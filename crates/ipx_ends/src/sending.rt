@@ -1,43 +1,43 @@
 //! The command `send`: a host that asks for a connection, and sends what it reads.
 
-ghost use Rattle.std.specs.Prelude.{◌≡◌, ◌≢◌, ◌<◌, ◌≤◌, ◌+◌, ◌↔◌, ◌⊎◌, ℕ, List, false, true, length, IfErr, IfOk, IsTrue, OnErr, OnOk, Err, None, Option, Some};
-ghost use Rattle.std.specs.List.{concat};
-ghost use Rattle.std.specs.Io.KnownBytes.{Consumes, IsAtEnd, Keeps};
+ghost use Rattle.std.specs.Prelude.{◌≡◌, ◌≢◌, ◌<◌, ◌≤◌, ◌+◌, ◌/◌, ◌%◌, ◌↔◌, ◌⊎◌, ℕ, List, false, true, length, take, IfErr, IfOk, IfSome, IsTrue, OnErr, OnOk, Err, Ok, None, Option, Some};
+ghost use Rattle.std.specs.Io.KnownBytes.{IsAtEnd, Keeps};
+ghost use Rattle.std.specs.IoError.{error_kind};
+ghost use Rattle.std.specs.declared.io.ErrorKind.TheVariants.{Interrupted, WouldBlock};
 ghost use Rattle.ipx_carrier.specs.Turns.{peers_of};
+ghost use Rattle.ipx_site.specs.Host.{IsHostText};
+ghost use Rattle.ipx_site.specs.Loading.{IsFileText};
+ghost use Rattle.ipx_site.specs.declared.clock.SteadyClock.{SteadyClock};
 ghost use Rattle.ipx_wire.specs.declared.address.Address.{Address};
-ghost use Rattle.spx_link.specs.Links.{count_of};
-ghost use Rattle.spx_link.specs.Offer.{dialed as link_dialed};
 ghost use Rattle.spx_messages.specs.EndpointView.{held_at};
-ghost use Rattle.ipx_ends.specs.Feeding.{Feeds, HandsIn, KeepsQueue, ReadsOn, intake};
-ghost use Rattle.ipx_ends.specs.Ledger.{counted};
-ghost use Rattle.ipx_ends.specs.Rounds.{RunsOut, place};
-ghost use Rattle.ipx_ends.specs.Steps.{Goes, IsFeedFault, IsStepFault, Sees};
+ghost use Rattle.ipx_ends.specs.Books.{EntersRead, Follows};
+ghost use Rattle.ipx_ends.specs.Feeding.{Feeds, HandsOn, ReadsOn, intake};
+ghost use Rattle.ipx_ends.specs.Rounds.{EndsWith, IsStep, LastsOn, Place, Transfers, place};
+ghost use Rattle.ipx_ends.specs.Sent.{IsDialing, SendsAll};
+ghost use Rattle.ipx_ends.specs.Steps.{IsFeedFault, IsReadFault, IsStepFault, noted};
 ghost use Rattle.ipx_ends.specs.Target.{Names};
 ghost use Rattle.ipx_ends.specs.Transfer.{IsConfirmedAt, IsWaiting, joined_at, left_at, state_at};
-ghost use Rattle.ipx_ends.specs.Turning.{TakesTurn};
-ghost use Rattle.ipx_ends.specs.declared.end_core.EndCore.{EndCore};
-ghost use Rattle.ipx_ends.specs.declared.station.Turn.{Turn};
-ghost use Rattle.ipx_ends.specs.declared.verdict.Verdict.{Verdict as AVerdict};
 ghost use Rattle.ipx_ends.specs.declared.verdict.Verdict.TheVariants as Verdicts;
 
 use crate::gate::Gate;
+use crate::handing::{drop_what_came, hand_in};
+use crate::ids::{dialed, passed_ids};
 use crate::ledger::Ledger;
 use crate::start::{StartFault, tell_start};
 use crate::station::Station;
 use crate::target::Target;
 use crate::verdict::{Verdict, ended_by, verdict_of};
 use ipx_site::{HostFile, load_host};
-use ipx_wire::{Address, Socket};
+use ipx_wire::Address;
 use log::Log;
 use mio::Interest;
-use spx_link::State;
-use spx_messages::{EndFault, Endpoint, MOST_BYTES, Message, MessageFault, Taken};
+use spx_link::{State, confirmed_links_are_whole};
+use spx_messages::MOST_BYTES;
 use std::alloc::Global;
-use std::io::{ErrorKind, Read};
+use std::io::{self, ErrorKind, Read};
 use std::net::Net;
 use std::os::fd::RawFd;
 use std::rt::{Clock, Files};
-use std::time::SystemTime;
 
 /// The most units that are handed in and not acknowledged before no more is read.
 const MOST_AHEAD: u64 = 2048;
@@ -49,9 +49,6 @@ const PATIENCE: u64 = 6000;
 const SECOND: u64 = 1000;
 
 const LONG: u64 = 3_600_000;
-
-/// How many ids a host has for its connections.
-const IDS: u128 = 65_534;
 
 /// The descriptor of standard input.
 const STDIN: RawFd = 0;
@@ -80,99 +77,6 @@ struct Sending<'a, R: Clock> {
     ghost roomy: { 0 < length room.items },
 }
 
-/// How many ids the connection of this run passes over: the milliseconds of the day's clock tell
-/// it, so two runs within a minute have different ids. A host that still holds the connection of
-/// the run before would take a request of the same id for that one.
-fn passed_ids<R: Clock>(rt: &R) -> u16
-    ensures { result < 65534 }
-{
-    let Ok(now) = SystemTime::now(rt) else {
-        return 0;
-    };
-    let Ok(since) = now.duration_since(SystemTime::UNIX_EPOCH) else {
-        return 0;
-    };
-    u16::try_from(since.as_millis() % IDS).unwrap_or(0)
-}
-
-/// Lets an endpoint pass over so many ids, which go up with each connection.
-fn pass_ids(
-    alloc: Global,
-    endpoint: &mut Endpoint,
-    socket: Socket,
-    to: Address,
-    count: u16,
-) -> Result<(), EndFault>
-    ensures none_left { (q : ℕ) → held_at endpoint.new q ≡ held_at endpoint.old q }
-    ensures count { count_of endpoint.new.links ≡ count_of endpoint.old.links }
-    // Where it holds no link, that many: the next one has the id behind them.
-    ensures last { count_of endpoint.old.links ≡ 0 → endpoint.old.links.last + count < 65535
-        → OnOk result (endpoint.new.links.last ≡ endpoint.old.links.last + count) }
-{
-    for _ in 0..count {
-        let id = endpoint.dial(alloc, socket, to, 1, 0)?;
-        endpoint.release(id)?;
-    }
-    Ok(())
-}
-
-/// The id of a new connection, for which so many ids are passed over.
-fn dialed(
-    alloc: Global,
-    endpoint: &mut Endpoint,
-    file: &HostFile,
-    to: Address,
-    count: u16,
-) -> Result<u16, EndFault>
-    ensures held { IfOk result (λ id. held_at endpoint.new id ≡ Some (record {
-      link = link_dialed id file.now.socket to file.now.buffers 0;
-      rest = None;
-    })) }
-    // Where it held no link, and the ids do not begin anew.
-    ensures id { count_of endpoint.old.links ≡ 0 → endpoint.old.links.last + count < 65534
-        → IfOk result (λ id. id ≡ endpoint.old.links.last + count + 1) }
-    ensures others { IfOk result (λ id. (q : ℕ) → q ≢ id
-        → held_at endpoint.new q ≡ held_at endpoint.old q) }
-    ensures unchanged { OnErr result ((q : ℕ)
-        → held_at endpoint.new q ≡ held_at endpoint.old q) }
-{
-    pass_ids(alloc, endpoint, file.socket, to, count)?;
-    endpoint.dial(alloc, file.socket, to, file.buffers, 0)
-}
-
-/// Hands bytes in as one message.
-fn hand_in(alloc: Global, endpoint: &mut Endpoint, id: u16, bytes: &[u8]) -> Result<(), EndFault>
-    ensures whole { OnOk result (HandsIn endpoint.old endpoint.new id bytes.now) }
-    ensures refused { OnErr result ((q : ℕ)
-        → held_at endpoint.new q ≡ held_at endpoint.old q) }
-{
-    let Ok(body) = Vec::from_slice(alloc, bytes) else {
-        return Err(EndFault::Message(MessageFault::OutOfMemory));
-    };
-    endpoint.send(alloc, id, &Message { stream: 0, body })
-}
-
-/// Takes what the link of an id holds first, and lets it go. It answers whether there was any.
-fn drop_first(alloc: Global, endpoint: &mut Endpoint, id: u16) -> bool
-    ensures queue { KeepsQueue (held_at endpoint.old id) (held_at endpoint.new id) }
-    ensures others { (q : ℕ) → q ≢ id → held_at endpoint.new q ≡ held_at endpoint.old q }
-{
-    let taken = endpoint.take(alloc, id);
-    !matches!(taken, Ok(Taken::Nothing) | Err(_))
-}
-
-/// Lets go what the peer of an id sends: its buffers are free again. What is queued stays.
-fn drop_what_came(alloc: Global, endpoint: &mut Endpoint, id: u16)
-    ensures queue { KeepsQueue (held_at endpoint.old id) (held_at endpoint.new id) }
-    ensures others { (q : ℕ) → q ≢ id → held_at endpoint.new q ≡ held_at endpoint.old q }
-{
-    for _ in 0..u16::MAX {
-        if !drop_first(alloc, endpoint, id) {
-            break;
-        }
-    }
-}
-
 impl<'a, R: Net + Log + Clock + Eprint> Sending<'a, R> {
     /// A host that asks for a connection. Nothing was read, and nothing seen.
     fn open(
@@ -182,13 +86,10 @@ impl<'a, R: Net + Log + Clock + Eprint> Sending<'a, R> {
         to: Address,
         shows: bool,
     ) -> Result<Sending<'a, R>, StartFault>
-        ensures dialed { IfOk result (λ s. held_at s.station.core.endpoint s.id ≡ Some (record {
-          link = link_dialed s.id file.now.socket to file.now.buffers 0;
-          rest = None;
-        })) }
-        ensures joined { IfOk result (λ s. (s.joined ≡ false) × (s.left ≡ None)) }
-        ensures read { IfOk result (λ s. (s.read ≡ false) × (s.closed ≡ false)) }
-        ensures given { IfOk result (λ s. s.ledger.given ≡ 0) }
+        ensures { IfOk result (λ s. (known : Option (List ℕ)) → IsDialing file.now to
+            (place s.station.clock s.station.core (noted s.joined s.left)
+            s.read s.closed s.ledger known)
+            (peers_of s.station.wire.peers.items) s.id) }
     {
         let mut station = Station::open(rt, alloc, file)?;
         let gate = Gate::new(rt, alloc, STDIN, Interest::READABLE);
@@ -221,7 +122,9 @@ impl<'a, R: Net + Log + Clock + Eprint> Sending<'a, R> {
         ensures id { self.new.id ≡ self.old.id }
         ensures read { self.new.read ≡ self.old.read }
         ensures closed { self.new.closed ≡ self.old.closed }
-        ensures given { self.new.ledger.given ≡ self.old.ledger.given }
+        // What the link acknowledges is counted.
+        ensures ledger { Follows (held_at self.old.station.core.endpoint self.old.id)
+            self.old.ledger self.new.ledger }
         ensures joined { self.new.joined ≡ joined_at self.old.joined result }
         ensures left { self.new.left
             ≡ left_at self.old.left result self.old.station.core.moment }
@@ -252,9 +155,10 @@ impl<'a, R: Net + Log + Clock + Eprint> Sending<'a, R> {
         }
     }
 
-    /// Reads once, and hands in what came as one message. It answers whether something came, or
-    /// the end did.
-    fn read_some<I: Read>(&mut self, alloc: Global, reader: &mut I) -> Result<bool, Verdict>
+    /// Does what is to be done with what one read gave: bytes are handed in as one message, and
+    /// no byte is the end. It answers whether there may be more to read at once.
+    fn take_read(&mut self, alloc: Global, read: io::Result<usize>) -> Result<bool, Verdict>
+        requires { IfOk read (λ n. n ≤ length self.old.room.items) }
         ensures core { self.new.station.core
             ≡ record self.old.station.core { endpoint = self.new.station.core.endpoint } }
         ensures clock { self.new.station.clock ≡ self.old.station.clock }
@@ -262,20 +166,29 @@ impl<'a, R: Net + Log + Clock + Eprint> Sending<'a, R> {
         ensures id { self.new.id ≡ self.old.id }
         ensures joined { self.new.joined ≡ self.old.joined }
         ensures left { self.new.left ≡ self.old.left }
-        // What comes is handed in whole, and counted.
-        ensures reads { self.old.read ≡ false → OnOk result ((bytes : List ℕ) × ReadsOn
-            (intake self.old.station.core.endpoint
-            self.old.read self.old.closed (I.remaining reader.old))
-            (intake self.new.station.core.endpoint
-            self.new.read self.new.closed (I.remaining reader.new))
-            self.old.id bytes
-            × (self.new.ledger.given ≡ counted (self.old.ledger.given + length bytes))) }
-        ensures unread { result ≡ Err Verdicts.Unread
-            → Keeps (I.remaining reader.old) (I.remaining reader.new)
-            × (self.new.station.core ≡ self.old.station.core) }
-        ensures fault { IfErr result IsFeedFault }
+        ensures closed { self.new.closed ≡ self.old.closed }
+        // What came is handed in whole, and counted. Only memory refuses that.
+        ensures came { IfOk read (λ n. OnOk result (
+            HandsOn self.old.station.core.endpoint self.new.station.core.endpoint self.old.id
+            (take n self.old.room.items)
+            × EntersRead self.old.ledger self.new.ledger (take n self.old.room.items))) }
+        ensures memory { IfOk read (λ n. IfErr result (λ v. v ≡ Verdicts.OutOfMemory)) }
+        // No byte is the end, and nothing else is.
+        ensures over { IfOk read (λ n. n ≡ 0
+            → (result ≡ Ok true) × (self.new.read ≡ true)) }
+        ensures more { IfOk read (λ n. n ≢ 0 → self.new.read ≡ self.old.read) }
+        // An interruption is not the end, and a read that would wait is not, either.
+        ensures again { IfErr read (λ e. error_kind e ≡ Interrupted
+            → result ≡ Ok true) }
+        ensures later { IfErr read (λ e. error_kind e ≡ WouldBlock
+            → result ≡ Ok false) }
+        ensures unread { IfErr read (λ e. error_kind e ≢ Interrupted
+            → error_kind e ≢ WouldBlock → result ≡ Err Verdicts.Unread) }
+        ensures still { OnErr read ((self.new.station.core ≡ self.old.station.core)
+            × (self.new.read ≡ self.old.read) × (self.new.ledger ≡ self.old.ledger)) }
+        ensures fault { IfErr result IsReadFault }
     {
-        let count = match reader.read(&mut self.room) {
+        let count = match read {
             Ok(count) => count,
             Err(error) if error.kind() == ErrorKind::Interrupted => return Ok(true),
             Err(error) if error.kind() == ErrorKind::WouldBlock => {
@@ -297,6 +210,32 @@ impl<'a, R: Net + Log + Clock + Eprint> Sending<'a, R> {
         Ok(true)
     }
 
+    /// Reads once, and hands in what came as one message. It answers whether something came, or
+    /// the end did.
+    fn read_some<I: Read>(&mut self, alloc: Global, reader: &mut I) -> Result<bool, Verdict>
+        ensures core { self.new.station.core
+            ≡ record self.old.station.core { endpoint = self.new.station.core.endpoint } }
+        ensures clock { self.new.station.clock ≡ self.old.station.clock }
+        ensures peers { self.new.station.wire.peers ≡ self.old.station.wire.peers }
+        ensures id { self.new.id ≡ self.old.id }
+        ensures joined { self.new.joined ≡ self.old.joined }
+        ensures left { self.new.left ≡ self.old.left }
+        // What comes is handed in whole, and counted.
+        ensures reads { self.old.read ≡ false → OnOk result ((bytes : List ℕ) × ReadsOn
+            (intake self.old.station.core.endpoint
+            self.old.read self.old.closed self.old.ledger (I.remaining reader.old))
+            (intake self.new.station.core.endpoint
+            self.new.read self.new.closed self.new.ledger (I.remaining reader.new))
+            self.old.id bytes) }
+        ensures unread { result ≡ Err Verdicts.Unread
+            → Keeps (I.remaining reader.old) (I.remaining reader.new)
+            × (self.new.station.core ≡ self.old.station.core) }
+        ensures fault { IfErr result IsReadFault }
+    {
+        let read = reader.read(&mut self.room);
+        self.take_read(alloc, read)
+    }
+
     /// Reads where there is something to read and not too much is on its way, and queues the end
     /// behind it. It answers whether anything was queued.
     fn feed<I: Read>(&mut self, alloc: Global, reader: &mut I) -> Result<bool, Verdict>
@@ -309,9 +248,9 @@ impl<'a, R: Net + Log + Clock + Eprint> Sending<'a, R> {
         ensures left { self.new.left ≡ self.old.left }
         ensures feeds { OnOk result ((bytes : List ℕ) × Feeds
             (intake self.old.station.core.endpoint
-            self.old.read self.old.closed (I.remaining reader.old))
+            self.old.read self.old.closed self.old.ledger (I.remaining reader.old))
             (intake self.new.station.core.endpoint
-            self.new.read self.new.closed (I.remaining reader.new))
+            self.new.read self.new.closed self.new.ledger (I.remaining reader.new))
             self.old.id bytes) }
         // Where all is read, the end is queued at once.
         ensures ends { self.old.read ≡ true → self.old.closed ≡ false
@@ -319,7 +258,7 @@ impl<'a, R: Net + Log + Clock + Eprint> Sending<'a, R> {
         // Nothing is read where all is, or too much is on its way.
         ensures idle { (self.old.read ≡ true) ⊎ (2048 ≤ self.old.ledger.ahead)
             → reader.new ≡ reader.old }
-        ensures fault { IfErr result IsFeedFault }
+        ensures fault { IfErr result IsReadFault }
     {
         if self.read && !self.closed {
             if self.station.core.endpoint.close(alloc, self.id).is_err() {
@@ -360,21 +299,16 @@ impl<'a, R: Net + Log + Clock + Eprint> Sending<'a, R> {
     fn step<I: Read>(&mut self, rt: &R, alloc: Global, reader: &mut I) -> Result<bool, Verdict>
         ensures id { self.new.id ≡ self.old.id }
         // By what the turn left.
-        ensures steps { (seen : EndCore) × (verdict : Option AVerdict)
-            × Sees (record { joined = self.old.joined; left = self.old.left })
-            (record { joined = self.new.joined; left = self.new.left })
-            seen.endpoint seen.moment self.old.id self.old.closed verdict
-            × Goes IsFeedFault self.old.id seen.endpoint
-            (intake self.old.station.core.endpoint
-            self.old.read self.old.closed (I.remaining reader.old))
-            (intake self.new.station.core.endpoint
-            self.new.read self.new.closed (I.remaining reader.new))
-            verdict result
-            × (turn : Turn) × TakesTurn self.old.station.clock self.new.station.clock
+        ensures steps { IsStep IsFeedFault
+            (place self.old.station.clock self.old.station.core
+            (noted self.old.joined self.old.left)
+            self.old.read self.old.closed self.old.ledger (I.remaining reader.old))
+            (place self.new.station.clock self.new.station.core
+            (noted self.new.joined self.new.left)
+            self.new.read self.new.closed self.new.ledger (I.remaining reader.new))
+            result
             (λ old moment new. (old.last ≤ moment) × (new.last ≡ moment))
-            (peers_of self.old.station.wire.peers.items) self.old.station.core seen turn
-            × (self.new.station.core
-            ≡ record seen { endpoint = self.new.station.core.endpoint }) }
+            (peers_of self.old.station.wire.peers.items) self.old.id }
         ensures peers { self.new.station.wire.peers ≡ self.old.station.wire.peers }
         ensures done { result ≡ Err Verdicts.Done
             → IsConfirmedAt self.new.station.core.endpoint self.new.id }
@@ -403,21 +337,16 @@ impl<'a, R: Net + Log + Clock + Eprint> Sending<'a, R> {
     ) -> Result<(), Verdict>
         ensures id { self.new.id ≡ self.old.id }
         // By what the turn left.
-        ensures steps { (seen : EndCore) × (verdict : Option AVerdict)
-            × Sees (record { joined = self.old.joined; left = self.old.left })
-            (record { joined = self.new.joined; left = self.new.left })
-            seen.endpoint seen.moment self.old.id self.old.closed verdict
-            × Goes IsStepFault self.old.id seen.endpoint
-            (intake self.old.station.core.endpoint
-            self.old.read self.old.closed (I.remaining reader.old))
-            (intake self.new.station.core.endpoint
-            self.new.read self.new.closed (I.remaining reader.new))
-            verdict result
-            × (turn : Turn) × TakesTurn self.old.station.clock self.new.station.clock
+        ensures steps { IsStep IsStepFault
+            (place self.old.station.clock self.old.station.core
+            (noted self.old.joined self.old.left)
+            self.old.read self.old.closed self.old.ledger (I.remaining reader.old))
+            (place self.new.station.clock self.new.station.core
+            (noted self.new.joined self.new.left)
+            self.new.read self.new.closed self.new.ledger (I.remaining reader.new))
+            result
             (λ old moment new. (old.last ≤ moment) × (new.last ≡ moment))
-            (peers_of self.old.station.wire.peers.items) self.old.station.core seen turn
-            × (self.new.station.core
-            ≡ record seen { endpoint = self.new.station.core.endpoint }) }
+            (peers_of self.old.station.wire.peers.items) self.old.id }
         ensures peers { self.new.station.wire.peers ≡ self.old.station.wire.peers }
         ensures done { result ≡ Err Verdicts.Done
             → IsConfirmedAt self.new.station.core.endpoint self.new.id }
@@ -445,22 +374,42 @@ impl<'a, R: Net + Log + Clock + Eprint> Sending<'a, R> {
         ensures id { self.new.id ≡ self.old.id }
         // Round by round: all that left the reader was handed in, in its order, one body behind the
         // other.
-        ensures fed { result ≡ Verdicts.Done → (bodies : List (List ℕ))
-            × RunsOut
+        ensures fed { result ≡ Verdicts.Done → Transfers
             (place self.old.station.clock self.old.station.core
-            self.old.read self.old.closed (I.remaining reader.old))
-            bodies
+            (noted self.old.joined self.old.left)
+            self.old.read self.old.closed self.old.ledger (I.remaining reader.old))
             (place self.new.station.clock self.new.station.core
-            self.new.read self.new.closed (I.remaining reader.new))
+            (noted self.new.joined self.new.left)
+            self.new.read self.new.closed self.new.ledger (I.remaining reader.new))
             (λ old moment new. (old.last ≤ moment) × (new.last ≡ moment))
-            (peers_of self.old.station.wire.peers.items) self.old.id
-            × Consumes (I.remaining reader.old) (I.remaining reader.new) (concat bodies) }
+            (peers_of self.old.station.wire.peers.items) self.old.id }
         // And the reader has nothing left.
         ensures all { result ≡ Verdicts.Done → (self.old.read ≡ true → IsAtEnd (I.remaining reader.old))
             → IsAtEnd (I.remaining reader.new) }
         ensures done { result ≡ Verdicts.Done
             → IsConfirmedAt self.new.station.core.endpoint self.new.id }
         ensures unanswered { result ≡ Verdicts.Unanswered → self.new.joined ≡ false }
+        // Any verdict is that of a step, behind some rounds; or they never end.
+        ensures ends { EndsWith
+            (place self.old.station.clock self.old.station.core
+            (noted self.old.joined self.old.left)
+            self.old.read self.old.closed self.old.ledger (I.remaining reader.old))
+            (place self.new.station.clock self.new.station.core
+            (noted self.new.joined self.new.left)
+            self.new.read self.new.closed self.new.ledger (I.remaining reader.new))
+            result
+            (λ old moment new. (old.last ≤ moment) × (new.last ≡ moment))
+            (peers_of self.old.station.wire.peers.items) self.old.id
+            ⊎ LastsOn
+            (place self.old.station.clock self.old.station.core
+            (noted self.old.joined self.old.left)
+            self.old.read self.old.closed self.old.ledger (I.remaining reader.old))
+            (place self.new.station.clock self.new.station.core
+            (noted self.new.joined self.new.left)
+            self.new.read self.new.closed self.new.ledger (I.remaining reader.new))
+            result
+            (λ old moment new. (old.last ≤ moment) × (new.last ≡ moment))
+            (peers_of self.old.station.wire.peers.items) self.old.id }
     {
         for _ in 0..u64::MAX {
             if let Err(verdict) = self.step_or_wait(rt, alloc, reader) {
@@ -497,16 +446,15 @@ impl<'a, R: Net + Log + Clock + Eprint> Sending<'a, R> {
         ensures done { result ≡ 0 → IsConfirmedAt self.new.station.core.endpoint self.new.id }
         // Then, round by round, all that left the reader was handed in, in its order, one body
         // behind the other.
-        ensures fed { result ≡ 0 → (bodies : List (List ℕ))
-            × RunsOut
+        ensures fed { result ≡ 0 → Transfers
             (place self.old.station.clock self.old.station.core
-            self.old.read self.old.closed (I.remaining reader.old))
-            bodies
+            (noted self.old.joined self.old.left)
+            self.old.read self.old.closed self.old.ledger (I.remaining reader.old))
             (place self.new.station.clock self.new.station.core
-            self.new.read self.new.closed (I.remaining reader.new))
+            (noted self.new.joined self.new.left)
+            self.new.read self.new.closed self.new.ledger (I.remaining reader.new))
             (λ old moment new. (old.last ≤ moment) × (new.last ≡ moment))
-            (peers_of self.old.station.wire.peers.items) self.old.id
-            × Consumes (I.remaining reader.old) (I.remaining reader.new) (concat bodies) }
+            (peers_of self.old.station.wire.peers.items) self.old.id }
         // And the reader has nothing left.
         ensures all { result ≡ 0 → (self.old.read ≡ true → IsAtEnd (I.remaining reader.old))
             → IsAtEnd (I.remaining reader.new) }
@@ -536,6 +484,14 @@ fn send_opened<R: Net + Log + Clock + Eprint, I: Read>(
 ) -> u8
     ensures status { result < 2 }
     ensures unopened { OnErr opened.entry ((result ≡ 1) × (reader.new ≡ reader.old)) }
+    // Where it ends well, it was a transfer from what was opened.
+    ensures sent { IfOk opened.entry (λ s. result ≡ 0 → (last : Place (SteadyClock R))
+        × Transfers
+        (place s.station.clock s.station.core (noted s.joined s.left)
+        s.read s.closed s.ledger (I.remaining reader.old))
+        last (λ old moment new. (old.last ≤ moment) × (new.last ≡ moment))
+        (peers_of s.station.wire.peers.items) s.id
+        × (last.known ≡ I.remaining reader.new)) }
     // Where what was opened has read nothing, all is read.
     ensures all { IfOk opened.entry (λ s. (s.read ≡ false) × (s.closed ≡ false)) → result ≡ 0
         → IsAtEnd (I.remaining reader.new) }
@@ -558,13 +514,17 @@ fn send_loaded<R: Net + Log + Clock + Eprint, I: Read>(
     shows: bool,
 ) -> u8
     ensures status { OnOk loaded (result < 2) }
-    ensures all { OnOk loaded (result ≡ 0 → IsAtEnd (I.remaining reader.new)) }
+    // Where it ends well, the host of the file sent to the address all that the reader had.
+    ensures sent { IfOk loaded (λ file. result ≡ 0 → SendsAll {K = SteadyClock R} file to
+        (I.remaining reader.old) (I.remaining reader.new)
+        (λ old moment new. (old.last ≤ moment) × (new.last ≡ moment))) }
     ensures unloaded { IfErr loaded (λ status. (result ≡ status) × (reader.new ≡ reader.old)) }
 {
     let file = match loaded {
         Ok(file) => file,
         Err(status) => return status,
     };
+    confirmed_links_are_whole();
     let opened = Sending::open(rt, alloc, &file, to, shows);
     send_opened(rt, alloc, path, opened, to, reader)
 }
@@ -591,6 +551,13 @@ pub fn do_send<R: Net + Log + Files + Clock + Eprint, I: Read>(
     ensures few { result ≤ 2 }
     // Where it ends well, the reader has nothing left.
     ensures all { result ≡ 0 → IsAtEnd (I.remaining reader.new) }
+    // And a host as some text of a file says it has sent to the address that the words name all
+    // that the reader had, by rounds of which the last one saw the end confirmed.
+    ensures sent { result ≡ 0 → (text : List ℕ) × (file : HostFile) × (to : Address)
+        × IsFileText text × IsHostText text file × Names target.entry to
+        × SendsAll {K = SteadyClock R} file to
+        (I.remaining reader.old) (I.remaining reader.new)
+        (λ old moment new. (old.last ≤ moment) × (new.last ≡ moment)) }
 {
     let to = match target.address() {
         Ok(to) => to,

@@ -1,64 +1,34 @@
-use Rattle.std.proofs.Common.{ℕ, Ok, Err, refl, sym, subst}
 use Rattle.std.proofs.lemmas.Result.{err_from_is_err_and}
-use Rattle.ipx_ends.proofs.Fed.{goes_err, goes_ok, goes_unwaited, turned, went_on}
-use Rattle.ipx_ends.specs.Steps.{Goes, IsStepFault}
-use Rattle.ipx_ends.specs.declared.end_core.EndCore.{EndCore}
-use Rattle.ipx_ends.specs.declared.verdict.Verdict.TheVariants.{Unwaited}
-use Rattle.ipx_ends.specs.Feeding.{intake}
+use Rattle.ipx_ends.proofs.Fed.{step_err, step_ok, step_unwaited, step_waited}
+use Rattle.ipx_ends.specs.Rounds.{place}
+use Rattle.ipx_ends.specs.Steps.{noted}
 use Rattle.ipx_ends.proofs.sending.Sending.step_or_wait.Goals as goal
 
 pub returns-in-Ok-clause-steps : goal.returns-in-Ok-clause-steps
 returns-in-Ok-clause-steps g c =
     let old = c.args.self.now in
     let new = c.step.new.self in
-    let steps = c.in_ok-step.ensures.steps in
-    let seen = steps.0 in
     let waited = c.wait.new.self in
-    let before = intake old.station.core.endpoint old.read old.closed (g.I.Read.remaining c.args.reader.now) in
-    let left = g.I.Read.remaining c.step.new.reader in
-    let goes = goes_ok old.id seen.endpoint before (intake new.station.core.endpoint new.read new.closed left) steps.1 c.in_ok-step.field-0 steps.3 in (
-      seen,
-      steps.1,
-      steps.2,
-      subst (λ (k : EndCore). Goes {T = Unit {0}} IsStepFault old.id seen.endpoint before (intake k.endpoint new.read new.closed left) steps.1 (Ok tt)) (sym c.wait.ensures.core) goes,
-      steps.4,
-      turned _ _ _ _ _ _ _ _ c.wait.ensures.clock steps.5,
-      went_on seen seen new.station.core waited.core refl steps.6 c.wait.ensures.core,
-    )
+    let before = place old.station.clock old.station.core (noted old.joined old.left) old.read old.closed old.ledger (g.I.Read.remaining c.args.reader.now) in
+    let after = place new.station.clock new.station.core (noted new.joined new.left) new.read new.closed new.ledger (g.I.Read.remaining c.step.new.reader) in
+    step_waited before new.station.clock waited.clock new.station.core waited.core _ _ _ _ _ _ _ _ old.id c.wait.ensures.clock c.wait.ensures.core
+    (step_ok before after c.in_ok-step.field-0 _ _ old.id c.in_ok-step.ensures.steps)
 
 pub returns-in-Err-clause-steps : goal.returns-in-Err-clause-steps
 returns-in-Err-clause-steps g c =
     let old = c.args.self.now in
     let new = c.step.new.self in
-    let steps = c.in_ok-step.ensures.steps in
-    let seen = steps.0 in
     let waited = c.wait.new.self in
-    let before = intake old.station.core.endpoint old.read old.closed (g.I.Read.remaining c.args.reader.now) in
-    let left = g.I.Read.remaining c.step.new.reader in
-    let goes = goes_unwaited old.id seen.endpoint before (intake new.station.core.endpoint new.read new.closed left) steps.1 c.in_ok-step.field-0 steps.3 in (
-      seen,
-      steps.1,
-      steps.2,
-      subst (λ (k : EndCore). Goes {T = Unit {0}} IsStepFault old.id seen.endpoint before (intake k.endpoint new.read new.closed left) steps.1 (Err Unwaited)) (sym c.wait.ensures.core) goes,
-      steps.4,
-      turned _ _ _ _ _ _ _ _ c.wait.ensures.clock steps.5,
-      went_on seen seen new.station.core waited.core refl steps.6 c.wait.ensures.core,
-    )
+    let before = place old.station.clock old.station.core (noted old.joined old.left) old.read old.closed old.ledger (g.I.Read.remaining c.args.reader.now) in
+    let after = place new.station.clock new.station.core (noted new.joined new.left) new.read new.closed new.ledger (g.I.Read.remaining c.step.new.reader) in
+    step_waited before new.station.clock waited.clock new.station.core waited.core _ _ _ _ _ _ _ _ old.id c.wait.ensures.clock c.wait.ensures.core
+    (step_unwaited before after c.in_ok-step.field-0 _ _ old.id c.in_ok-step.ensures.steps)
 
 pub returns-in_err-step-clause-steps : goal.returns-in_err-step-clause-steps
 returns-in_err-step-clause-steps g c =
     let old = c.args.self.now in
     let new = c.step.new.self in
-    let steps = c.in_err-step.ensures.steps in
+    let before = place old.station.clock old.station.core (noted old.joined old.left) old.read old.closed old.ledger (g.I.Read.remaining c.args.reader.now) in
+    let after = place new.station.clock new.station.core (noted new.joined new.left) new.read new.closed new.ledger (g.I.Read.remaining c.step.new.reader) in
     let p = err_from_is_err_and c.from_residual.result c.from_residual.ensures.1 in
-    rw (p.1, p.2) (
-      steps.0,
-      steps.1,
-      steps.2,
-      goes_err old.id steps.0.endpoint
-          (intake old.station.core.endpoint old.read old.closed (g.I.Read.remaining c.args.reader.now))
-          (intake new.station.core.endpoint new.read new.closed (g.I.Read.remaining c.step.new.reader)) steps.1 _ steps.3,
-      steps.4,
-      steps.5,
-      steps.6,
-    )
+    rw (p.1, p.2) (step_err before after _ _ _ old.id c.in_err-step.ensures.steps)

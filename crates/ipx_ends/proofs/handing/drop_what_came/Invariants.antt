@@ -1,11 +1,13 @@
 use Rattle.std.proofs.Common.{◌≡◌, ◌≢◌, ℕ}
 use Rattle.spx_messages.specs.EndpointView.{held_at}
 use Rattle.ipx_ends.specs.Feeding.{KeepsQueue}
-use Rattle.ipx_ends.proofs.sending.drop_what_came.Given as goal
+use Rattle.ipx_ends.proofs.Dropped.{SoFar}
+use Rattle.ipx_ends.proofs.handing.drop_what_came.Given as goal
 
--- what is queued is as it was
+-- so many units went, and what is queued is as it was
 abbrev pub invariant-loop : goal.invariant-loop
 invariant-loop l = record {
+  so : SoFar l.counter (held_at l.fn.endpoint l.id) (held_at l.endpoint l.id);
   queue : KeepsQueue (held_at l.fn.endpoint l.id) (held_at l.endpoint l.id);
   others : (q : ℕ) → q ≢ l.id → held_at l.endpoint q ≡ held_at l.fn.endpoint q;
 }

@@ -1,0 +1,15 @@
+use Rattle.std.proofs.Common.{◌≡◌, arith, rules}
+use Rattle.std.proofs.lemmas.Grind.{common_steps}
+use Rattle.ipx_ends.proofs.Dropped.{drops, stops, took_some}
+use Rattle.ipx_ends.proofs.Fed.{took}
+use Rattle.ipx_ends.proofs.handing.drop_first.Goals as goal
+
+pub returns-clause-queue : goal.returns-clause-queue
+returns-clause-queue c =
+    let at = c.take-taken.ensures in
+    (took c.args.endpoint.now c.take-taken.new.self c.args.id c.take-taken.result at.takes at.memory at.unchanged).0
+
+pub returns-clause-others : goal.returns-clause-others
+returns-clause-others c =
+    let at = c.take-taken.ensures in
+    (took c.args.endpoint.now c.take-taken.new.self c.args.id c.take-taken.result at.takes at.memory at.unchanged).1
