@@ -1,6 +1,7 @@
 //! A script over sockets of the loopback, one for each node: `ipx udp`.
 #![tactic(auto)]
 
+mod binding;
 mod mapped;
 mod runner;
 mod site;

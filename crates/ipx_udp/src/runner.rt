@@ -1,5 +1,10 @@
 //! A host or a router that runs over sockets.
 
+ghost use Rattle.std.specs.Prelude.{◌≡◌, IfOk, OnOk, Err, length};
+ghost use Rattle.ipx_carrier.specs.Fault.{failures_after};
+ghost use Rattle.ipx_carrier.specs.Turns.{peers_of};
+ghost use Rattle.ipx_udp.specs.Turning.{CanTurn, TakesTurn};
+
 use ipx_carrier::{Core, Datagrams, RunFault, SteppedClock, UdpDatagrams, run};
 use std::alloc::Global;
 
@@ -17,7 +22,12 @@ pub struct Runner<C: Core + Drop> {
 
 impl<C: Core + Drop> Runner<C> {
     /// A runner whose clock stands at 0.
-    pub fn new(core: C, device: UdpDatagrams, peers: Vec<Vec<[u8; 4]>>) -> Runner<C> {
+    pub fn new(core: C, device: UdpDatagrams, peers: Vec<Vec<[u8; 4]>>) -> Runner<C>
+        ensures core { result.core ≡ core }
+        ensures device { result.device ≡ device }
+        ensures peers { peers_of result.peers.items ≡ peers_of peers.items }
+        ensures clock { (result.clock.moment ≡ 0) × (result.clock.step ≡ 10) }
+    {
         Runner {
             core,
             device,
@@ -28,20 +38,42 @@ impl<C: Core + Drop> Runner<C> {
 
     /// Takes one turn, and answers how many packets had a node without an IP address. A device
     /// with other ports than the core, or one that failed before, is a device that fails.
-    pub fn turn(&mut self, alloc: Global) -> Result<u128, RunFault> {
+    pub fn turn(&mut self, alloc: Global) -> Result<u128, RunFault>
+        ensures turn { CanTurn (C.port_count self.old.core)
+            (length self.old.device.sockets.items) (length self.old.peers.items)
+            self.old.device.failures
+            → TakesTurn C.hears C.misses C.gives C.withholds (C.port_count self.old.core)
+            (peers_of self.old.peers.items) self.old.clock self.new.clock
+            self.old.core self.new.core result }
+        ensures refused { (CanTurn (C.port_count self.old.core)
+            (length self.old.device.sockets.items) (length self.old.peers.items)
+            self.old.device.failures → ⊥) → (result ≡ Err RunFault.Device)
+            × (self.new ≡ self.old) }
+        ensures begun { OnOk result (CanTurn (C.port_count self.old.core)
+            (length self.old.device.sockets.items) (length self.old.peers.items)
+            self.old.device.failures) }
+        ensures failures { self.old.device.failures ≡ 0
+            → OnOk result (self.new.device.failures ≡ 0) }
+        ensures peers { self.new.peers ≡ self.old.peers }
+        ensures ports { C.port_count self.new.core ≡ C.port_count self.old.core }
+        ensures sockets { length self.new.device.sockets.items
+            ≡ length self.old.device.sockets.items }
+    {
         let ports = self.core.ports();
         let here = self.device.ports() == ports && self.peers.len() == ports;
         if !here || self.device.failures() > 0 {
             return Err(RunFault::Device);
         }
-        let report = run(
+        match run(
             alloc,
             &mut self.core,
             &mut self.device,
             &self.peers,
             &mut self.clock,
             1,
-        )?;
-        Ok(report.unmapped)
+        ) {
+            Ok(report) => Ok(report.unmapped),
+            Err(fault) => Err(fault),
+        }
     }
 }

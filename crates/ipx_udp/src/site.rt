@@ -1,18 +1,18 @@
 //! The hosts and routers of a script, each over sockets of its own.
 
-ghost use Rattle.std.specs.Prelude.{All};
-ghost use Rattle.ipx_net.specs.Beginnings.{ArePortsOwed};
-ghost use Rattle.ipx_router.specs.NewRouter.{IsOwnNetwork};
+ghost use Rattle.std.specs.Prelude.{◌≡◌, ◌%◌};
+ghost use Rattle.spx_units.specs.Message.{message_view};
+ghost use Rattle.ipx_udp.specs.Calls.{ClosesAt, DialsAt, FillsAt, KeepsRest, SendsAt, SendsByte, new_end, next_at, state_at};
 
-use crate::mapped::{address_of, peers_of};
+use crate::binding::{Ground, bound_hosts, bound_routers};
 use crate::runner::{Runner, STEP};
 use crate::stop::Stop;
-use ipx_carrier::{HostCore, RouterCore, UdpDatagrams};
-use ipx_net::{Host, Member, Place};
-use ipx_router::{Port, Router};
-use ipx_sim::{Layout, Map};
+use ipx_carrier::{HostCore, RouterCore};
+use ipx_net::Member;
+use ipx_sim::Layout;
 use ipx_wire::{Address, Socket};
-use spx_messages::{Endpoint, Message, Taken};
+use spx_link::State;
+use spx_messages::{Message, Taken};
 use std::alloc::Global;
 use std::net::Net;
 
@@ -21,8 +21,22 @@ use std::net::Net;
 pub struct End {
     pub host: usize,
     pub id: u16,
-    pub given: u64,
-    pub out: u64,
+    pub given: usize,
+    pub out: usize,
+}
+
+impl End {
+    /// An end that nothing went in or out of yet.
+    fn new(host: usize, id: u16) -> End
+        ensures { result ≡ new_end host id }
+    {
+        End {
+            host,
+            id,
+            given: 0,
+            out: 0,
+        }
+    }
 }
 
 /// All that a script runs. Ends are numbered from 0 in the order in which they were made.
@@ -36,95 +50,11 @@ pub struct Site {
     unmapped: u128,
 }
 
-/// Where sockets are bound: what was laid out, and the port of UDP.
-#[derive(Clone, Copy)]
-struct Ground<'a> {
-    map: &'a Map,
-    port: u16,
-}
-
-fn bound_host<R: Net>(
-    rt: &R,
-    alloc: Global,
-    ground: Ground<'_>,
-    number: usize,
-    host: &Host,
-) -> Result<Runner<HostCore>, Stop> {
-    let mut endpoint = Endpoint::new(alloc, host.network, host.node, host.router);
-    if let Some((socket, buffers)) = host.listen {
-        endpoint.listen(alloc, socket, buffers)?;
-    }
-    let peers = peers_of(alloc, ground.map, Place::Host(number), host.network)?;
-    let peers = vec![in alloc; peers]?;
-    let device = UdpDatagrams::bind(rt, alloc, &[address_of(host.node)?], ground.port)?;
-    Ok(Runner::new(HostCore::new(endpoint), device, peers))
-}
-
-fn addresses_of(alloc: Global, ports: &[Port]) -> Result<Vec<[u8; 4]>, Stop> {
-    let mut addresses = Vec::new(alloc);
-    for port in ports {
-        addresses.push(address_of(port.node)?)?;
-    }
-    Ok(addresses)
-}
-
-fn peers_of_ports(
-    alloc: Global,
-    map: &Map,
-    router: usize,
-    ports: &[Port],
-) -> Result<Vec<Vec<[u8; 4]>>, Stop> {
-    let mut peers = Vec::new(alloc);
-    for (port, number) in ports.iter().zip(1..17) {
-        peers.push(peers_of(alloc, map, Place::Port(router, number), port.network)?)?;
-    }
-    Ok(peers)
-}
-
-fn bound_router<R: Net>(
-    rt: &R,
-    alloc: Global,
-    ground: Ground<'_>,
-    number: usize,
-    ports: &[Port],
-) -> Result<Runner<RouterCore>, Stop>
-    requires { All IsOwnNetwork ports.now }
+/// The byte of a number, modulo 256.
+fn byte_of(number: u32) -> u8
+    ensures { result ≡ number % 256 }
 {
-    let Ok(router) = Router::new(alloc, Vec::from_slice(alloc, ports)?) else {
-        return Err(Stop::Memory);
-    };
-    let peers = peers_of_ports(alloc, ground.map, number, ports)?;
-    let addresses = addresses_of(alloc, ports)?;
-    let device = UdpDatagrams::bind(rt, alloc, &addresses, ground.port)?;
-    Ok(Runner::new(RouterCore::new(alloc, router), device, peers))
-}
-
-fn bound_hosts<R: Net>(
-    rt: &R,
-    alloc: Global,
-    ground: Ground<'_>,
-    hosts: &[Host],
-) -> Result<Vec<Runner<HostCore>>, Stop> {
-    let mut runners = Vec::new(alloc);
-    for (number, host) in hosts.iter().enumerate() {
-        runners.push(bound_host(rt, alloc, ground, number, host)?)?;
-    }
-    Ok(runners)
-}
-
-fn bound_routers<R: Net>(
-    rt: &R,
-    alloc: Global,
-    ground: Ground<'_>,
-    routers: &[Vec<Port>],
-) -> Result<Vec<Runner<RouterCore>>, Stop>
-    requires { All ArePortsOwed routers.now }
-{
-    let mut runners = Vec::new(alloc);
-    for (number, ports) in routers.iter().enumerate() {
-        runners.push(bound_router(rt, alloc, ground, number, ports)?)?;
-    }
-    Ok(runners)
+    (number % 256) as u8
 }
 
 /// The id that the next link of a host gets: ids go up from 1, and no link is released.
@@ -134,8 +64,8 @@ fn next_id(ends: &[End], host: usize) -> u16 {
 }
 
 /// Takes from an end until nothing is held, and answers how many messages came.
-fn take_all(alloc: Global, core: &mut HostCore, id: u16) -> Result<u64, Stop> {
-    let mut count: u64 = 0;
+fn take_all(alloc: Global, core: &mut HostCore, id: u16) -> Result<usize, Stop> {
+    let mut count: usize = 0;
     for _ in 0..u64::MAX {
         match core.endpoint().take(alloc, id)? {
             Taken::Nothing => break,
@@ -162,18 +92,39 @@ impl Site {
     }
 
     /// The ends, in their order.
-    pub fn ends(&self) -> &[End] {
+    pub fn ends(&self) -> &[End]
+        ensures { result.now ≡ self.now.ends.items }
+    {
         &self.ends
     }
 
-    /// The endpoint of a host.
-    pub fn endpoint(&self, host: usize) -> Option<&Endpoint> {
-        let runner = self.hosts.get(host)?;
-        Some(runner.core.as_endpoint())
+    /// The state of the link of an end, while it has one.
+    pub fn state(&self, end: End) -> Option<State>
+        ensures { result ≡ state_at self.now end }
+    {
+        let Some(runner) = self.hosts.get(end.host) else {
+            return None;
+        };
+        runner.core.as_endpoint().state(end.id).ok()
+    }
+
+    /// The next number of an end; 0 where it has no link.
+    pub fn next(&self, end: End) -> u16
+        ensures { result ≡ next_at self.now end }
+    {
+        let Some(runner) = self.hosts.get(end.host) else {
+            return 0;
+        };
+        match runner.core.as_endpoint().numbers(end.id) {
+            Ok(numbers) => numbers.next,
+            Err(_) => 0,
+        }
     }
 
     /// How many packets had a node without an IP address.
-    pub fn unmapped(&self) -> u128 {
+    pub fn unmapped(&self) -> u128
+        ensures { result ≡ self.now.unmapped }
+    {
         self.unmapped
     }
 
@@ -185,56 +136,85 @@ impl Site {
         socket: Socket,
         to: Address,
         buffers: u16,
-    ) -> Result<(), Stop> {
+    ) -> Result<(), Stop>
+        ensures dials { DialsAt host socket to buffers self.old self.new result }
+        ensures rest { KeepsRest self.old self.new }
+    {
         let Some(runner) = self.hosts.get_mut(host) else {
             return Err(Stop::Bad);
         };
         let moment = self.moment;
-        let id = runner
-            .core
-            .endpoint()
-            .dial(alloc, socket, to, buffers, moment)?;
-        self.ends.push(End {
-            host,
-            id,
-            given: 0,
-            out: 0,
-        })?;
-        Ok(())
+        let endpoint = runner.core.endpoint();
+        let id = match endpoint.dial(alloc, socket, to, buffers, moment) {
+            Ok(id) => id,
+            Err(fault) => return Err(Stop::Refused(fault)),
+        };
+        match self.ends.push(End::new(host, id)) {
+            Ok(()) => Ok(()),
+            Err(_) => Err(Stop::Memory),
+        }
     }
 
     /// A message is handed in at an end.
-    pub fn send(&mut self, alloc: Global, who: usize, message: &Message) -> Result<(), Stop> {
+    pub fn send(&mut self, alloc: Global, who: usize, message: &Message) -> Result<(), Stop>
+        ensures sends { SendsAt who (message_view message.now) self.old self.new result }
+        ensures rest { KeepsRest self.old self.new }
+    {
         let Some(end) = self.ends.get_mut(who) else {
             return Err(Stop::NoSuchEnd);
         };
         let Some(runner) = self.hosts.get_mut(end.host) else {
             return Err(Stop::NoSuchEnd);
         };
-        runner.core.endpoint().send(alloc, end.id, message)?;
-        end.given = end.given.saturating_add(1);
-        Ok(())
+        match runner.core.endpoint().send(alloc, end.id, message) {
+            Ok(()) => {
+                end.given = end.given.saturating_add(1);
+                Ok(())
+            }
+            Err(fault) => Err(Stop::Refused(fault)),
+        }
+    }
+
+    /// A message of one byte is handed in at an end.
+    fn send_byte(&mut self, alloc: Global, who: usize, byte: u8) -> Result<(), Stop>
+        ensures sends { SendsByte who byte self.old self.new result }
+        ensures rest { KeepsRest self.old self.new }
+    {
+        let Ok(body) = vec![in alloc; byte] else {
+            return Err(Stop::Memory);
+        };
+        self.send(alloc, who, &Message { stream: 0, body })
     }
 
     /// So many messages of one byte are handed in at an end. The k-th from 0 is k modulo 256.
-    pub fn fill(&mut self, alloc: Global, who: usize, count: u32) -> Result<(), Stop> {
+    pub fn fill(&mut self, alloc: Global, who: usize, count: u32) -> Result<(), Stop>
+        ensures fills { FillsAt who count self.old self.new result }
+        ensures rest { KeepsRest self.old self.new }
+    {
         for k in 0..count {
-            let body = vec![in alloc; k.to_le_bytes()[0]]?;
-            self.send(alloc, who, &Message { stream: 0, body })?;
+            match self.send_byte(alloc, who, byte_of(k)) {
+                Ok(()) => {}
+                Err(stop) => return Err(stop),
+            }
         }
         Ok(())
     }
 
     /// An end is asked to end its connection.
-    pub fn close(&mut self, alloc: Global, who: usize) -> Result<(), Stop> {
+    pub fn close(&mut self, alloc: Global, who: usize) -> Result<(), Stop>
+        ensures closes { ClosesAt who self.old self.new result }
+        ensures rest { KeepsRest self.old self.new }
+    {
         let Some(end) = self.ends.get(who) else {
             return Err(Stop::NoSuchEnd);
         };
         let Some(runner) = self.hosts.get_mut(end.host) else {
             return Err(Stop::NoSuchEnd);
         };
-        runner.core.endpoint().close(alloc, end.id)?;
-        Ok(())
+        match runner.core.endpoint().close(alloc, end.id) {
+            Ok(()) => Ok(()),
+            Err(fault) => Err(Stop::Refused(fault)),
+        }
     }
 
     /// A host takes a turn. An end that it accepted in it gets its number.
@@ -245,12 +225,7 @@ impl Site {
         self.unmapped = self.unmapped.saturating_add(runner.turn(alloc)?);
         let id = next_id(&self.ends, host);
         if runner.core.as_endpoint().state(id).is_ok() {
-            self.ends.push(End {
-                host,
-                id,
-                given: 0,
-                out: 0,
-            })?;
+            self.ends.push(End::new(host, id))?;
         }
         Ok(())
     }

@@ -1,7 +1,13 @@
 //! The command `udp`.
 
-ghost use Rattle.std.specs.Prelude.{◌≡◌, IfErr};
-ghost use Rattle.ipx_sim.specs.Script.{IsLineOwed};
+ghost use Rattle.std.specs.Prelude.{◌≡◌, ◌≤◌, ℕ, List, Bool, IfErr, IfOk, IfSome, Result, Some, string_bytes};
+ghost use Rattle.std.specs.Io.KnownBytes.{Appends};
+ghost use Rattle.ipx_sim.specs.ActLine.{refused_line};
+ghost use Rattle.ipx_sim.specs.Places.{map_view};
+ghost use Rattle.ipx_sim.specs.Script.{IsTooLong, too_long_line};
+ghost use Rattle.ipx_udp.specs.Doing.{Does, DoesLine, said};
+ghost use Rattle.ipx_udp.specs.Stops.{bad_line, told_of};
+ghost use Rattle.ipx_udp.specs.declared.stop.Stop.{Stop as AnyStop};
 
 use crate::mapped::is_mapped;
 use crate::site::Site;
@@ -30,21 +36,29 @@ struct Stopped {
     stop: Stop,
 }
 
-fn bad_line(alloc: Global, line: u32) -> Result<(String, u8), OutOfMemory> {
+fn bad_line(alloc: Global, line: u32) -> Result<(String, u8), OutOfMemory>
+    ensures { IfOk result (λ l. (string_bytes l.0 ≡ bad_line line) × (l.1 ≡ 2)) }
+{
     Ok((format!(in alloc; "line {line} bad\n")?, 2))
 }
 
-fn refused_line(alloc: Global, fault: EndFault) -> Result<(String, u8), OutOfMemory> {
+fn refused_line(alloc: Global, fault: EndFault) -> Result<(String, u8), OutOfMemory>
+    ensures { IfOk result (λ l. (string_bytes l.0 ≡ refused_line fault) × (l.1 ≡ 1)) }
+{
     Ok((refused_to_line(alloc, fault)?, 1))
 }
 
-fn fixed_line(alloc: Global, text: &str, status: u8) -> Result<(String, u8), OutOfMemory> {
+fn fixed_line(alloc: Global, text: &str, status: u8) -> Result<(String, u8), OutOfMemory>
+    ensures { IfOk result (λ l. (string_bytes l.0 ≡ text.now) × (l.1 ≡ status)) }
+{
     Ok((String::from_str(alloc, text)?, status))
 }
 
 /// Tells why a script goes no further.
 fn tell_stopped<W: Write>(alloc: Global, stopped: Stopped, writer: &mut W) -> Result<u8, u8>
-    ensures { IfErr result (λ status. status ≡ 1) }
+    ensures bad { IfOk result (λ status. (stopped.stop ≡ Stop.Bad) × (status ≡ 2)
+        × Appends (W.contents writer.old) (W.contents writer.new) (bad_line stopped.line)) }
+    ensures fault { IfErr result (λ status. status ≡ 1) }
 {
     match stopped.stop {
         Stop::Bad => write_lines(writer, bad_line(alloc, stopped.line)),
@@ -57,8 +71,20 @@ fn tell_stopped<W: Write>(alloc: Global, stopped: Stopped, writer: &mut W) -> Re
     }
 }
 
+/// What a line came to, which prints `ok` where it is done, or does not.
+fn said(done: Result<(), Stop>, says: bool) -> Result<bool, Stop>
+    ensures { result ≡ said says done }
+{
+    match done {
+        Ok(()) => Ok(says),
+        Err(stop) => Err(stop),
+    }
+}
+
 /// Does a line of the script. It answers whether it prints `ok`.
-fn do_line(alloc: Global, site: &mut Site, line: Line) -> Result<bool, Stop> {
+fn do_line(alloc: Global, site: &mut Site, line: Line) -> Result<bool, Stop>
+    ensures { Does line site.old site.new result }
+{
     match line {
         Line::Act(
             Event::Dial {
@@ -67,27 +93,47 @@ fn do_line(alloc: Global, site: &mut Site, line: Line) -> Result<bool, Stop> {
                 to,
                 buffers,
             },
-        ) => site.dial(alloc, host, socket, to, buffers)?,
-        Line::Act(Event::Send { who, message }) => site.send(alloc, who, &message)?,
-        Line::Act(Event::Close { who }) => {
-            site.close(alloc, who)?;
-            return Ok(true);
-        }
-        Line::Fill { end, count } => site.fill(alloc, end, count)?,
-        Line::Pump(turns) => site.pump(alloc, turns)?,
-        _ => return Err(Stop::Bad),
+        ) => said(site.dial(alloc, host, socket, to, buffers), false),
+        Line::Act(Event::Send { who, message }) => said(site.send(alloc, who, &message), false),
+        Line::Act(Event::Close { who }) => said(site.close(alloc, who), true),
+        Line::Fill { end, count } => said(site.fill(alloc, end, count), false),
+        Line::Pump(turns) => said(site.pump(alloc, turns), false),
+        _ => Err(Stop::Bad),
     }
-    Ok(false)
 }
 
 /// Reads and does a line that is behind the layout. It answers whether it prints `ok`.
-fn read_and_do(alloc: Global, site: &mut Site, map: &Map, line: &[u8]) -> Result<bool, Stop> {
+fn read_and_do(alloc: Global, site: &mut Site, map: &Map, line: &[u8]) -> Result<bool, Stop>
+    ensures { DoesLine (map_view map.now) line.now site.old site.new result }
+{
     if is_blank(line) {
         return Ok(false);
     }
-    let fields = fields_of(alloc, line)?;
-    let line = read_line(alloc, map, &fields)?;
-    do_line(alloc, site, line)
+    let Ok(fields) = fields_of(alloc, line) else {
+        return Err(Stop::Memory);
+    };
+    match read_line(alloc, map, &fields) {
+        Ok(line) => do_line(alloc, site, line),
+        Err(halt) => Err(Stop::from(halt)),
+    }
+}
+
+/// What a line prints, and its status, where the script goes on.
+fn told_of(alloc: Global, done: Result<bool, Stop>) -> Result<(String, u8), Stop>
+    ensures told { IfOk result (λ l. told_of done ≡ Some (string_bytes l.0, l.1)) }
+    ensures few { IfOk result (λ l. l.1 ≤ 1) }
+{
+    let told = match done {
+        Ok(false) => fixed_line(alloc, "", 0),
+        Ok(true) => fixed_line(alloc, "ok\n", 0),
+        Err(Stop::Refused(fault)) => refused_line(alloc, fault),
+        Err(Stop::NoSuchEnd) => fixed_line(alloc, "fault (34) NoSuchEnd\n", 1),
+        Err(stop) => return Err(stop),
+    };
+    match told {
+        Ok(told) => Ok(told),
+        Err(_) => Err(Stop::Memory),
+    }
 }
 
 /// Does a line and writes what it came to. It answers the line's status.
@@ -97,15 +143,14 @@ fn run_line<W: Write>(
     map: &Map,
     line: &[u8],
     writer: &mut W,
-) -> Result<u8, Stop> {
-    let told = match read_and_do(alloc, site, map, line) {
-        Ok(false) => return Ok(0),
-        Ok(true) => fixed_line(alloc, "ok\n", 0),
-        Err(Stop::Refused(fault)) => refused_line(alloc, fault),
-        Err(Stop::NoSuchEnd) => fixed_line(alloc, "fault (34) NoSuchEnd\n", 1),
-        Err(stop) => return Err(stop),
-    };
-    let (text, status) = told?;
+) -> Result<u8, Stop>
+    ensures tells { IfOk result (λ status. (done : Result Bool AnyStop) × (text : List ℕ)
+        × DoesLine (map_view map.now) line.now site.old site.new done
+        × (told_of done ≡ Some (text, status))
+        × Appends (W.contents writer.old) (W.contents writer.new) text) }
+    ensures few { IfOk result (λ status. status ≤ 1) }
+{
+    let (text, status) = told_of(alloc, read_and_do(alloc, site, map, line))?;
     match writer.write_all(text.as_bytes()) {
         Ok(()) => Ok(status),
         Err(_) => Err(Stop::Write),
@@ -165,13 +210,13 @@ fn run_bound<W: Write>(
     writer: &mut W,
 ) -> Result<u8, Stopped> {
     let status = run_lines(alloc, site, map, input, first, writer)?;
-    if write_ends(writer, site, map) {
-        return Ok(status);
+    match write_ends(writer, site, &map.hosts) {
+        Ok(()) => Ok(status),
+        Err(_) => Err(Stopped {
+            line: first,
+            stop: Stop::Write,
+        }),
     }
-    Err(Stopped {
-        line: first,
-        stop: Stop::Write,
-    })
 }
 
 fn run_whole<R: Net + Log, W: Write>(
@@ -202,12 +247,26 @@ fn run_script<R: Net + Log, W: Write>(
     writer: &mut W,
     port: u16,
 ) -> Result<u8, u8>
-    ensures { IfErr result (λ status. status ≡ 1) }
+    ensures fault { IfErr result (λ status. status ≡ 1) }
 {
     match run_whole(rt, alloc, input, writer, port) {
         Ok(status) => Ok(status),
         Err(stopped) => tell_stopped(alloc, stopped, writer),
     }
+}
+
+fn too_long(alloc: Global) -> Result<(String, u8), OutOfMemory>
+    ensures { IfOk result (λ l. (string_bytes l.0 ≡ too_long_line) × (l.1 ≡ 2)) }
+{
+    Ok((String::from_str(alloc, "line 0 bad\n")?, 2))
+}
+
+fn tell_too_long<W: Write>(alloc: Global, writer: &mut W) -> Result<u8, u8>
+    ensures written { IfOk result (λ status. (status ≡ 2)
+        × Appends (W.contents writer.old) (W.contents writer.new) too_long_line) }
+    ensures fault { IfErr result (λ status. status ≡ 1) }
+{
+    write_lines(writer, too_long(alloc))
 }
 
 /// The command `udp`: reads a script of at most 1,000,000 bytes, binds a socket of the loopback for
@@ -227,6 +286,8 @@ pub fn do_udp<R: Net + Log, I: Read, W: Write>(
     writer: &mut W,
     port: u16,
 ) -> Result<u8, u8>
+    ensures long { IfOk result (λ status. IfSome (I.remaining reader.old) (λ input. IsTooLong input
+        → (status ≡ 2) × Appends (W.contents writer.old) (W.contents writer.new) too_long_line)) }
     ensures fault { IfErr result (λ status. status ≡ 1) }
 {
     let input = match read_up_to(alloc, reader, MOST + 1) {
@@ -235,7 +296,7 @@ pub fn do_udp<R: Net + Log, I: Read, W: Write>(
         Err(InputFault::Memory) => return Err(tell_no_memory(writer)),
     };
     if input.len() > MOST {
-        return write_lines(writer, fixed_line(alloc, "line 0 bad\n", 2));
+        return tell_too_long(alloc, writer);
     }
     run_script(rt, alloc, &input, writer, port)
 }

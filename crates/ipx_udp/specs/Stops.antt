@@ -1,0 +1,47 @@
+-- Why a line of a script stops, and what it prints then. All of it is own.
+use Rattle.std.specs.Prelude.{ℕ, Bool, true, false, List, ◌++◌, codes, Option, Some, None, Result, Ok, Err}
+use Rattle.std.specs.Fmt.{decimal}
+use Rattle.ipx_carrier.specs.declared.fault.RunFault.{RunFault}
+use Rattle.ipx_carrier.specs.declared.fault.RunFault.TheVariants as Faults
+use Rattle.ipx_sim.specs.ActLine.{refused_line}
+use Rattle.ipx_sim.specs.declared.halt.Halt.{Halt}
+use Rattle.ipx_sim.specs.declared.halt.Halt.TheVariants as Halts
+use Rattle.ipx_udp.specs.declared.stop.Stop.{Stop}
+use Rattle.ipx_udp.specs.declared.stop.Stop.TheVariants as Stops
+
+-- by the fault of a turn
+abbrev pub turn_stop : RunFault → Stop
+turn_stop Faults.OutOfMemory = Stops.Memory
+turn_stop Faults.Device = Stops.Device
+
+-- by what the reading of a line met
+abbrev pub halt_stop : Halt → Stop
+halt_stop Halts.Bad = Stops.Bad
+halt_stop Halts.Memory = Stops.Memory
+halt_stop Halts.Ended = Stops.Write
+
+abbrev pub no_such_end_line : List ℕ
+no_such_end_line = codes "fault (34) NoSuchEnd\n"
+
+abbrev pub ok_line : List ℕ
+ok_line = codes "ok\n"
+
+abbrev pub device_line : List ℕ
+device_line = codes "fault (39) Device\n"
+
+-- a line that is bad, by its number
+abbrev pub bad_line : ℕ → List ℕ
+bad_line number = codes "line " ++ (decimal number ++ codes " bad\n")
+
+-- what a line behind the layout prints, and its status: `ok` where it is done and says so, and what
+-- refused it where an end did or there is none. At any other stop it prints nothing, and the script
+-- goes no further
+abbrev pub told_of : Result Bool Stop → Option (List ℕ × ℕ)
+told_of (Ok true) = Some (ok_line, 0)
+told_of (Ok false) = Some (codes "", 0)
+told_of (Err (Stops.Refused f)) = Some (refused_line f, 1)
+told_of (Err Stops.NoSuchEnd) = Some (no_such_end_line, 1)
+told_of (Err Stops.Bad) = None
+told_of (Err Stops.Memory) = None
+told_of (Err Stops.Device) = None
+told_of (Err Stops.Write) = None

@@ -1,0 +1,137 @@
+//! The hosts and routers that a script lays out, as their sockets are bound.
+
+ghost use Rattle.std.specs.Prelude.{◌≡◌, ◌≢◌, ℕ, All, IfOk, IfSome, None, Some};
+ghost use Rattle.ipx_net.specs.Beginnings.{ArePortsOwed};
+ghost use Rattle.ipx_router.specs.NewRouter.{IsOwnNetwork};
+ghost use Rattle.ipx_wire.specs.declared.address.Socket.{Socket as AnySocket};
+ghost use Rattle.spx_messages.specs.EndpointView.{buffers_at, held_at};
+ghost use Rattle.ipx_udp.specs.Binding.{IsHostOf};
+
+use crate::mapped::{address_of, peers_of};
+use crate::runner::Runner;
+use crate::stop::Stop;
+use ipx_carrier::{HostCore, RouterCore, UdpDatagrams};
+use ipx_net::{Host, Place};
+use ipx_router::{Port, Router};
+use ipx_sim::Map;
+use spx_messages::Endpoint;
+use std::alloc::Global;
+use std::net::Net;
+
+/// Where sockets are bound: what was laid out, and the port of UDP.
+#[derive(Clone, Copy)]
+pub struct Ground<'a> {
+    pub map: &'a Map,
+    pub port: u16,
+}
+
+/// The endpoint of a host, which listens where its line says.
+fn endpoint_of(alloc: Global, host: &Host) -> Result<Endpoint, Stop>
+    ensures network { IfOk result (λ e. e.network ≡ host.now.network) }
+    ensures node { IfOk result (λ e. e.node ≡ host.now.node) }
+    ensures router { IfOk result (λ e. e.router ≡ host.now.router) }
+    ensures none { IfOk result (λ e. (id : ℕ) → held_at e id ≡ None) }
+    ensures last { IfOk result (λ e. e.links.last ≡ 0) }
+    ensures listens { IfOk result (λ e.
+        IfSome host.now.listen (λ l. buffers_at e l.0 ≡ Some l.1)) }
+    ensures alone { IfOk result (λ e. (s : AnySocket)
+        → IfSome host.now.listen (λ l. s.0 ≢ l.0.0) → buffers_at e s ≡ None) }
+{
+    let mut endpoint = Endpoint::new(alloc, host.network, host.node, host.router);
+    if let Some((socket, buffers)) = host.listen {
+        endpoint.listen(alloc, socket, buffers)?;
+    }
+    Ok(endpoint)
+}
+
+/// A host with a socket at the IP address of its node.
+fn bound_host<R: Net>(
+    rt: &R,
+    alloc: Global,
+    ground: Ground<'_>,
+    number: usize,
+    host: &Host,
+) -> Result<Runner<HostCore>, Stop>
+    ensures { IfOk result (IsHostOf ground.entry.map.now.spots.items number host.now) }
+{
+    let endpoint = endpoint_of(alloc, host)?;
+    let peers = peers_of(alloc, ground.map, Place::Host(number), host.network)?;
+    let peers = vec![in alloc; peers]?;
+    let device = UdpDatagrams::bind(rt, alloc, &[address_of(host.node)?], ground.port)?;
+    Ok(Runner::new(HostCore::new(endpoint), device, peers))
+}
+
+/// The IP addresses of the ports of a router.
+fn addresses_of(alloc: Global, ports: &[Port]) -> Result<Vec<[u8; 4]>, Stop> {
+    let mut addresses = Vec::new(alloc);
+    for port in ports {
+        addresses.push(address_of(port.node)?)?;
+    }
+    Ok(addresses)
+}
+
+/// The peers of each port of a router. There are at most 16, which count from 1.
+fn peers_of_ports(
+    alloc: Global,
+    map: &Map,
+    router: usize,
+    ports: &[Port],
+) -> Result<Vec<Vec<[u8; 4]>>, Stop> {
+    let mut peers = Vec::new(alloc);
+    for (place, port) in ports.iter().enumerate() {
+        let Ok(number) = u8::try_from(place + 1) else {
+            return Err(Stop::Bad);
+        };
+        peers.push(peers_of(alloc, map, Place::Port(router, number), port.network)?)?;
+    }
+    Ok(peers)
+}
+
+/// A router with a socket at the IP address of each of its ports.
+fn bound_router<R: Net>(
+    rt: &R,
+    alloc: Global,
+    ground: Ground<'_>,
+    number: usize,
+    ports: &[Port],
+) -> Result<Runner<RouterCore>, Stop>
+    requires { All IsOwnNetwork ports.now }
+{
+    let Ok(router) = Router::new(alloc, Vec::from_slice(alloc, ports)?) else {
+        return Err(Stop::Memory);
+    };
+    let peers = peers_of_ports(alloc, ground.map, number, ports)?;
+    let addresses = addresses_of(alloc, ports)?;
+    let device = UdpDatagrams::bind(rt, alloc, &addresses, ground.port)?;
+    Ok(Runner::new(RouterCore::new(alloc, router), device, peers))
+}
+
+/// Each host, in the order of the layout.
+pub fn bound_hosts<R: Net>(
+    rt: &R,
+    alloc: Global,
+    ground: Ground<'_>,
+    hosts: &[Host],
+) -> Result<Vec<Runner<HostCore>>, Stop> {
+    let mut runners = Vec::new(alloc);
+    for (number, host) in hosts.iter().enumerate() {
+        runners.push(bound_host(rt, alloc, ground, number, host)?)?;
+    }
+    Ok(runners)
+}
+
+/// Each router, in the order of the layout.
+pub fn bound_routers<R: Net>(
+    rt: &R,
+    alloc: Global,
+    ground: Ground<'_>,
+    routers: &[Vec<Port>],
+) -> Result<Vec<Runner<RouterCore>>, Stop>
+    requires { All ArePortsOwed routers.now }
+{
+    let mut runners = Vec::new(alloc);
+    for (number, ports) in routers.iter().enumerate() {
+        runners.push(bound_router(rt, alloc, ground, number, ports)?)?;
+    }
+    Ok(runners)
+}
