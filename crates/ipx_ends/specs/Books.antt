@@ -5,7 +5,8 @@ use Rattle.spx_link.specs.LinkView.{numbers_of}
 use Rattle.spx_link.specs.Marks.{distance}
 use Rattle.spx_link.specs.declared.numbers.Numbers.{Numbers}
 use Rattle.spx_messages.specs.EndpointView.{Held}
-use Rattle.ipx_ends.specs.Ledger.{Counts, IsFirstOpen, all_units, base_of, counted, units_in}
+use Rattle.ipx_site.specs.Bursts.{counted}
+use Rattle.ipx_ends.specs.Ledger.{Counts, IsFirstOpen, all_units, base_of, units_in}
 use Rattle.ipx_ends.specs.declared.ledger.Ledger.{Ledger}
 
 -- of messages of these lengths so many units are acknowledged, and the ledger says so

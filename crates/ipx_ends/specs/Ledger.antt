@@ -1,14 +1,10 @@
 -- What was handed in, counted. All of it is own.
-use Rattle.std.specs.Prelude.{◌≡◌, ◌<◌, ℕ, ◌+◌, ◌-◌, ◌*◌, ◌^◌, List, [], ◌∷◌, ◌++◌, max, min, sum}
+use Rattle.std.specs.Prelude.{◌≡◌, ◌<◌, ℕ, ◌+◌, ◌-◌, ◌*◌, List, [], ◌∷◌, ◌++◌, max, min, sum}
 use Rattle.std.specs.Int.{div_ceil}
 use Rattle.std.specs.List.{sum_by}
 use Rattle.spx_link.specs.Marks.{distance}
 use Rattle.spx_link.specs.declared.numbers.Numbers.{Numbers}
 use Rattle.spx_units.specs.Message.{most_unit}
-
--- a count of 64 bits, which stops at the greatest of them
-abbrev pub counted : ℕ → ℕ
-counted n = min n (2 ^ 64 - 1)
 
 -- how many units a message of so many bytes is cut into: one where it has none
 abbrev pub units_in : ℕ → ℕ

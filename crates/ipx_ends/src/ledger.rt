@@ -3,7 +3,8 @@
 ghost use Rattle.std.specs.Prelude.{◌≡◌, ◌<◌, ◌≤◌, ◌+◌, ◌-◌, ◌^◌, ℕ, List, [], ◌∷◌, ◌++◌, OnErr, OnOk, false, length, sum, true};
 ghost use Rattle.spx_link.specs.Marks.{distance};
 ghost use Rattle.spx_units.specs.Cut.{cut_of};
-ghost use Rattle.ipx_ends.specs.Ledger.{Counts, IsFirstOpen, all_units, base_of, bytes_acknowledged, counted, units_in};
+ghost use Rattle.ipx_site.specs.Bursts.{counted};
+ghost use Rattle.ipx_ends.specs.Ledger.{Counts, IsFirstOpen, all_units, base_of, bytes_acknowledged, units_in};
 
 use spx_link::Numbers;
 use std::alloc::{AllocError, Global};

@@ -7,18 +7,23 @@
 
 mod callers;
 mod end_core;
+mod feeding;
 mod gate;
 mod handing;
 mod ids;
 mod ledger;
+mod listen;
 mod listening;
 mod outlet;
+mod send;
 mod sending;
 mod start;
 mod station;
+mod taking;
 mod target;
+mod tending;
 mod verdict;
 
-pub use listening::do_listen;
-pub use sending::do_send;
+pub use listen::do_listen;
+pub use send::do_send;
 pub use target::Target;

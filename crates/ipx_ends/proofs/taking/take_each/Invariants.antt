@@ -2,7 +2,7 @@ use Rattle.std.proofs.Common.{◌≡◌, ℕ, drop, false, take}
 use Rattle.spx_messages.specs.EndpointView.{held_at}
 use Rattle.ipx_ends.specs.Outlet.{left_of}
 use Rattle.ipx_ends.specs.Passing.{PassesEach}
-use Rattle.ipx_ends.proofs.listening.take_each.Given as goal
+use Rattle.ipx_ends.proofs.taking.take_each.Given as goal
 
 -- what passed so far; the connections behind are as they were, and while nothing was taken, all that is
 -- held is

@@ -4,7 +4,7 @@ use Rattle.ipx_ends.specs.Rounds.{place}
 use Rattle.ipx_ends.specs.Steps.{noted}
 use Rattle.ipx_ends.proofs.Rounded.{on_ok, sends}
 use Rattle.ipx_ends.proofs.Whole.{Laws}
-use Rattle.ipx_ends.proofs.sending.send_loaded.Goals as goal
+use Rattle.ipx_ends.proofs.send.send_loaded.Goals as goal
 
 pub returns-clause-sent : goal.returns-clause-sent
 returns-clause-sent g c =

@@ -2,7 +2,7 @@ use Rattle.std.proofs.Common.{◌≡◌, ℕ, false}
 use Rattle.spx_messages.specs.EndpointView.{held_at}
 use Rattle.ipx_ends.specs.Outlet.{left_of}
 use Rattle.ipx_ends.specs.Passing.{PassesOne}
-use Rattle.ipx_ends.proofs.listening.take_some.Given as goal
+use Rattle.ipx_ends.proofs.taking.take_some.Given as goal
 
 -- what passed so far; while nothing was taken, all that is held is as it was
 abbrev pub invariant-loop : goal.invariant-loop

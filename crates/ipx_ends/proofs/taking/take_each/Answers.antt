@@ -2,7 +2,7 @@ use Rattle.std.proofs.Common.{◌+◌, arith, rules, set}
 use Rattle.ipx_ends.specs.Outlet.{left_of}
 use Rattle.ipx_ends.specs.Passing.{PassesSome}
 use Rattle.ipx_ends.proofs.Holding.{each_more, on_err, some_more, still_more}
-use Rattle.ipx_ends.proofs.listening.take_each.Goals as goal
+use Rattle.ipx_ends.proofs.taking.take_each.Goals as goal
 
 pub loop-caller-preserved : goal.loop-caller-preserved
 loop-caller-preserved g c =

@@ -7,7 +7,7 @@ use Rattle.ipx_wire.specs.declared.address.Address.{Address}
 use Rattle.ipx_ends.specs.Sent.{SendsAll}
 use Rattle.ipx_ends.specs.Target.{Names}
 use Rattle.ipx_ends.specs.declared.target.Target.{Target}
-use Rattle.ipx_ends.proofs.sending.do_send.Goals as goal
+use Rattle.ipx_ends.proofs.send.do_send.Goals as goal
 
 -- words that were read name an address
 pub returns-clause-words : goal.returns-clause-words

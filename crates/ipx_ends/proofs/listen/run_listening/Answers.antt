@@ -2,7 +2,7 @@ use Rattle.std.proofs.Common.{◌∙◌, sym}
 use Rattle.ipx_ends.specs.Hosting.{host}
 use Rattle.ipx_ends.specs.Outlet.{left_of}
 use Rattle.ipx_ends.proofs.Hosted.{ended_well}
-use Rattle.ipx_ends.proofs.listening.run_listening.Goals as goal
+use Rattle.ipx_ends.proofs.listen.run_listening.Goals as goal
 
 pub returns-clause-well : goal.returns-clause-well
 returns-clause-well g c = λ zero.

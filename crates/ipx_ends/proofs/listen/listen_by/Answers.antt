@@ -3,7 +3,7 @@ use Rattle.ipx_carrier.specs.Turns.{peers_of}
 use Rattle.ipx_ends.specs.Hosting.{host}
 use Rattle.ipx_ends.specs.Outlet.{left_of}
 use Rattle.ipx_ends.proofs.Hosted.{begun}
-use Rattle.ipx_ends.proofs.listening.listen_by.Goals as goal
+use Rattle.ipx_ends.proofs.listen.listen_by.Goals as goal
 
 pub returns-clause-well : goal.returns-clause-well
 returns-clause-well g c =

@@ -2,7 +2,7 @@ use Rattle.std.proofs.Common.{refl}
 use Rattle.ipx_ends.specs.Rounds.{place}
 use Rattle.ipx_ends.specs.Steps.{noted}
 use Rattle.ipx_ends.proofs.Rounded.{on_ok}
-use Rattle.ipx_ends.proofs.sending.send_opened.Goals as goal
+use Rattle.ipx_ends.proofs.send.send_opened.Goals as goal
 
 pub returns-in-Ok-clause-sent : goal.returns-in-Ok-clause-sent
 returns-in-Ok-clause-sent g c =

@@ -5,8 +5,8 @@ use Rattle.spx_messages.specs.EndpointView.{held_at}
 use Rattle.ipx_ends.specs.Outlet.{left_of}
 use Rattle.ipx_ends.specs.declared.callers.Standing.TheVariants as Standings
 use Rattle.ipx_ends.proofs.Passed.{from_passes, one_idle, one_taken, one_written}
-use Rattle.ipx_ends.proofs.listening.take_some.Goals as goal
-use Rattle.ipx_ends.proofs.listening.take_some.Goals.{then-ended-via-then-ended, then-ended-via-else-ended+then-not-is_empty, then-ended-via-else-ended+else-not-is_empty+then-not-take_next}
+use Rattle.ipx_ends.proofs.taking.take_some.Goals as goal
+use Rattle.ipx_ends.proofs.taking.take_some.Goals.{then-ended-via-then-ended, then-ended-via-else-ended+then-not-is_empty, then-ended-via-else-ended+else-not-is_empty+then-not-take_next}
 
 pub returns-in_err-write-clause-one : goal.returns-in_err-write-clause-one
 returns-in_err-write-clause-one g c =

@@ -1,0 +1,116 @@
+//! The command `listen`: a host that takes connections, and writes the messages that come.
+
+ghost use Rattle.std.specs.Prelude.{◌≡◌, ◌<◌, ◌≤◌, ℕ, List, IfErr, IfOk, IsTrue, OnErr, OnOk, Err, Ok};
+ghost use Rattle.std.specs.Io.KnownBytes.{Appends};
+ghost use Rattle.ipx_carrier.specs.Turns.{Peers, peers_of};
+ghost use Rattle.ipx_site.specs.declared.clock.SteadyClock.{SteadyClock};
+ghost use Rattle.ipx_ends.specs.Hosting.{Begins, Host, ServesWell, host};
+ghost use Rattle.ipx_ends.specs.Outlet.{left_of};
+
+use crate::listening::Listening;
+use crate::start::{StartFault, tell_start};
+use ipx_carrier::node_of;
+use ipx_site::{HostFile, load_host};
+use log::{Log, info};
+use std::alloc::Global;
+use std::io::Write;
+use std::net::Net;
+use std::rt::{Clock, Files};
+
+/// Logs where a host listens.
+fn tell_place<R: Log>(rt: &R, file: &HostFile) {
+    let network = file.network;
+    let node = node_of(file.address);
+    let socket = file.socket;
+    let [a, b, c, d] = file.address;
+    let udp = file.udp_port;
+    info!(rt; target: "ipx",
+        "socket {socket} network {network} node {node} udp {a}.{b}.{c}.{d}:{udp}");
+}
+
+/// Runs a host that was started, and answers its status. Why one was not is told, and is 1.
+fn run_listening<R: Net + Log + Clock + Eprint, W: Write>(
+    rt: &R,
+    alloc: Global,
+    path: &str,
+    file: &HostFile,
+    started: Result<Listening<'_, R>, StartFault>,
+    writer: &mut W,
+) -> u8
+    ensures unstarted { OnErr started.entry (result ≡ 1) }
+    // Where it ends well, the writer took the bodies that the takes gave, one behind the other.
+    ensures well { result ≡ 0 → IfOk started.entry (λ l. (bytes : List ℕ) × ServesWell
+        (host l.station.clock l.station.core l.callers.items (left_of l.outlet)
+        (W.contents writer.old))
+        l.once (W.contents writer.new)
+        (λ old moment new. (old.last ≤ moment) × (new.last ≡ moment))
+        (peers_of l.station.wire.peers.items) bytes) }
+    ensures few { result ≤ 1 }
+    ensures once { result ≡ 0 → IfOk started.entry (λ l. IsTrue l.once) }
+{
+    let mut listening = match started {
+        Ok(listening) => listening,
+        Err(fault) => return tell_start(rt, path, fault),
+    };
+    tell_place(rt, file);
+    listening.finish(rt, alloc, writer)
+}
+
+/// Runs the host of a file that was loaded. The status of one that was not is passed on.
+fn listen_by<R: Net + Log + Clock + Eprint, W: Write>(
+    rt: &R,
+    alloc: Global,
+    path: &str,
+    loaded: Result<HostFile, u8>,
+    once: bool,
+    writer: &mut W,
+) -> u8
+    ensures unloaded { IfErr loaded (λ status. result ≡ status) }
+    ensures few { OnOk loaded (result ≤ 1) }
+    // Without `once` a host that was loaded never ends well.
+    ensures once { OnOk loaded (result ≡ 0 → IsTrue once) }
+    // Where it ends well, a host began with no connection and nothing to write, and its writer took
+    // the bodies that the takes gave, one behind the other.
+    ensures well { OnOk loaded (result ≡ 0 → (start : Host (SteadyClock R))
+        × (peers : Peers) × (bytes : List ℕ) × Begins start (W.contents writer.old)
+        × ServesWell start once (W.contents writer.new)
+        (λ old moment new. (old.last ≤ moment) × (new.last ≡ moment)) peers bytes
+        × Appends (W.contents writer.old) (W.contents writer.new) bytes) }
+{
+    let file = match loaded {
+        Ok(file) => file,
+        Err(status) => return status,
+    };
+    let started = Listening::open(rt, alloc, &file, once);
+    run_listening(rt, alloc, path, &file, started, writer)
+}
+
+/// The command `listen`: runs the host of a file, takes connections at its socket, and writes the
+/// bytes of each message when it is whole, with nothing between them. It goes on until it is ended,
+/// or with `once` until three seconds after the end of the first connection: later ones are let go
+/// as they come, and nothing of them is written.
+///
+/// The answer is the status: 0 where the end of that connection came; 1 where that connection was
+/// lost, the writer failed, the socket can't be had or memory for the start is refused; 2 for a
+/// fault of the file. What is wrong is a line on standard error.
+pub fn do_listen<R: Net + Log + Files + Clock + Eprint, W: Write>(
+    rt: &R,
+    alloc: Global,
+    path: &str,
+    once: bool,
+    writer: &mut W,
+) -> u8
+    ensures few { result ≤ 2 }
+    // Without `once` it never ends well.
+    ensures once { result ≡ 0 → IsTrue once }
+    // Where it ends well, a host began with no connection and nothing to write, and its writer took
+    // the bodies of the messages that were taken, one behind the other, and nothing else.
+    ensures well { result ≡ 0 → (start : Host (SteadyClock R))
+        × (peers : Peers) × (bytes : List ℕ) × Begins start (W.contents writer.old)
+        × ServesWell start once (W.contents writer.new)
+        (λ old moment new. (old.last ≤ moment) × (new.last ≡ moment)) peers bytes
+        × Appends (W.contents writer.old) (W.contents writer.new) bytes }
+{
+    let loaded = load_host(rt, alloc, path);
+    listen_by(rt, alloc, path, loaded, once, writer)
+}

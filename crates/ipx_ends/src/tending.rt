@@ -1,0 +1,163 @@
+//! What a host that listens does with its connections: it asks them, and lets them go.
+
+ghost use Rattle.std.specs.Prelude.{◌≡◌, ◌<◌, [], length, remove, slice_get, slice_set, take, false, All, IfSome, IsTrue, MatchOption, None, OnErr, Some, Err, Ok};
+ghost use Rattle.ipx_ends.specs.Callers.{Asks, EndedAlone, LetsLinkGo};
+ghost use Rattle.ipx_ends.specs.Outlet.{left_of};
+ghost use Rattle.ipx_ends.specs.Stop.{parted, stop_in};
+ghost use Rattle.ipx_ends.specs.Tending.{IsFateOf, JustStays, Tends, Tidies};
+ghost use Rattle.ipx_ends.specs.declared.callers.Caller.{Caller};
+ghost use Rattle.ipx_ends.specs.declared.listening.Stop.TheVariants as Stops;
+
+use crate::callers::{Caller, Fate, Standing, fate_of};
+use crate::listening::{Listening, MOST_CALLERS, Stop};
+use log::{Log, warn};
+use spx_messages::{Endpoint, Message};
+use std::alloc::Global;
+use std::net::Net;
+use std::rt::Clock;
+
+/// Forgets the link of an id.
+pub fn let_link_go(endpoint: &mut Endpoint, id: u16)
+    ensures { LetsLinkGo endpoint.old endpoint.new id }
+{
+    let _ = endpoint.release(id);
+}
+
+impl<'a, R: Net + Log + Clock> Listening<'a, R> {
+    /// What becomes of a connection.
+    fn fate_of(&self, caller: &Caller) -> Fate
+        ensures { IsFateOf self.now.station.core caller.now result }
+    {
+        let state = self.station.core.endpoint.state(caller.id).ok();
+        let silent = self.station.moment().saturating_sub(caller.heard);
+        fate_of(caller.standing, state, silent)
+    }
+
+    /// The place of the first connection that does not just stay.
+    fn first_to_tend(&self) -> Option<usize>
+        ensures there { IfSome result (λ place. place < length self.now.callers.items) }
+        ensures first { let core = self.now.station.core in
+            MatchOption result (All (JustStays core) self.now.callers.items)
+            (λ place. All (JustStays core) (take place self.now.callers.items)
+            × IfSome (slice_get self.now.callers.items place) (λ c. JustStays core c → ⊥)) }
+    {
+        for (place, caller) in self.callers.iter().enumerate() {
+            if self.fate_of(caller) != Fate::Stays {
+                return Some(place);
+            }
+        }
+        None
+    }
+
+    /// Asks whether a connection is still there, by a message of no bytes: a peer that is there
+    /// acknowledges it, and without one the link is Lost some five seconds later. Where the message
+    /// is refused, nothing goes out: the silence counts anew, and it is asked again after it.
+    fn ask(&mut self, alloc: Global, place: usize)
+        requires { place < length self.old.callers.items }
+        ensures asks { IfSome (slice_get self.old.callers.items place) (λ c. (c' : Caller)
+            × Asks self.old.station.core.moment
+            self.old.station.core.endpoint self.new.station.core.endpoint c c'
+            × (self.new.callers.items ≡ slice_set self.old.callers.items place c')) }
+        ensures core { self.new.station.core ≡ record self.old.station.core {
+          endpoint = self.new.station.core.endpoint;
+        } }
+        ensures clock { self.new.station.clock ≡ self.old.station.clock }
+        ensures peers { self.new.station.wire.peers ≡ self.old.station.wire.peers }
+        ensures outlet { self.new.outlet ≡ self.old.outlet }
+        ensures once { self.new.once ≡ self.old.once }
+    {
+        let moment = self.station.moment();
+        let caller = &mut self.callers[place];
+        let nothing = Message {
+            stream: 0,
+            body: Vec::new(alloc),
+        };
+        match self.station.core.endpoint.send(alloc, caller.id, &nothing) {
+            Ok(()) => caller.standing = Standing::Asked,
+            Err(_) => caller.heard = moment,
+        }
+    }
+
+    /// Lets a connection go. With `once` it is the only one, and all is over.
+    fn let_go(&mut self, rt: &R, place: usize, fate: Fate) -> Result<(), Stop>
+        requires { place < length self.old.callers.items }
+        ensures goes { self.new.callers.items ≡ remove self.old.callers.items place }
+        ensures released { IfSome (slice_get self.old.callers.items place) (λ c. LetsLinkGo
+            self.old.station.core.endpoint self.new.station.core.endpoint c.id) }
+        ensures stops { IfSome (slice_get self.old.callers.items place) (λ c.
+            stop_in result ≡ parted self.old.once fate c.standing) }
+        ensures only { OnErr result (IsTrue self.old.once) }
+        // With `once` the only connection goes, and what was taken of it is written.
+        ensures written { result ≡ Err Stops.Ended → left_of self.new.outlet ≡ [] }
+        ensures core { self.new.station.core ≡ record self.old.station.core {
+          endpoint = self.new.station.core.endpoint;
+        } }
+        ensures clock { self.new.station.clock ≡ self.old.station.clock }
+        ensures peers { self.new.station.wire.peers ≡ self.old.station.wire.peers }
+        ensures outlet { self.new.outlet ≡ self.old.outlet }
+        ensures once { self.new.once ≡ self.old.once }
+    {
+        let caller = self.callers.remove(place);
+        let_link_go(&mut self.station.core.endpoint, caller.id);
+        let ended = fate == Fate::Over && caller.standing == Standing::Ended;
+        if !ended {
+            let from = caller.from;
+            warn!(rt; target: "ipx", "{from}: the connection is lost");
+        }
+        match ended {
+            _ if !self.once => Ok(()),
+            true => Err(Stop::Ended),
+            false => Err(Stop::Lost),
+        }
+    }
+
+    /// Does what is to be done with the connection at a place.
+    fn tend(&mut self, rt: &R, alloc: Global, place: usize) -> Result<(), Stop>
+        requires { place < length self.old.callers.items }
+        ensures tends { IfSome (slice_get self.old.callers.items place) (λ c. Tends
+            self.old.once self.old.station.core c place self.new.station.core.endpoint
+            self.old.callers.items self.new.callers.items (stop_in result)) }
+        ensures only { OnErr result (IsTrue self.old.once) }
+        ensures written { result ≡ Err Stops.Ended → left_of self.new.outlet ≡ [] }
+        ensures core { self.new.station.core ≡ record self.old.station.core {
+          endpoint = self.new.station.core.endpoint;
+        } }
+        ensures clock { self.new.station.clock ≡ self.old.station.clock }
+        ensures peers { self.new.station.wire.peers ≡ self.old.station.wire.peers }
+        ensures outlet { self.new.outlet ≡ self.old.outlet }
+        ensures once { self.new.once ≡ self.old.once }
+    {
+        match self.fate_of(&self.callers[place]) {
+            Fate::Stays => Ok(()),
+            Fate::Asks => {
+                self.ask(alloc, place);
+                Ok(())
+            }
+            fate => self.let_go(rt, place, fate),
+        }
+    }
+
+    /// Lets go the connections that are over or given up, and asks those that are silent.
+    pub fn tidy(&mut self, rt: &R, alloc: Global) -> Result<(), Stop>
+        ensures tidies { Tidies self.old.once self.old.station.core self.new.station.core
+            self.old.callers.items self.new.callers.items (stop_in result) }
+        ensures ended { result ≡ Err Stops.Ended → EndedAlone self.old.callers.items }
+        ensures written { result ≡ Err Stops.Ended → left_of self.new.outlet ≡ [] }
+        ensures only { OnErr result (IsTrue self.old.once) }
+        ensures core { self.new.station.core ≡ record self.old.station.core {
+          endpoint = self.new.station.core.endpoint;
+        } }
+        ensures clock { self.new.station.clock ≡ self.old.station.clock }
+        ensures peers { self.new.station.wire.peers ≡ self.old.station.wire.peers }
+        ensures outlet { self.new.outlet ≡ self.old.outlet }
+        ensures once { self.new.once ≡ self.old.once }
+    {
+        for _tended in 0..MOST_CALLERS {
+            let Some(place) = self.first_to_tend() else {
+                break;
+            };
+            self.tend(rt, alloc, place)?;
+        }
+        Ok(())
+    }
+}
