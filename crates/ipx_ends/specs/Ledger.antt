@@ -5,6 +5,7 @@ use Rattle.std.specs.List.{sum_by}
 use Rattle.spx_link.specs.Marks.{distance}
 use Rattle.spx_link.specs.declared.numbers.Numbers.{Numbers}
 use Rattle.spx_units.specs.Message.{most_unit}
+use Rattle.ipx_site.specs.Bursts.{counted}
 
 -- how many units a message of so many bytes is cut into: one where it has none
 abbrev pub units_in : ℕ → ℕ
