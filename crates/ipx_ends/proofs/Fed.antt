@@ -10,7 +10,7 @@ use Rattle.spx_link.specs.Links.{IsNextFree, LinksView, count_of, link_of}
 use Rattle.spx_link.specs.Offer.{first_of as first_held, take_held}
 use Rattle.spx_units.specs.declared.fault.MessageFault.TheVariants as MessageFaults
 use Rattle.spx_units.specs.Joining.{is_overlong}
-use Rattle.spx_messages.specs.Changes.{ChangesEnd, SameBut}
+use Rattle.spx_messages.specs.Changes.{ChangesEnd, SameBut, SameSelf}
 use Rattle.spx_messages.specs.EndpointView.{EndpointView, Held, held_at}
 use Rattle.spx_messages.specs.Taking.{IsPushed, PeerEnd, TakenView, joins_on, overlong, overrun, result_view, take_end, taken_held, takes_data, takes_first}
 use Rattle.spx_messages.specs.declared.fault.EndFault.{EndFault}
@@ -74,18 +74,18 @@ for_memory (Err (EndFaults.Links f)) = inr (λ e. cc)
 for_memory (Err EndFaults.NoSuchEnd) = inr (λ e. cc)
 
 abbrev Leaves : EndpointView → EndpointView → ℕ → Option Held → Type 0
-Leaves old new id o = KeepsQueue o (held_at new id) × ((q : ℕ) → q ≢ id → held_at new q ≡ held_at old q)
+Leaves old new id o = KeepsQueue o (held_at new id) × ((q : ℕ) → q ≢ id → held_at new q ≡ held_at old q) × SameSelf old new
 
 took_at : (old new : EndpointView) (id : ℕ) (r : Result Taken EndFault) (o : Option Held) → held_at old id ≡ o
     → IfSome o (λ h. r ≢ Err no_memory → (result_view r ≡ (take_end h).0) × ChangesEnd old new id (take_end h).1)
     → IfSome o (λ h. r ≡ Err no_memory → IsPushed h × SameBut old new) → (held_at old id ≡ None → SameBut old new) → Leaves old new id o
 took_at old new id r None is takes memory none =
     let same = none is in
-    (subst (KeepsQueue None) (sym (same.held id ∙ is)) tt, λ q other. same.held q)
+    (subst (KeepsQueue None) (sym (same.held id ∙ is)) tt, (λ q other. same.held q), same.self)
 took_at old new id r (Some h) is takes memory none =
     elim (for_memory r) [
-      | inl e ↦ let same = (memory e).1 in (subst (KeepsQueue (Some h)) (sym (same.held id ∙ is)) (queue_kept h.link), λ q other. same.held q)
-      | inr e ↦ let change = (takes e).1 in (subst (KeepsQueue (Some h)) (sym change.held) (queue_taken h), change.others)
+      | inl e ↦ let same = (memory e).1 in (subst (KeepsQueue (Some h)) (sym (same.held id ∙ is)) (queue_kept h.link), (λ q other. same.held q), same.self)
+      | inr e ↦ let change = (takes e).1 in (subst (KeepsQueue (Some h)) (sym change.held) (queue_taken h), change.others, change.self)
     ]
 
 pub took : (old new : EndpointView) (id : ℕ) (r : Result Taken EndFault)

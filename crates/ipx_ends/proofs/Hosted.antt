@@ -1,10 +1,15 @@
 -- What a host that listens does, one step after another.
-use Rattle.std.proofs.Common.{◌≡◌, ℕ, zero, suc, ◌+◌, ◌<◌, Bool, true, false, List, [], ◌∷◌, ◌++◌, length, take, Option, Some, None, Result, Ok, Err, ◌⊎◌, inl, inr, refl, sym, ap, ◌∙◌, subst, arith, append_assoc, append-nil}
+use Rattle.std.proofs.Common.{◌≡◌, ◌≢◌, ℕ, zero, suc, ◌+◌, ◌<◌, Bool, true, false, List, [], ◌∷◌, ◌++◌, length, take, Option, Some, None, Result, Ok, Err, ◌⊎◌, inl, inr, refl, sym, ap, ◌∙◌, subst, arith, append_assoc, append-nil}
 use Rattle.std.specs.Prelude.{All, IfErr, IfOk, IfSome, OnErr, OnOk, slice_get}
 use Rattle.std.specs.Io.KnownBytes.{Appends}
+use Rattle.ipx_carrier.specs.Mapping.{node_at}
 use Rattle.ipx_carrier.specs.Turns.{Peers}
-use Rattle.spx_messages.specs.EndpointView.{EndpointView, Held, held_at}
-use Rattle.ipx_ends.specs.Hosting.{Begins, Hears, Host, Moves, MovesSome, Serves, ServesWell, Steps, StepsOn, StepsTo, host}
+use Rattle.ipx_site.specs.Host.{IsHostText}
+use Rattle.ipx_site.specs.Loading.{IsFileText}
+use Rattle.ipx_site.specs.declared.host.HostFile.{HostFile}
+use Rattle.ipx_wire.specs.declared.address.Socket.{Socket}
+use Rattle.spx_messages.specs.EndpointView.{EndpointView, Held, buffers_at, held_at}
+use Rattle.ipx_ends.specs.Hosting.{Hears, Host, ListensWell, Moves, MovesSome, Serves, ServesWell, Steps, StepsOn, StepsTo, host}
 use Rattle.ipx_ends.specs.Outlet.{Writes, left_of}
 use Rattle.ipx_ends.specs.Passing.{PassesEach, PassesFrom, PassesSome, given_each, given_from}
 use Rattle.ipx_ends.specs.Stop.{parted, stop_status}
@@ -221,26 +226,52 @@ ended_well old new once Unwritten tells peers bytes serves wrote status none = a
 ended_well old new once Unwaited tells peers bytes serves wrote status none = absurd (cc)
 
 -- one that was started has no connection yet, and nothing to write
-pub begun : {K T E : Type 0} (started : Result T E) (at : T → Host K) (its : T → Bool) (among : T → Peers) (once : Bool) (a b : Option (List ℕ)) (tells : K → ℕ → K → Type 0) (status : ℕ)
+pub begun : {K T E : Type 0} (file : HostFile) (X : Type 0) (started : Result T E) (at : T → Host K) (its : T → Bool) (among : T → Peers) (once : Bool) (a b : Option (List ℕ)) (tells : K → ℕ → K → Type 0) (status : ℕ)
+    → IfOk started (λ l. (at l).core.endpoint.network ≡ file.network) → IfOk started (λ l. (at l).core.endpoint.node ≡ node_at file.address)
+    → IfOk started (λ l. (at l).core.endpoint.router ≡ node_at file.router) → IfOk started (λ l. among l ≡ (file.router ∷ []) ∷ [])
+    → IfOk started (λ l. buffers_at (at l).core.endpoint file.socket ≡ Some file.buffers)
+    → IfOk started (λ l. (s : Socket) → s.0 ≢ file.socket.0 → buffers_at (at l).core.endpoint s ≡ None)
+    → IfOk started (λ l. (id : ℕ) → held_at (at l).core.endpoint id ≡ None) → IfOk started (λ l. (at l).core.accepted ≡ None)
     → IfOk started (λ l. (at l).callers ≡ []) → IfOk started (λ l. (at l).left ≡ []) → IfOk started (λ l. its l ≡ once) → ((l : T) → (at l).written ≡ a)
-    → OnErr started (status ≡ 1) → (status ≡ 0 → IfOk started (λ l. (bytes : List ℕ) × ServesWell (at l) (its l) b tells (among l) bytes)) → status ≡ 0
-    → (start : Host K) × (peers : Peers) × (bytes : List ℕ) × Begins start a × ServesWell start once b tells peers bytes × Appends a b bytes
-begun (Err e) at its among once a b tells status nobody nothing same written unstarted well ends = absurd (omega (arith, unstarted, ends))
-begun {K} (Ok l) at its among once a b tells status nobody nothing same written unstarted well ends =
+    → OnErr started ((status ≡ 1) × X) → (status ≡ 0 → IfOk started (λ l. (bytes : List ℕ) × ServesWell (at l) (its l) b tells (among l) bytes)) → status ≡ 0
+    → ListensWell file once a b tells
+begun file X (Err e) at its among once a b tells status network node router routed listens alone links accepted nobody nothing same written unstarted well ends =
+    absurd (omega (arith, unstarted.0, ends))
+begun {K} file X (Ok l) at its among once a b tells status network node router routed listens alone links accepted nobody nothing same written unstarted well ends =
     let run = well ends in
     let took : Appends (at l).written b ((at l).left ++ run.0) = run.1.4 in
-    let bare : Appends (at l).written b run.0 = subst (λ (x : List ℕ). Appends (at l).written b (x ++ run.0)) nothing took in (
-      at l,
-      among l,
-      run.0,
-      (nobody, nothing, written l),
-      subst (λ (o : Bool). ServesWell (at l) o b tells (among l) run.0) same run.1,
-      subst (λ (w : Option (List ℕ)). Appends w b run.0) (written l) bare,
-    )
+    let bare : Appends (at l).written b run.0 = subst (λ (x : List ℕ). Appends (at l).written b (x ++ run.0)) nothing took in
+    record {
+      start = at l;
+      peers = among l;
+      bytes = run.0;
+      begins = record {
+        network = network;
+        node = node;
+        router = router;
+        among = routed;
+        listens = listens;
+        alone = alone;
+        unlinked = links;
+        unasked = accepted;
+        nobody = nobody;
+        nothing = nothing;
+        known = written l;
+      };
+      serves = subst (λ (o : Bool). ServesWell (at l) o b tells (among l) run.0) same run.1;
+      took = subst (λ (w : Option (List ℕ)). Appends w b run.0) (written l) bare;
+    }
 
 -- the status of a file that can't be loaded is 1 or 2
-pub loaded_so : {T A : Type 0} (loaded : Result T ℕ) (status : ℕ) → IfErr loaded (λ s. (s ≡ 1) ⊎ (s ≡ 2)) → OnOk loaded (status ≡ 0 → A) → IfErr loaded (λ s. status ≡ s)
-    → status ≡ 0 → A
-loaded_so (Ok h) status fault well unloaded ends = well ends
-loaded_so (Err s) status (inl e) well unloaded ends = absurd (omega (arith, unloaded, e, ends))
-loaded_so (Err s) status (inr e) well unloaded ends = absurd (omega (arith, unloaded, e, ends))
+pub loaded_so : {K : Type 0} (X : Type 0) (once : Bool) (a b : Option (List ℕ)) (tells : K → ℕ → K → Type 0) (loaded : Result HostFile ℕ) (status : ℕ)
+    → IfErr loaded (λ s. (s ≡ 1) ⊎ (s ≡ 2)) → IfOk loaded (λ h. (text : List ℕ) × IsFileText text × IsHostText text h)
+    → IfOk loaded (λ h. status ≡ 0 → ListensWell h once a b tells) → IfErr loaded (λ s. (status ≡ s) × X) → status ≡ 0
+    → (text : List ℕ) × (file : HostFile) × IsFileText text × IsHostText text file × ListensWell file once a b tells
+loaded_so X once a b tells (Ok h) status fault said well unloaded ends = (said.0, h, said.1, said.2, well ends)
+loaded_so X once a b tells (Err s) status (inl e) said well unloaded ends = absurd (omega (arith, unloaded.0, e, ends))
+loaded_so X once a b tells (Err s) status (inr e) said well unloaded ends = absurd (omega (arith, unloaded.0, e, ends))
+
+-- a status above those of a host that was loaded is that of a file, and nothing is done then
+pub untouched_by : {T : Type 0} (X P : Type 0) (loaded : Result T ℕ) (status : ℕ) → OnOk loaded P → (P → X) → IfErr loaded (λ s. (status ≡ s) × X) → X
+untouched_by X P (Ok h) status few other unloaded = other few
+untouched_by X P (Err s) status few other unloaded = unloaded.1

@@ -1,9 +1,13 @@
 -- What a host that listens does, one step after another: each is a turn, of which it notes what came;
 -- then what waits is written, the connections pass what they hold, and they are tidied. The entry point
--- is `Serves`, of a whole run. All of it is own.
-use Rattle.std.specs.Prelude.{◌≡◌, ◌⊎◌, ◌-◌, ◌^◌, ℕ, zero, suc, Bool, true, false, List, [], ◌++◌, Option, Some, None}
+-- is `Serves`, of a whole run, and for one that ends well `ListensWell`. All of it is own.
+use Rattle.std.specs.Prelude.{◌≡◌, ◌≢◌, ◌⊎◌, ◌-◌, ◌^◌, ℕ, zero, suc, Bool, true, false, List, [], ◌∷◌, ◌++◌, Option, Some, None}
 use Rattle.std.specs.Io.KnownBytes.{Appends}
+use Rattle.ipx_carrier.specs.Mapping.{node_at}
 use Rattle.ipx_carrier.specs.Turns.{Peers}
+use Rattle.ipx_site.specs.declared.host.HostFile.{HostFile}
+use Rattle.ipx_wire.specs.declared.address.Socket.{Socket}
+use Rattle.spx_messages.specs.EndpointView.{buffers_at, held_at}
 use Rattle.ipx_ends.specs.Callers.{NotesHeard}
 use Rattle.ipx_ends.specs.Outlet.{Writes}
 use Rattle.ipx_ends.specs.Passing.{PassesEach, given_each}
@@ -111,6 +115,29 @@ ServesWell {K} old once writes tells peers bytes = (new : Host K)
     × Serves old new once Ended tells peers bytes × (new.left ≡ []) × (new.written ≡ writes)
     × Appends old.written writes (old.left ++ bytes)
 
--- there is no connection yet, and nothing to write
-abbrev pub Begins : {K : Type 0} → Host K → Option (List ℕ) → Type 0
-Begins start written = (start.callers ≡ []) × (start.left ≡ []) × (start.written ≡ written)
+-- a host as its file says it, which listens at the socket of that, and nowhere else. It has no
+-- connection yet, and nothing to write
+pub record Begins {K : Type 0} (file : HostFile) (start : Host K) (peers : Peers)
+    (written : Option (List ℕ)) : Type 0 where
+  pub network : start.core.endpoint.network ≡ file.network
+  pub node : start.core.endpoint.node ≡ node_at file.address
+  pub router : start.core.endpoint.router ≡ node_at file.router
+  pub among : peers ≡ (file.router ∷ []) ∷ []
+  pub listens : buffers_at start.core.endpoint file.socket ≡ Some file.buffers
+  pub alone : (s : Socket) → s.0 ≢ file.socket.0 → buffers_at start.core.endpoint s ≡ None
+  pub unlinked : (id : ℕ) → held_at start.core.endpoint id ≡ None
+  pub unasked : start.core.accepted ≡ None
+  pub nobody : start.callers ≡ []
+  pub nothing : start.left ≡ []
+  pub known : start.written ≡ written
+
+-- such a host has run until it ended well, and its writer took the bodies that were taken, one behind
+-- the other, and nothing else
+pub record ListensWell {K : Type 0} (file : HostFile) (once : Bool)
+    (written writes : Option (List ℕ)) (tells : K → ℕ → K → Type 0) : Type 0 where
+  pub start : Host K
+  pub peers : Peers
+  pub bytes : List ℕ
+  pub begins : Begins file start peers written
+  pub serves : ServesWell start once writes tells peers bytes
+  pub took : Appends written writes bytes

@@ -1,6 +1,7 @@
 //! What a host that sends hands in, and what it lets go.
 
 ghost use Rattle.std.specs.Prelude.{◌≡◌, ◌≢◌, ℕ, [], false, true, IfSome, OnErr, OnOk, None, Some};
+ghost use Rattle.spx_messages.specs.Changes.{SameSelf};
 ghost use Rattle.spx_messages.specs.EndpointView.{held_at};
 ghost use Rattle.spx_messages.specs.Taking.{take_end};
 ghost use Rattle.ipx_ends.specs.Dropping.{DropsCame, StopsAt};
@@ -26,7 +27,8 @@ pub fn hand_in(
     endpoint.send(alloc, id, &Message { stream: 0, body })
 }
 
-/// Takes what the link of an id holds first, and lets it go. It answers whether there was any.
+/// Takes what the link of an id holds first, and lets it go. It answers whether it did: where not,
+/// nothing more is let go.
 fn drop_first(alloc: Global, endpoint: &mut Endpoint, id: u16) -> bool
     ensures drops { IfSome (held_at endpoint.old id) (λ h. result ≡ true
         → (h.link.held ≢ []) × (held_at endpoint.new id ≡ Some (take_end h).1)) }
@@ -35,6 +37,7 @@ fn drop_first(alloc: Global, endpoint: &mut Endpoint, id: u16) -> bool
     ensures none { held_at endpoint.old id ≡ None → result ≡ false }
     ensures queue { KeepsQueue (held_at endpoint.old id) (held_at endpoint.new id) }
     ensures others { (q : ℕ) → q ≢ id → held_at endpoint.new q ≡ held_at endpoint.old q }
+    ensures host { SameSelf endpoint.old endpoint.new }
 {
     let taken = endpoint.take(alloc, id);
     !matches!(taken, Ok(Taken::Nothing) | Err(_))

@@ -1,10 +1,12 @@
 //! The command `listen`: a host that takes connections, and writes the messages that come.
 
 ghost use Rattle.std.specs.Prelude.{◌≡◌, ◌<◌, ◌≤◌, ℕ, List, IfErr, IfOk, IsTrue, OnErr, OnOk, Err, Ok};
-ghost use Rattle.std.specs.Io.KnownBytes.{Appends};
-ghost use Rattle.ipx_carrier.specs.Turns.{Peers, peers_of};
+ghost use Rattle.ipx_carrier.specs.Turns.{peers_of};
+ghost use Rattle.ipx_site.specs.Host.{IsHostText};
+ghost use Rattle.ipx_site.specs.Loading.{IsFileText};
+ghost use Rattle.ipx_site.specs.declared.host.HostFile.{HostFile as AHostFile};
 ghost use Rattle.ipx_site.specs.declared.clock.SteadyClock.{SteadyClock};
-ghost use Rattle.ipx_ends.specs.Hosting.{Begins, Host, ServesWell, host};
+ghost use Rattle.ipx_ends.specs.Hosting.{ListensWell, ServesWell, host};
 ghost use Rattle.ipx_ends.specs.Outlet.{left_of};
 
 use crate::listening::Listening;
@@ -37,7 +39,7 @@ fn run_listening<R: Net + Log + Clock + Eprint, W: Write>(
     started: Result<Listening<'_, R>, StartFault>,
     writer: &mut W,
 ) -> u8
-    ensures unstarted { OnErr started.entry (result ≡ 1) }
+    ensures unstarted { OnErr started.entry ((result ≡ 1) × (writer.new ≡ writer.old)) }
     // Where it ends well, the writer took the bodies that the takes gave, one behind the other.
     ensures well { result ≡ 0 → IfOk started.entry (λ l. (bytes : List ℕ) × ServesWell
         (host l.station.clock l.station.core l.callers.items (left_of l.outlet)
@@ -65,17 +67,15 @@ fn listen_by<R: Net + Log + Clock + Eprint, W: Write>(
     once: bool,
     writer: &mut W,
 ) -> u8
-    ensures unloaded { IfErr loaded (λ status. result ≡ status) }
+    ensures unloaded { IfErr loaded (λ status. (result ≡ status) × (writer.new ≡ writer.old)) }
     ensures few { OnOk loaded (result ≤ 1) }
     // Without `once` a host that was loaded never ends well.
     ensures once { OnOk loaded (result ≡ 0 → IsTrue once) }
-    // Where it ends well, a host began with no connection and nothing to write, and its writer took
-    // the bodies that the takes gave, one behind the other.
-    ensures well { OnOk loaded (result ≡ 0 → (start : Host (SteadyClock R))
-        × (peers : Peers) × (bytes : List ℕ) × Begins start (W.contents writer.old)
-        × ServesWell start once (W.contents writer.new)
-        (λ old moment new. (old.last ≤ moment) × (new.last ≡ moment)) peers bytes
-        × Appends (W.contents writer.old) (W.contents writer.new) bytes) }
+    // Where it ends well, the host of the file has run, and its writer took the bodies that the
+    // takes gave, one behind the other.
+    ensures well { IfOk loaded (λ file. result ≡ 0 → ListensWell {K = SteadyClock R} file once
+        (W.contents writer.old) (W.contents writer.new)
+        (λ old moment new. (old.last ≤ moment) × (new.last ≡ moment))) }
 {
     let file = match loaded {
         Ok(file) => file,
@@ -103,13 +103,15 @@ pub fn do_listen<R: Net + Log + Files + Clock + Eprint, W: Write>(
     ensures few { result ≤ 2 }
     // Without `once` it never ends well.
     ensures once { result ≡ 0 → IsTrue once }
-    // Where it ends well, a host began with no connection and nothing to write, and its writer took
-    // the bodies of the messages that were taken, one behind the other, and nothing else.
-    ensures well { result ≡ 0 → (start : Host (SteadyClock R))
-        × (peers : Peers) × (bytes : List ℕ) × Begins start (W.contents writer.old)
-        × ServesWell start once (W.contents writer.new)
-        (λ old moment new. (old.last ≤ moment) × (new.last ≡ moment)) peers bytes
-        × Appends (W.contents writer.old) (W.contents writer.new) bytes }
+    // Where it ends well, a host as some text of a file says it has run, from no connection and
+    // nothing to write, and its writer took the bodies of the messages that were taken, one behind
+    // the other, and nothing else.
+    ensures well { result ≡ 0 → (text : List ℕ) × (file : AHostFile)
+        × IsFileText text × IsHostText text file
+        × ListensWell {K = SteadyClock R} file once (W.contents writer.old) (W.contents writer.new)
+        (λ old moment new. (old.last ≤ moment) × (new.last ≡ moment)) }
+    // For a fault of the file nothing is written.
+    ensures untouched { result ≡ 2 → writer.new ≡ writer.old }
 {
     let loaded = load_host(rt, alloc, path);
     listen_by(rt, alloc, path, loaded, once, writer)

@@ -87,6 +87,7 @@ pub struct Listening<'a, R: Clock> {
 }
 
 impl<'a, R: Net + Log + Clock> Listening<'a, R> {
+    /// A host that listens at the socket of its file. It holds no connection yet.
     pub fn open(
         rt: &'a R,
         alloc: Global,

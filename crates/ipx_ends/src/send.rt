@@ -100,6 +100,8 @@ pub fn do_send<R: Net + Log + Files + Clock + Eprint, I: Read>(
     ensures words { ((a : Address) → Names target.entry a → ⊥)
         → (result ≡ 2) × (reader.new ≡ reader.old) }
     ensures few { result ≤ 2 }
+    // For a fault of the words or of the file nothing is read.
+    ensures untouched { result ≡ 2 → reader.new ≡ reader.old }
     // Where it ends well, the reader has nothing left.
     ensures all { result ≡ 0 → IsAtEnd (I.remaining reader.new) }
     // And a host as some text of a file says it has sent to the address that the words name all

@@ -169,7 +169,7 @@ impl<'a, R: Net + Log + Clock + Eprint> Sending<'a, R> {
     /// Takes a turn, and reads. It answers whether there may be more to do at once.
     fn step<I: Read>(&mut self, rt: &R, alloc: Global, reader: &mut I) -> Result<bool, Verdict>
         ensures id { self.new.id ≡ self.old.id }
-        // By what the turn left.
+        // It notes, tells and feeds by what the turn left.
         ensures steps { IsStep IsFeedFault
             (place self.old.station.clock self.old.station.core
             (noted self.old.joined self.old.left)
@@ -207,7 +207,7 @@ impl<'a, R: Net + Log + Clock + Eprint> Sending<'a, R> {
         reader: &mut I,
     ) -> Result<(), Verdict>
         ensures id { self.new.id ≡ self.old.id }
-        // By what the turn left.
+        // It notes, tells and feeds by what the turn left.
         ensures steps { IsStep IsStepFault
             (place self.old.station.clock self.old.station.core
             (noted self.old.joined self.old.left)

@@ -1,12 +1,13 @@
 use Rattle.std.proofs.Common.{◌≡◌, ◌<◌, ◌∙◌, ◌+◌, true, false, arith, refl, rules}
 use Rattle.std.proofs.lemmas.Grind.{common_steps}
 use Rattle.spx_messages.specs.EndpointView.{held_at}
+use Rattle.ipx_ends.proofs.Dialed.{same_on, same_self}
 use Rattle.ipx_ends.proofs.Dropped.{as_many, no_more, one_more, so_far}
 use Rattle.ipx_ends.proofs.Fed.{keeps_on, keeps_same}
 use Rattle.ipx_ends.proofs.handing.drop_what_came.Goals as goal
 
 pub loop-init : goal.loop-init
-loop-init c = record { so = so_far (held_at c.args.endpoint.now c.args.id); queue = keeps_same (held_at c.args.endpoint.now c.args.id); others = λ q other. refl }
+loop-init c = record { so = so_far (held_at c.args.endpoint.now c.args.id); queue = keeps_same (held_at c.args.endpoint.now c.args.id); others = λ q other. refl; self = same_self c.args.endpoint.now }
 
 pub loop-preserved : goal.loop-preserved
 loop-preserved c =
@@ -18,6 +19,7 @@ loop-preserved c =
       so = one_more c.loop.counter (c.loop.counter + 1) o a b c.drop_first.result refl yes c.loop.invariant.so c.drop_first.ensures.drops c.drop_first.ensures.none;
       queue = keeps_on o a b c.loop.invariant.queue c.drop_first.ensures.queue;
       others = λ q other. c.drop_first.ensures.others q other ∙ c.loop.invariant.others q other;
+      self = same_on c.args.endpoint.now c.loop.endpoint c.drop_first.new.endpoint c.loop.invariant.self c.drop_first.ensures.host;
     }
 
 pub returns-then-not-drop_first : goal.returns-then-not-drop_first
@@ -31,4 +33,5 @@ returns-then-not-drop_first c =
       drops = no_more c.loop.counter o a b c.drop_first.result few no c.loop.invariant.so c.drop_first.ensures.stops c.drop_first.ensures.queue;
       queue = keeps_on o a b c.loop.invariant.queue c.drop_first.ensures.queue;
       others = λ q other. c.drop_first.ensures.others q other ∙ c.loop.invariant.others q other;
+      self = same_on c.args.endpoint.now c.loop.endpoint c.drop_first.new.endpoint c.loop.invariant.self c.drop_first.ensures.host;
     }

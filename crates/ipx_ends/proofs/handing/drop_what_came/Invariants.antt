@@ -1,4 +1,5 @@
 use Rattle.std.proofs.Common.{◌≡◌, ◌≢◌, ℕ}
+use Rattle.spx_messages.specs.Changes.{SameSelf}
 use Rattle.spx_messages.specs.EndpointView.{held_at}
 use Rattle.ipx_ends.specs.Feeding.{KeepsQueue}
 use Rattle.ipx_ends.proofs.Dropped.{SoFar}
@@ -10,4 +11,5 @@ invariant-loop l = record {
   so : SoFar l.counter (held_at l.fn.endpoint l.id) (held_at l.endpoint l.id);
   queue : KeepsQueue (held_at l.fn.endpoint l.id) (held_at l.endpoint l.id);
   others : (q : ℕ) → q ≢ l.id → held_at l.endpoint q ≡ held_at l.fn.endpoint q;
+  self : SameSelf l.fn.endpoint l.endpoint;
 }

@@ -7,6 +7,7 @@ use Rattle.ipx_wire.specs.declared.address.Address.{Address}
 use Rattle.ipx_ends.specs.Sent.{SendsAll}
 use Rattle.ipx_ends.specs.Target.{Names}
 use Rattle.ipx_ends.specs.declared.target.Target.{Target}
+use Rattle.ipx_ends.proofs.Hosted.{untouched_by}
 use Rattle.ipx_ends.proofs.send.do_send.Goals as goal
 
 -- words that were read name an address
@@ -42,3 +43,7 @@ returns-clause-all g c = λ zero.
     let sent = sent_of (c.send_loaded.new.reader ≡ c.args.reader.now) c.args.target c.in-Ok.to (g.I.Read.remaining c.args.reader.now) (g.I.Read.remaining c.send_loaded.new.reader) _ c.load_host-loaded.result c.send_loaded.result
     c.load_host-loaded.ensures.fault c.send_loaded.ensures.unloaded c.load_host-loaded.ensures.host c.in-Ok.ensures.named c.send_loaded.ensures.sent zero in
     sent.6.all
+
+pub returns-clause-untouched : goal.returns-clause-untouched
+returns-clause-untouched g c = λ two.
+    untouched_by (c.send_loaded.new.reader ≡ c.args.reader.now) _ c.load_host-loaded.result c.send_loaded.result c.send_loaded.ensures.status (λ few. absurd (omega (arith, few, two))) c.send_loaded.ensures.unloaded
