@@ -5,15 +5,16 @@ use Rattle.ipx_carrier.specs.Mapping.{node_at}
 use Rattle.ipx_carrier.specs.Turns.{Peers}
 use Rattle.ipx_site.specs.declared.host.HostFile.{HostFile}
 use Rattle.ipx_wire.specs.declared.address.Address.{Address}
+use Rattle.ipx_wire.specs.declared.address.Socket.{Socket}
 use Rattle.spx_link.specs.Courses.{IsWhole}
 use Rattle.spx_link.specs.Offer.{dialed}
-use Rattle.spx_messages.specs.EndpointView.{Held, held_at}
+use Rattle.spx_messages.specs.EndpointView.{Held, buffers_at, held_at}
 use Rattle.ipx_ends.specs.Books.{IsUnused}
 use Rattle.ipx_ends.specs.Rounds.{Place, Transfers}
 use Rattle.ipx_ends.specs.Steps.{noted}
 
--- a host as its file says it, whose one link asks for a connection to an address. Nothing was seen of
--- it, and nothing is read or counted
+-- a host as its file says it, which listens nowhere, and whose one link asks for a connection to an
+-- address. Nothing was seen of it, and nothing is read or counted
 pub record IsDialing {K : Type 0} (file : HostFile) (to : Address) (p : Place K) (peers : Peers)
     (id : ℕ) : Type 0 where
   pub network : p.core.endpoint.network ≡ file.network
@@ -23,6 +24,7 @@ pub record IsDialing {K : Type 0} (file : HostFile) (to : Address) (p : Place K)
   pub link : held_at p.core.endpoint id
       ≡ Some (record { link = dialed id file.socket to file.buffers 0; rest = None })
   pub alone : (q : ℕ) → q ≢ id → held_at p.core.endpoint q ≡ None
+  pub deaf : (s : Socket) → buffers_at p.core.endpoint s ≡ None
   pub unseen : p.noted ≡ noted false None
   pub unread : p.read ≡ false
   pub unended : p.closed ≡ false

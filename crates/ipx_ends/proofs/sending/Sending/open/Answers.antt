@@ -10,6 +10,7 @@ returns g c = λ known. record {
   among = first_of (search rules, grind (arith, common_steps));
   link = first_of (search rules, grind (arith, common_steps));
   alone = λ q other. first_of (search rules, grind (arith, common_steps));
+  deaf = λ s. first_of (search rules, grind (arith, common_steps));
   unseen = refl;
   unread = refl;
   unended = refl;
