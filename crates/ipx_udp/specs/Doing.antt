@@ -51,6 +51,7 @@ Does (Lines.Run rounds) old new result = IsRefused old new result
 -- nothing it is bad; and want of memory may stop it as it is read
 abbrev pub DoesLine : MapView → List ℕ → Site → Site → Result Bool Stop → Type 0
 DoesLine m bytes old new result = ((is_blank_line bytes ≡ true) × (result ≡ Ok false) × (new ≡ old))
-    ⊎ (((line : Line) × (line_in m (line_fields bytes) ≡ Some (line_view line)) × Does line old new result)
+    ⊎ ((is_blank_line bytes ≡ false)
+    × (((line : Line) × (line_in m (line_fields bytes) ≡ Some (line_view line)) × Does line old new result)
     ⊎ (((line_in m (line_fields bytes) ≡ None) × IsRefused old new result)
-    ⊎ ((result ≡ Err Stops.Memory) × (new ≡ old))))
+    ⊎ ((result ≡ Err Stops.Memory) × (new ≡ old)))))

@@ -26,16 +26,13 @@ no_such_end_line = codes "fault (34) NoSuchEnd\n"
 abbrev pub ok_line : List ℕ
 ok_line = codes "ok\n"
 
-abbrev pub device_line : List ℕ
-device_line = codes "fault (39) Device\n"
-
 -- a line that is bad, by its number
 abbrev pub bad_line : ℕ → List ℕ
 bad_line number = codes "line " ++ (decimal number ++ codes " bad\n")
 
 -- what a line behind the layout prints, and its status: `ok` where it is done and says so, and what
--- refused it where an end did or there is none. At any other stop it prints nothing, and the script
--- goes no further
+-- refused it where an end did or there is none. At any other stop the script goes no further, and
+-- what ends it says why
 abbrev pub told_of : Result Bool Stop → Option (List ℕ × ℕ)
 told_of (Ok true) = Some (ok_line, 0)
 told_of (Ok false) = Some (codes "", 0)

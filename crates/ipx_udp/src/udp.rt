@@ -1,6 +1,6 @@
 //! The command `udp`.
 
-ghost use Rattle.std.specs.Prelude.{◌≡◌, ◌≤◌, ℕ, List, Bool, IfErr, IfOk, IfSome, Result, Some, string_bytes};
+ghost use Rattle.std.specs.Prelude.{◌≡◌, ◌≤◌, ℕ, List, Bool, Err, IfErr, IfOk, IfSome, None, Result, Some, string_bytes};
 ghost use Rattle.std.specs.Io.KnownBytes.{Appends};
 ghost use Rattle.ipx_sim.specs.ActLine.{refused_line};
 ghost use Rattle.ipx_sim.specs.Places.{map_view};
@@ -121,6 +121,7 @@ fn read_and_do(alloc: Global, site: &mut Site, map: &Map, line: &[u8]) -> Result
 /// What a line prints, and its status, where the script goes on.
 fn told_of(alloc: Global, done: Result<bool, Stop>) -> Result<(String, u8), Stop>
     ensures told { IfOk result (λ l. told_of done ≡ Some (string_bytes l.0, l.1)) }
+    ensures stops { told_of done ≡ None → IfErr result (λ stop. done ≡ Err stop) }
     ensures few { IfOk result (λ l. l.1 ≤ 1) }
 {
     let told = match done {
@@ -200,7 +201,7 @@ fn lay_out(alloc: Global, layout: &mut Layout, input: &[u8]) -> Result<u32, Stop
     Ok(LINES_END)
 }
 
-/// Runs a script, and answers its status and the packets that had no IP address.
+/// Runs the lines from that number on, and writes the last ones. It answers the status.
 fn run_bound<W: Write>(
     alloc: Global,
     site: &mut Site,
