@@ -1,5 +1,4 @@
 pub mod Filling
 pub mod Held
 pub mod Long
-pub mod Peers
 pub mod Telling
