@@ -5,7 +5,11 @@
    more. The file REFUSE_TOLD is made where the first of the two comes, and the file REFUSE_ASKED
    where a request between them was refused.
 
-   With REFUSE_DAY the day's clock stands still, so many milliseconds after the start of 1970. */
+   With REFUSE_DAY the day's clock stands still, so many milliseconds after the start of 1970.
+
+   Compiled with WRAPPED it is linked into a program in place of being preloaded (a program with
+   AddressSanitizer has an allocator of its own, before which nothing can be preloaded). The clock is
+   left alone there. */
 #define _GNU_SOURCE
 #include <dlfcn.h>
 #include <errno.h>
@@ -46,6 +50,18 @@ static int is_refused(size_t size) {
     return 1;
 }
 
+#ifdef WRAPPED
+void *__real_malloc(size_t size);
+void *__real_realloc(void *block, size_t size);
+
+void *__wrap_malloc(size_t size) {
+    return is_refused(size) ? NULL : __real_malloc(size);
+}
+
+void *__wrap_realloc(void *block, size_t size) {
+    return is_refused(size) ? NULL : __real_realloc(block, size);
+}
+#else
 void *malloc(size_t size) {
     static void *(*real)(size_t);
     if (real == NULL) real = dlsym(RTLD_NEXT, "malloc");
@@ -69,3 +85,4 @@ int clock_gettime(clockid_t clock, struct timespec *now) {
     if (real == NULL) real = dlsym(RTLD_NEXT, "clock_gettime");
     return real(clock, now);
 }
+#endif
