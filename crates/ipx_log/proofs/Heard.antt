@@ -1,6 +1,6 @@
--- In every scene that is reached: an end that took a unit, holds one or is confirmed read a packet behind the one that made or
--- joined it; one that queued its end was asked to; one that is confirmed has nothing left in its queue.
-use Rattle.std.proofs.Common.{◌≡◌, ◌≢◌, ◌⊎◌, ◌==◌, ℕ, true, false, List, [], ◌∷◌, ◌++◌, length, set, Option, Some, None, refl, sym, ◌∙◌, inl, inr, ap, subst, arith, ne_eqb}
+-- In every scene that is reached: an end that took a unit, holds one, or queued its end and has nothing left in its queue read a
+-- packet behind the one that made or joined it; one that queued its end was asked to; one that is confirmed has nothing left in its queue.
+use Rattle.std.proofs.Common.{◌≡◌, ◌≢◌, ◌⊎◌, ◌==◌, ℕ, true, false, List, [], ◌∷◌, ◌++◌, length, map, length-append, set, Option, Some, None, refl, sym, ◌∙◌, inl, inr, ap, subst, arith, ne_eqb}
 use Rattle.std.specs.Prelude.{slice_get, Contains}
 use Rattle.std.proofs.lemmas.List.{append-nil}
 use Rattle.std.proofs.lemmas.List.Elements.{Contains-append_left, Contains-append_right}
@@ -11,7 +11,7 @@ use Rattle.spx_link.specs.declared.state.State.{State}
 use Rattle.spx_link.specs.LinkView.{LinkView}
 use Rattle.spx_link.specs.Poll.{poll_link}
 use Rattle.spx_link.specs.Receive.{receive_link}
-use Rattle.spx_link.specs.Offer.{refusal, take_link, end_link, offer_link, owe_reply_link, lose_link, dialed, accepted_from}
+use Rattle.spx_link.specs.Offer.{queued, the_end, refusal, take_link, end_link, offer_link, owe_reply_link, lose_link, dialed, accepted_from}
 use Rattle.spx_units.specs.Message.{MessageView}
 use Rattle.spx_units.specs.Cut.{cut_of}
 use Rattle.ipx_log.specs.Note.{Note, Opened, Accepted, Joined, Got, HandsIn, AsksEnd, TakesUnit, Released, Told, Carried, Injected}
@@ -28,6 +28,9 @@ use Rattle.ipx_log.proofs.HeldReads.{notes_cases}
 use Rattle.ipx_log.proofs.NextFacts.{FactsAt}
 use Rattle.ipx_log.proofs.Along.{LogGrows, facts_along}
 use Rattle.ipx_pairs.specs.Confirmed.{IsRight, Stays}
+use Rattle.ipx_pairs.specs.Tracks.{IsOpen, may_end}
+use Rattle.spx_link.specs.declared.received.Received.TheVariants as R
+use Rattle.ipx_log.proofs.SenderScenes.{senders_along}
 use Rattle.spx_link.specs.declared.outgoing.Sent.TheVariants as Sents
 use Rattle.spx_link.specs.declared.state.State.TheVariants as S
 use Rattle.ipx_log.specs.Below.{LawsBelow}
@@ -42,7 +45,7 @@ pub record HasRead (readings : List Reading) (who : ℕ) : Type 0 where
   pub later : reading.first ≡ false
 
 pub record LinkOk (s : Scene) (who : ℕ) (l : LinkView) : Type 0 where
-  pub read : HasRead (scan s.log).readings who ⊎ ((l.held ≡ []) × (l.state ≢ S.Confirmed))
+  pub read : HasRead (scan s.log).readings who ⊎ ((l.held ≡ []) × (l.end_queued ≡ true → length l.queue ≢ 0))
   pub right : IsRight l
   pub asked : l.end_queued ≡ true → Contains s.log (AsksEnd who)
 
@@ -75,7 +78,7 @@ stays_ok s s' who l k g stays ok =
     record {
       read = elim ok.read [
         | inl h ↦ inl (read_grows s s' who g h)
-        | inr none ↦ inr (stays.held ∙ none.0, λ is. elim stays.state [ inl same ↦ none.1 (sym same ∙ is) | inr gone ↦ cc (sym gone ∙ is) ])
+        | inr none ↦ inr (stays.held ∙ none.0, λ ended empty. none.1 (sym stays.queued ∙ ended) (sym stays.queue ∙ empty))
       ];
       right = λ is. elim stays.state [
         | inl same ↦ let done = ok.right (sym same ∙ is) in (stays.queued ∙ done.0, stays.queue ∙ done.1)
@@ -169,13 +172,17 @@ live_only S.Lost is = absurd (cc is)
 gives_read : (laws : LawsBelow) (s : Scene) (who : ℕ) (l : LinkView) (u : Unit) → LinkOk s who l → (take_link l).0 ≡ Some u → HasRead (scan s.log).readings who
 gives_read laws s who l u ok gives = elim ok.read [ inl h ↦ h | inr none ↦ absurd (laws.close.takes_held l u gives none.0) ]
 
-pub next_heard : (laws : LawsBelow) (s s' : Scene) (deed : Deed) → Does deed s s' → FactsAt s → Heard s → Heard s'
-next_heard laws s s' (Dials host id socket to buffers now) does f h =
+-- no end of the scene queued its end before it may
+abbrev pub AreOpen : Scene → Type 0
+AreOpen s = (who : ℕ) (e : Stand) (l : LinkView) → Stands s who e l → IsOpen l
+
+pub next_heard : (laws : LawsBelow) (s s' : Scene) (deed : Deed) → Does deed s s' → FactsAt s → AreOpen s → Heard s → Heard s'
+next_heard laws s s' (Dials host id socket to buffers now) does f open' h =
     let g : LogGrows s s' = grows_by s s' (Opened (length s.ends) host buffers ∷ []) (ap log_of does.after) in
     record {
       links = links_more s s' _ g (ap ends_of does.after)
           (λ l is. record {
-            read = inr (sym (ap (λ (o : LinkView). o.held) (same l is)), λ confirmed. cc (ap (λ (o : LinkView). o.state) (same l is) ∙ confirmed));
+            read = inr (sym (ap (λ (o : LinkView). o.held) (same l is)), λ ended. absurd (cc (ap (λ (o : LinkView). o.end_queued) (same l is) ∙ ended)));
             right = λ confirmed. absurd (cc (ap (λ (o : LinkView). o.state) (same l is) ∙ confirmed));
             asked = λ ended. absurd (cc (ap (λ (o : LinkView). o.end_queued) (same l is) ∙ ended));
           }) h.links;
@@ -184,12 +191,12 @@ next_heard laws s s' (Dials host id socket to buffers now) does f h =
   where
     same : (l : LinkView) → Some (dialed id socket to buffers now) ≡ Some l → dialed id socket to buffers now ≡ l
     same l is = cc is
-next_heard laws s s' (Accepts host id socket parcel buffers now) does f h =
+next_heard laws s s' (Accepts host id socket parcel buffers now) does f open' h =
     let g : LogGrows s s' = grows_by s s' (Accepted (length s.ends) parcel buffers ∷ Got (length s.ends) parcel ∷ []) (ap log_of does.after) in
     record {
       links = links_more s s' _ g (ap ends_of does.after)
           (λ l is. record {
-            read = inr (sym (ap (λ (o : LinkView). o.held) (same l is)), λ confirmed. cc (ap (λ (o : LinkView). o.state) (same l is) ∙ confirmed));
+            read = inr (sym (ap (λ (o : LinkView). o.held) (same l is)), λ ended. absurd (cc (ap (λ (o : LinkView). o.end_queued) (same l is) ∙ ended)));
             right = λ confirmed. absurd (cc (ap (λ (o : LinkView). o.state) (same l is) ∙ confirmed));
             asked = λ ended. absurd (cc (ap (λ (o : LinkView). o.end_queued) (same l is) ∙ ended));
           }) h.links;
@@ -201,10 +208,12 @@ next_heard laws s s' (Accepts host id socket parcel buffers now) does f h =
 
     same : (l : LinkView) → Some made ≡ Some l → made ≡ l
     same l is = cc is
-next_heard laws s s' (Reads who parcel) does f h =
+next_heard laws s s' (Reads who parcel) does f open' h =
     let k : LinkView = (receive_link does.link does.header does.body).1 in
     let goes = laws.close.receives does.link does.header does.body in
     let ok = h.links who does.stand does.link does.stands in
+    let unasked = (λ (joins : (receive_link does.link does.header does.body).0 ≡ R.Joined).
+    open' who does.stand does.link does.stands (ap may_end (laws.states.joins does.link does.header does.body joins))) in
     let asked = (λ (g : LogGrows s s') (ended : k.end_queued ≡ true). asked_grows s s' (AsksEnd who) g (ok.asked (sym goes.queued ∙ ended))) in
     elim (notes_cases (receive_link does.link does.header does.body).0 who parcel does.read) [
       | inl joins ↦
@@ -215,7 +224,7 @@ next_heard laws s s' (Reads who parcel) does f h =
                 (record {
                   read = elim ok.read [
                     | inl was ↦ inl (read_grows s s' who g was)
-                    | inr none ↦ inr (by.0 ∙ none.0, λ confirmed. cc (sym by.1 ∙ confirmed))
+                    | inr none ↦ inr (by.0 ∙ none.0, λ ended. absurd (cc (sym (sym goes.queued ∙ ended) ∙ unasked joins.0)))
                   ];
                   right = goes.right ok.right;
                   asked = asked g;
@@ -231,7 +240,7 @@ next_heard laws s s' (Reads who parcel) does f h =
             took = took_grows s s' g (λ e. refl) h.took;
           }
     ]
-next_heard laws s s' (OwesReply who) does f h =
+next_heard laws s s' (OwesReply who) does f open' h =
     let g : LogGrows s s' = grows_not s s' (ap log_of does.after) in
     let l : LinkView = does.link in
     record {
@@ -239,21 +248,21 @@ next_heard laws s s' (OwesReply who) does f h =
           (stays_ok s s' who l (owe_reply_link l) g (record { held = refl; queued = refl; queue = refl; state = inl refl }) (h.links who does.stand l does.stands)) h.links;
       took = took_grows s s' g (λ e. refl) h.took;
     }
-next_heard laws s s' (Gives who now segment bytes) does f h =
+next_heard laws s s' (Gives who now segment bytes) does f open' h =
     let g : LogGrows s s' = grows_by s s' (note_of does.given.what who (length s.parcels) ∷ []) (ap log_of does.after) in
     record {
       links = link_set s s' who does.stand (poll_link does.link now).1 g (ap ends_of does.after)
           (stays_ok s s' who does.link (poll_link does.link now).1 g (laws.close.polls does.link now) (h.links who does.stand does.link does.stands)) h.links;
       took = took_grows s s' g (given_none does.given.what who (length s.parcels)) h.took;
     }
-next_heard laws s s' (Rests who now) does f h =
+next_heard laws s s' (Rests who now) does f open' h =
     let g : LogGrows s s' = grows_not s s' (ap log_of does.after) in
     record {
       links = link_set s s' who does.stand (poll_link does.link now).1 g (ap ends_of does.after)
           (stays_ok s s' who does.link (poll_link does.link now).1 g (laws.close.polls does.link now) (h.links who does.stand does.link does.stands)) h.links;
       took = took_grows s s' g (λ e. refl) h.took;
     }
-next_heard laws s s' (Sends who m) does f h =
+next_heard laws s s' (Sends who m) does f open' h =
     let g : LogGrows s s' = grows_by s s' (HandsIn who m ∷ []) (ap log_of does.after) in
     let l : LinkView = does.link in
     let ok = h.links who does.stand l does.stands in
@@ -261,13 +270,16 @@ next_heard laws s s' (Sends who m) does f h =
     record {
       links = link_set s s' who does.stand (offer_link l (cut_of m)) g (ap ends_of does.after)
           (record {
-            read = elim ok.read [ inl was ↦ inl (read_grows s s' who g was) | inr none ↦ inr none ];
+            read = elim ok.read [
+              | inl was ↦ inl (read_grows s s' who g was)
+              | inr none ↦ inr (none.0, λ ended empty. none.1 ended (omega (arith, empty, length-append l.queue (map queued (cut_of m)))))
+            ];
             right = λ confirmed. absurd (cc (sym live ∙ confirmed));
             asked = λ ended. asked_grows s s' (AsksEnd who) g (ok.asked ended);
           }) h.links;
       took = took_grows s s' g (λ e. refl) h.took;
     }
-next_heard laws s s' (Takes who u) does f h =
+next_heard laws s s' (Takes who u) does f open' h =
     let ms : List MessageView = does.joins.messages in
     let g : LogGrows s s' = grows_by s s' (TakesUnit who u ∷ out_notes who ms) (ap log_of does.after) in
     let l : LinkView = does.link in
@@ -288,7 +300,7 @@ next_heard laws s s' (Takes who u) does f h =
         | inr other ↦ took_on s s' g e (ap (λ us. us ++ gathered (taken_by e) (out_notes who ms)) (cond-false (who == e) (u ∷ []) [] (ne_eqb who e other)) ∙ outs_none who ms e) (h.took e)
       ];
     }
-next_heard laws s s' (Overruns who u) does f h =
+next_heard laws s s' (Overruns who u) does f open' h =
     let g : LogGrows s s' = grows_not s s' (ap log_of does.after) in
     let l : LinkView = does.link in
     let ok = h.links who does.stand l does.stands in
@@ -304,29 +316,32 @@ next_heard laws s s' (Overruns who u) does f h =
           })) h.links;
       took = took_grows s s' g (λ e. refl) h.took;
     }
-next_heard laws s s' (Closes who) does f h =
+next_heard laws s s' (Closes who) does f open' h =
     let g : LogGrows s s' = grows_by s s' (AsksEnd who ∷ []) (ap log_of does.after) in
     let l : LinkView = does.link in
     let ok = h.links who does.stand l does.stands in
     record {
       links = link_set s s' who does.stand (end_link l) g (ap ends_of does.after)
           (record {
-            read = elim ok.read [ inl was ↦ inl (read_grows s s' who g was) | inr none ↦ inr (none.0, λ confirmed. cc confirmed) ];
+            read = elim ok.read [
+              | inl was ↦ inl (read_grows s s' who g was)
+              | inr none ↦ inr (none.0, λ ended empty. omega (arith, empty, length-append l.queue (queued the_end ∷ [])))
+            ];
             right = λ confirmed. absurd (cc confirmed);
             asked = λ ended. subst (λ log. Contains log (AsksEnd who)) (sym g.is) (Contains-append_right s.log (AsksEnd who ∷ []) (AsksEnd who) (0, omega arith, refl));
           }) h.links;
       took = took_grows s s' g (λ e. refl) h.took;
     }
-next_heard laws s s' (Releases who) does f h =
+next_heard laws s s' (Releases who) does f open' h =
     let g : LogGrows s s' = grows_by s s' (Released who ∷ []) (ap log_of does.after) in
     record { links = links_set s s' who _ g (ap ends_of does.after) (λ k is. absurd (cc is)) h.links; took = took_grows s s' g (λ e. refl) h.took }
-next_heard laws s s' (Carries from network segment bytes) does f h =
+next_heard laws s s' (Carries from network segment bytes) does f open' h =
     let g : LogGrows s s' = grows_by s s' (Carried from (length s.parcels) ∷ []) (ap log_of does.after) in
     record { links = links_same s s' g (ap ends_of does.after) h.links; took = took_grows s s' g (λ e. refl) h.took }
-next_heard laws s s' (Tells router segment bytes) does f h =
+next_heard laws s s' (Tells router segment bytes) does f open' h =
     let g : LogGrows s s' = grows_by s s' (Told router (length s.parcels) ∷ []) (ap log_of does.after) in
     record { links = links_same s s' g (ap ends_of does.after) h.links; took = took_grows s s' g (λ e. refl) h.took }
-next_heard laws s s' (Injects segment bytes) does f h =
+next_heard laws s s' (Injects segment bytes) does f open' h =
     let g : LogGrows s s' = grows_by s s' (Injected (length s.parcels) ∷ []) (ap log_of does) in
     record { links = links_same s s' g (ap ends_of does) h.links; took = took_grows s s' g (λ e. refl) h.took }
 
@@ -336,4 +351,4 @@ heard_along laws {s} (begun is) =
       links = λ who e l stands. absurd (cc (sym (ap (λ es. slice_get es who) is.ends) ∙ stands.there));
       took = λ who. inr (ap (taken_of who) is.log);
     }
-heard_along laws {s} (happened old deed reached does) = next_heard laws old s deed does (facts_along laws reached) (heard_along laws reached)
+heard_along laws {s} (happened old deed reached does) = next_heard laws old s deed does (facts_along laws reached) (λ who e l stands. ((senders_along laws reached).links who e l stands.there stands.link).open') (heard_along laws reached)

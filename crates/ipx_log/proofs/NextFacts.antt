@@ -74,7 +74,7 @@ pub record GivenScan (s : Scan) (what : Sent) (who k : ℕ) : Type 0 where
   pub newest : (seen s (note_of what who k)).newest ≡ None
   pub maker : end_of (given_mark s what who).maker ≡ Some who
 
-given_scan : (s : Scan) (what : Sent) (who k : ℕ) → GivenScan s what who k
+pub given_scan : (s : Scan) (what : Sent) (who k : ℕ) → GivenScan s what who k
 given_scan s Sents.Request who k = record { marks = refl; roles = refl; newest = refl; maker = refl }
 given_scan s Sents.Reply who k = record { marks = refl; roles = refl; newest = refl; maker = refl }
 given_scan s Sents.Confirm who k = record { marks = refl; roles = refl; newest = refl; maker = refl }

@@ -1,8 +1,7 @@
 -- The machine of two peers came by steps from two new ends with their buffers.
-use Rattle.std.proofs.Common.{ℕ, ◌≡◌, Bool, List, [], ◌∷◌, Option, None, Some, refl, sym, ◌∙◌, ap, subst, cond}
+use Rattle.std.proofs.Common.{ℕ, ◌≡◌, Bool, List, [], ◌∷◌, Option, None, Some, refl, sym, ◌∙◌, subst, cond}
 use Rattle.std.proofs.lemmas.Bool.{cond_both}
-use Rattle.spx_link.specs.Machine.{End, IsRun, Machine, Packet, Step, got, start}
-use Rattle.spx_link.specs.Machine.Step.{One}
+use Rattle.spx_link.specs.Machine.{End, IsRun, Machine, Packet, Step, start}
 use Rattle.ipx_log.specs.Note.{Note, Opened, Accepted, Joined, HandsIn, HandsOut, TakesUnit, AsksEnd, Got, Released, SendsUnit, SendsAgain, SendsSystem, Told, Carried, Injected}
 use Rattle.ipx_log.specs.PairLog.{Half, Pair, got_mail, half_after, mail_of, new_half, pair_after, pair_from}
 use Rattle.ipx_log.specs.Scan.{role_of, scan}

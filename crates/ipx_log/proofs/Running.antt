@@ -1,8 +1,8 @@
 -- A machine that came by steps from two new ends goes on by steps, and may be seen from its other end.
-use Rattle.std.proofs.Common.{ℕ, ◌+◌, ◌<◌, ◌≤◌, ◌≡◌, List, [], ◌∷◌, ◌++◌, Some, None, length, refl, ap, subst, arith, suc}
+use Rattle.std.proofs.Common.{ℕ, ◌+◌, ◌<◌, ◌≤◌, List, [], ◌∷◌, ◌++◌, Some, None, length, refl, ap, subst, arith, suc}
 use Rattle.std.specs.Prelude.{Contains}
 use Rattle.spx_link.specs.declared.unit.Unit.{Unit}
-use Rattle.spx_link.specs.Machine.{Act, End, IsRun, IsStep, Machine, Packet, Step, got, mailed, sent_next, start}
+use Rattle.spx_link.specs.Machine.{End, IsRun, IsStep, Machine, Packet, Step, got, mailed, sent_next, start}
 use Rattle.spx_link.specs.Machine.Act.{Gains, Gets, Sends, SendsAgain, SendsNoUnit, Takes}
 use Rattle.spx_link.specs.Machine.Step.{One, Two}
 

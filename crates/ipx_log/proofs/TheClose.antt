@@ -19,8 +19,8 @@ use Rattle.ipx_log.specs.PairLog.{Pair, new_half}
 use Rattle.ipx_pairs.specs.Tracks.{Formed, Follows}
 use Rattle.ipx_log.specs.Scene.{Scene, Stand, Stands}
 use Rattle.ipx_log.specs.Deeds.{Reached}
-use Rattle.ipx_log.specs.InStep.{pair_in}
-use Rattle.ipx_log.specs.Close.{HoldsAll, IsEndOf, ConfirmedIsRead, EndTakenIsWhole}
+use Rattle.ipx_log.specs.InStep.{pair_in, PeersFollow}
+use Rattle.ipx_log.specs.Close.{HoldsAll, IsEndOf, ConfirmedIsRead, AcknowledgedIsRead, EndTakenIsWhole}
 use Rattle.ipx_log.proofs.Lists.{get_before}
 use Rattle.ipx_log.proofs.Speaking.{eqb_same}
 use Rattle.ipx_log.proofs.Gathering.{both_counted}
@@ -79,6 +79,11 @@ joined_peering laws s reached premises c d j =
       };
     }
 
+pub peers_follow : (laws : LawsBelow) (s : Scene) → Reached s → PeersFollow s
+peers_follow laws s reached premises c d j =
+    let p = joined_peering laws s reached premises c d j in
+    record { first = p.one.link; second = p.two.link; line = p.one.line; units = p.one.units; units_back = p.two.units; taken = p.one.taken; taken_back = p.two.taken }
+
 -- the ends of the machine of an end and its peer, whichever called
 pub record Met (s : Scene) (c d : ℕ) : Type 0 where
   pub one : End
@@ -134,13 +139,14 @@ all_read l x y f line done =
     let left : length (drop x.base x.units) ≡ 0 = ap length (sym f.tracks.queue) ∙ none in
     omega (arith, left, length-drop x.base x.units, line.there.base, line.there.read, line.within.sent)
 
-pub confirmed_is_read : (laws : LawsBelow) (s : Scene) → Reached s → ConfirmedIsRead s
-confirmed_is_read laws s reached premises c e l stands confirmed =
+-- an end that is queued, with an empty queue, was read to its end by a peer
+pub acknowledged_end_is_read : (laws : LawsBelow) (s : Scene) → Reached s → AcknowledgedIsRead s
+acknowledged_end_is_read laws s reached premises c e l stands queued empty =
     let ok = (heard_along laws reached).links c e l stands in
-    let read : HasRead (scan s.log).readings c = elim ok.read [ inl h ↦ h | inr none ↦ absurd (none.1 confirmed) ] in
+    let done : IsDone l = (queued, ap length empty) in
+    let read : HasRead (scan s.log).readings c = elim ok.read [ inl h ↦ h | inr none ↦ absurd (none.1 done.0 done.1) ] in
     let peer : HasPeer s c = reader_peer s premises.from_own_peer c read in
     let m : Met s c peer.other = met laws s reached premises c peer.other peer.peers in
-    let done : IsDone l = ok.right confirmed in
     let p : Peering s c peer.other m.one m.two = m.peering in
     let all : m.two.read ≡ length m.one.units = all_read l m.one m.two (p.one.link e l stands) p.one.line done in (
       peer.other,
@@ -148,6 +154,15 @@ confirmed_is_read laws s reached premises c e l stands confirmed =
       m.is,
       record { peers = peer.peers; asked = ok.asked done.0; all = all ∙ ap length p.one.units; holds = holds_all s c peer.other m.one m.two p all },
     )
+
+pub confirmed_is_read : (laws : LawsBelow) (s : Scene) → Reached s → ConfirmedIsRead s
+confirmed_is_read laws s reached premises c e l stands confirmed =
+    let done : IsDone l = ((heard_along laws reached).links c e l stands).right confirmed in
+    acknowledged_end_is_read laws s reached premises c e l stands done.0 (none_left l.queue done.1)
+  where
+    none_left : {A : Type 0} (xs : List A) → length xs ≡ 0 → xs ≡ []
+    none_left [] none = refl
+    none_left (x ∷ xs) none = absurd (cc none)
 
 -- ---- a unit of stream FE was taken
 found : (log : List Note) (n : Note) (k : ℕ) → k < length log → slice_index_or log k n ≡ n → slice_get log k ≡ Some n

@@ -1,6 +1,6 @@
 -- The close of a connection (Novell SPX: end of connection and its confirmation): who is confirmed
 -- was read to the end, and who took the end took everything.
-use Rattle.std.specs.Prelude.{ℕ, ◌≡◌, ◌⊎◌, [], ◌++◌, length, Contains}
+use Rattle.std.specs.Prelude.{ℕ, ◌≡◌, ◌⊎◌, true, [], ◌++◌, length, Contains}
 use Rattle.spx_link.specs.declared.unit.Unit.{Unit}
 use Rattle.spx_link.specs.declared.state.State.TheVariants.{Confirmed}
 use Rattle.spx_link.specs.Limits.{end_stream}
@@ -37,6 +37,13 @@ IsEndOf s d c two =
 abbrev pub ConfirmedIsRead : Scene → Type 0
 ConfirmedIsRead s =
     Premises s.log → (c : ℕ) (e : Stand) (l : LinkView) → Stands s c e l → l.state ≡ Confirmed
+    → (d : ℕ) × (two : End) × IsEndOf s d c two × IsClosed s c d two
+
+-- also where no confirmation came: the end was queued, and nothing is left in the queue
+abbrev pub AcknowledgedIsRead : Scene → Type 0
+AcknowledgedIsRead s =
+    Premises s.log → (c : ℕ) (e : Stand) (l : LinkView) → Stands s c e l
+    → l.end_queued ≡ true → l.queue ≡ []
     → (d : ℕ) × (two : End) × IsEndOf s d c two × IsClosed s c d two
 
 abbrev pub EndTakenIsWhole : Scene → Type 0

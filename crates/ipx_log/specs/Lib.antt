@@ -8,6 +8,7 @@ pub mod EndsTold
 pub mod Handed
 pub mod HandedOut
 pub mod InStep
+pub mod Named
 pub mod Note
 pub mod Numbered
 pub mod Packets

@@ -3,11 +3,12 @@
 ghost use Rattle.ipx_log.specs.Addresses.{AddressesTellPeers};
 ghost use Rattle.ipx_log.specs.Allocation.{AloneReadsNothing, WithinAllocation};
 ghost use Rattle.ipx_log.specs.Carried.{RoutersAlterHopsAlone};
-ghost use Rattle.ipx_log.specs.Close.{ConfirmedIsRead, EndTakenIsWhole};
+ghost use Rattle.ipx_log.specs.Close.{AcknowledgedIsRead, ConfirmedIsRead, EndTakenIsWhole};
 ghost use Rattle.ipx_log.specs.Deeds.{Reached};
 ghost use Rattle.ipx_log.specs.HandedOut.{HandsOutWhatItTook};
-ghost use Rattle.ipx_log.specs.InStep.{PeersAreInStep};
+ghost use Rattle.ipx_log.specs.InStep.{PeersAreInStep, PeersFollow};
 ghost use Rattle.ipx_log.specs.InSteps.{PairsTakeSteps};
+ghost use Rattle.ipx_log.specs.Named.{PeersAreNamed};
 ghost use Rattle.ipx_log.specs.Scene.{Scene};
 ghost use Rattle.ipx_log.specs.SentUnits.{LinksSendInOrder, PositionsAreGreatest, UnitsAreSentInOrder};
 
@@ -17,6 +18,14 @@ use crate::below::laws_below;
 /// two peers are the machine of the log, and what each handed out begins what the other handed in.
 pub fn peers_are_in_step()
     ensures { (s : Scene) → Reached s → PeersAreInStep s }
+{
+    laws_below();
+}
+
+/// Under the same premises the links of two peers follow the machine of the log, in all that they
+/// queue, hold and keep, and it is sound: for those who go on from them.
+pub fn peers_follow()
+    ensures { (s : Scene) → Reached s → PeersFollow s }
 {
     laws_below();
 }
@@ -52,6 +61,14 @@ pub fn confirmed_is_read()
     laws_below();
 }
 
+/// Under the same premises an end whose close was asked for, and whose queue is empty, has a peer
+/// that read all its units, whether a confirmation of the close came or not.
+pub fn acknowledged_end_is_read()
+    ensures { (s : Scene) → Reached s → AcknowledgedIsRead s }
+{
+    laws_below();
+}
+
 /// Under the same premises an end that took its peer's end handed out all that its peer handed in.
 pub fn end_taken_is_whole()
     ensures { (s : Scene) → Reached s → EndTakenIsWhole s }
@@ -63,6 +80,14 @@ pub fn end_taken_is_whole()
 /// read, each end reads its own peer alone, but for the packet that made or joined it.
 pub fn addresses_tell_peers()
     ensures { (s : Scene) → Reached s → AddressesTellPeers s }
+{
+    laws_below();
+}
+
+/// Whatever was injected or released, the links of two peers are each called what the other calls
+/// its peer.
+pub fn peers_are_named()
+    ensures { (s : Scene) → Reached s → PeersAreNamed s }
 {
     laws_below();
 }
