@@ -9,6 +9,8 @@ mod by_id;
 #[cfg(test)]
 mod closing;
 #[cfg(test)]
+mod drawn;
+#[cfg(test)]
 mod due;
 #[cfg(test)]
 mod end;
@@ -19,9 +21,13 @@ mod messages;
 #[cfg(test)]
 mod no_memory;
 #[cfg(test)]
+mod pair;
+#[cfg(test)]
 mod refusals;
 #[cfg(test)]
 mod refused;
+#[cfg(test)]
+mod rounds;
 #[cfg(test)]
 mod rows;
 #[cfg(test)]

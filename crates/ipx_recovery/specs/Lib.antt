@@ -1,0 +1,4 @@
+pub mod LinkLaws
+pub mod LosslessRounds
+pub mod RoundsDeliver
+pub mod Stuck

@@ -1,0 +1,24 @@
+-- What is proved below of the machine and of one link, as the proofs here are given it: each field is
+-- a clause of a public function of `spx_link` or `ipx_pairs`.
+use Rattle.std.specs.Prelude.{ℕ}
+use Rattle.spx_link.specs.Given.{StaysOrIsLost}
+use Rattle.spx_link.specs.LinkView.{LinkView}
+use Rattle.spx_link.specs.Poll.{poll_link}
+use Rattle.spx_link.specs.Units.{SameEndings, SameUnits}
+use Rattle.spx_link.specs.Machine.{End, Machine, Packet, Step, IsStep, WasSent, AreSound, got}
+use Rattle.ipx_pairs.specs.Allowances.{AllowanceLaws}
+use Rattle.ipx_pairs.specs.Steps.{StepLaws}
+
+pub record LinkLaws : Type 0 where
+  -- the machine, a step at a time
+  pub step : (s : Step) (m n : Machine)
+      → IsStep s m n → AreSound m.one m.two → AreSound n.one n.two
+  pub gets : (c d : End) (p : Packet) → AreSound c d → WasSent d c p → AreSound (got p c) d
+  -- a link beside its end of it
+  pub steps : StepLaws
+  -- what each call of a link keeps
+  pub allowances : AllowanceLaws
+  pub units : (l : LinkView) (now : ℕ) → SameUnits l (poll_link l now).1
+  pub endings : (l : LinkView) (now : ℕ) → SameEndings l (poll_link l now).1
+  pub state : (l : LinkView) (now : ℕ)
+      → StaysOrIsLost l.state (poll_link l now).1.state (poll_link l now).0

@@ -1,0 +1,81 @@
+//! The laws of rounds.
+
+ghost use Rattle.std.specs.Prelude.{ℕ, List};
+ghost use Rattle.ipx_log.specs.Deeds.{Reached};
+ghost use Rattle.ipx_log.specs.Scene.{Scene};
+ghost use Rattle.ipx_recovery.specs.LinkLaws.{LinkLaws};
+ghost use Rattle.ipx_recovery.specs.RoundsDeliver.{RoundsDeliver, RoundsDeliverBothWays};
+ghost use Rattle.ipx_recovery.specs.LosslessRounds.{RoundIsOne, RoundsExist};
+ghost use Rattle.ipx_recovery.specs.Stuck.{NoPairIsStuck, NoStateIsStuck, NothingIsStuckByAddresses};
+ghost use Rattle.spx_link.specs.LinkView.{LinkView};
+
+use ipx_log::{addresses_tell_peers, peers_are_in_step, peers_are_named, peers_follow};
+use ipx_pairs::{calls_are_steps, packets_allow_what_was_taken};
+use spx_link::{poll_keeps_units, soundness};
+
+/// The laws of the machine and of one link, on which the theorems stand.
+fn link_laws()
+    ensures { LinkLaws }
+{
+    soundness();
+    calls_are_steps();
+    packets_allow_what_was_taken();
+    poll_keeps_units();
+}
+
+/// For any two links at any moment there is one round, and one alone.
+pub fn round_is_one()
+    ensures { (a b : LinkView) (now : ℕ) → RoundIsOne a b now }
+{}
+
+/// So there are rounds, one after another, at any moments.
+pub fn rounds_exist()
+    ensures { (a b : LinkView) (moments : List ℕ) → RoundsExist a b moments }
+{}
+
+/// After so many rounds all that the first of two links in step has queued is acknowledged, and the
+/// user of the second took all its units, in order and none twice.
+pub fn rounds_deliver()
+    ensures { RoundsDeliver }
+{
+    link_laws();
+}
+
+/// Where both are live it goes both ways at once.
+pub fn rounds_deliver_both_ways()
+    ensures { RoundsDeliverBothWays }
+{
+    link_laws();
+}
+
+/// Of every scene that is reached, under the three premises: rounds without loss are enough for what
+/// an end has queued for its peer.
+pub fn no_state_is_stuck()
+    ensures { (s : Scene) → Reached s → NoStateIsStuck s }
+{
+    link_laws();
+    rounds_deliver();
+    peers_are_in_step();
+    peers_follow();
+    peers_are_named();
+}
+
+/// The same, both ways at once.
+pub fn no_pair_is_stuck()
+    ensures { (s : Scene) → Reached s → NoPairIsStuck s }
+{
+    link_laws();
+    rounds_deliver_both_ways();
+    peers_are_in_step();
+    peers_follow();
+    peers_are_named();
+}
+
+/// Where no two hosts share network and node and nothing was released, the same without the premise
+/// that each end reads its own peer alone.
+pub fn nothing_is_stuck_by_addresses()
+    ensures { (s : Scene) → Reached s → NothingIsStuckByAddresses s }
+{
+    no_state_is_stuck();
+    addresses_tell_peers();
+}

@@ -1,0 +1,14 @@
+//! No state that two ends of a network reach is one that they cannot get out of: theory, without
+//! code.
+//!
+//! `specs/` has rounds (`LosslessRounds`), a network that loses nothing for a moment; what they do to
+//! two links in step (`RoundsDeliver`); and to two peers of a network (`Stuck`). Each function here
+//! is a law.
+#![tactic(auto)]
+
+mod laws;
+
+pub use laws::{
+    no_pair_is_stuck, no_state_is_stuck, nothing_is_stuck_by_addresses, round_is_one,
+    rounds_deliver, rounds_deliver_both_ways, rounds_exist,
+};
