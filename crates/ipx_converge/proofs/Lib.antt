@@ -1,0 +1,9 @@
+pub mod Settling
+pub mod Order
+pub mod Roots
+pub mod Least
+pub mod Levels
+pub mod Hearing
+pub mod RunRoutes
+pub mod Theorems
+pub mod Steps

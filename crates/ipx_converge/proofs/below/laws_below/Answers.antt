@@ -1,0 +1,4 @@
+use Rattle.ipx_converge.proofs.below.laws_below.Goals as goal
+
+pub returns : goal.returns
+returns c = record { one_best = c.one_best.ensures }

@@ -1,0 +1,6 @@
+pub mod TableLaws
+pub mod Histories
+pub mod Ways
+pub mod RouterRuns
+pub mod Fair
+pub mod ReceiveSteps

@@ -1,0 +1,14 @@
+-- What is proved below of tables, as the proofs here are given it: each field is a clause of a
+-- public function of `ipx_tables`.
+use Rattle.std.specs.Prelude.{◌≡◌, ℕ}
+use Rattle.ipx_wire.specs.declared.address.Network.{Network}
+use Rattle.ipx_tables.specs.declared.route.RouteMetric.{RouteMetric}
+use Rattle.ipx_tables.specs.declared.source.Source.{Source}
+use Rattle.ipx_tables.specs.Best.{IsBest}
+use Rattle.ipx_tables.specs.Route.{route_before}
+use Rattle.ipx_router.specs.Knowledge.{Routes}
+
+pub record LawsOfTables : Type 0 where
+  -- a network has one best offer at most
+  pub one_best : (c : Routes) (network : Network) (now : ℕ) (a b : Source × RouteMetric)
+      → IsBest route_before c network now a → IsBest route_before c network now b → a ≡ b

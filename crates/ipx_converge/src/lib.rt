@@ -1,0 +1,13 @@
+//! Whatever the tables of routers held, their routes settle: theory, without code.
+//!
+//! `ipx_router` has what a router hears and tells. Each law here is about a whole network of
+//! routers over time, and stands in `specs/`, in the file that its function names.
+#![tactic(auto)]
+
+mod below;
+mod laws;
+
+pub use laws::{
+    receiving_is_a_step, runs_are_histories, runs_forget, runs_settle, runs_settle_at_any_cost,
+    runs_solve, runs_take_least_ways, runs_take_ways,
+};
