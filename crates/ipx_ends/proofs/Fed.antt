@@ -21,7 +21,7 @@ use Rattle.ipx_ends.specs.Dropping.{DropsCame}
 use Rattle.ipx_ends.specs.Feeding.{Feeds, Intake, KeepsQueue, Rests, SameQueue, intake}
 use Rattle.ipx_ends.specs.Rounds.{IsStep, Place, intake_of, place}
 use Rattle.ipx_ends.specs.Steps.{FeedsOn, Goes, IsFeedFault, IsStepFault, SeenSoFar, Sees}
-use Rattle.ipx_ends.specs.Transfer.{IsWaiting, ended_at, joined_at, left_at, state_at, verdict_at}
+use Rattle.ipx_ends.specs.Transfer.{IsWaiting, IsWholeAt, ended_at, joined_at, left_at, state_at, verdict_at}
 use Rattle.ipx_carrier.specs.Turns.{Peers}
 use Rattle.ipx_ends.specs.Turning.{TakesTurn}
 use Rattle.ipx_ends.specs.declared.station.Turn.{Turn}
@@ -123,17 +123,19 @@ next_id s id next none few = free_next s id next.steps next.is next.passed none 
 
 -- ---- one step
 
-pub sees : (joined joined' : Bool) (left left' : Option ℕ) (core core' : EndCore) (id : ℕ) (closed closed' waits : Bool) (state : Option State) (verdict : Option Verdict)
-    → state ≡ state_at core.endpoint id → core' ≡ core → closed' ≡ closed → joined' ≡ joined_at joined state → left' ≡ left_at left state core.moment
-    → IsTrue waits ↔ IsWaiting closed' left' core'.moment → verdict ≡ verdict_at joined' waits state
+pub sees : (joined joined' : Bool) (left left' : Option ℕ) (core core' : EndCore) (id id' : ℕ) (closed closed' whole waits : Bool) (state : Option State) (verdict : Option Verdict)
+    → state ≡ state_at core.endpoint id → core' ≡ core → id' ≡ id → closed' ≡ closed → joined' ≡ joined_at joined state → left' ≡ left_at left state core.moment
+    → IsTrue whole ↔ IsWholeAt core'.endpoint id' → IsTrue waits ↔ IsWaiting closed' left' core'.moment → verdict ≡ verdict_at whole joined' waits state
     → Sees (record { joined = joined; left = left }) (record { joined = joined'; left = left' }) core.endpoint core.moment id closed (option_map (ended_at closed) verdict)
-sees joined joined' left left' core core' id closed closed' waits state verdict at same unclosed was gone waiting tells =
+sees joined joined' left left' core core' id id' closed closed' whole waits state verdict at same one unclosed was gone all waiting tells =
     record {
       joined = was ∙ ap (joined_at joined) at;
       left = gone ∙ ap (λ s. left_at left s core.moment) at;
+      whole = whole;
+      all = subst (λ (i : ℕ). IsTrue whole ↔ IsWholeAt core.endpoint i) one (subst (λ (k : EndCore). IsTrue whole ↔ IsWholeAt k.endpoint id') same all);
       waits = waits;
       waiting = subst (λ b. IsTrue waits ↔ IsWaiting b left' core.moment) unclosed (subst (λ (k : EndCore). IsTrue waits ↔ IsWaiting closed' left' k.moment) same waiting);
-      tells = ap (option_map (ended_at closed)) (tells ∙ ap (verdict_at joined' waits) at);
+      tells = ap (option_map (ended_at closed)) (tells ∙ ap (verdict_at whole joined' waits) at);
     }
 
 -- what was noted stays so, as the step goes on
@@ -143,9 +145,11 @@ sees_later joined joined' left left' old seen moment id closed verdict p q s =
     record {
       joined = p ∙ s.joined;
       left = q ∙ s.left;
+      whole = s.whole;
+      all = s.all;
       waits = s.waits;
       waiting = subst (λ (l : Option ℕ). IsTrue s.waits ↔ IsWaiting closed l moment) (sym q) s.waiting;
-      tells = subst (λ (b : Bool). verdict ≡ option_map (ended_at closed) (verdict_at b s.waits (state_at seen id))) (sym p) s.tells;
+      tells = subst (λ (b : Bool). verdict ≡ option_map (ended_at closed) (verdict_at s.whole b s.waits (state_at seen id))) (sym p) s.tells;
     }
 
 pub same_intake : (e e' : EndpointView) (r r' c c' : Bool) (l l' : Ledger) (k : Option (List ℕ)) → e' ≡ e → r' ≡ r → c' ≡ c → l' ≡ l → intake e' r' c' l' k ≡ intake e r c l k

@@ -11,4 +11,3 @@ pub mod Dropped
 pub mod Dialed
 pub mod Reading
 pub mod Rounded
-pub mod Whole

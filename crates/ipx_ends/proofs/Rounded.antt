@@ -7,7 +7,7 @@ use Rattle.ipx_carrier.specs.Turns.{Peers}
 use Rattle.ipx_site.specs.declared.host.HostFile.{HostFile}
 use Rattle.ipx_wire.specs.declared.address.Address.{Address}
 use Rattle.spx_link.specs.declared.state.State.{State}
-use Rattle.spx_messages.specs.EndpointView.{EndpointView, Held, held_at}
+use Rattle.spx_messages.specs.EndpointView.{EndpointView, held_at}
 use Rattle.ipx_ends.specs.Books.{Follows}
 use Rattle.ipx_ends.specs.Feeding.{Feeds, Intake}
 use Rattle.ipx_ends.specs.Rounds.{IsStep, LastRound, Place, Round, Rounds, Transfers, intake_of}
@@ -15,7 +15,6 @@ use Rattle.ipx_ends.specs.Sent.{IsDialing, SendsAll}
 use Rattle.ipx_ends.specs.Steps.{Goes, IsStepFault, Sees}
 use Rattle.ipx_ends.specs.Transfer.{state_at}
 use Rattle.ipx_ends.specs.Turning.{TakesTurn}
-use Rattle.ipx_ends.proofs.Whole.{IsWholeHeld, Laws, transfers_whole}
 use Rattle.ipx_ends.specs.declared.end_core.EndCore.{EndCore}
 use Rattle.ipx_ends.specs.declared.verdict.Verdict.{Verdict}
 use Rattle.ipx_ends.specs.declared.verdict.Verdict.TheVariants.{Done}
@@ -145,15 +144,14 @@ transfers_end old new tells peers id t was =
     subst (λ k. IsAtEnd k) (sym last.known) (rounds_end old t.bodies t.runs.0 tells peers id t.runs.1 was (sym last.read ∙ t.read))
 
 -- what was opened and ran well is a transfer of the host of a file
-pub sends : Laws → {S E K : Type 0} (X : Type 0) (opened : Result S E) (r : ℕ) (file : HostFile) (to : Address) (known left : Option (List ℕ)) (tells : K → ℕ → K → Type 0) (at : S → Option (List ℕ) → Place K) (among : S → Peers) (id : S → ℕ)
+pub sends : {S E K : Type 0} (X : Type 0) (opened : Result S E) (r : ℕ) (file : HostFile) (to : Address) (known left : Option (List ℕ)) (tells : K → ℕ → K → Type 0) (at : S → Option (List ℕ) → Place K) (among : S → Peers) (id : S → ℕ)
     → ((s : S) (k : Option (List ℕ)) → (at s k).known ≡ k)
     → IfOk opened (λ s. (k : Option (List ℕ)) → IsDialing file to (at s k) (among s) (id s))
     → IfOk opened (λ s. r ≡ 0 → (last : Place K) × Transfers (at s known) last tells (among s) (id s) × (last.known ≡ left))
     → OnErr opened ((r ≡ 1) × X) → r ≡ 0 → SendsAll file to known left tells
-sends laws X (Ok s) r file to known left tells at among id begins dials ran failed zero =
+sends X (Ok s) r file to known left tells at among id begins dials ran failed zero =
     let run = ran zero in
     let dial = dials known in
-    let whole : IsWholeHeld (held_at (at s known).core.endpoint (id s)) = subst (λ (o : Option Held). IsWholeHeld o) (sym dial.link) (laws.dials (id s) file.socket to file.buffers 0) in
     record {
       id = id s;
       peers = among s;
@@ -164,9 +162,9 @@ sends laws X (Ok s) r file to known left tells at among id begins dials ran fail
       transfers = run.1;
       ends = run.2;
       all = subst (λ k. IsAtEnd k) run.2 (transfers_end (at s known) run.0 tells (among s) (id s) run.1 (λ read. absurd (let no = sym dial.unread ∙ read in cc)));
-      whole = transfers_whole laws (at s known) run.0 tells (among s) (id s) run.1 whole;
+      whole = run.1.whole;
     }
-sends laws X (Err e) r file to known left tells at among id begins dials ran failed zero = absurd (omega (arith, failed.0, zero))
+sends X (Err e) r file to known left tells at among id begins dials ran failed zero = absurd (omega (arith, failed.0, zero))
 
 -- what is so of a value that succeeded
 pub on_ok : {S E : Type 0} (P : S → Type 0) (o : Result S E) (s : S) → o ≡ Ok s → P s → IfOk o P

@@ -10,7 +10,7 @@ use Rattle.spx_messages.specs.EndpointView.{held_at}
 use Rattle.ipx_ends.specs.Books.{Follows}
 use Rattle.ipx_ends.specs.Feeding.{Intake, intake}
 use Rattle.ipx_ends.specs.Steps.{FeedsOn, Goes, IsStepFault, SeenSoFar, Sees}
-use Rattle.ipx_ends.specs.Transfer.{IsConfirmedAt}
+use Rattle.ipx_ends.specs.Transfer.{IsWholeAt}
 use Rattle.ipx_ends.specs.Turning.{TakesTurn}
 use Rattle.ipx_ends.specs.declared.end_core.EndCore.{EndCore}
 use Rattle.ipx_ends.specs.declared.ledger.Ledger.{Ledger}
@@ -88,7 +88,7 @@ RunsOut {K} old bodies new tells peers id = (last : Place K)
     × Rounds old bodies last tells peers id × LastRound last new tells peers id
 
 -- a transfer that ended well: what left the reader is what was fed, one body behind the other; all is
--- read, the end is queued, and the peer has confirmed it
+-- read, the end is queued, and the peer has acknowledged all, that end too
 pub record Transfers {K : Type 0} (old new : Place K) (tells : K → ℕ → K → Type 0) (peers : Peers)
     (id : ℕ) : Type 0 where
   pub bodies : List (List ℕ)
@@ -96,7 +96,7 @@ pub record Transfers {K : Type 0} (old new : Place K) (tells : K → ℕ → K �
   pub fed : Consumes old.known new.known (concat bodies)
   pub read : new.read ≡ true
   pub closed : new.closed ≡ true
-  pub confirmed : IsConfirmedAt new.core.endpoint id
+  pub whole : IsWholeAt new.core.endpoint id
 
 -- one that a step ended with a verdict, behind some rounds
 pub record EndsWith {K : Type 0} (old new : Place K) (verdict : Verdict) (tells : K → ℕ → K → Type 0)

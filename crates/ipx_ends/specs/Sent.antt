@@ -6,12 +6,12 @@ use Rattle.ipx_carrier.specs.Turns.{Peers}
 use Rattle.ipx_site.specs.declared.host.HostFile.{HostFile}
 use Rattle.ipx_wire.specs.declared.address.Address.{Address}
 use Rattle.ipx_wire.specs.declared.address.Socket.{Socket}
-use Rattle.spx_link.specs.Courses.{IsWhole}
 use Rattle.spx_link.specs.Offer.{dialed}
-use Rattle.spx_messages.specs.EndpointView.{Held, buffers_at, held_at}
+use Rattle.spx_messages.specs.EndpointView.{buffers_at, held_at}
 use Rattle.ipx_ends.specs.Books.{IsUnused}
 use Rattle.ipx_ends.specs.Rounds.{Place, Transfers}
 use Rattle.ipx_ends.specs.Steps.{noted}
+use Rattle.ipx_ends.specs.Transfer.{IsWholeAt}
 
 -- a host as its file says it, which listens nowhere, and whose one link asks for a connection to an
 -- address. Nothing was seen of it, and nothing is read or counted
@@ -43,4 +43,4 @@ pub record SendsAll {K : Type 0} (file : HostFile) (to : Address) (known left : 
   pub transfers : Transfers start last tells peers id
   pub ends : last.known ≡ left
   pub all : IsAtEnd left
-  pub whole : (h : Held) × (held_at last.core.endpoint id ≡ Some h) × IsWhole h.link
+  pub whole : IsWholeAt last.core.endpoint id

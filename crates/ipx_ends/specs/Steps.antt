@@ -8,7 +8,7 @@ use Rattle.spx_messages.specs.EndpointView.{EndpointView, held_at}
 use Rattle.ipx_ends.specs.Books.{Follows}
 use Rattle.ipx_ends.specs.Dropping.{DropsCame}
 use Rattle.ipx_ends.specs.Feeding.{Feeds, Intake, Rests}
-use Rattle.ipx_ends.specs.Transfer.{IsWaiting, ended_at, joined_at, left_at, state_at, verdict_at}
+use Rattle.ipx_ends.specs.Transfer.{IsWaiting, IsWholeAt, ended_at, joined_at, left_at, state_at, verdict_at}
 use Rattle.ipx_ends.specs.declared.ledger.Ledger.{Ledger}
 use Rattle.ipx_ends.specs.declared.verdict.Verdict.{Verdict}
 use Rattle.ipx_ends.specs.declared.verdict.Verdict.TheVariants as Verdicts
@@ -26,10 +26,12 @@ pub record Sees (old new : SeenSoFar) (seen : EndpointView) (moment id : ℕ) (c
     (verdict : Option Verdict) : Type 0 where
   pub joined : new.joined ≡ joined_at old.joined (state_at seen id)
   pub left : new.left ≡ left_at old.left (state_at seen id) moment
+  pub whole : Bool
+  pub all : IsTrue whole ↔ IsWholeAt seen id
   pub waits : Bool
   pub waiting : IsTrue waits ↔ IsWaiting closed new.left moment
   pub tells : verdict
-      ≡ option_map (ended_at closed) (verdict_at new.joined waits (state_at seen id))
+      ≡ option_map (ended_at closed) (verdict_at whole new.joined waits (state_at seen id))
 
 -- what the link that was seen acknowledges is counted; what came is let go; and then the link is fed
 -- these bytes, where it was seen Live, and nothing else

@@ -1,26 +1,35 @@
 -- How a host that sends ends. All of it is own.
-use Rattle.std.specs.Prelude.{◌≡◌, ◌+◌, ◌<◌, ℕ, Bool, IsTrue, Option, Some, None, true, false}
+use Rattle.std.specs.Prelude.{◌≡◌, ◌+◌, ◌<◌, ◌⊎◌, ℕ, Bool, IsTrue, Option, Some, None, true, false}
 use Rattle.std.specs.Option.{option_map}
+use Rattle.spx_link.specs.Courses.{IsWhole}
 use Rattle.spx_link.specs.declared.state.State.{State}
 use Rattle.spx_link.specs.declared.state.State.TheVariants.{Opening, Live, Ending}
 use Rattle.spx_link.specs.declared.state.State.TheVariants.{PeerEnded, Confirmed, Lost}
-use Rattle.spx_messages.specs.EndpointView.{EndpointView, held_at}
+use Rattle.spx_messages.specs.EndpointView.{EndpointView, Held, held_at}
 use Rattle.ipx_ends.specs.declared.verdict.Verdict.{Verdict}
 use Rattle.ipx_ends.specs.declared.verdict.Verdict.TheVariants as Verdicts
 
--- what a link that has a state, or is gone, tells of a transfer: done where the peer has confirmed
--- the end, and nowhere else. One that is lost before it was open was answered by nobody. The peer
--- may end the connection first, which is waited for while a confirmation may still come
-abbrev pub verdict_at : Bool → Bool → Option State → Option Verdict
-verdict_at joined waits None = Some Verdicts.GivenUp
-verdict_at joined waits (Some Opening) = None
-verdict_at joined waits (Some Live) = None
-verdict_at joined waits (Some Ending) = None
-verdict_at joined true (Some PeerEnded) = None
-verdict_at joined false (Some PeerEnded) = Some Verdicts.PeerLeft
-verdict_at joined waits (Some Confirmed) = Some Verdicts.Done
-verdict_at true waits (Some Lost) = Some Verdicts.GivenUp
-verdict_at false waits (Some Lost) = Some Verdicts.Unanswered
+-- what a link that is whole or is not, and has a state or is gone, tells of a transfer: done where the
+-- peer has acknowledged all, the end too, and nowhere else; whether it confirmed that end as well does
+-- not matter. A link that is lost before it was open was answered by nobody. The peer may end the
+-- connection first, which is waited for while the rest may still be acknowledged
+abbrev pub verdict_at : Bool → Bool → Bool → Option State → Option Verdict
+verdict_at whole joined waits None = Some Verdicts.GivenUp
+verdict_at whole joined waits (Some Opening) = None
+verdict_at whole joined waits (Some Live) = None
+verdict_at true joined waits (Some Ending) = Some Verdicts.Done
+verdict_at false joined waits (Some Ending) = None
+verdict_at true joined waits (Some PeerEnded) = Some Verdicts.Done
+verdict_at false joined true (Some PeerEnded) = None
+verdict_at false joined false (Some PeerEnded) = Some Verdicts.PeerLeft
+verdict_at true joined waits (Some Confirmed) = Some Verdicts.Done
+verdict_at false joined waits (Some Confirmed) = Some Verdicts.GivenUp
+verdict_at whole true waits (Some Lost) = Some Verdicts.GivenUp
+verdict_at whole false waits (Some Lost) = Some Verdicts.Unanswered
+
+-- an end was queued here, or came from the peer, and the link is not lost
+abbrev pub IsClosing : Option State → Type 0
+IsClosing state = (state ≡ Some Ending) ⊎ (state ≡ Some PeerEnded) ⊎ (state ≡ Some Confirmed)
 
 -- a transfer is done only where its end is queued; where it is not, it is given up
 abbrev pub ended_at : Bool → Verdict → Verdict
@@ -37,9 +46,9 @@ ended_at false Verdicts.Unwaited = Verdicts.Unwaited
 abbrev pub state_at : EndpointView → ℕ → Option State
 state_at e id = option_map (λ h. h.link.state) (held_at e id)
 
--- the peer has confirmed the end of the link of an id
-abbrev pub IsConfirmedAt : EndpointView → ℕ → Type 0
-IsConfirmedAt e id = state_at e id ≡ Some Confirmed
+-- the link of an id is there, its end is queued, and the peer has acknowledged all that was queued
+abbrev pub IsWholeAt : EndpointView → ℕ → Type 0
+IsWholeAt e id = (h : Held) × (held_at e id ≡ Some h) × IsWhole h.link
 
 -- whether a connection was open at any time, once its link was seen to have a state, or to be gone
 abbrev pub joined_at : Bool → Option State → Bool
@@ -62,7 +71,7 @@ left_at None (Some PeerEnded) now = Some now
 left_at None (Some Confirmed) now = None
 left_at None (Some Lost) now = None
 
--- a confirmation may still come: the end of the peer was not seen, or it was seen less than six
+-- the rest may still be acknowledged: the end of the peer was not seen, or it was seen less than six
 -- seconds ago and the end is queued here
 abbrev pub IsWaiting : Bool → Option ℕ → ℕ → Type 0
 IsWaiting closed None now = Unit {0}

@@ -18,7 +18,6 @@ use crate::target::Target;
 use ipx_site::{HostFile, load_host};
 use ipx_wire::Address;
 use log::Log;
-use spx_link::confirmed_links_are_whole;
 use std::alloc::Global;
 use std::io::Read;
 use std::net::Net;
@@ -75,7 +74,6 @@ fn send_loaded<R: Net + Log + Clock + Eprint, I: Read>(
         Ok(file) => file,
         Err(status) => return status,
     };
-    confirmed_links_are_whole();
     let opened = Sending::open(rt, alloc, &file, to, shows);
     send_opened(rt, alloc, path, opened, to, reader)
 }
@@ -84,10 +82,11 @@ fn send_loaded<R: Net + Log + Clock + Eprint, I: Read>(
 /// reads, and ends the connection behind it. What one read gives, at most 65,535 bytes, is one
 /// message. Where the input pauses, the connection stays.
 ///
-/// The answer is the status: 0 where the other end has confirmed the end, which stands behind all
-/// that was read; 1 where nobody answers, the connection is lost or ended by the other end, the
-/// input fails, the socket can't be had or memory is refused; 2 for a fault of the words or the
-/// file. What is wrong is a line on standard error. With `shows` a line there tells how far it is.
+/// The answer is the status: 0 where the other end has acknowledged all, the end too, which stands
+/// behind all that was read; 1 where nobody answers, the connection is lost or ended by the other
+/// end, the input fails, the socket can't be had or memory is refused; 2 for a fault of the words or
+/// the file. What is wrong is a line on standard error. With `shows` a line there tells how far it
+/// is.
 pub fn do_send<R: Net + Log + Files + Clock + Eprint, I: Read>(
     rt: &R,
     alloc: Global,
@@ -105,7 +104,7 @@ pub fn do_send<R: Net + Log + Files + Clock + Eprint, I: Read>(
     // Where it ends well, the reader has nothing left.
     ensures all { result ≡ 0 → IsAtEnd (I.remaining reader.new) }
     // And a host as some text of a file says it has sent to the address that the words name all
-    // that the reader had, by rounds of which the last one saw the end confirmed.
+    // that the reader had, by rounds of which the last one saw all of it acknowledged, the end too.
     ensures sent { result ≡ 0 → (text : List ℕ) × (file : HostFile) × (to : Address)
         × IsFileText text × IsHostText text file × Names target.entry to
         × SendsAll {K = SteadyClock R} file to

@@ -9,7 +9,7 @@ ghost use Rattle.ipx_ends.specs.Books.{Follows};
 ghost use Rattle.ipx_ends.specs.Rounds.{EndsWith, IsStep, LastsOn, Transfers, place};
 ghost use Rattle.ipx_ends.specs.Sent.{IsDialing};
 ghost use Rattle.ipx_ends.specs.Steps.{IsFeedFault, IsStepFault, noted};
-ghost use Rattle.ipx_ends.specs.Transfer.{IsConfirmedAt, IsWaiting, joined_at, left_at, state_at};
+ghost use Rattle.ipx_ends.specs.Transfer.{IsWaiting, IsWholeAt, joined_at, left_at, state_at};
 ghost use Rattle.ipx_ends.specs.declared.verdict.Verdict.TheVariants as Verdicts;
 
 use crate::gate::Gate;
@@ -31,7 +31,8 @@ use std::net::Net;
 use std::os::fd::RawFd;
 use std::rt::Clock;
 
-/// How long a confirmation is waited for once the peer ended the connection too, in milliseconds.
+/// How long the rest of the acknowledgements is waited for once the peer ended the connection too,
+/// in milliseconds.
 const PATIENCE: u64 = 6000;
 
 /// The time between two lines of progress, and the longest wait, in milliseconds.
@@ -133,7 +134,15 @@ impl<'a, R: Net + Log + Clock + Eprint> Sending<'a, R> {
         state
     }
 
-    /// Whether a confirmation may still come, where the peer ended the connection.
+    /// Whether the peer has acknowledged all, the end too.
+    fn is_whole(&self) -> bool
+        ensures { IsTrue result ↔ IsWholeAt self.now.station.core.endpoint self.now.id }
+    {
+        let endpoint = &self.station.core.endpoint;
+        endpoint.is_whole(self.id).unwrap_or(false)
+    }
+
+    /// Whether the rest may still be acknowledged, where the peer ended the connection.
     fn waits(&self) -> bool
         ensures { IsTrue result
             ↔ IsWaiting self.now.closed self.now.left self.now.station.core.moment }
@@ -182,7 +191,7 @@ impl<'a, R: Net + Log + Clock + Eprint> Sending<'a, R> {
             (peers_of self.old.station.wire.peers.items) self.old.id }
         ensures peers { self.new.station.wire.peers ≡ self.old.station.wire.peers }
         ensures done { result ≡ Err Verdicts.Done
-            → IsConfirmedAt self.new.station.core.endpoint self.new.id }
+            → IsWholeAt self.new.station.core.endpoint self.new.id }
         // Then all is read, and the end is queued.
         ensures ended { result ≡ Err Verdicts.Done
             → (self.new.closed ≡ true) × (self.new.read ≡ true) }
@@ -190,7 +199,8 @@ impl<'a, R: Net + Log + Clock + Eprint> Sending<'a, R> {
     {
         let turn = self.station.turn(rt, alloc);
         let state = self.look();
-        if let Some(verdict) = verdict_of(state, self.joined, self.waits()) {
+        let whole = self.is_whole();
+        if let Some(verdict) = verdict_of(state, whole, self.joined, self.waits()) {
             return Err(ended_by(verdict, self.closed));
         }
         drop_what_came(alloc, &mut self.station.core.endpoint, self.id);
@@ -220,7 +230,7 @@ impl<'a, R: Net + Log + Clock + Eprint> Sending<'a, R> {
             (peers_of self.old.station.wire.peers.items) self.old.id }
         ensures peers { self.new.station.wire.peers ≡ self.old.station.wire.peers }
         ensures done { result ≡ Err Verdicts.Done
-            → IsConfirmedAt self.new.station.core.endpoint self.new.id }
+            → IsWholeAt self.new.station.core.endpoint self.new.id }
         // Then all is read, and the end is queued.
         ensures ended { result ≡ Err Verdicts.Done
             → (self.new.closed ≡ true) × (self.new.read ≡ true) }
@@ -258,7 +268,7 @@ impl<'a, R: Net + Log + Clock + Eprint> Sending<'a, R> {
         ensures all { result ≡ Verdicts.Done → (self.old.read ≡ true → IsAtEnd (I.remaining reader.old))
             → IsAtEnd (I.remaining reader.new) }
         ensures done { result ≡ Verdicts.Done
-            → IsConfirmedAt self.new.station.core.endpoint self.new.id }
+            → IsWholeAt self.new.station.core.endpoint self.new.id }
         ensures unanswered { result ≡ Verdicts.Unanswered → self.new.joined ≡ false }
         // Any verdict is that of a step, behind some rounds; or they never end.
         ensures ends { EndsWith
@@ -310,11 +320,11 @@ impl<'a, R: Net + Log + Clock + Eprint> Sending<'a, R> {
     }
 
     /// Runs until the transfer is over, prints how it ended, and answers the status: 0 only where
-    /// the peer has confirmed the end.
+    /// the peer has acknowledged all, the end too.
     pub fn finish<I: Read>(&mut self, rt: &R, alloc: Global, to: Address, reader: &mut I) -> u8
         ensures id { self.new.id ≡ self.old.id }
         ensures status { result < 2 }
-        ensures done { result ≡ 0 → IsConfirmedAt self.new.station.core.endpoint self.new.id }
+        ensures done { result ≡ 0 → IsWholeAt self.new.station.core.endpoint self.new.id }
         // Then, round by round, all that left the reader was handed in, in its order, one body
         // behind the other.
         ensures fed { result ≡ 0 → Transfers

@@ -1,8 +1,7 @@
 //! How a transfer ends.
 
-ghost use Rattle.std.specs.Prelude.{◌≡◌, ◌≢◌, ◌↔◌, Some};
-ghost use Rattle.spx_link.specs.declared.state.State.TheVariants as States;
-ghost use Rattle.ipx_ends.specs.Transfer.{ended_at, verdict_at};
+ghost use Rattle.std.specs.Prelude.{◌≡◌, ◌≢◌, ◌↔◌, IsTrue, Some};
+ghost use Rattle.ipx_ends.specs.Transfer.{IsClosing, ended_at, verdict_at};
 ghost use Rattle.ipx_ends.specs.declared.verdict.Verdict.TheVariants as Verdicts;
 
 use spx_link::State;
@@ -10,7 +9,7 @@ use spx_link::State;
 /// How a transfer ends.
 #[derive(Clone, Copy, Debug, PartialEq, Eq)]
 pub enum Verdict {
-    /// The peer has confirmed the end, behind all that was sent.
+    /// The peer has acknowledged all that was sent, and the end behind it.
     Done,
     /// Nobody answered the call.
     Unanswered,
@@ -38,23 +37,26 @@ impl Verdict {
     }
 }
 
-/// What the state of a link tells of a transfer, if it is over. `joined` says whether the
-/// connection was open at any time, and `waits` whether a confirmation is still waited for.
-pub fn verdict_of(state: Option<State>, joined: bool, waits: bool) -> Option<Verdict>
-    ensures done { (result ≡ Some Verdicts.Done) ↔ (state ≡ Some States.Confirmed) }
-    ensures verdict { result ≡ verdict_at joined waits state }
+/// What the state of a link tells of a transfer, if it is over. `whole` says whether the peer has
+/// acknowledged all, the end too; `joined` whether the connection was open at any time; and `waits`
+/// whether the rest may still be acknowledged.
+pub fn verdict_of(state: Option<State>, whole: bool, joined: bool, waits: bool) -> Option<Verdict>
+    // Done just where the link is whole, and Ending, PeerEnded or Confirmed.
+    ensures done { (result ≡ Some Verdicts.Done) ↔ (IsTrue whole × IsClosing state) }
+    ensures verdict { result ≡ verdict_at whole joined waits state }
 {
     match state {
-        Some(State::Opening | State::Live | State::Ending) => None,
+        Some(State::Opening | State::Live) => None,
+        Some(State::Ending | State::PeerEnded | State::Confirmed) if whole => Some(Verdict::Done),
+        Some(State::Ending) => None,
         Some(State::PeerEnded) if waits => None,
         Some(State::PeerEnded) => Some(Verdict::PeerLeft),
-        Some(State::Confirmed) => Some(Verdict::Done),
         Some(State::Lost) if !joined => Some(Verdict::Unanswered),
-        Some(State::Lost) | None => Some(Verdict::GivenUp),
+        Some(State::Confirmed | State::Lost) | None => Some(Verdict::GivenUp),
     }
 }
 
-/// How a transfer ends whose end is queued, or is not. A link is Confirmed only where its end was
+/// How a transfer ends whose end is queued, or is not. A link is whole only where its end was
 /// queued, so there is nothing to give up here: but it is seen from this alone that a transfer is
 /// done only where all of the input is read.
 pub fn ended_by(verdict: Verdict, closed: bool) -> Verdict

@@ -1,6 +1,7 @@
 //! One end of a connection: what it holds, and what it shows.
 
-ghost use Rattle.std.specs.Prelude.{◌≡◌, ◌+◌, ◌≤◌, length};
+ghost use Rattle.std.specs.Prelude.{◌≡◌, ◌+◌, ◌≤◌, ◌↔◌, IsTrue, length};
+ghost use Rattle.spx_link.specs.Courses.{IsWhole};
 ghost use Rattle.spx_link.specs.Limits.{most_units};
 ghost use Rattle.spx_link.specs.LinkView.{LinkView, numbers_of};
 
@@ -91,6 +92,13 @@ impl Link {
             held: self.buffers.held(),
             buffers: self.buffers.size(),
         }
+    }
+
+    /// Whether its end is queued and the peer has acknowledged all that was queued, the end too.
+    pub fn is_whole(&self) -> bool
+        ensures { IsTrue result ↔ IsWhole self.now }
+    {
+        self.end_queued && self.queue.is_empty()
     }
 
     /// The socket on this side.

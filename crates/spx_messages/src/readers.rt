@@ -1,6 +1,7 @@
 //! What an endpoint tells of its connections.
 
-ghost use Rattle.std.specs.Prelude.{◌≡◌, ◌↔◌, Err, IfErr, IfOk, IfSome, None, Ok, option_copied};
+ghost use Rattle.std.specs.Prelude.{◌≡◌, ◌↔◌, Err, IfErr, IfOk, IfSome, IsTrue, None, Ok, option_copied};
+ghost use Rattle.spx_link.specs.Courses.{IsWhole};
 ghost use Rattle.spx_link.specs.Due.{IsNextDueOfAll};
 ghost use Rattle.spx_link.specs.LinkView.{numbers_of};
 ghost use Rattle.spx_link.specs.Offer.{first_of};
@@ -13,8 +14,8 @@ use crate::links::link_of;
 use spx_link::{Numbers, Sent, State, Unit};
 
 impl Endpoint {
-    /// The state of the link of an id. It is refused where no link has the id, as are `numbers` and
-    /// `peek`. Ask it before `send`, which needs Live, and to see that a connection is done or
+    /// The state of the link of an id. It is refused where no link has the id, as are `numbers`,
+    /// `is_whole` and `peek`. Ask it before `send`, which needs Live, and to see that a connection is done or
     /// lost.
     pub fn state(&self, id: u16) -> Result<State, EndFault>
         ensures unknown { (result ≡ Err EndFaults.NoSuchEnd) ↔ (held_at self.now id ≡ None) }
@@ -31,6 +32,18 @@ impl Endpoint {
     {
         let link = link_of(&self.links, id)?;
         Ok(link.numbers())
+    }
+
+    /// Whether the end of the link of an id is queued, and the peer has acknowledged all that was
+    /// queued, the end too. Ask it to see that a connection is done: then the peer has read all.
+    pub fn is_whole(&self, id: u16) -> Result<bool, EndFault>
+        ensures unknown { (result ≡ Err EndFaults.NoSuchEnd) ↔ (held_at self.now id ≡ None) }
+        ensures known { IfSome (held_at self.now id) (λ h.
+            IfOk result (λ whole. IsTrue whole ↔ IsWhole h.link)) }
+        ensures fault { IfErr result (λ f. f ≡ EndFaults.NoSuchEnd) }
+    {
+        let link = link_of(&self.links, id)?;
+        Ok(link.is_whole())
     }
 
     /// The unit that a take of the link of an id takes next, if one is held.

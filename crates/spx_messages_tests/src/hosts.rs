@@ -90,6 +90,11 @@ impl Host {
         self.endpoint.state(id)
     }
 
+    /// Whether all is acknowledged, the end too.
+    pub fn is_whole(&self, id: u16) -> Result<bool, EndFault> {
+        self.endpoint.is_whole(id)
+    }
+
     /// How many units are held.
     pub fn held(&self) -> Result<u16, EndFault> {
         Ok(self.endpoint.numbers(1)?.held)

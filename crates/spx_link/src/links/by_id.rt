@@ -1,9 +1,10 @@
 //! The calls of a link, by its id.
 
-ghost use Rattle.std.specs.Prelude.{◌≡◌, ◌≤◌, ◌<◌, [], All, Err, IfErr, IfOk, IfSome, IsOk};
+ghost use Rattle.std.specs.Prelude.{◌≡◌, ◌≤◌, ◌<◌, ◌↔◌, [], All, Err, IfErr, IfOk, IfSome, IsOk};
 ghost use Rattle.std.specs.Prelude.{IsOkUnless, IsTrue, None, OnErr, OnOk, Some, length};
 ghost use Rattle.std.specs.Prelude.{option_map};
 ghost use Rattle.std.specs.Borrow.{sem};
+ghost use Rattle.spx_link.specs.Courses.{IsWhole};
 ghost use Rattle.spx_link.specs.Due.{IsNextDue};
 ghost use Rattle.spx_link.specs.Limits.{end_stream};
 ghost use Rattle.spx_link.specs.Links.{ChangesOnly, IsLive, link_at, polled};
@@ -71,6 +72,15 @@ impl Links {
     {
         let place = place_of(&self.links, id);
         self.links[place].next_due()
+    }
+
+    /// What `Link::is_whole` answers, by a live id.
+    pub fn is_whole(&self, id: u16) -> bool
+        requires { IsLive self.now id }
+        ensures { IfSome (link_at self.now id) (λ l. IsTrue result ↔ IsWhole l) }
+    {
+        let place = place_of(&self.links, id);
+        self.links[place].is_whole()
     }
 
     /// What `Link::receive` does, by a live id. It takes no memory. The caller owes a body of at

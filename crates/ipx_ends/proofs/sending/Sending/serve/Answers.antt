@@ -4,7 +4,7 @@ use Rattle.std.specs.Io.KnownBytes.{Consumes, IsAtEnd}
 use Rattle.ipx_carrier.specs.Turns.{peers_of}
 use Rattle.ipx_ends.specs.Rounds.{place}
 use Rattle.ipx_ends.specs.Steps.{noted}
-use Rattle.ipx_ends.specs.Transfer.{IsConfirmedAt}
+use Rattle.ipx_ends.specs.Transfer.{IsWholeAt}
 use Rattle.ipx_ends.proofs.Rounded.{last_round, rounds_bytes, rounds_end, rounds_step, same_step}
 use Rattle.ipx_ends.proofs.sending.Sending.serve.Goals as goal
 
@@ -49,7 +49,7 @@ returns-in-Err-clause-fed g c = λ done.
       fed = subst (λ (k : Option (List ℕ)). Consumes known k (concat fed.0)) (sym last.known) (rounds_bytes start fed.0 before _ _ _ fed.2);
       read = ended.1;
       closed = ended.0;
-      confirmed = subst (λ (i : ℕ). IsConfirmedAt new.station.core.endpoint i) (c.step_or_wait.ensures.id ∙ c.loop.invariant.id) (c.in-Err.ensures.done is);
+      whole = subst (λ (i : ℕ). IsWholeAt new.station.core.endpoint i) (c.step_or_wait.ensures.id ∙ c.loop.invariant.id) (c.in-Err.ensures.done is);
     }
 
 pub returns-in-Err-clause-all : goal.returns-in-Err-clause-all

@@ -40,7 +40,7 @@ returns-then-turn-clause-steps g c =
     let goes : mid.station.core ≡ record look.station.core { endpoint = mid.station.core.endpoint } = elim c.if-eq.branch [ then-eq+in_ok-fed w ↦ rw w.self-is w.feed.ensures.core | else-eq w ↦ rw w.self-is refl ] in
     let shows = same_intake mid.station.core.endpoint shown.station.core.endpoint mid.read shown.read mid.closed shown.closed mid.ledger shown.ledger left (ap (λ (k : EndCore). k.endpoint) same.core) same.read same.closed same.ledger in
     let new = intake shown.station.core.endpoint shown.read shown.closed shown.ledger left in
-    let seeing = sees old.joined look.joined old.left look.left seen look.station.core old.id old.closed look.closed c.waits.result c.look-state.result None told.state told.core told.closed told.joined told.left c.waits.ensures c.in_default.ensures.verdict in
+    let seeing = sees old.joined look.joined old.left look.left seen look.station.core old.id look.id old.closed look.closed c.is_whole-whole.result c.waits.result c.look-state.result None told.state told.core told.id told.closed told.joined told.left c.is_whole-whole.ensures c.waits.ensures c.in_default.ensures.verdict in
     let fed' : Feeds start new look.id fed.0 = subst (λ (i : Intake). Feeds start i look.id fed.0) (sym shows) fed.1 in
     let only : state_at seen.endpoint old.id ≢ Some Live → Rests start new fed.0 = λ other. subst (λ (i : Intake). Rests start i fed.0) (sym shows) (fed.2 other) in
     record {
@@ -81,7 +81,7 @@ returns-else-turn-clause-steps g c =
     let goes : mid.station.core ≡ record look.station.core { endpoint = mid.station.core.endpoint } = elim c.if-eq.branch [ then-eq+in_ok-fed w ↦ rw w.self-is w.feed.ensures.core | else-eq w ↦ rw w.self-is refl ] in
     let shows = same_intake mid.station.core.endpoint shown.station.core.endpoint mid.read shown.read mid.closed shown.closed mid.ledger shown.ledger left (ap (λ (k : EndCore). k.endpoint) same.core) same.read same.closed same.ledger in
     let new = intake shown.station.core.endpoint shown.read shown.closed shown.ledger left in
-    let seeing = sees old.joined look.joined old.left look.left seen look.station.core old.id old.closed look.closed c.waits.result c.look-state.result None told.state told.core told.closed told.joined told.left c.waits.ensures c.in_default.ensures.verdict in
+    let seeing = sees old.joined look.joined old.left look.left seen look.station.core old.id look.id old.closed look.closed c.is_whole-whole.result c.waits.result c.look-state.result None told.state told.core told.id told.closed told.joined told.left c.is_whole-whole.ensures c.waits.ensures c.in_default.ensures.verdict in
     let fed' : Feeds start new look.id fed.0 = subst (λ (i : Intake). Feeds start i look.id fed.0) (sym shows) fed.1 in
     let only : state_at seen.endpoint old.id ≢ Some Live → Rests start new fed.0 = λ other. subst (λ (i : Intake). Rests start i fed.0) (sym shows) (fed.2 other) in
     record {
@@ -107,7 +107,7 @@ returns-in-Some-clause-steps g c =
       turn = c.turn-turn.result;
       turned = turned _ _ _ _ _ _ _ _ told.clock c.turn-turn.ensures.core;
       verdict = Some (ended_at old.closed verdict);
-      sees = sees old.joined look.joined old.left look.left seen look.station.core old.id old.closed look.closed c.waits.result c.look-state.result (Some verdict) told.state told.core told.closed told.joined told.left c.waits.ensures c.in-Some.ensures.verdict;
+      sees = sees old.joined look.joined old.left look.left seen look.station.core old.id look.id old.closed look.closed c.is_whole-whole.result c.waits.result c.look-state.result (Some verdict) told.state told.core told.id told.closed told.joined told.left c.is_whole-whole.ensures c.waits.ensures c.in-Some.ensures.verdict;
       goes = (
         ap (λ (v : Verdict). Err v) (c.ended_by.ensures ∙ ap (λ (b : Bool). ended_at b verdict) told.closed),
         record {
@@ -126,7 +126,7 @@ returns-in_err-fed-clause-steps g c =
     let told = c.look-state.ensures in
     let fed = c.feed.new.self in
     let on = c.feed.ensures in
-    let seeing = sees old.joined look.joined old.left look.left seen look.station.core old.id old.closed look.closed c.waits.result c.look-state.result None told.state told.core told.closed told.joined told.left c.waits.ensures c.in_default.ensures.verdict in
+    let seeing = sees old.joined look.joined old.left look.left seen look.station.core old.id look.id old.closed look.closed c.is_whole-whole.result c.waits.result c.look-state.result None told.state told.core told.id told.closed told.joined told.left c.is_whole-whole.ensures c.waits.ensures c.in_default.ensures.verdict in
     let is : c.look-state.result ≡ Some Live = first_of (search rules, grind (arith, common_steps)) in
     let p = err_from_is_err_and c.from_residual.result c.from_residual.ensures.1 in
     rw (p.1, p.2) (record {

@@ -4,6 +4,14 @@ use Rattle.ipx_ends.specs.Rounds.{place}
 use Rattle.ipx_ends.specs.Steps.{noted}
 use Rattle.ipx_ends.proofs.sending.Sending.step_or_wait.Goals as goal
 
+pub returns-then-branch-clause-steps : goal.returns-then-branch-clause-steps
+returns-then-branch-clause-steps g c =
+    let old = c.args.self.now in
+    let new = c.step.new.self in
+    let before = place old.station.clock old.station.core (noted old.joined old.left) old.read old.closed old.ledger (g.I.Read.remaining c.args.reader.now) in
+    let after = place new.station.clock new.station.core (noted new.joined new.left) new.read new.closed new.ledger (g.I.Read.remaining c.step.new.reader) in
+    step_ok before after c.in_ok-step.field-0 _ _ old.id c.in_ok-step.ensures.steps
+
 pub returns-in-Ok-clause-steps : goal.returns-in-Ok-clause-steps
 returns-in-Ok-clause-steps g c =
     let old = c.args.self.now in
