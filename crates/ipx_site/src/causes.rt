@@ -22,8 +22,8 @@ impl Cause {
         Cause { told: 0, at: None }
     }
 
-    /// Whether it is time to tell a cause that happened so often: it happened since it was told, and
-    /// that was a minute ago or never.
+    /// Whether it is time to tell a cause that happened so often: it happened since it was told,
+    /// and that was a minute ago or never.
     fn is_due(&self, count: u64, now: u64) -> bool
         ensures { IsTrue result ↔ IsDue self.now count now }
     {
@@ -36,8 +36,8 @@ impl Cause {
         }
     }
 
-    /// Tells a cause that happened so often, if it is time: the result is how often it happened since
-    /// it was told last.
+    /// Tells a cause that happened so often, if it is time: the result is how often it happened
+    /// since it was told last.
     pub fn tell(&mut self, count: u64, now: u64) -> Option<u64>
         ensures told { IfSome result (λ more. IsDue self.old count now
             × (more + self.old.told ≡ count) × (self.new.told ≡ count) × (self.new.at ≡ Some now)) }
@@ -53,8 +53,8 @@ impl Cause {
         Some(more)
     }
 
-    /// The moment from which on it is time, where it happened so often; none where no clock can show
-    /// that moment.
+    /// The moment from which on it is time, where it happened so often; none where no clock can
+    /// show that moment.
     pub fn next(&self, count: u64) -> Option<u64>
         ensures { MatchOption result ((t : ℕ) → t < 2 ^ 64 → IsDue self.now count t → ⊥)
             (λ m. (t : ℕ) → IsDue self.now count t ↔ (m ≤ t)) }

@@ -174,15 +174,19 @@ const SEND: &str = "\
 A host that asks for a connection, sends its input, and ends the connection
 
 Reads the file HOST as listen does, and dials from its socket to NET NODE SOCKET, which are eight,
-twelve and four hex digits. What one read of standard input gives, at most 65535 bytes, is a message.
-The input may pause for as long as it likes. Where standard error is a terminal, a line there tells
-how far it is.";
+twelve and four hex digits. What one read of standard input gives, at most 65535 bytes, is a
+message. The input may pause for as long as it likes. Where standard error is a terminal, a line
+there tells how far it is.";
 
 const SEND_STATUSES: &str = "\
-Status 0: the other end has confirmed the end, which stands behind all of the input. 1: nobody
-answers, or the connection is lost or ended by the other end, and a line on standard error tells how
-much was acknowledged; the input can't be read, the socket can't be had, or memory ran out. 2: a word
-or the file has a fault, which one line tells, and nothing was bound.
+Status 0: the other host has acknowledged all of the input, and the end behind it; its program may
+not have taken the last of it. 1: nobody answers, or the connection is lost or ended by the other
+end, and a line on standard error tells how much was acknowledged; the input can't be read, the
+socket can't be had, or memory ran out. 2: a word or the file has a fault, which one line tells, and
+nothing was bound.
+
+A connection is lost some five seconds after the last word of a host that acknowledges nothing.
+There is no limit while one that is there has no room, and no wait once all is acknowledged.
 
 Example:
   $ ipx send host.toml 00000033 00007f000104 4002 < file";
