@@ -67,7 +67,7 @@ pub record Stands (v : RouteMetric) (low : ℕ) (o : Option Word) : Type 0 where
   pub since : low ≤ moment
 
 module _ (ports : List Port) (source : Source) (now : ℕ) (p : Network × Source) where
-  step_is : (c : Routes) (e : RipEntry) → after_route ports source now c e p ≡ one_word (is_heard ports e) (is_same network_cmp (e.network, source) p) (route_dead (route_metric e)) (route_metric e, now) (c p)
+  pub step_is : (c : Routes) (e : RipEntry) → after_route ports source now c e p ≡ one_word (is_heard ports e) (is_same network_cmp (e.network, source) p) (route_dead (route_metric e)) (route_metric e, now) (c p)
   step_is c e = apply_if (is_heard ports e) (after_hear network_cmp route_dead c (e.network, source) (route_metric e) now) c p
 
   pub record Taken (e : RipEntry) (w : Word) : Type 0 where

@@ -7,3 +7,4 @@ pub mod Hearing
 pub mod RunRoutes
 pub mod Theorems
 pub mod Steps
+pub mod ToldAndHeard

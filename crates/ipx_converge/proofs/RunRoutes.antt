@@ -20,7 +20,7 @@ use Rattle.ipx_converge.specs.RouterRuns.{AllIsHeard, AreRoutes, Hearing, IsRun,
 use Rattle.ipx_converge.proofs.Hearing.{Stands, Word, keeps, makes, said_by, same_itself, same_parts, still_is, still_was}
 use Rattle.ipx_converge.proofs.Settling.{bool_cases, some_same}
 
-abbrev By : Routes → ℕ → Network → Route → Option ℕ → Type 0
+abbrev pub By : Routes → ℕ → Network → Route → Option ℕ → Type 0
 By routes now d a o = MatchOption o (IsHeardRoute routes now d a) (λ place. a ≡ over_port place)
 
 one_by : (laws : LawsOfTables) (routes : Routes) (now : ℕ) (d : Network) (o : Option ℕ) (a b : Route) → By routes now d a o → By routes now d b o → a ≡ b

@@ -10,8 +10,9 @@ ghost use Rattle.ipx_converge.specs.Fair.{
 };
 ghost use Rattle.ipx_converge.specs.RouterRuns.{RunsAreHistories};
 ghost use Rattle.ipx_converge.specs.ReceiveSteps.{ReceivingIsAStep};
+ghost use Rattle.ipx_converge.specs.HeardTellings.{TellingsAreHeard};
 
-use crate::below::laws_below;
+use crate::below::{laws_below, packet_laws};
 
 /// 48 minutes after the first step of an honest run each route is a way that is there.
 pub fn runs_take_ways()
@@ -68,3 +69,11 @@ pub fn runs_are_histories()
 pub fn receiving_is_a_step()
     ensures { ReceivingIsAStep }
 {}
+
+/// What `tell` gives for a port, read by `receive` of a router that meets it there, is heard as just
+/// the entries that are told on that port.
+pub fn tellings_are_heard()
+    ensures { TellingsAreHeard }
+{
+    packet_laws();
+}
