@@ -8,3 +8,4 @@ pub mod RunRoutes
 pub mod Theorems
 pub mod Steps
 pub mod ToldAndHeard
+pub mod TurnByTurn

@@ -6,3 +6,4 @@ pub mod RouterRuns
 pub mod Fair
 pub mod ReceiveSteps
 pub mod HeardTellings
+pub mod TwoRouters

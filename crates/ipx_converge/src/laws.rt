@@ -11,6 +11,7 @@ ghost use Rattle.ipx_converge.specs.Fair.{
 ghost use Rattle.ipx_converge.specs.RouterRuns.{RunsAreHistories};
 ghost use Rattle.ipx_converge.specs.ReceiveSteps.{ReceivingIsAStep};
 ghost use Rattle.ipx_converge.specs.HeardTellings.{TellingsAreHeard};
+ghost use Rattle.ipx_converge.specs.TwoRouters.{FairRunsExist, ForgedRouteGoes};
 
 use crate::below::{laws_below, packet_laws};
 
@@ -76,4 +77,17 @@ pub fn tellings_are_heard()
     ensures { TellingsAreHeard }
 {
     packet_laws();
+}
+
+/// Two routers that tell one another by turns make a fair run, from whatever tables: so all that the
+/// theorems ask can be.
+pub fn fair_runs_exist()
+    ensures { FairRunsExist }
+{}
+
+/// And one that begins with a forged route, which is gone 48 minutes later.
+pub fn forged_route_goes()
+    ensures { ForgedRouteGoes }
+{
+    laws_below();
 }
