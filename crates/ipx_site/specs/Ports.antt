@@ -1,5 +1,6 @@
 -- The ports of the router that a file describes, and who may speak there. All of it is own.
 use Rattle.std.specs.Prelude.{◌≡◌, ℕ, List, Bool, true, false, map}
+use Rattle.ipx_wire.specs.declared.address.Network.{Network}
 use Rattle.ipx_router.specs.declared.port.Port.{Port}
 use Rattle.ipx_carrier.specs.Device.{Access}
 use Rattle.ipx_carrier.specs.Mapping.{node_at}
@@ -35,6 +36,17 @@ access_of p = record { peers = p.peers.items; everybody = is_any p.accept }
 abbrev pub access_by : Guard → Access
 access_by g = record { peers = g.peers.items; everybody = is_any g.accept }
 
+-- the same, and on which network
+pub record Guarded : Type 0 where
+  pub network : Network
+  pub access : Access
+
+abbrev pub guarded : SitePort → Guarded
+guarded p = record { network = p.network; access = access_of p }
+
+abbrev pub guarding : Guard → Guarded
+guarding g = record { network = g.network; access = access_by g }
+
 -- the guards are those of the ports, in order
 abbrev pub GuardPorts : List SitePort → List Guard → Type 0
-GuardPorts ports guards = map access_by guards ≡ map access_of ports
+GuardPorts ports guards = map guarding guards ≡ map guarded ports

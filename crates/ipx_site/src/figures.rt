@@ -1,5 +1,6 @@
 //! What a router counts, as a text for Prometheus.
 
+use crate::peers::KeptBack;
 use ipx_carrier::Fates;
 use std::alloc::{AllocError, Global};
 
@@ -14,8 +15,8 @@ pub struct Figures {
     /// The packets that found no room in its queue, and those whose node has no IP address.
     pub queue_full: u64,
     pub unmapped: u64,
-    /// The datagrams from no peer, and those that were to go to none.
-    pub strangers: u64,
+    /// The datagrams that came and were not heard, and those that were to go to no peer.
+    pub kept: KeptBack,
     pub refused: u64,
     /// How often the system refused a datagram, memory, and the file of these figures.
     pub device_faults: u64,
@@ -62,6 +63,12 @@ const DROPPED: Family = Family {
 const STRANGERS: Family = Family {
     name: "ipx_strangers_total",
     help: "Datagrams that came from no peer, and were not heard",
+    kind: "counter",
+};
+
+const KEPT_BACK: Family = Family {
+    name: "ipx_kept_back_total",
+    help: "Datagrams that came from a peer and were not heard, by reason",
     kind: "counter",
 };
 
@@ -167,7 +174,13 @@ impl Figures {
         put_one(&mut text, &SENT, self.sent)?;
         put_fates(&mut text, &self.fates)?;
         put_dropped(&mut text, self)?;
-        put_one(&mut text, &STRANGERS, self.strangers)?;
+        put_one(&mut text, &STRANGERS, self.kept.strangers.count)?;
+        put_each(
+            &mut text,
+            &KEPT_BACK,
+            "reason",
+            &[("forged", self.kept.forged.count)],
+        )?;
         put_one(&mut text, &REFUSED, self.refused)?;
         put_faults(&mut text, self)?;
         put_one(&mut text, &ROUTES, self.routes)?;

@@ -1,23 +1,55 @@
 //! A device that hears its peers alone, and sends to them alone.
 
-ghost use Rattle.std.specs.Prelude.{◌≡◌, ◌<◌, ◌≤◌, ◌+◌, ◌^◌, [], ◌∷◌, ℕ, true, false, Ok, Option, OnErr, OnOk, IfOk, IfSome, length, map, slice_get, option_copied};
+ghost use Rattle.std.specs.Prelude.{◌≡◌, ◌<◌, ◌≤◌, ◌+◌, ◌^◌, [], ◌∷◌, ℕ, true, false, Ok, Option, Some, OnErr, OnOk, IfOk, IfSome, length, map, slice_get};
 ghost use Rattle.ipx_carrier.specs.Device.{Passes, received_in};
 ghost use Rattle.ipx_carrier.specs.Fates.{raised};
 ghost use Rattle.ipx_carrier.specs.Fault.{device_failures};
-ghost use Rattle.ipx_site.specs.Peers.{HandsUp, hears_from, is_heard, is_peer, may_go};
+ghost use Rattle.ipx_site.specs.Peers.{IsWordOn, Receives, hears_from, is_peer, kept_in, may_go, none_kept, nothing_kept, one_more};
 ghost use Rattle.ipx_site.specs.Ports.{access_by};
 
+use crate::own_word::is_own_word;
 use crate::senders::Senders;
 use crate::site::Accept;
 use ipx_carrier::{Datagrams, DeviceFault};
+use ipx_wire::Network;
 
 /// Who is heard at a port, and whom it sends to.
 #[derive(Drop)]
 pub struct Guard {
+    /// The network of the port.
+    pub network: Network,
     /// The IP addresses that it sends to.
     pub peers: Vec<[u8; 4]>,
     /// Whether they alone are heard.
     pub accept: Accept,
+}
+
+/// What a guard says of a datagram that came.
+#[derive(Clone, Copy, Debug, PartialEq, Eq)]
+pub enum Word {
+    Heard,
+    /// It came from nobody who is heard.
+    Stranger,
+    /// It speaks for another node than the one that sent it.
+    Forged,
+}
+
+/// The datagrams that were kept back for one cause: how many, and who sent the last of them.
+#[derive(Clone, Copy, Debug, PartialEq, Eq)]
+pub struct Kept {
+    /// It stays at the greatest u64.
+    pub count: u64,
+    /// None where there was none yet, or where it came from no address of four bytes.
+    pub last: Option<[u8; 4]>,
+}
+
+/// The datagrams that were kept back, by their causes.
+#[derive(Clone, Copy, Debug, PartialEq, Eq)]
+pub struct KeptBack {
+    /// Those that came from nobody who is heard.
+    pub strangers: Kept,
+    /// Those that spoke for another node than the one that sent them.
+    pub forged: Kept,
 }
 
 /// A count goes up by one, and stays where it is the greatest.
@@ -26,6 +58,34 @@ pub fn raise(count: &mut u64)
     ensures grows { count.old ≤ count.new }
 {
     *count = count.saturating_add(1);
+}
+
+impl Kept {
+    fn none() -> Kept
+        ensures { result ≡ none_kept }
+    {
+        Kept {
+            count: 0,
+            last: None,
+        }
+    }
+
+    fn raise(&mut self, from: Option<[u8; 4]>)
+        ensures counted { self.new ≡ one_more self.old from }
+        ensures grows { self.old.count ≤ self.new.count }
+    {
+        raise(&mut self.count);
+        self.last = from;
+    }
+}
+
+impl KeptBack {
+    /// How many there were for all causes.
+    pub fn total(&self) -> u128
+        ensures { result ≡ kept_in self.now }
+    {
+        u128::from(self.strangers.count) + u128::from(self.forged.count)
+    }
 }
 
 /// Whether an IP address is one of the peers.
@@ -46,15 +106,29 @@ fn hears(guard: &Guard, from: Option<[u8; 4]>) -> bool
     }
 }
 
-/// A device over another one, which lets pass what comes from a peer of its port and what goes to
-/// one. It counts what it keeps back.
+/// What a guard says of these bytes, which came from there.
+fn word_on(guard: &Guard, from: Option<[u8; 4]>, bytes: &[u8]) -> Word
+    ensures { IsWordOn (Some guard.now) from bytes.now result }
+{
+    if !hears(guard, from) {
+        return Word::Stranger;
+    }
+    if is_own_word(guard.network, from, bytes) {
+        Word::Heard
+    } else {
+        Word::Forged
+    }
+}
+
+/// A device over another one, which lets pass what comes from a peer of its port in its own name and
+/// what goes to one. It counts what it keeps back.
 ///
 /// At a port whose guard says so everybody is heard. A port without a guard hears and sends nothing.
 #[derive(Drop)]
 pub struct PeersOnly<D: Senders + Drop> {
     device: D,
     guards: Vec<Guard>,
-    strangers: u64,
+    kept: KeptBack,
     refused: u64,
 }
 
@@ -63,12 +137,15 @@ impl<D: Senders + Drop> PeersOnly<D> {
     pub fn new(device: D, guards: Vec<Guard>) -> PeersOnly<D>
         ensures device { result.device ≡ device }
         ensures guards { result.guards.items ≡ guards.items }
-        ensures none { (result.strangers ≡ 0) × (result.refused ≡ 0) }
+        ensures none { (result.kept ≡ nothing_kept) × (result.refused ≡ 0) }
     {
         PeersOnly {
             device,
             guards,
-            strangers: 0,
+            kept: KeptBack {
+                strangers: Kept::none(),
+                forged: Kept::none(),
+            },
             refused: 0,
         }
     }
@@ -80,11 +157,11 @@ impl<D: Senders + Drop> PeersOnly<D> {
         &self.device
     }
 
-    /// The datagrams that came from no peer and were not heard.
-    pub fn strangers(&self) -> u64
-        ensures { result ≡ self.now.strangers }
+    /// The datagrams that came and were not heard.
+    pub fn kept(&self) -> KeptBack
+        ensures { result ≡ self.now.kept }
     {
-        self.strangers
+        self.kept
     }
 
     /// The datagrams that were not sent, since they were to go to no peer.
@@ -94,14 +171,14 @@ impl<D: Senders + Drop> PeersOnly<D> {
         self.refused
     }
 
-    /// Whether a datagram that came to a port last is heard.
-    fn is_heard(&self, port: usize) -> bool
-        ensures { result ≡ is_heard (slice_get self.now.guards.items port)
-            (D.last_sender self.now.device) }
+    /// What is said of these bytes, which came to a port last.
+    fn word(&self, port: usize, bytes: &[u8]) -> Word
+        ensures { IsWordOn (slice_get self.now.guards.items port)
+            (D.last_sender self.now.device) bytes.now result }
     {
         match self.guards.get(port) {
-            Some(guard) => hears(guard, self.device.sender()),
-            None => false,
+            Some(guard) => word_on(guard, self.device.sender(), bytes),
+            None => Word::Stranger,
         }
     }
 
@@ -129,7 +206,7 @@ impl<D: Senders + Drop> Datagrams for PeersOnly<D> {
     // Its guards say who may speak, and those who may not are strangers.
     ghost access = { λ p. map access_by p.guards.items };
 
-    ghost kept_back = { λ p. p.strangers };
+    ghost kept_back = { λ p. kept_in p.kept };
 
     fn ports(&self) -> usize {
         self.device.ports()
@@ -154,7 +231,7 @@ impl<D: Senders + Drop> Datagrams for PeersOnly<D> {
         ensures refused { may_go (slice_get self.old.guards.items port) to ≡ false →
             (result ≡ Ok tt) × (self.new.device ≡ self.old.device)
             × (self.new.refused ≡ raised self.old.refused) }
-        ensures strangers { self.new.strangers ≡ self.old.strangers }
+        ensures kept { self.new.kept ≡ self.old.kept }
         ensures guards { self.new.guards ≡ self.old.guards }
         ensures failures { D.failed self.new.device
             ≡ device_failures result (D.failed self.old.device) }
@@ -174,23 +251,27 @@ impl<D: Senders + Drop> Datagrams for PeersOnly<D> {
         ensures received { IfOk result (λ up. (came : Option ℕ)
             × Passes (D.traffic self.old.device) (D.traffic self.new.device)
             (record { port = port; bytes = received_in room.new came } ∷ []) []
-            × HandsUp (is_heard (slice_get self.old.guards.items port)
-            (D.last_sender self.new.device)) came up self.old.strangers self.new.strangers) }
+            × Receives (slice_get self.old.guards.items port) (D.last_sender self.new.device)
+            room.new came up self.old.kept self.new.kept) }
         ensures within { IfOk result (λ up. IfSome up (λ n. n ≤ length room.old)) }
         ensures faulty { OnErr result ((D.traffic self.new.device ≡ D.traffic self.old.device)
-            × (self.new.strangers ≡ self.old.strangers)) }
-        ensures kept_back { self.old.strangers ≤ self.new.strangers }
+            × (self.new.kept ≡ self.old.kept)) }
+        ensures kept_back { kept_in self.old.kept ≤ kept_in self.new.kept }
         ensures refused { self.new.refused ≡ self.old.refused }
         ensures guards { self.new.guards ≡ self.old.guards }
         ensures failures { D.failed self.new.device
             ≡ device_failures result (D.failed self.old.device) }
         ensures ports { D.port_count self.new.device ≡ D.port_count self.old.device }
     {
-        let came = self.device.receive(port, room)?;
-        if came.is_some() && !self.is_heard(port) {
-            raise(&mut self.strangers);
+        let Some(count) = self.device.receive(port, room)? else {
             return Ok(None);
+        };
+        let from = self.device.sender();
+        match self.word(port, &room[..count]) {
+            Word::Heard => return Ok(Some(count)),
+            Word::Stranger => self.kept.strangers.raise(from),
+            Word::Forged => self.kept.forged.raise(from),
         }
-        Ok(came)
+        Ok(None)
     }
 }

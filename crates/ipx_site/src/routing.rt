@@ -3,7 +3,7 @@
 ghost use Rattle.std.specs.Prelude.{◌≡◌, ◌≤◌, ◌⊎◌, All, IfErr, IfOk, OnOk, is_ok, if◌then◌else◌, map};
 ghost use Rattle.ipx_router.specs.NewRouter.{IsOwnNetwork};
 ghost use Rattle.ipx_carrier.specs.Turns.{peers_of};
-ghost use Rattle.ipx_site.specs.Ports.{GuardPorts, access_by, access_of, router_port_of, router_ports, site_peers, udp_ports};
+ghost use Rattle.ipx_site.specs.Ports.{GuardPorts, guarded, guarding, router_port_of, router_ports, site_peers, udp_ports};
 
 use crate::bind_fault::BindFault;
 use crate::clock::SteadyClock;
@@ -105,10 +105,11 @@ fn peers_by_port(alloc: Global, ports: &[SitePort]) -> Result<Vec<Vec<[u8; 4]>>,
 
 /// The guard of a port.
 fn guard_of(alloc: Global, port: &SitePort) -> Result<Guard, AllocError>
-    ensures { IfOk result (λ g. access_by g ≡ access_of port.now) }
+    ensures { IfOk result (λ g. guarding g ≡ guarded port.now) }
 {
     let peers = port_peers(alloc, port)?;
     Ok(Guard {
+        network: port.network,
         peers,
         accept: port.accept,
     })

@@ -2,6 +2,7 @@
 
 ghost use Rattle.std.specs.Prelude.{◌≡◌, ◌≤◌, length, map};
 ghost use Rattle.ipx_carrier.specs.Turns.{peers_of};
+ghost use Rattle.ipx_site.specs.Peers.{kept_in};
 ghost use Rattle.ipx_site.specs.Ports.{access_by};
 ghost use Rattle.ipx_site.specs.Rounds.{AsksAgain, IsRound, ReadsOnceMore};
 
@@ -226,7 +227,8 @@ impl<'a, R: SystemClock> Station<'a, R> {
     fn round<S: Log + Files>(&mut self, rt: &S, alloc: Global) -> Burst
         ensures core { IsRound self.old.clock self.new.clock
             (λ old moment new. (old.last ≤ moment) × (new.last ≡ moment))
-            (peers_of self.old.peers.items) self.old.device.strangers self.new.device.strangers
+            (peers_of self.old.peers.items)
+            (kept_in self.old.device.kept) (kept_in self.new.device.kept)
             self.old.asked self.new.asked self.old.core self.new.core result }
         ensures peers { self.new.peers ≡ self.old.peers }
         ensures access { map access_by self.new.device.guards.items
@@ -253,7 +255,8 @@ impl<'a, R: SystemClock> Station<'a, R> {
         ensures core { (between : SteadyClock R) × (burst : Burst)
             × IsRound self.old.clock between
             (λ old moment new. (old.last ≤ moment) × (new.last ≡ moment))
-            (peers_of self.old.peers.items) self.old.device.strangers self.new.device.strangers
+            (peers_of self.old.peers.items)
+            (kept_in self.old.device.kept) (kept_in self.new.device.kept)
             self.old.asked self.new.asked self.old.core self.new.core burst
             × ReadsOnceMore between self.new.clock
             (λ old moment new. (old.last ≤ moment) × (new.last ≡ moment)) }

@@ -63,7 +63,7 @@ impl Tally {
             fates: core.fates(),
             queue_full: core.dropped(),
             unmapped: self.unmapped,
-            strangers: device.strangers(),
+            kept: device.kept(),
             refused: device.refused(),
             device_faults: self.device_faults.saturating_add(device.device().faults()),
             memory_faults: self.memory_faults,

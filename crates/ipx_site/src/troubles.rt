@@ -2,12 +2,14 @@
 
 use crate::causes::Cause;
 use crate::figures::Figures;
+use crate::peers::Kept;
 use log::{Log, warn};
 
 /// What goes wrong again and again.
 #[derive(Clone, Copy, Debug, PartialEq, Eq)]
 pub struct Troubles {
     strangers: Cause,
+    forged: Cause,
     refused: Cause,
     table_full: Cause,
     queue_full: Cause,
@@ -19,6 +21,20 @@ pub struct Troubles {
 fn tell<R: Log>(rt: &R, cause: &mut Cause, count: u64, now: u64, what: &str) {
     if let Some(more) = cause.tell(count, now) {
         warn!(rt; target: "ipx", "{more} {what} ({count} since the start)");
+    }
+}
+
+/// The same of datagrams that were kept back, with who sent the last of them.
+fn tell_kept<R: Log>(rt: &R, cause: &mut Cause, kept: Kept, now: u64, what: &str) {
+    let count = kept.count;
+    let Some(ip) = kept.last else {
+        tell(rt, cause, count, now, what);
+        return;
+    };
+    let [a, b, c, d] = ip;
+    if let Some(more) = cause.tell(count, now) {
+        warn!(rt; target: "ipx",
+            "{more} {what} ({count} since the start), the last from {a}.{b}.{c}.{d}");
     }
 }
 
@@ -36,6 +52,7 @@ impl Troubles {
     pub fn new() -> Troubles {
         Troubles {
             strangers: Cause::new(),
+            forged: Cause::new(),
             refused: Cause::new(),
             table_full: Cause::new(),
             queue_full: Cause::new(),
@@ -53,7 +70,9 @@ impl Troubles {
 
     fn tell_of_datagrams<R: Log>(&mut self, rt: &R, f: &Figures, now: u64) {
         let what = "datagrams came from no peer";
-        tell(rt, &mut self.strangers, f.strangers, now, what);
+        tell_kept(rt, &mut self.strangers, f.kept.strangers, now, what);
+        let what = "datagrams spoke for another node";
+        tell_kept(rt, &mut self.forged, f.kept.forged, now, what);
         let what = "datagrams were to go to no peer";
         tell(rt, &mut self.refused, f.refused, now, what);
         let what = "responses found a table full";
@@ -75,9 +94,10 @@ impl Troubles {
     pub fn next(&self, figures: &Figures) -> Option<u64> {
         let f = *figures;
         let people = sooner(
-            self.strangers.next(f.strangers),
-            self.refused.next(f.refused),
+            self.strangers.next(f.kept.strangers.count),
+            self.forged.next(f.kept.forged.count),
         );
+        let refused = self.refused.next(f.refused);
         let full = sooner(
             self.table_full.next(f.fates.table_full),
             self.queue_full.next(f.queue_full),
@@ -87,6 +107,6 @@ impl Troubles {
             self.memory.next(f.memory_faults),
         );
         let file = self.file.next(f.file_faults);
-        sooner(sooner(people, full), sooner(system, file))
+        sooner(sooner(sooner(people, refused), full), sooner(system, file))
     }
 }

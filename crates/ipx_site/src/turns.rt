@@ -5,6 +5,7 @@ ghost use Rattle.ipx_carrier.specs.Fault.{failures_after};
 ghost use Rattle.ipx_carrier.specs.Runs.{EndsEarly, Runs};
 ghost use Rattle.ipx_carrier.specs.Turns.{peers_of};
 ghost use Rattle.ipx_site.specs.Bursts.{Bursts, CanBegin, counted, failed_after, no_turns, refused};
+ghost use Rattle.ipx_site.specs.Peers.{kept_in};
 ghost use Rattle.ipx_site.specs.Ports.{access_by};
 
 use crate::peers::PeersOnly;
@@ -143,8 +144,8 @@ pub fn take_turn<C: Core, D: Datagrams, K: Clock>(
     run(alloc, core, device, peers, clock, 1)
 }
 
-/// Takes turns until one neither hears nor sends and keeps back no stranger's datagram, until a
-/// fault ends one, or until there were so many.
+/// Takes turns until one neither hears nor sends and keeps no datagram back, until a fault ends one,
+/// or until there were so many.
 ///
 /// After a quiet burst nothing was left to read, so one waits; after another one takes the next.
 /// Where no turn can be begun, as `take_turn` says, the fault is `Device`, and nothing happens.
@@ -161,7 +162,7 @@ pub fn run_burst<C: Core, D: Senders + Drop, K: Clock>(
     ensures turns { CanBegin (C.port_count core.old) (D.port_count device.old.device)
         (length peers.now) (D.failed device.old.device)
         → Bursts C.hears C.misses C.gives C.withholds K.tells (C.port_count core.old)
-        (peers_of peers.now) most result device.old.strangers device.new.strangers
+        (peers_of peers.now) most result (kept_in device.old.kept) (kept_in device.new.kept)
         clock.old clock.new core.old core.new }
     // Where none can, nothing happens.
     ensures refused { (CanBegin (C.port_count core.old) (D.port_count device.old.device)
@@ -178,13 +179,13 @@ pub fn run_burst<C: Core, D: Senders + Drop, K: Clock>(
 {
     let mut burst = Burst::none();
     for _turn in 0..most {
-        let strangers = device.strangers();
+        let kept = device.kept().total();
         let report = match take_turn(alloc, core, device, peers, clock) {
             Ok(report) => report,
             Err(fault) => return burst.ended_by(fault),
         };
         burst = burst.with(report);
-        if is_idle(report) && device.strangers() == strangers {
+        if is_idle(report) && device.kept().total() == kept {
             return burst.quieted();
         }
     }

@@ -1,7 +1,7 @@
 //! The text of figures, in the text form of Prometheus.
 
 use ipx_carrier::Fates;
-use ipx_site::Figures;
+use ipx_site::{Figures, Kept, KeptBack};
 use std::alloc::AllocError;
 
 /// Figures of a router, each another number.
@@ -22,7 +22,16 @@ pub const FIGURES: Figures = Figures {
     },
     queue_full: 13,
     unmapped: 14,
-    strangers: 15,
+    kept: KeptBack {
+        strangers: Kept {
+            count: 15,
+            last: None,
+        },
+        forged: Kept {
+            count: 23,
+            last: None,
+        },
+    },
     refused: 16,
     device_faults: 17,
     memory_faults: 18,
@@ -33,7 +42,7 @@ pub const FIGURES: Figures = Figures {
 };
 
 /// Lines that stand in it.
-const LINES: [&str; 22] = [
+const LINES: [&str; 23] = [
     "ipx_heard_total 1\n",
     "ipx_sent_total 2\n",
     "ipx_fates_total{fate=\"forwarded\"} 3\n",
@@ -49,6 +58,7 @@ const LINES: [&str; 22] = [
     "ipx_dropped_total{reason=\"queue_full\"} 13\n",
     "ipx_dropped_total{reason=\"unmapped\"} 14\n",
     "ipx_strangers_total 15\n",
+    "ipx_kept_back_total{reason=\"forged\"} 23\n",
     "ipx_refused_total 16\n",
     "ipx_faults_total{of=\"device\"} 17\n",
     "ipx_faults_total{of=\"memory\"} 18\n",

@@ -11,6 +11,8 @@ mod files;
 #[cfg(test)]
 mod fixture;
 #[cfg(test)]
+mod internetworks;
+#[cfg(test)]
 mod moments;
 #[cfg(test)]
 mod peers;

@@ -1,13 +1,16 @@
-//! Who is heard, and whom is sent to.
+//! Who is heard, in whose name, and whom is sent to.
 
 use ipx_carrier::{Datagrams, DeviceFault};
 use ipx_site::{Accept, Guard, PeersOnly, Senders};
+use ipx_wire::{Address, IpxHeader, Network, Node, Packet, Socket, encode_into};
 use std::alloc::{AllocError, Global};
+use std::process::Abort;
 
-/// A device with one port, to which bytes always come from one IP address.
+/// A device with one port, to which the same bytes always come from one IP address.
 #[derive(Drop)]
 struct Fountain {
-    from: [u8; 4],
+    from: Option<[u8; 4]>,
+    bytes: [u8; 30],
 }
 
 impl Datagrams for Fountain {
@@ -36,17 +39,17 @@ impl Datagrams for Fountain {
     }
 
     fn receive(&mut self, _port: usize, room: &mut [u8]) -> Result<Option<usize>, DeviceFault> {
-        Ok(Some(room.len()))
+        let count = room.len().min(self.bytes.len());
+        room[..count].copy_from_slice(&self.bytes[..count]);
+        Ok(Some(count))
     }
 }
 
 impl Senders for Fountain {
-    ghost use Rattle.std.specs.Prelude.{Some};
-
-    ghost last_sender = { λ d. Some d.from };
+    ghost last_sender = { λ d. d.from };
 
     fn sender(&self) -> Option<[u8; 4]> {
-        Some(self.from)
+        self.from
     }
 }
 
@@ -57,8 +60,114 @@ fn guarded(
     accept: Accept,
 ) -> Result<PeersOnly<Fountain>, AllocError> {
     let peers = vec![in alloc; [10, 0, 0, 1]]?;
-    let guards = vec![in alloc; Guard { peers, accept }]?;
-    Ok(PeersOnly::new(Fountain { from }, guards))
+    let guard = Guard {
+        network: HERE,
+        peers,
+        accept,
+    };
+    let fountain = Fountain {
+        from: Some(from),
+        bytes: [0; 30],
+    };
+    Ok(PeersOnly::new(fountain, vec![in alloc; guard]?))
+}
+
+/// The networks that packets of these tests name: that of the port, and another one.
+const HERE: Network = Network(0x11);
+
+const AWAY: Network = Network(0x22);
+
+/// The nodes of the peer, and of another one.
+const PEER: Node = Node([0, 0, 10, 0, 0, 1]);
+
+const OTHER: Node = Node([0, 0, 10, 0, 0, 2]);
+
+/// Whether a packet with this source, for this network, that passed so many routers is heard from
+/// the peer, or from no address. What is not is counted as forged, and as nothing else.
+fn is_heard(
+    rt: &impl Abort,
+    alloc: Global,
+    ip: Option<[u8; 4]>,
+    source: (Network, Node),
+    to: Network,
+    hops: u8,
+) -> Result<bool, AllocError> {
+    let header = IpxHeader {
+        hops,
+        kind: 0,
+        to: Address {
+            network: to,
+            node: OTHER,
+            socket: Socket(0x4002),
+        },
+        from: Address {
+            network: source.0,
+            node: source.1,
+            socket: Socket(0x4003),
+        },
+    };
+    let mut bytes = [0; 30];
+    let _all = encode_into(&Packet { header, body: &[] }, &mut bytes);
+    let guard = Guard {
+        network: HERE,
+        peers: Vec::new(alloc),
+        accept: Accept::Any,
+    };
+    let mut device = PeersOnly::new(Fountain { from: ip, bytes }, vec![in alloc; guard]?);
+    let mut room = [0; 64];
+    let heard = matches!(device.receive(0, &mut room), Ok(Some(30)));
+    let kept = device.kept();
+    assert_eq!(rt; kept.forged.count, u64::from(!heard));
+    assert!(rt; heard || kept.forged.last == ip);
+    assert_eq!(rt; kept.strangers.count, 0);
+    Ok(heard)
+}
+
+#[test]
+fn hears_a_source_that_is_the_sender(rt: HostRuntime) -> Result<(), AllocError> {
+    let ip = Some([10, 0, 0, 1]);
+    for from in [Network::LOCAL, HERE, AWAY] {
+        for to in [Network::LOCAL, HERE, AWAY] {
+            for hops in [0, 1] {
+                assert!(rt; is_heard(&rt, rt.alloc(), ip, (from, PEER), to, hops)?);
+            }
+        }
+    }
+    Ok(())
+}
+
+#[test]
+fn hears_another_node_only_by_a_router(rt: HostRuntime) -> Result<(), AllocError> {
+    let ip = Some([10, 0, 0, 1]);
+    for to in [Network::LOCAL, HERE, AWAY] {
+        for hops in [0, 1] {
+            assert!(rt; !is_heard(&rt, rt.alloc(), ip, (Network::LOCAL, OTHER), to, hops)?);
+            assert!(rt; is_heard(&rt, rt.alloc(), ip, (AWAY, OTHER), to, hops)?);
+            let handed_on = to == AWAY && hops > 0;
+            assert_eq!(rt;
+                is_heard(&rt, rt.alloc(), ip, (HERE, OTHER), to, hops)?,
+                handed_on
+            );
+        }
+    }
+    Ok(())
+}
+
+#[test]
+fn hears_nobody_as_every_node(rt: HostRuntime) -> Result<(), AllocError> {
+    let ip = Some([10, 0, 0, 1]);
+    for from in [Network::LOCAL, HERE, AWAY] {
+        assert!(rt; !is_heard(&rt, rt.alloc(), ip, (from, Node::BROADCAST), AWAY, 1)?);
+    }
+    Ok(())
+}
+
+#[test]
+fn hears_from_no_address_only_what_a_router_passed_on(rt: HostRuntime) -> Result<(), AllocError> {
+    assert!(rt; !is_heard(&rt, rt.alloc(), None, (HERE, PEER), AWAY, 0)?);
+    assert!(rt; is_heard(&rt, rt.alloc(), None, (HERE, PEER), AWAY, 1)?);
+    assert!(rt; is_heard(&rt, rt.alloc(), None, (AWAY, PEER), HERE, 1)?);
+    Ok(())
 }
 
 #[test]
@@ -66,7 +175,7 @@ fn hears_a_peer(rt: HostRuntime) -> Result<(), AllocError> {
     let mut device = guarded(rt.alloc(), [10, 0, 0, 1], Accept::Peers)?;
     let mut room = [0; 4];
     assert!(rt; matches!(device.receive(0, &mut room), Ok(Some(4))));
-    assert_eq!(rt; device.strangers(), 0);
+    assert_eq!(rt; device.kept().total(), 0);
     Ok(())
 }
 
@@ -75,7 +184,9 @@ fn hears_no_stranger(rt: HostRuntime) -> Result<(), AllocError> {
     let mut device = guarded(rt.alloc(), [10, 0, 0, 2], Accept::Peers)?;
     let mut room = [0; 4];
     assert!(rt; matches!(device.receive(0, &mut room), Ok(None)));
-    assert_eq!(rt; device.strangers(), 1);
+    assert_eq!(rt; device.kept().strangers.count, 1);
+    assert_eq!(rt; device.kept().strangers.last, Some([10, 0, 0, 2]));
+    assert_eq!(rt; device.kept().total(), 1);
     Ok(())
 }
 
@@ -84,7 +195,7 @@ fn hears_everybody(rt: HostRuntime) -> Result<(), AllocError> {
     let mut device = guarded(rt.alloc(), [10, 0, 0, 2], Accept::Any)?;
     let mut room = [0; 4];
     assert!(rt; matches!(device.receive(0, &mut room), Ok(Some(4))));
-    assert_eq!(rt; device.strangers(), 0);
+    assert_eq!(rt; device.kept().total(), 0);
     Ok(())
 }
 

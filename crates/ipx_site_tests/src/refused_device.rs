@@ -7,7 +7,7 @@ use ipx_site::{
     Accept, BindFault, Burst, Guard, PeersOnly, Readiness, SiteSockets, SteadyClock, WaitFault,
     run_burst,
 };
-use ipx_wire::{Node, OutOfMemory};
+use ipx_wire::{Network, Node, OutOfMemory};
 use std::alloc::Global;
 
 const UDP_PORT: u16 = 21393;
@@ -70,6 +70,7 @@ fn socket_at_last(rt: &HostRuntime, last: u8) -> Result<SiteSockets, BindFault> 
 fn guarded(alloc: Global, sockets: SiteSockets) -> PeersOnly<SiteSockets> {
     let mut guards = Vec::new(alloc);
     let guard = Guard {
+        network: Network(1),
         peers: Vec::new(alloc),
         accept: Accept::Any,
     };

@@ -4,7 +4,7 @@ use ipx_carrier::{Core, Datagrams, DeviceFault};
 use ipx_site::{
     Accept, BindFault, Guard, PeersOnly, Readiness, SiteSockets, SteadyClock, run_burst,
 };
-use ipx_wire::{Node, OutOfMemory};
+use ipx_wire::{Network, Node, OutOfMemory};
 use std::alloc::{AllocError, Global};
 use std::test::Fail;
 
@@ -66,6 +66,7 @@ fn send(device: &mut SiteSockets, last: u8) -> Result<(), DeviceFault> {
 fn guarded(alloc: Global, sockets: SiteSockets) -> Result<PeersOnly<SiteSockets>, AllocError> {
     let peers = vec![in alloc; [127, 0, 92, 4]]?;
     let guard = Guard {
+        network: Network(1),
         peers,
         accept: Accept::Peers,
     };
@@ -97,6 +98,6 @@ fn a_burst_ends_quietly(rt: HostRuntime) -> Result<(), Fail> {
     let burst = run_burst(alloc, &mut Mute, &mut device, &peers, &mut clock, 8);
     assert!(rt; burst.quiet && burst.fault.is_none());
     assert_eq!(rt; (burst.heard, burst.sent), (1, 0));
-    assert_eq!(rt; device.strangers(), 1);
+    assert_eq!(rt; device.kept().strangers.count, 1);
     Ok(())
 }

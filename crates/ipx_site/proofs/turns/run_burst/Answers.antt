@@ -1,8 +1,9 @@
 use Rattle.std.proofs.Common.{◌∙◌, arith, ap, sym}
 use Rattle.ipx_carrier.specs.declared.fault.RunFault.TheVariants.{Device}
 use Rattle.ipx_carrier.specs.Turns.{peers_of}
+use Rattle.ipx_site.specs.Peers.{kept_in}
 use Rattle.ipx_site.proofs.Bursting.{begins_again, ends_badly, ends_quietly, goes_on, is_busy_so, no_fault, refused_first, refused_none, same_fault}
-use Rattle.ipx_site.proofs.turns.run_burst.Goals.{else-is_idle-via-then-is_idle+else-strangers, else-is_idle-via-else-is_idle}
+use Rattle.ipx_site.proofs.turns.run_burst.Goals.{else-is_idle-via-then-is_idle+else-total-kept, else-is_idle-via-else-is_idle}
 use Rattle.ipx_site.proofs.turns.run_burst.Goals as goal
 
 pub returns-in-Err-clause-turns : goal.returns-in-Err-clause-turns
@@ -11,7 +12,7 @@ returns-in-Err-clause-turns g c =
     let l = c.loop-turn in
     let i = l.invariant in
     let again = begins_again i.ports i.device_ports (i.failures can) can in
-    ends_badly g.C.Core.hears g.C.Core.misses g.C.Core.gives g.C.Core.withholds g.K.Clock.tells (g.C.Core.port_count c.args.core.now) (peers_of c.args.peers.now) (g.C.Core.port_count l.core) l._turn c.args.most c.args.device.now.strangers l.device.strangers c.take_turn.new.device.strangers c.args.clock.now l.clock c.take_turn.new.clock c.args.core.now l.core c.take_turn.new.core l.burst c.ended_by.result c.in-Err.fault i.ports (omega (arith, c.loop-turn-test.true)) i.loud c.ended_by.ensures (i.goes can) c.in-Err.ensures.kept_back (c.in-Err.ensures.begins again)
+    ends_badly g.C.Core.hears g.C.Core.misses g.C.Core.gives g.C.Core.withholds g.K.Clock.tells (g.C.Core.port_count c.args.core.now) (peers_of c.args.peers.now) (g.C.Core.port_count l.core) l._turn c.args.most (kept_in c.args.device.now.kept) (kept_in l.device.kept) (kept_in c.take_turn.new.device.kept) c.args.clock.now l.clock c.take_turn.new.clock c.args.core.now l.core c.take_turn.new.core l.burst c.ended_by.result c.in-Err.fault i.ports (omega (arith, c.loop-turn-test.true)) i.loud c.ended_by.ensures (i.goes can) c.in-Err.ensures.kept_back (c.in-Err.ensures.begins again)
 
 pub returns-in-Err-clause-refused : goal.returns-in-Err-clause-refused
 returns-in-Err-clause-refused g c =
@@ -27,14 +28,14 @@ returns-in-Err-clause-refused g c =
       none.3 ∙ still.4,
     )
 
-pub returns-then-strangers-clause-turns : goal.returns-then-strangers-clause-turns
-returns-then-strangers-clause-turns g c =
+pub returns-then-total-kept-clause-turns : goal.returns-then-total-kept-clause-turns
+returns-then-total-kept-clause-turns g c =
     λ can.
     let l = c.loop-turn in
     let i = l.invariant in
     let report = c.in-Ok.report in
     let counted = c.with-burst.ensures in
-    ends_quietly g.C.Core.hears g.C.Core.misses g.C.Core.gives g.C.Core.withholds g.K.Clock.tells (g.C.Core.port_count c.args.core.now) (peers_of c.args.peers.now) (g.C.Core.port_count l.core) l._turn c.args.most c.args.device.now.strangers l.device.strangers c.take_turn.new.device.strangers c.args.clock.now l.clock c.take_turn.new.clock c.args.core.now l.core c.take_turn.new.core l.burst c.with-burst.result c.quieted.result report i.ports (omega (arith, c.loop-turn-test.true)) (i.goes can) (sym c.strangers.ensures ∙ c.if-strangers.true ∙ c.strangers-strangers.ensures) c.in-Ok.ensures.turn (c.is_idle.ensures.0 c.if-is_idle.true) (counted.heard, counted.sent, counted.unmapped) (counted.rest.0 ∙ i.whole) c.quieted.ensures
+    ends_quietly g.C.Core.hears g.C.Core.misses g.C.Core.gives g.C.Core.withholds g.K.Clock.tells (g.C.Core.port_count c.args.core.now) (peers_of c.args.peers.now) (g.C.Core.port_count l.core) l._turn c.args.most (kept_in c.args.device.now.kept) (kept_in l.device.kept) (kept_in c.take_turn.new.device.kept) c.args.clock.now l.clock c.take_turn.new.clock c.args.core.now l.core c.take_turn.new.core l.burst c.with-burst.result c.quieted.result report i.ports (omega (arith, c.loop-turn-test.true)) (i.goes can) (sym (c.total.ensures ∙ ap kept_in c.kept-then-is_idle.ensures) ∙ c.if-total-kept.true ∙ c.total-kept.ensures ∙ ap kept_in c.kept.ensures) c.in-Ok.ensures.turn (c.is_idle.ensures.0 c.if-is_idle.true) (counted.heard, counted.sent, counted.unmapped) (counted.rest.0 ∙ i.whole) c.quieted.ensures
 
 pub loop-turn-preserved : goal.loop-turn-preserved
 loop-turn-preserved g c =
@@ -44,8 +45,8 @@ loop-turn-preserved g c =
     let counted = c.with-burst.ensures in
     record {
       failures = λ can. c.in-Ok.ensures.failures (begins_again i.ports i.device_ports (i.failures can) can) ∙ i.failures can;
-      goes = λ can. goes_on g.C.Core.hears g.C.Core.gives g.K.Clock.tells (g.C.Core.port_count c.args.core.now) (peers_of c.args.peers.now) (g.C.Core.port_count l.core) l._turn c.args.device.now.strangers l.device.strangers c.take_turn.new.device.strangers c.args.clock.now l.clock c.take_turn.new.clock c.args.core.now l.core c.take_turn.new.core l.burst c.with-burst.result report i.ports (i.goes can) c.in-Ok.ensures.kept_back c.in-Ok.ensures.turn (counted.heard, counted.sent, counted.unmapped)
-          (λ idle. elim c.else-is_idle.branch [ else-is_idle-via-then-is_idle+else-strangers w ↦ w.if-strangers.false (w.strangers.ensures ∙ idle.2 ∙ sym c.strangers-strangers.ensures) | else-is_idle-via-else-is_idle w ↦ is_busy_so c.is_idle.result report c.is_idle.ensures w.if-is_idle.false (idle.0, idle.1) ]);
+      goes = λ can. goes_on g.C.Core.hears g.C.Core.gives g.K.Clock.tells (g.C.Core.port_count c.args.core.now) (peers_of c.args.peers.now) (g.C.Core.port_count l.core) l._turn (kept_in c.args.device.now.kept) (kept_in l.device.kept) (kept_in c.take_turn.new.device.kept) c.args.clock.now l.clock c.take_turn.new.clock c.args.core.now l.core c.take_turn.new.core l.burst c.with-burst.result report i.ports (i.goes can) c.in-Ok.ensures.kept_back c.in-Ok.ensures.turn (counted.heard, counted.sent, counted.unmapped)
+          (λ idle. elim c.else-is_idle.branch [ else-is_idle-via-then-is_idle+else-total-kept w ↦ w.if-total-kept.false (w.total.ensures ∙ ap kept_in w.kept-then-is_idle.ensures ∙ idle.2 ∙ sym (c.total-kept.ensures ∙ ap kept_in c.kept.ensures)) | else-is_idle-via-else-is_idle w ↦ is_busy_so c.is_idle.result report c.is_idle.ensures w.if-is_idle.false (idle.0, idle.1) ]);
       nothing = λ cannot.
           let still = i.nothing cannot in
           let same = ap (λ d. g.D.Datagrams.failed d.device) still.3 in

@@ -2,6 +2,7 @@ use Rattle.std.proofs.Common.{◌≡◌, None, false, length, map}
 use Rattle.ipx_carrier.specs.Turns.{peers_of}
 use Rattle.ipx_site.proofs.Bursting.{Goes}
 use Rattle.ipx_site.specs.Bursts.{CanBegin, no_turns}
+use Rattle.ipx_site.specs.Peers.{kept_in}
 use Rattle.ipx_site.specs.Ports.{access_by}
 use Rattle.ipx_site.proofs.turns.run_burst.Given as goal
 
@@ -10,7 +11,7 @@ invariant-loop-turn g l =
     let begun = CanBegin (g.C.Core.port_count l.fn.core) (g.D.Datagrams.port_count l.fn.device.device) (length l.fn.peers) (g.D.Datagrams.failed l.fn.device.device) in
     record {
       failures : begun → g.D.Datagrams.failed l.device.device ≡ g.D.Datagrams.failed l.fn.device.device;
-      goes : begun → Goes g.C.Core.hears g.C.Core.gives g.K.Clock.tells (g.C.Core.port_count l.fn.core) (peers_of l.fn.peers) l._turn l.burst l.fn.device.strangers l.device.strangers l.fn.clock l.clock l.fn.core l.core;
+      goes : begun → Goes g.C.Core.hears g.C.Core.gives g.K.Clock.tells (g.C.Core.port_count l.fn.core) (peers_of l.fn.peers) l._turn l.burst (kept_in l.fn.device.kept) (kept_in l.device.kept) l.fn.clock l.clock l.fn.core l.core;
       nothing : (begun → ⊥) → (l._turn ≡ 0) × (l.burst ≡ no_turns) × (l.core ≡ l.fn.core) × (l.device ≡ l.fn.device) × (l.clock ≡ l.fn.clock);
       whole : l.burst.fault ≡ None;
       loud : l.burst.quiet ≡ false;
