@@ -91,7 +91,7 @@ HandsUp Forged from n up before after =
     (up ≡ None) × (after ≡ record before { forged = one_more before.forged from })
 
 -- so a device receives into a room, where so many bytes came from there, or nothing did
-abbrev pub Receives : Option Guard → Option (List ℕ) → List ℕ → Option ℕ → Option ℕ → KeptBack → KeptBack → Type 0
-Receives g from room None up before after = (up ≡ None) × (after ≡ before)
-Receives g from room (Some n) up before after = (word : Word) × IsWordOn g from (take n room) word
+abbrev pub TakesIn : Option Guard → Option (List ℕ) → List ℕ → Option ℕ → Option ℕ → KeptBack → KeptBack → Type 0
+TakesIn g from room None up before after = (up ≡ None) × (after ≡ before)
+TakesIn g from room (Some n) up before after = (word : Word) × IsWordOn g from (take n room) word
     × HandsUp word from n up before after

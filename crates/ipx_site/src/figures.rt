@@ -7,7 +7,7 @@ use std::alloc::{AllocError, Global};
 /// What a router counted since it started.
 #[derive(Clone, Copy, Debug, PartialEq, Eq)]
 pub struct Figures {
-    /// The datagrams that it heard and sent.
+    /// The datagrams that it heard, and those that the system took to be sent.
     pub heard: u64,
     pub sent: u64,
     /// What became of those that it heard.
@@ -44,7 +44,7 @@ const HEARD: Family = Family {
 
 const SENT: Family = Family {
     name: "ipx_sent_total",
-    help: "Datagrams that were sent",
+    help: "Datagrams that the system took to be sent",
     kind: "counter",
 };
 

@@ -4,7 +4,7 @@ ghost use Rattle.std.specs.Prelude.{◌≡◌, ◌<◌, ◌≤◌, ◌+◌, ◌^
 ghost use Rattle.ipx_carrier.specs.Device.{Passes, received_in};
 ghost use Rattle.ipx_carrier.specs.Fates.{raised};
 ghost use Rattle.ipx_carrier.specs.Fault.{device_failures};
-ghost use Rattle.ipx_site.specs.Peers.{IsWordOn, Receives, hears_from, is_peer, kept_in, may_go, none_kept, nothing_kept, one_more};
+ghost use Rattle.ipx_site.specs.Peers.{IsWordOn, TakesIn, hears_from, is_peer, kept_in, may_go, none_kept, nothing_kept, one_more};
 ghost use Rattle.ipx_site.specs.Ports.{access_by};
 
 use crate::own_word::is_own_word;
@@ -251,7 +251,7 @@ impl<D: Senders + Drop> Datagrams for PeersOnly<D> {
         ensures received { IfOk result (λ up. (came : Option ℕ)
             × Passes (D.traffic self.old.device) (D.traffic self.new.device)
             (record { port = port; bytes = received_in room.new came } ∷ []) []
-            × Receives (slice_get self.old.guards.items port) (D.last_sender self.new.device)
+            × TakesIn (slice_get self.old.guards.items port) (D.last_sender self.new.device)
             room.new came up self.old.kept self.new.kept) }
         ensures within { IfOk result (λ up. IfSome up (λ n. n ≤ length room.old)) }
         ensures faulty { OnErr result ((D.traffic self.new.device ≡ D.traffic self.old.device)

@@ -1,6 +1,6 @@
 //! Sockets of UDP, one for each port of a site.
 
-ghost use Rattle.std.specs.Prelude.{◌≡◌, ◌<◌, ◌↔◌, ◌∷◌, [], IfOk, IsSome, length, map};
+ghost use Rattle.std.specs.Prelude.{◌≡◌, ◌⊎◌, ◌<◌, ◌↔◌, ◌∷◌, [], IfOk, IsSome, OnErr, length, map};
 ghost use Rattle.ipx_carrier.specs.Fates.{raised};
 ghost use Rattle.ipx_site.specs.Ports.{udp_ports};
 
@@ -30,6 +30,7 @@ struct PortSocket {
 #[derive(Drop)]
 pub struct SiteSockets {
     sockets: Vec<PortSocket>,
+    sent: u64,
     faults: u64,
     sender: Option<[u8; 4]>,
 }
@@ -69,6 +70,7 @@ fn device_of(sockets: Vec<PortSocket>) -> SiteSockets
 {
     SiteSockets {
         sockets,
+        sent: 0,
         faults: 0,
         sender: None,
     }
@@ -112,6 +114,13 @@ impl SiteSockets {
         }
     }
 
+    /// How many datagrams the system took to be sent. It stays at the greatest u64.
+    pub fn sent(&self) -> u64
+        ensures { result ≡ self.now.sent }
+    {
+        self.sent
+    }
+
     /// How often the system refused to send or to receive a datagram. It stays at the greatest u64.
     pub fn faults(&self) -> u64
         ensures { result ≡ self.now.faults }
@@ -131,6 +140,7 @@ impl SiteSockets {
         ensures counted { self.new.faults ≡ raised self.old.faults }
         ensures sockets { self.new.sockets ≡ self.old.sockets }
         ensures sender { self.new.sender ≡ self.old.sender }
+        ensures sent { self.new.sent ≡ self.old.sent }
     {
         raise(&mut self.faults);
     }
@@ -158,10 +168,18 @@ impl Datagrams for SiteSockets {
         0
     }
 
-    fn send(&mut self, port: usize, to: [u8; 4], bytes: &[u8]) -> Result<(), DeviceFault> {
+    fn send(&mut self, port: usize, to: [u8; 4], bytes: &[u8]) -> Result<(), DeviceFault>
+        requires there { port < length self.old.sockets.items }
+        // The system took it or refused it, and that is counted.
+        ensures counted { ((self.new.sent ≡ raised self.old.sent)
+            × (self.new.faults ≡ self.old.faults)) ⊎ ((self.new.sent ≡ self.old.sent)
+            × (self.new.faults ≡ raised self.old.faults)) }
+        ensures sockets { self.new.sockets ≡ self.old.sockets }
+        ensures goes_on { OnErr result ⊥ }
+    {
         let place = place_of(to, self.sockets[port].udp_port);
         match self.sockets[port].socket.send_to(bytes, place) {
-            Ok(count) if count == bytes.len() => {}
+            Ok(count) if count == bytes.len() => raise(&mut self.sent),
             _ => self.count_fault(),
         }
         Ok(())

@@ -11,7 +11,6 @@ use ipx_carrier::{RouterCore, RunFault};
 #[derive(Clone, Copy, Debug, PartialEq, Eq)]
 pub struct Tally {
     pub heard: u64,
-    pub sent: u64,
     pub unmapped: u64,
     pub device_faults: u64,
     pub memory_faults: u64,
@@ -22,7 +21,6 @@ impl Tally {
     pub fn new() -> Tally {
         Tally {
             heard: 0,
-            sent: 0,
             unmapped: 0,
             device_faults: 0,
             memory_faults: 0,
@@ -32,7 +30,6 @@ impl Tally {
 
     pub fn add(&mut self, burst: Burst) {
         self.heard = self.heard.saturating_add(burst.heard);
-        self.sent = self.sent.saturating_add(burst.sent);
         self.unmapped = self.unmapped.saturating_add(burst.unmapped);
         match burst.fault {
             Some(RunFault::Device) => self.device_faults = self.device_faults.saturating_add(1),
@@ -59,7 +56,7 @@ impl Tally {
     ) -> Figures {
         Figures {
             heard: self.heard,
-            sent: self.sent,
+            sent: device.device().sent(),
             fates: core.fates(),
             queue_full: core.dropped(),
             unmapped: self.unmapped,
