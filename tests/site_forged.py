@@ -8,13 +8,13 @@ from site_packets import ipx, rip_response
 from site_world import bound, node, some_bytes, until
 
 # A router with two peers on one network, of which the first speaks for others, and one on another.
-FORGER, NAMED, FAR = "127.0.1.92", "127.0.1.93", "127.0.1.94"
+FORGER, NAMED, FAR = "127.0.1.112", "127.0.1.113", "127.0.1.114"
 # Two routers on one network, and on it a host that names the one that is not next.
-HANDED = "127.0.1.99", "127.0.1.100"
+HANDED = "127.0.1.119", "127.0.1.120"
 FORGED = {
-    "f1": [("00000051", "127.0.1.90", [FORGER, NAMED]), ("00000052", "127.0.1.91", [FAR])],
-    "h1": [("00000053", "127.0.1.95", ["127.0.1.96", HANDED[0]]), ("00000054", "127.0.1.97", [])],
-    "h2": [("00000053", "127.0.1.96", ["127.0.1.95", HANDED[0]]), ("00000055", "127.0.1.98", [HANDED[1]])],
+    "f1": [("00000051", "127.0.1.110", [FORGER, NAMED]), ("00000052", "127.0.1.111", [FAR])],
+    "h1": [("00000053", "127.0.1.115", ["127.0.1.116", HANDED[0]]), ("00000054", "127.0.1.117", [])],
+    "h2": [("00000053", "127.0.1.116", ["127.0.1.115", HANDED[0]]), ("00000055", "127.0.1.118", [HANDED[1]])],
 }
 ADDRESSES = [address for ports in FORGED.values() for _, address, _ in ports] + [FORGER, NAMED, FAR, *HANDED]
 EVERY_NODE = "f" * 12
@@ -42,8 +42,8 @@ def came_to(one, ip):
 
 def start_forged(sites):
     """Starts the three routers, and a host that listens behind them."""
-    sites.host("handed-listener", "00000055", HANDED[1], "127.0.1.98", "4002")
-    sites.host("handed-sender", "00000053", HANDED[0], "127.0.1.95", "4003")
+    sites.host("handed-listener", "00000055", HANDED[1], "127.0.1.118", "4002")
+    sites.host("handed-sender", "00000053", HANDED[0], "127.0.1.115", "4003")
     for name in FORGED:
         sites.start_router(name)
     ends = {ip: bound(ip, sites.port) for ip in (FORGER, NAMED, FAR)}
