@@ -5,6 +5,7 @@ pub mod Carried
 pub mod Close
 pub mod Deeds
 pub mod EndsTold
+pub mod EntriesOfEnds
 pub mod Handed
 pub mod HandedOut
 pub mod InStep

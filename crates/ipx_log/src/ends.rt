@@ -2,6 +2,7 @@
 
 ghost use Rattle.std.specs.Prelude.{ℕ};
 ghost use Rattle.ipx_log.specs.Deeds.{Reached};
+ghost use Rattle.ipx_log.specs.EntriesOfEnds.{EntriesTellEnds};
 ghost use Rattle.ipx_log.specs.EndsTold.{EndsAreTold, EndsStay, GoneSendsNothing, PeerIsFound};
 ghost use Rattle.ipx_log.specs.Numbered.{NumbersAreInOrder};
 ghost use Rattle.ipx_log.specs.Scan.{Scan};
@@ -45,6 +46,15 @@ pub fn numbers_are_in_order()
 /// connection where it was asked for.
 pub fn units_are_cuts()
     ensures { (s : Scene) → Reached s → UnitsAreCuts s }
+{
+    laws_below();
+}
+
+/// An end is at the host of the entry that opened it. It has no link just where an entry says that
+/// it was released; and while it stands, its end of the connection is queued just where an entry
+/// asks for that.
+pub fn entries_tell_ends()
+    ensures { (s : Scene) → Reached s → EntriesTellEnds s }
 {
     laws_below();
 }

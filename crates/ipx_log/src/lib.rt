@@ -13,8 +13,8 @@ mod ends;
 mod laws;
 
 pub use ends::{
-    ends_are_told, ends_stay, gone_sends_nothing, numbers_are_in_order, peer_is_found,
-    units_are_cuts,
+    ends_are_told, ends_stay, entries_tell_ends, gone_sends_nothing, numbers_are_in_order,
+    peer_is_found, units_are_cuts,
 };
 pub use laws::{
     acknowledged_end_is_read, addresses_tell_peers, alone_reads_nothing, confirmed_is_read,
