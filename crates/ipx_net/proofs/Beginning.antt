@@ -1,5 +1,5 @@
 -- Under the premises of the headline each end begins what its peer handed in.
-use Rattle.std.proofs.Common.{ℕ, ◌≡◌, ◌<◌, ◌⊎◌, inl, inr, [], length}
+use Rattle.std.proofs.Common.{ℕ, ◌<◌, inl, inr, length}
 use Rattle.ipx_log.specs.Handed.{handed_in, handed_out, IsBeginning}
 use Rattle.ipx_log.specs.Peers.{ArePeers, Premises}
 use Rattle.ipx_log.specs.Scan.{scan}

@@ -1,24 +1,57 @@
 -- The laws of scenes that are reached, of a network.
-use Rattle.std.proofs.Common.{ℕ, ◌≡◌, List, [], Bool, true, false, map, refl, sym, subst}
+use Rattle.std.proofs.Common.{ℕ, zero, suc, ◌≡◌, ◌≢◌, List, [], ◌∷◌, Bool, true, false, map, None, Option, Some, refl, sym, ap, ◌∙◌, subst}
+use Rattle.std.specs.Prelude.{slice_get}
+use Rattle.std.proofs.lemmas.Bool.{cond-false}
 use Rattle.ipx_wire.specs.declared.address.Network.{Network}
 use Rattle.spx_units.specs.Packets.{Home}
+use Rattle.spx_messages.specs.EndpointView.{Held}
 use Rattle.ipx_log.specs.Addresses.{AddressesTellPeers}
 use Rattle.ipx_log.specs.Allocation.{AloneReadsNothing, WithinAllocation}
 use Rattle.ipx_log.specs.Carried.{RoutersAlterHopsAlone}
+use Rattle.ipx_log.specs.Close.{AcknowledgedIsRead, ConfirmedIsRead, EndTakenIsWhole}
 use Rattle.ipx_log.specs.Deeds.{Reached}
+use Rattle.ipx_log.specs.EndsTold.{EndsAreTold}
+use Rattle.ipx_log.specs.EntriesOfEnds.{EntriesTellEnds}
+use Rattle.ipx_log.specs.HandedOut.{HandsOutWhatItTook}
 use Rattle.ipx_log.specs.InStep.{PeersAreInStep}
+use Rattle.ipx_log.specs.InSteps.{PairsTakeSteps}
 use Rattle.ipx_log.specs.Note.{Note}
-use Rattle.ipx_log.specs.Scene.{Scene}
-use Rattle.ipx_log.specs.SentUnits.{UnitsAreSentInOrder}
-use Rattle.ipx_steps.specs.World.{World, bytes_of, home_at, scene_of, segment_of}
-use Rattle.ipx_net.specs.NetReach.{IsKept}
-use Rattle.ipx_net.specs.Theorems.{AloneHandsOutNothing, PeersHandOn}
+use Rattle.ipx_log.specs.Numbered.{NumbersAreInOrder}
+use Rattle.ipx_log.specs.Scene.{Scene, Stand}
+use Rattle.ipx_log.specs.SentUnits.{LinksSendInOrder, UnitsAreSentInOrder}
+use Rattle.ipx_log.specs.UnitsOfEnds.{UnitsAreCuts}
+use Rattle.ipx_recovery.specs.Stuck.{NoPairIsStuck, NoStateIsStuck, NothingIsStuckByAddresses}
+use Rattle.ipx_steps.specs.World.{EndNow, InOrder, Station, World, bytes_of, held_in, held_of, home_at, scene_of, segment_of, stand_of, stand_with}
+use Rattle.ipx_net.specs.NetReach.{GoesOn, IsKept}
+use Rattle.ipx_net.specs.NetView.{NetView}
+use Rattle.ipx_net.specs.Theorems.{AloneHandsOutNothing, AreNumbered, AreReleasedByLog, AreWhereOpened, LinkTheorems, PeersHandOn, Theorems}
 
-pub going_has : (P : Scene → Type 0) → ((s : Scene) → Reached s → P s) → (w : World) (spent : Bool) → IsKept w spent → spent ≡ false → P (scene_of w)
-going_has P law w true kept is = absurd (cc is)
-going_has P law w false kept is = law (scene_of w) kept.reached
+abbrev pub IsLaw : (Scene → Type 0) → Type 0
+IsLaw P = (s : Scene) → Reached s → P s
 
--- of what speaks of log and parcels alone
+-- the laws of scenes, each a clause of a function of `ipx_log` or `ipx_recovery`
+pub record SceneLaws : Type 0 where
+  pub carried : IsLaw RoutersAlterHopsAlone
+  pub sent : IsLaw UnitsAreSentInOrder
+  pub allowed : IsLaw WithinAllocation
+  pub in_step : IsLaw PeersAreInStep
+  pub alone : IsLaw AloneReadsNothing
+  pub addresses : IsLaw AddressesTellPeers
+  pub machine : IsLaw PairsTakeSteps
+  pub end_taken : IsLaw EndTakenIsWhole
+  pub numbers : IsLaw NumbersAreInOrder
+  pub cuts : IsLaw UnitsAreCuts
+  pub told : IsLaw EndsAreTold
+  pub entries : IsLaw EntriesTellEnds
+  pub joined : IsLaw HandsOutWhatItTook
+  pub confirmed : IsLaw ConfirmedIsRead
+  pub acknowledged : IsLaw AcknowledgedIsRead
+  pub sends : IsLaw LinksSendInOrder
+  pub not_stuck : IsLaw NoStateIsStuck
+  pub not_stuck_both_ways : IsLaw NoPairIsStuck
+  pub not_stuck_by_addresses : IsLaw NothingIsStuckByAddresses
+
+-- ---- what speaks of log and parcels alone
 abbrev pub lain : List (List ℕ) → List Network → List Note → Scene
 lain parcels segments log = record { homes = []; ends = []; parcels = parcels; segments = segments; log = log }
 
@@ -31,30 +64,122 @@ always P law w true kept =
     (subst (λ g. P (lain (map bytes_of w.parcels) g s.log)) kept.segments
     (subst (λ p. P (lain p s.segments s.log)) kept.parcels (law s kept.reached)))
 
-pub alters : ((s : Scene) → Reached s → RoutersAlterHopsAlone s) → (w : World) (spent : Bool) → IsKept w spent → RoutersAlterHopsAlone (scene_of w)
-alters law w spent kept = always RoutersAlterHopsAlone (λ s r. law s r) w spent kept
-
-pub allowed : ((s : Scene) → Reached s → WithinAllocation s) → (w : World) (spent : Bool) → IsKept w spent → WithinAllocation (scene_of w)
-allowed law w spent kept = always WithinAllocation (λ s r. law s r) w spent kept
-
-pub in_order : ((s : Scene) → Reached s → UnitsAreSentInOrder s) → (w : World) (spent : Bool) → IsKept w spent → UnitsAreSentInOrder (scene_of w)
+in_order : IsLaw UnitsAreSentInOrder → (w : World) (spent : Bool) → IsKept w spent → UnitsAreSentInOrder (scene_of w)
 in_order law w spent kept =
     let at : UnitsAreSentInOrder (lain (map bytes_of w.parcels) (map segment_of w.parcels) w.log) = always UnitsAreSentInOrder (λ s r. record { first = (law s r).first; again = (law s r).again }) w spent kept in
     record { first = at.first; again = at.again }
 
-pub hands_on : ((s : Scene) → Reached s → PeersAreInStep s) → (w : World) (spent : Bool) → IsKept w spent → PeersHandOn (scene_of w)
+hands_on : IsLaw PeersAreInStep → (w : World) (spent : Bool) → IsKept w spent → PeersHandOn (scene_of w)
 hands_on law w spent kept = always PeersHandOn (λ s r premises c d joined. ((law s r premises c d joined).0.prefix, (law s r premises c d joined).1.prefix)) w spent kept
 
-pub alone_hands : ((s : Scene) → Reached s → AloneReadsNothing s) → (w : World) (spent : Bool) → IsKept w spent → AloneHandsOutNothing (scene_of w)
+alone_hands : IsLaw AloneReadsNothing → (w : World) (spent : Bool) → IsKept w spent → AloneHandsOutNothing (scene_of w)
 alone_hands law w spent kept = always AloneHandsOutNothing (λ s r premises who alone. let x = law s r premises who alone in (x.0, x.1)) w spent kept
 
--- of what speaks of addresses and log alone
+-- ---- of what speaks of addresses and log alone
 abbrev pub addressed : List Home → List Note → Scene
 addressed homes log = record { homes = homes; ends = []; parcels = []; segments = []; log = log }
 
-pub addresses : ((s : Scene) → Reached s → AddressesTellPeers s) → (w : World) (spent : Bool) → IsKept w spent → AddressesTellPeers (scene_of w)
+addresses : IsLaw AddressesTellPeers → (w : World) (spent : Bool) → IsKept w spent → AddressesTellPeers (scene_of w)
 addresses law w false kept = law (scene_of w) kept.reached
 addresses law w true kept =
     let s : Scene = kept.scene in
     subst (λ l. AddressesTellPeers (addressed (map home_at w.hosts) l)) kept.log
     (subst (λ h. AddressesTellPeers (addressed h s.log)) kept.homes (law s kept.reached))
+
+-- ---- an end of the scene and the end of the world
+
+pub stands_there : (w : World) (who : ℕ) (n : EndNow) → slice_get w.ends who ≡ Some n → slice_get (scene_of w).ends who ≡ Some (stand_of w.hosts n)
+stands_there w who n at = there w.ends who at
+  where
+    there : (es : List EndNow) (k : ℕ) → slice_get es k ≡ Some n → slice_get (map (stand_of w.hosts) es) k ≡ Some (stand_of w.hosts n)
+    there [] k is = cc is
+    there (e ∷ es) zero is = let same : e ≡ n = cc is in ap (λ x. Some (stand_of w.hosts x)) same
+    there (e ∷ es) (suc k) is = there es k is
+
+pub stands_of : (w : World) (who : ℕ) (e : Stand) → slice_get (scene_of w).ends who ≡ Some e → (n : EndNow) × (slice_get w.ends who ≡ Some n) × (stand_of w.hosts n ≡ e)
+stands_of w who e at = of w.ends who at
+  where
+    of : (es : List EndNow) (k : ℕ) → slice_get (map (stand_of w.hosts) es) k ≡ Some e → (n : EndNow) × (slice_get es k ≡ Some n) × (stand_of w.hosts n ≡ e)
+    of [] k is = cc is
+    of (x ∷ es) zero is = (x, refl, cc is)
+    of (x ∷ es) (suc k) is = of es k is
+
+host_of_stand : (n : EndNow) (h : Option Held) → (stand_with n h).host ≡ n.host
+host_of_stand n None = refl
+host_of_stand n (Some h) = refl
+
+linkless : (n : EndNow) (h : Option Held) → h ≡ None → (stand_with n h).link ≡ None
+linkless n h is = ap (λ (x : Option Held). (stand_with n x).link) is
+
+link_there : (n : EndNow) (h : Held) (o : Option Held) → o ≡ Some h → (stand_with n o).link ≢ None
+link_there n h o is gone = let no : Some h.link ≡ None = sym (ap (λ (x : Option Held). (stand_with n x).link) is) ∙ gone in cc no
+
+where_opened : (w : World) → EntriesTellEnds (scene_of w) → AreWhereOpened w
+where_opened w t who host buffers has =
+    let e = t.opened who host buffers has in
+    let n = stands_of w who e.0 e.1 in
+    (n.0, n.1, sym (host_of_stand n.0 (held_of w.hosts n.0)) ∙ ap (λ (x : Stand). x.host) n.2 ∙ e.2)
+
+-- a released end has no link; one that is not has one
+released_end : (w : World) (n : EndNow) → n.released ≡ true → (stand_of w.hosts n).link ≡ None
+released_end w n is = rw is refl
+
+pub held_there : (w : World) (n : EndNow) {x : Station} {h : Held} → n.released ≡ false → slice_get w.hosts n.host ≡ Some x → held_in (Some x) n.id ≡ Some h → held_of w.hosts n ≡ Some h
+held_there w n is there live = cond-false n.released None (held_in (slice_get w.hosts n.host) n.id) is ∙ (ap (λ o. held_in o n.id) there ∙ live)
+
+unreleased_end : (w : World) → InOrder w → (who : ℕ) (n : EndNow) → slice_get w.ends who ≡ Some n → (b : Bool) → n.released ≡ b → (stand_of w.hosts n).link ≡ None → n.released ≡ true
+unreleased_end w order who n at true is gone = is
+unreleased_end w order who n at false is gone =
+    let there = order.ends who n at is in
+    absurd (link_there n there.held (held_of w.hosts n) (held_there w n is there.there there.live) gone)
+
+released_by_log : (w : World) → InOrder w → EntriesTellEnds (scene_of w) → AreReleasedByLog w
+released_by_log w order t who n at =
+    let both = t.released who (stand_of w.hosts n) (stands_there w who n at) in
+    (λ is. both.0 (released_end w n is), λ has. unreleased_end w order who n at n.released refl (both.1 has))
+
+-- ---- all of it
+
+links : SceneLaws → (w : World) → GoesOn w → LinkTheorems w
+links laws w going =
+    let s : Scene = scene_of w in
+    let r : Reached s = going.reached in
+    let entries = laws.entries s r in
+    record {
+      order = going.order;
+      numbers = laws.numbers s r;
+      told = laws.told s r;
+      opened = where_opened w entries;
+      released = released_by_log w going.order entries;
+      asked = entries.asked;
+      in_step = laws.in_step s r;
+      joined = laws.joined s r;
+      alone = laws.alone s r;
+      confirmed = laws.confirmed s r;
+      acknowledged = laws.acknowledged s r;
+      sends = laws.sends s r;
+      not_stuck = laws.not_stuck s r;
+      not_stuck_both_ways = laws.not_stuck_both_ways s r;
+      not_stuck_by_addresses = laws.not_stuck_by_addresses s r;
+    }
+
+links_going : SceneLaws → (w : World) (spent : Bool) → IsKept w spent → spent ≡ false → LinkTheorems w
+links_going laws w true kept is = absurd (cc is)
+links_going laws w false kept is = links laws w kept
+
+pub theorems : SceneLaws → (v : NetView) → IsKept v.now.world v.spent → Theorems v
+theorems laws v kept =
+    let w : World = v.now.world in
+    record {
+      alters = always RoutersAlterHopsAlone laws.carried w v.spent kept;
+      in_order = in_order laws.sent w v.spent kept;
+      allowed = always WithinAllocation laws.allowed w v.spent kept;
+      hands_on = hands_on laws.in_step w v.spent kept;
+      alone_hands = alone_hands laws.alone w v.spent kept;
+      addresses = addresses laws.addresses w v.spent kept;
+      machine = always PairsTakeSteps laws.machine w v.spent kept;
+      end_taken = always EndTakenIsWhole laws.end_taken w v.spent kept;
+      numbered = always (λ s. AreNumbered s.log) (λ s r. (laws.numbers s r).entries) w v.spent kept;
+      cuts = always UnitsAreCuts laws.cuts w v.spent kept;
+      links = links_going laws w v.spent kept;
+    }

@@ -12,6 +12,7 @@ pub mod Happened
 pub mod NetKept
 pub mod Holding
 pub mod Beginning
+pub mod TellingClose
 pub mod TellingCounts
 pub mod TellingStands
 pub mod TellingPeers

@@ -1,12 +1,12 @@
 -- Parcels by their numbers, and what keeps an event from them.
-use Rattle.std.proofs.Common.{ℕ, ◌≡◌, ◌<◌, List, [], ◌∷◌, zero, suc, Bool, true, false, cond, ◌==◌, map, Option, None, Some, refl, sym, ap, ◌∙◌, length, arith}
+use Rattle.std.proofs.Common.{ℕ, ◌≡◌, List, [], ◌∷◌, zero, suc, Option, None, Some, refl, sym, ap, ◌∙◌}
 use Rattle.std.specs.Prelude.{option_map, slice_get}
 use Rattle.ipx_wire.specs.declared.address.Network.{Network}
 use Rattle.ipx_steps.specs.World.{ParcelView}
 use Rattle.ipx_net.specs.NetFaults.{place_fault, segment_fault}
 use Rattle.ipx_net.specs.Parcels.{parcel_view, parcel_views}
 use Rattle.ipx_net.specs.declared.fault.NetFault.{NetFault}
-use Rattle.ipx_net.specs.declared.fault.NetFault.TheVariants.{NoSuchParcel, NotOnSegment}
+use Rattle.ipx_net.specs.declared.fault.NetFault.TheVariants.{NoSuchParcel}
 use Rattle.ipx_net.specs.declared.parcel.Parcel.{Parcel}
 
 pub view_at : (ps : List Parcel) (k : ℕ) → slice_get (parcel_views ps) k ≡ option_map parcel_view (slice_get ps k)

@@ -1,10 +1,8 @@
 -- What routers do is what steps of a network say of them.
-use Rattle.std.proofs.Common.{ℕ, zero, suc, ◌≡◌, ◌≢◌, ◌<◌, ◌≤◌, ◌-◌, All, List, [], ◌∷◌, Option, Some, None, refl, sym, ◌∙◌, ap, subst, arith}
+use Rattle.std.proofs.Common.{ℕ, zero, suc, ◌≡◌, ◌-◌, All, List, [], ◌∷◌, Some, sym, subst, arith}
 use Rattle.std.specs.Prelude.{slice_get}
 use Rattle.std.proofs.lemmas.List.Elements.{All-head, All-tail}
 use Rattle.std.proofs.lemmas.Option.{get_or_from_slice_get, slice_get_within}
-use Rattle.ipx_wire.specs.Ipx.{IsIpx, PacketView}
-use Rattle.ipx_wire.specs.declared.address.Network.{Network}
 use Rattle.ipx_wire.specs.declared.address.Node.{Node}
 use Rattle.ipx_router.specs.declared.port.Port.{Port}
 use Rattle.ipx_router.specs.Forwarded.{ForwardsOneHopOn}
@@ -16,7 +14,6 @@ use Rattle.ipx_router.specs.RouterView.{RouterView}
 use Rattle.ipx_log.specs.Packets.{IsOneOn}
 use Rattle.ipx_log.specs.Scan.{Each}
 use Rattle.ipx_steps.specs.Routers.{IsOwnLetter}
-use Rattle.ipx_steps.specs.World.{ParcelView}
 use Rattle.ipx_net.specs.RouterMembers.{letter_of, letters_of, network_of, port_at}
 
 -- what a router made itself is of no connection

@@ -1,5 +1,5 @@
 -- What is told of ends with an entry more: new ends, and what they handed in and out and sent.
-use Rattle.std.proofs.Common.{◌≡◌, ◌<◌, ◌≤◌, ◌+◌, ◌==◌, ℕ, zero, suc, List, [], ◌∷◌, ◌++◌, length, get_or, set, take, drop, map, Bool, true, false, cond, refl, sym, ◌∙◌, ap, arith, subst, eqb-true, length-append, length-set, length-take, ltb, ltb-true, ltb-false, None}
+use Rattle.std.proofs.Common.{◌≡◌, ◌<◌, ◌≤◌, ◌+◌, ◌==◌, ℕ, zero, suc, List, [], ◌∷◌, ◌++◌, length, get_or, take, drop, Bool, true, false, cond, refl, sym, ◌∙◌, ap, arith, subst, eqb-true, length-append, length-set, length-take, ltb, ltb-true, ltb-false, None}
 use Rattle.std.proofs.lemmas.Bool.{eqb-false}
 use Rattle.std.proofs.lemmas.List.{map-append, get_or-set_same, get_or-set_other, take-append-drop, take_more, drop_more, set_past}
 use Rattle.spx_units.specs.Message.{MessageView}
@@ -7,11 +7,12 @@ use Rattle.spx_link.specs.Marks.{mark}
 use Rattle.ipx_log.specs.Handed.{gathered, handed_in, handed_out, in_by, out_by}
 use Rattle.ipx_log.specs.Note.{Note, Opened, Accepted, Joined, HandsIn, HandsOut, TakesUnit, AsksEnd, Got, Released, SendsUnit, SendsAgain, SendsSystem, Told, Carried, Injected}
 use Rattle.ipx_log.specs.Numbered.{IsNumbered}
-use Rattle.ipx_log.specs.Scan.{Scan, Role, asker, joined_by, mark_of, role_of, scan, seen, times, unread}
+use Rattle.ipx_log.specs.Scan.{Scan, asker, joined_by, mark_of, role_of, scan, seen, times, unread}
 use Rattle.ipx_log.specs.SentUnits.{sent_by}
 use Rattle.ipx_net.specs.Ends.{nobody, told_of}
 use Rattle.ipx_net.specs.Entries.{entry_note, entry_notes}
-use Rattle.ipx_net.specs.Told.{AreCounted, AreNumbered, IsCounted, StayAs, Stays, change, one_given, one_out, one_sent, told_with}
+use Rattle.ipx_net.specs.Theorems.{AreNumbered}
+use Rattle.ipx_net.specs.Told.{AreCounted, IsCounted, StayAs, Stays, change, one_given, one_out, one_sent, told_with}
 use Rattle.ipx_net.specs.declared.endinfo.EndInfo.{EndInfo}
 use Rattle.ipx_net.specs.declared.entry.Entry.{Entry}
 use Rattle.ipx_net.proofs.Sightings.{seen_all-append}

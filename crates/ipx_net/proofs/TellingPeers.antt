@@ -1,7 +1,7 @@
 -- The peers of ends, as the entries that make and join ends are gone through.
-use Rattle.std.proofs.Common.{◌≡◌, ◌≢◌, ◌<◌, ◌≤◌, ◌+◌, ◌⊎◌, inl, inr, ℕ, zero, suc, List, [], ◌∷◌, ◌++◌, length, get_or, set, take, drop, Bool, true, false, cond, Option, Some, None, refl, sym, ◌∙◌, ap, arith, subst, length-set, length-append}
-use Rattle.std.specs.Prelude.{slice_get, slice_index_or}
-use Rattle.std.proofs.lemmas.Bool.{cases_eq, cases_lt}
+use Rattle.std.proofs.Common.{◌≡◌, ◌<◌, ◌≤◌, ◌+◌, ◌⊎◌, inl, inr, ℕ, zero, suc, List, [], ◌∷◌, ◌++◌, length, get_or, set, take, drop, Bool, true, false, cond, Option, Some, None, refl, sym, ◌∙◌, ap, arith, subst, length-set}
+use Rattle.std.specs.Prelude.{slice_get}
+use Rattle.std.proofs.lemmas.Bool.{cases_eq}
 use Rattle.std.proofs.lemmas.List.{map-append, take-append-drop, take_all}
 use Rattle.std.proofs.lemmas.Option.{get_or_from_slice_get, same_Some, slice_get_within}
 use Rattle.ipx_log.specs.EndsTold.{PeerIsFound, peer_in, peer_of}
@@ -9,14 +9,15 @@ use Rattle.ipx_log.specs.Note.{Note, Opened, Accepted, Joined, HandsIn, HandsOut
 use Rattle.ipx_log.specs.Numbered.{IsNumbered}
 use Rattle.ipx_log.specs.Peers.{AreJoined, ArePeersIn}
 use Rattle.ipx_log.specs.Scan.{Maker, Role, Scan, asker, joined_by, mark_of, no_role, role_of, scan, seen, seen_all, unread}
-use Rattle.ipx_net.specs.Ends.{nobody, told_of}
+use Rattle.ipx_net.specs.Ends.{told_of}
 use Rattle.ipx_net.specs.Entries.{entry_note, entry_notes}
-use Rattle.ipx_net.specs.Told.{AreNumbered, StayAlone, StaysBut, change, joins, paired, paired_by, with_peer}
+use Rattle.ipx_net.specs.Theorems.{AreNumbered}
+use Rattle.ipx_net.specs.Told.{StayAlone, StaysBut, change, joins, paired, paired_by, with_peer}
 use Rattle.ipx_net.specs.declared.endinfo.EndInfo.{EndInfo}
 use Rattle.ipx_net.specs.declared.entry.Entry.{Entry}
 use Rattle.ipx_net.proofs.Sightings.{seen_all-append}
 use Rattle.ipx_net.proofs.TellingCounts.{numbered_at, scan_on, taken_more}
-use Rattle.ipx_net.proofs.TellingStands.{change_other, change_own, change_where}
+use Rattle.ipx_net.proofs.TellingStands.{change_own, change_where}
 
 -- ---- elements of lists that grow or change
 

@@ -1,10 +1,9 @@
 -- What is told of ends after an event: where they stand, by the one host that it may change.
-use Rattle.std.proofs.Common.{◌≡◌, ◌≢◌, ◌<◌, ◌≤◌, ◌+◌, ◌-◌, ◌⊎◌, inl, inr, ℕ, zero, suc, List, [], ◌∷◌, ◌++◌, length, set, take, Bool, true, false, cond, Option, Some, None, Result, Ok, Err, refl, sym, ◌∙◌, ap, arith, subst, length-append}
+use Rattle.std.proofs.Common.{◌≡◌, ◌≢◌, ◌<◌, ◌⊎◌, inl, inr, ℕ, List, [], ◌∷◌, ◌++◌, length, set, Bool, true, false, cond, Option, Some, None, Result, Ok, Err, refl, sym, ◌∙◌, ap, arith, subst}
 use Rattle.std.specs.Prelude.{option_map, slice_get}
 use Rattle.std.proofs.lemmas.Bool.{cases_eq}
 use Rattle.std.proofs.lemmas.Option.{same_Some, slice_get_within}
 use Rattle.ipx_log.specs.Note.{Note}
-use Rattle.ipx_log.specs.Scan.{scan}
 use Rattle.ipx_router.specs.OutcomeView as Outcomes
 use Rattle.ipx_router.specs.OutcomeView.{OutcomeView}
 use Rattle.ipx_router.specs.declared.port.Port.{Port}
@@ -21,10 +20,10 @@ use Rattle.ipx_wire.specs.declared.address.Socket.{Socket}
 use Rattle.ipx_hosts.specs.Hosts.{HostsView}
 use Rattle.ipx_hosts.specs.Telling.{here_at, here_in, state_at, state_of}
 use Rattle.ipx_net.specs.AnswerView.{AnswerView}
-use Rattle.ipx_net.specs.Ends.{TellsEnd, TellsEnds, TellsLog, TellsStand, TellsStands, told_of}
+use Rattle.ipx_net.specs.Ends.{TellsLog, TellsStand, TellsStands, told_of}
 use Rattle.ipx_net.specs.HostEvents.{RefusedOf}
 use Rattle.ipx_net.specs.NetEvents.{Happens}
-use Rattle.ipx_net.specs.NetView.{NetNow, NetView}
+use Rattle.ipx_net.specs.NetView.{NetNow}
 use Rattle.ipx_net.specs.RouterEvents.{RouterDoes}
 use Rattle.ipx_net.specs.Told.{Resettled, Restood, StandAs, StandsSo, host_there, hosts_of, logged, state_by, touched_by}
 use Rattle.ipx_net.specs.declared.endinfo.EndInfo.{EndInfo}

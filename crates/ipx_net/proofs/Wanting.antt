@@ -1,5 +1,5 @@
 -- What makes something wants memory for what is made.
-use Rattle.std.proofs.Common.{ℕ, zero, suc, ◌≡◌, ◌+◌, ◌<◌, ◌++◌, ◌∷◌, inl, inr, List, [], length, set, false, Option, Some, None, Result, Ok, Err, refl, sym, ◌∙◌, ap, subst, arith}
+use Rattle.std.proofs.Common.{ℕ, zero, suc, ◌≡◌, ◌+◌, ◌<◌, ◌++◌, ◌∷◌, inl, inr, List, [], length, set, false, Option, Some, Result, Ok, Err, refl, sym, ◌∙◌, ap, subst, arith}
 use Rattle.std.specs.Prelude.{IfOk, IfSome, OnErr, slice_get}
 use Rattle.ipx_wire.specs.declared.memory.OutOfMemory.{OutOfMemory}
 use Rattle.spx_link.specs.Offer.{first_of}

@@ -1,10 +1,16 @@
 -- What is told of the ends of a network, each by its number from 0.
-use Rattle.std.specs.Prelude.{ℕ, ◌≡◌, false, List, None, Some, length, slice_get, slice_index_or}
+use Rattle.std.specs.Prelude.{ℕ, ◌≡◌, ◌↔◌, ◌<◌, false, Contains, List, None, Some, length, slice_get, slice_index_or}
+use Rattle.spx_link.specs.declared.state.State.TheVariants.{Confirmed}
+use Rattle.spx_link.specs.declared.unit.Unit.{Unit}
+use Rattle.spx_link.specs.Limits.{end_stream}
 use Rattle.spx_link.specs.LinkView.{LinkView}
+use Rattle.spx_link.specs.Machine.{End}
 use Rattle.spx_link.specs.Marks.{mark}
+use Rattle.ipx_log.specs.Close.{HoldsAll, IsEndOf}
 use Rattle.ipx_log.specs.EndsTold.{peer_of}
-use Rattle.ipx_log.specs.Handed.{handed_in, handed_out}
-use Rattle.ipx_log.specs.Note.{Note}
+use Rattle.ipx_log.specs.Handed.{handed_in, handed_out, units_of}
+use Rattle.ipx_log.specs.Note.{AsksEnd, Note, Opened, Released, TakesUnit}
+use Rattle.ipx_log.specs.Peers.{Premises}
 use Rattle.ipx_log.specs.Scan.{scan}
 use Rattle.ipx_log.specs.Scene.{Stand, Stands}
 use Rattle.ipx_log.specs.SentUnits.{sent_by}
@@ -52,3 +58,38 @@ pub record TellsEnds (v : NetView) (told : List EndInfo) : Type 0 where
 abbrev pub TellsNext : World → List EndInfo → Type 0
 TellsNext w told = (who : ℕ) (s : Stand) (l : LinkView) → Stands (scene_of w) who s l
     → (told_of told who).next ≡ l.next
+
+-- ---- what follows of hosts, states and peers that are told
+
+-- an end that was opened is told at the host of its entry
+abbrev pub TellsOpened : World → List EndInfo → Type 0
+TellsOpened w told = (who host buffers : ℕ) → Contains w.log (Opened who host buffers)
+    → (told_of told who).host ≡ host
+
+-- of the ends that there are, one is told without a state just where it was released
+abbrev pub TellsReleased : World → List EndInfo → Type 0
+TellsReleased w told = (who : ℕ) → who < length told
+    → ((told_of told who).state ≡ None) ↔ Contains w.log (Released who)
+
+-- the close of an end was asked for, and the peer that is told of it read all its units and has all
+-- its messages
+pub record IsToldClosed (w : World) (told : List EndInfo) (who : ℕ) : Type 0 where
+  pub peer : ℕ
+  pub peer_is : (told_of told who).peer ≡ Some peer
+  pub asked : Contains w.log (AsksEnd who)
+  pub two : End
+  pub is : IsEndOf (scene_of w) peer who two
+  pub all : two.read ≡ length (units_of who w.log)
+  pub holds : HoldsAll (scene_of w) who peer
+
+-- under the three premises each end that is told Confirmed is closed
+abbrev pub TellsClosed : World → List EndInfo → Type 0
+TellsClosed w told = Premises w.log → (who : ℕ)
+    → (told_of told who).state ≡ Some Confirmed → IsToldClosed w told who
+
+-- under them an end that took its peer's end handed out all that the peer told of it handed in
+abbrev pub TellsEnded : World → List EndInfo → Type 0
+TellsEnded w told = Premises w.log → (who : ℕ) (u : Unit)
+    → Contains w.log (TakesUnit who u) → u.stream ≡ end_stream
+    → (peer : ℕ) × ((told_of told who).peer ≡ Some peer)
+    × (handed_out who w.log ≡ handed_in peer w.log)

@@ -1,10 +1,26 @@
--- What is so of every network, read off its log and its parcels alone, or off its links too.
-use Rattle.std.specs.Prelude.{ℕ, ◌≡◌, []}
-use Rattle.ipx_log.specs.Allocation.{HasNoPeer}
+-- What is so of every network: one list of its theorems, each a field. They are read off its log and
+-- its parcels alone, or, while no memory was refused, off its links too.
+use Rattle.std.specs.Prelude.{ℕ, ◌≡◌, ◌↔◌, true, false, List, [], ◌∷◌, ◌++◌, Some, Contains, slice_get}
+use Rattle.ipx_log.specs.Addresses.{AddressesTellPeers}
+use Rattle.ipx_log.specs.Allocation.{AloneReadsNothing, HasNoPeer, WithinAllocation}
+use Rattle.ipx_log.specs.Carried.{RoutersAlterHopsAlone}
+use Rattle.ipx_log.specs.Close.{AcknowledgedIsRead, ConfirmedIsRead, EndTakenIsWhole}
+use Rattle.ipx_log.specs.EndsTold.{EndsAreTold}
+use Rattle.ipx_log.specs.EntriesOfEnds.{QueuedWereAsked}
 use Rattle.ipx_log.specs.Handed.{IsBeginning, handed_in, handed_out, taken_of}
+use Rattle.ipx_log.specs.HandedOut.{HandsOutWhatItTook}
+use Rattle.ipx_log.specs.InStep.{PeersAreInStep}
+use Rattle.ipx_log.specs.InSteps.{PairsTakeSteps}
+use Rattle.ipx_log.specs.Note.{Note, Opened, Released}
+use Rattle.ipx_log.specs.Numbered.{IsNumbered, NumbersAreInOrder}
 use Rattle.ipx_log.specs.Peers.{AreJoined, Premises}
 use Rattle.ipx_log.specs.Scan.{scan}
 use Rattle.ipx_log.specs.Scene.{Scene}
+use Rattle.ipx_log.specs.SentUnits.{LinksSendInOrder, UnitsAreSentInOrder}
+use Rattle.ipx_log.specs.UnitsOfEnds.{UnitsAreCuts}
+use Rattle.ipx_recovery.specs.Stuck.{NoPairIsStuck, NoStateIsStuck, NothingIsStuckByAddresses}
+use Rattle.ipx_steps.specs.World.{EndNow, InOrder, World, scene_of}
+use Rattle.ipx_net.specs.NetView.{NetView}
 
 -- if nothing injected is read, and each end reads its own peer alone and lately, then what an end
 -- handed out begins what its peer handed in, either way
@@ -17,3 +33,54 @@ PeersHandOn s = Premises s.log → (c d : ℕ) → AreJoined (scan s.log) c d
 abbrev pub AloneHandsOutNothing : Scene → Type 0
 AloneHandsOutNothing s = Premises s.log → (who : ℕ) → HasNoPeer s who
     → (taken_of who s.log ≡ []) × (handed_out who s.log ≡ [])
+
+-- each entry of a log names what is there
+abbrev pub AreNumbered : List Note → Type 0
+AreNumbered log = (before after : List Note) (n : Note)
+    → log ≡ before ++ n ∷ after → IsNumbered (scan before) n
+
+-- an end that was opened is there, at the host of its entry
+abbrev pub AreWhereOpened : World → Type 0
+AreWhereOpened w = (who host buffers : ℕ) → Contains w.log (Opened who host buffers)
+    → (n : EndNow) × (slice_get w.ends who ≡ Some n) × (n.host ≡ host)
+
+-- an end is released just where an entry says so
+abbrev pub AreReleasedByLog : World → Type 0
+AreReleasedByLog w = (who : ℕ) (n : EndNow) → slice_get w.ends who ≡ Some n
+    → (n.released ≡ true) ↔ Contains w.log (Released who)
+
+-- of links too
+pub record LinkTheorems (w : World) : Type 0 where
+  -- that the theorems speak of something: hosts and ends fit one another, each end that is not
+  -- released has a link, and entries tell of ends that are there
+  pub order : InOrder w
+  pub numbers : NumbersAreInOrder (scene_of w)
+  pub told : EndsAreTold (scene_of w)
+  pub opened : AreWhereOpened w
+  pub released : AreReleasedByLog w
+  pub asked : QueuedWereAsked (scene_of w)
+  -- under the three premises, or without any
+  pub in_step : PeersAreInStep (scene_of w)
+  pub joined : HandsOutWhatItTook (scene_of w)
+  pub alone : AloneReadsNothing (scene_of w)
+  pub confirmed : ConfirmedIsRead (scene_of w)
+  pub acknowledged : AcknowledgedIsRead (scene_of w)
+  pub sends : LinksSendInOrder (scene_of w)
+  -- what rounds without loss do to the links of two peers, whatever was lost before
+  pub not_stuck : NoStateIsStuck (scene_of w)
+  pub not_stuck_both_ways : NoPairIsStuck (scene_of w)
+  pub not_stuck_by_addresses : NothingIsStuckByAddresses (scene_of w)
+
+-- of log, parcels and the addresses of hosts, also after want of memory; and of links before it
+pub record Theorems (v : NetView) : Type 0 where
+  pub alters : RoutersAlterHopsAlone (scene_of v.now.world)
+  pub in_order : UnitsAreSentInOrder (scene_of v.now.world)
+  pub allowed : WithinAllocation (scene_of v.now.world)
+  pub hands_on : PeersHandOn (scene_of v.now.world)
+  pub alone_hands : AloneHandsOutNothing (scene_of v.now.world)
+  pub addresses : AddressesTellPeers (scene_of v.now.world)
+  pub machine : PairsTakeSteps (scene_of v.now.world)
+  pub end_taken : EndTakenIsWhole (scene_of v.now.world)
+  pub numbered : AreNumbered v.now.world.log
+  pub cuts : UnitsAreCuts (scene_of v.now.world)
+  pub links : v.spent ≡ false → LinkTheorems v.now.world

@@ -5,7 +5,6 @@ use Rattle.spx_link.specs.Marks.{mark}
 use Rattle.ipx_log.specs.EndsTold.{peer_of}
 use Rattle.ipx_log.specs.Handed.{handed_in, handed_out}
 use Rattle.ipx_log.specs.Note.{Note, Opened, Accepted, Joined, HandsIn, HandsOut, SendsUnit}
-use Rattle.ipx_log.specs.Numbered.{IsNumbered}
 use Rattle.ipx_log.specs.Scan.{scan}
 use Rattle.ipx_log.specs.SentUnits.{sent_by}
 use Rattle.ipx_steps.specs.World.{World, end_at}
@@ -52,11 +51,6 @@ pub record IsCounted (log : List Note) (who : ℕ) (e : EndInfo) : Type 0 where
 pub record AreCounted (log : List Note) (told : List EndInfo) : Type 0 where
   pub count : length told ≡ length (scan log).roles
   pub each : (who : ℕ) → IsCounted log who (told_of told who)
-
--- each entry of a log names what is there
-abbrev pub AreNumbered : List Note → Type 0
-AreNumbered log = (before after : List Note) (n : Note)
-    → log ≡ before ++ n ∷ after → IsNumbered (scan before) n
 
 -- host, state and peer are as they were
 pub record Stays (e f : EndInfo) : Type 0 where

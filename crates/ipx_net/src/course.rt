@@ -2,17 +2,7 @@
 //! ends.
 
 ghost use Rattle.std.specs.Prelude.{◌≡◌, ◌≤◌, ◌+◌, ◌-◌, ◌↔◌, All, IfErr, IfOk, IsTrue, None, OnOk, false, length, take, true, unwrap_or, vec_capacity, vec_len};
-ghost use Rattle.ipx_log.specs.Addresses.{AddressesTellPeers};
-ghost use Rattle.ipx_log.specs.Allocation.{AloneReadsNothing, WithinAllocation};
-ghost use Rattle.ipx_log.specs.Carried.{RoutersAlterHopsAlone};
-ghost use Rattle.ipx_log.specs.Close.{ConfirmedIsRead, EndTakenIsWhole};
-ghost use Rattle.ipx_log.specs.EndsTold.{EndsAreTold};
-ghost use Rattle.ipx_log.specs.HandedOut.{HandsOutWhatItTook};
-ghost use Rattle.ipx_log.specs.InStep.{PeersAreInStep};
-ghost use Rattle.ipx_log.specs.InSteps.{PairsTakeSteps};
 ghost use Rattle.ipx_log.specs.Peers.{IsFresh};
-ghost use Rattle.ipx_log.specs.SentUnits.{LinksSendInOrder, UnitsAreSentInOrder};
-ghost use Rattle.ipx_steps.specs.World.{InOrder, scene_of};
 ghost use Rattle.ipx_router.specs.declared.fault.NewFault.TheVariants as NewFaults;
 ghost use Rattle.ipx_net.specs.AnswerView.{answer_view};
 ghost use Rattle.ipx_net.specs.Beginnings.{ArePortsOwed, IsHostOwed, IsNewNet, first_refusal};
@@ -22,8 +12,8 @@ ghost use Rattle.ipx_net.specs.Entries.{entry_notes};
 ghost use Rattle.ipx_net.specs.NetEvents.{Happens, IsOwed};
 ghost use Rattle.ipx_net.specs.NetFaults.{first_fault};
 ghost use Rattle.ipx_net.specs.Parcels.{parcel_views};
-ghost use Rattle.ipx_net.specs.Theorems.{AloneHandsOutNothing, PeersHandOn};
-ghost use Rattle.ipx_net.specs.Told.{AreNumbered, Restood, StandAs, hosts_of, polled_host, reached_host, touched_by};
+ghost use Rattle.ipx_net.specs.Theorems.{Theorems};
+ghost use Rattle.ipx_net.specs.Told.{Restood, StandAs, hosts_of, polled_host, reached_host, touched_by};
 ghost use Rattle.ipx_net.specs.WantOfMemory.{EventWantsMemory};
 ghost use Rattle.ipx_net.specs.declared.fault.NetFault.TheVariants as NetFaults;
 
@@ -43,11 +33,12 @@ use crate::routers::RouterNow;
 use crate::told::EndsTold;
 use ipx_hosts::Hosts;
 use ipx_log::{
-    addresses_tell_peers, alone_reads_nothing, confirmed_is_read, end_taken_is_whole,
-    ends_are_told, hands_out_what_it_took, links_send_in_order, numbers_are_in_order,
-    pairs_take_steps, peers_are_in_step, routers_alter_hops_alone, units_are_sent_in_order,
-    within_allocation,
+    acknowledged_end_is_read, addresses_tell_peers, alone_reads_nothing, confirmed_is_read,
+    end_taken_is_whole, ends_are_told, entries_tell_ends, hands_out_what_it_took,
+    links_send_in_order, numbers_are_in_order, pairs_take_steps, peers_are_in_step,
+    routers_alter_hops_alone, units_are_cuts, units_are_sent_in_order, within_allocation,
 };
+use ipx_recovery::{no_pair_is_stuck, no_state_is_stuck, nothing_is_stuck_by_addresses};
 use ipx_router::{NewFault, Port};
 use ipx_steps::{peers_of_worlds_are_in_step, steps_are_deeds};
 use std::alloc::Global;
@@ -200,34 +191,28 @@ impl Course {
 
     /// What is so of every network.
     pub fn holds(&self)
-        // Of the log, the parcels and the addresses of hosts, also after want of memory.
-        ensures alters { RoutersAlterHopsAlone (scene_of self.now.now.world) }
-        ensures in_order { UnitsAreSentInOrder (scene_of self.now.now.world) }
-        ensures allowed { WithinAllocation (scene_of self.now.now.world) }
-        ensures hands_on { PeersHandOn (scene_of self.now.now.world) }
-        ensures alone_hands { AloneHandsOutNothing (scene_of self.now.now.world) }
-        ensures addresses { AddressesTellPeers (scene_of self.now.now.world) }
-        // Of links and log, while the network goes on.
-        ensures in_step { self.now.spent ≡ false → PeersAreInStep (scene_of self.now.now.world) }
-        ensures machine { self.now.spent ≡ false → PairsTakeSteps (scene_of self.now.now.world) }
-        ensures joined { self.now.spent ≡ false → HandsOutWhatItTook (scene_of self.now.now.world) }
-        ensures alone { self.now.spent ≡ false → AloneReadsNothing (scene_of self.now.now.world) }
-        ensures confirmed { self.now.spent ≡ false → ConfirmedIsRead (scene_of self.now.now.world) }
-        ensures end_taken { self.now.spent ≡ false → EndTakenIsWhole (scene_of self.now.now.world) }
-        ensures sends { self.now.spent ≡ false → LinksSendInOrder (scene_of self.now.now.world) }
+        ensures { Theorems self.now }
     {
         let _spent = &self.spent;
-        peers_are_in_step();
-        pairs_take_steps();
-        within_allocation();
-        alone_reads_nothing();
-        confirmed_is_read();
-        end_taken_is_whole();
-        addresses_tell_peers();
-        units_are_sent_in_order();
-        links_send_in_order();
         routers_alter_hops_alone();
+        units_are_sent_in_order();
+        within_allocation();
+        peers_are_in_step();
+        alone_reads_nothing();
+        addresses_tell_peers();
+        pairs_take_steps();
+        end_taken_is_whole();
+        numbers_are_in_order();
+        units_are_cuts();
+        ends_are_told();
+        entries_tell_ends();
         hands_out_what_it_took();
+        confirmed_is_read();
+        acknowledged_end_is_read();
+        links_send_in_order();
+        no_state_is_stuck();
+        no_pair_is_stuck();
+        nothing_is_stuck_by_addresses();
     }
 
     /// The log: what happened, from the beginning on.
@@ -257,17 +242,6 @@ impl Course {
         ensures { IsTrue result ↔ IsFresh self.now.now.world.log }
     {
         self.book.fresh()
-    }
-
-    /// What is so of the numbers in every log, and of hosts and ends while the network goes on.
-    pub fn orders(&self)
-        ensures numbered { AreNumbered self.now.now.world.log }
-        ensures order { self.now.spent ≡ false → InOrder self.now.now.world }
-        ensures told { self.now.spent ≡ false → EndsAreTold (scene_of self.now.now.world) }
-    {
-        let _spent = &self.spent;
-        numbers_are_in_order();
-        ends_are_told();
     }
 
     /// The host whose ends an event may change.
@@ -306,7 +280,7 @@ impl Course {
         ensures log { TellsLog self.now.now.world.log told.new.infos.items }
         ensures same { StandAs told.old.infos.items told.new.infos.items }
     {
-        self.orders();
+        self.holds();
         told.read_from(self.book.log(), from);
         told.pair_from(&self.book, from);
     }

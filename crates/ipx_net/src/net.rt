@@ -1,28 +1,19 @@
 //! A network in memory, step by step.
 
 ghost use Rattle.std.specs.Prelude.{◌≡◌, ◌≢◌, ◌<◌, ◌↔◌, All, Err, IfErr, IfOk, IsTrue, None, OnOk, Some, false, length, true, unwrap_or};
-ghost use Rattle.ipx_log.specs.Addresses.{AddressesTellPeers};
-ghost use Rattle.ipx_log.specs.Allocation.{AloneReadsNothing, WithinAllocation};
-ghost use Rattle.ipx_log.specs.Carried.{RoutersAlterHopsAlone};
-ghost use Rattle.ipx_log.specs.Close.{ConfirmedIsRead, EndTakenIsWhole};
-ghost use Rattle.ipx_log.specs.HandedOut.{HandsOutWhatItTook};
-ghost use Rattle.ipx_log.specs.InStep.{PeersAreInStep};
-ghost use Rattle.ipx_log.specs.InSteps.{PairsTakeSteps};
 ghost use Rattle.ipx_log.specs.Peers.{IsFresh, Premises};
 ghost use Rattle.ipx_log.specs.Scan.{scan};
-ghost use Rattle.ipx_log.specs.SentUnits.{LinksSendInOrder, UnitsAreSentInOrder};
-ghost use Rattle.ipx_steps.specs.World.{scene_of};
 ghost use Rattle.ipx_router.specs.declared.fault.NewFault.TheVariants as NewFaults;
 ghost use Rattle.ipx_net.specs.AnswerView.{answer_view};
 ghost use Rattle.ipx_net.specs.Beginnings.{ArePortsOwed, IsHostOwed, IsNewNet, first_refusal};
 ghost use Rattle.ipx_net.specs.Begins.{Begins};
-ghost use Rattle.ipx_net.specs.Ends.{TellsEnds, TellsNext};
+ghost use Rattle.ipx_net.specs.Ends.{TellsClosed, TellsEnded, TellsEnds, TellsNext, TellsOpened, TellsReleased};
 ghost use Rattle.ipx_net.specs.Entries.{entry_notes};
 ghost use Rattle.ipx_net.specs.NetEvents.{Happens, IsOwed};
 ghost use Rattle.ipx_net.specs.NetFaults.{first_fault};
 ghost use Rattle.ipx_net.specs.Parcels.{parcel_views};
 ghost use Rattle.ipx_net.specs.WantOfMemory.{EventWantsMemory};
-ghost use Rattle.ipx_net.specs.Theorems.{AloneHandsOutNothing, PeersHandOn};
+ghost use Rattle.ipx_net.specs.Theorems.{Theorems};
 ghost use Rattle.ipx_net.specs.declared.fault.NetFault.TheVariants as NetFaults;
 
 use crate::answer::Answer;
@@ -34,6 +25,7 @@ use crate::fault::NetFault;
 use crate::host::Host;
 use crate::parcel::Parcel;
 use crate::told::EndsTold;
+use ipx_log::peer_is_found;
 use ipx_router::{NewFault, Port};
 use std::alloc::Global;
 use std::marker::Model;
@@ -79,12 +71,12 @@ fn go_on(
 {
     let from = course.log().len();
     let host = course.touched(&event);
-    course.orders();
+    course.holds();
     course.stand(told, host, true);
     match course.go_on(told, alloc, event) {
         Ok(answer) => {
             course.tell(told, from);
-            course.orders();
+            course.holds();
             course.stand(told, host, false);
             Ok(answer)
         }
@@ -135,12 +127,16 @@ impl Net {
         ensures sound { OnOk result (first_refusal routers.items ≡ None) }
         ensures fault { IfErr result
             (λ f. f ≡ unwrap_or (first_refusal routers.items) NewFaults.OutOfMemory) }
+        ensures theorems { IfOk result (λ n. Theorems n) }
     {
         match Course::new(alloc, hosts, routers) {
-            Ok(course) => Ok(Net {
-                course,
-                told: EndsTold::new(alloc),
-            }),
+            Ok(course) => {
+                course.holds();
+                Ok(Net {
+                    course,
+                    told: EndsTold::new(alloc),
+                })
+            }
             Err(fault) => Err(fault),
         }
     }
@@ -168,38 +164,35 @@ impl Net {
             → self.new.now.world.log ≡ self.old.now.world.log }
         ensures parcels { result ≡ Err NetFaults.OutOfMemory
             → self.new.now.world.parcels ≡ self.old.now.world.parcels }
-        // Of the log, the parcels and the addresses of hosts, also after want of memory.
-        ensures alters { RoutersAlterHopsAlone (scene_of self.new.now.world) }
-        ensures in_order { UnitsAreSentInOrder (scene_of self.new.now.world) }
-        ensures allowed { WithinAllocation (scene_of self.new.now.world) }
-        ensures hands_on { PeersHandOn (scene_of self.new.now.world) }
-        ensures alone_hands { AloneHandsOutNothing (scene_of self.new.now.world) }
-        ensures addresses { AddressesTellPeers (scene_of self.new.now.world) }
-        // Of links and log, while the network goes on.
-        ensures in_step { self.new.spent ≡ false → PeersAreInStep (scene_of self.new.now.world) }
-        ensures machine { self.new.spent ≡ false → PairsTakeSteps (scene_of self.new.now.world) }
-        ensures joined { self.new.spent ≡ false → HandsOutWhatItTook (scene_of self.new.now.world) }
-        ensures alone { self.new.spent ≡ false → AloneReadsNothing (scene_of self.new.now.world) }
-        ensures confirmed { self.new.spent ≡ false → ConfirmedIsRead (scene_of self.new.now.world) }
-        ensures end_taken { self.new.spent ≡ false → EndTakenIsWhole (scene_of self.new.now.world) }
-        ensures sends { self.new.spent ≡ false → LinksSendInOrder (scene_of self.new.now.world) }
+        ensures theorems { Theorems self.new }
     {
         let result = take_in(&mut self.course, &mut self.told, alloc, event);
         self.course.holds();
         result
     }
 
+    /// What is so of every network. It does nothing.
+    pub fn holds(&self)
+        ensures { Theorems self.now }
+    {
+        Course::holds(&self.course);
+    }
+
     /// The log: what happened, from the beginning on.
     pub fn log(&self) -> &[Entry]
-        ensures { entry_notes result.now ≡ self.now.now.world.log }
+        ensures entries { entry_notes result.now ≡ self.now.now.world.log }
+        ensures theorems { Theorems self.now }
     {
+        self.course.holds();
         self.course.log()
     }
 
     /// The parcels, by their numbers from 0.
     pub fn parcels(&self) -> &[Parcel]
-        ensures { parcel_views result.now ≡ self.now.now.world.parcels }
+        ensures parcels { parcel_views result.now ≡ self.now.now.world.parcels }
+        ensures theorems { Theorems self.now }
     {
+        self.course.holds();
         self.course.parcels()
     }
 
@@ -211,6 +204,7 @@ impl Net {
         // begins.
         ensures headline { Premises self.now.now.world.log
             → end < length (scan self.now.now.world.log).roles → IsTrue result }
+        ensures theorems { Theorems self.now }
     {
         self.course.holds();
         self.course.begins(end)
@@ -219,8 +213,10 @@ impl Net {
     /// Whether each packet that an end read of its peer was sent fewer than 32,768 units of each of
     /// the two before.
     pub fn fresh(&self) -> bool
-        ensures { IsTrue result ↔ IsFresh self.now.now.world.log }
+        ensures fresh { IsTrue result ↔ IsFresh self.now.now.world.log }
+        ensures theorems { Theorems self.now }
     {
+        self.course.holds();
         self.course.fresh()
     }
 
@@ -231,8 +227,15 @@ impl Net {
         ensures count { self.now.spent ≡ false
             → length result.now ≡ length self.now.now.world.ends }
         ensures next { self.now.spent ≡ false → TellsNext self.now.now.world result.now }
+        ensures opened { self.now.spent ≡ false → TellsOpened self.now.now.world result.now }
+        ensures released { self.now.spent ≡ false → TellsReleased self.now.now.world result.now }
+        // The close, in the words of what is told.
+        ensures closed { self.now.spent ≡ false → TellsClosed self.now.now.world result.now }
+        ensures ended { TellsEnded self.now.now.world result.now }
+        ensures theorems { Theorems self.now }
     {
-        self.course.orders();
+        self.course.holds();
+        peer_is_found();
         &self.told.infos
     }
 }

@@ -8,7 +8,8 @@ ghost use Rattle.ipx_log.specs.Scan.{scan};
 ghost use Rattle.ipx_steps.specs.World.{end_at};
 ghost use Rattle.ipx_net.specs.Ends.{nobody, told_of};
 ghost use Rattle.ipx_net.specs.Entries.{entry_note, entry_notes};
-ghost use Rattle.ipx_net.specs.Told.{AreCounted, AreNumbered, StandsSo, StayAlone, StayAs, change, joins, logged, one_given, one_out, one_sent, paired, paired_by, settled, standing, state_by, stood, told_with, with_peer};
+ghost use Rattle.ipx_net.specs.Theorems.{AreNumbered};
+ghost use Rattle.ipx_net.specs.Told.{AreCounted, StandsSo, StayAlone, StayAs, change, joins, logged, one_given, one_out, one_sent, paired, paired_by, settled, standing, state_by, stood, told_with, with_peer};
 
 use crate::book::Book;
 use crate::endinfo::EndInfo;

@@ -1,4 +1,4 @@
-use Rattle.std.proofs.Common.{ℕ, ◌≡◌, ◌<◌, ◌∙◌, ap, IfOk, List, None, Some, length, sym, subst}
+use Rattle.std.proofs.Common.{ℕ, ◌≡◌, ◌<◌, ◌∙◌, ap, IfOk, List, None, length, sym, subst}
 use Rattle.std.specs.Prelude.{slice_get}
 use Rattle.ipx_net.specs.GrowthView.{growth_view}
 use Rattle.ipx_net.specs.NetEvents.{DeliversTo}

@@ -1,11 +1,7 @@
-use Rattle.std.proofs.Common.{◌≡◌, ◌++◌, ◌∙◌, IfOk, ap, sym, subst, length, List}
-use Rattle.std.proofs.lemmas.List.{length-map}
-use Rattle.ipx_steps.specs.World.{ParcelView}
+use Rattle.std.proofs.Common.{IfOk, sym, subst, length}
 use Rattle.ipx_net.specs.GrowthView.{growth_view}
 use Rattle.ipx_net.specs.HostEvents.{Dialling, TakingFrom}
 use Rattle.ipx_net.specs.NetEvents.{Happens}
-use Rattle.ipx_net.specs.NetView.{net_of}
-use Rattle.ipx_net.specs.Parcels.{parcel_view}
 use Rattle.ipx_net.specs.WantOfMemory.{EventWantsMemory, IsMade}
 use Rattle.ipx_net.specs.declared.event.Event.{Event}
 use Rattle.ipx_net.proofs.Happened.{after, before, counted, happened}

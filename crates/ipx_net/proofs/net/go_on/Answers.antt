@@ -1,9 +1,5 @@
-use Rattle.std.proofs.Common.{◌≡◌, ◌∙◌, List, Option, ap, arith, false, length, subst, sym, take, true, ℕ}
-use Rattle.ipx_log.specs.Note.{Note}
-use Rattle.ipx_net.specs.Ends.{TellsLog}
-use Rattle.ipx_net.specs.Entries.{entry_notes}
+use Rattle.std.proofs.Common.{◌≡◌, ◌∙◌, Option, ap, arith, false, length, subst, sym, take, true, ℕ}
 use Rattle.ipx_net.specs.Told.{Restood, hosts_of}
-use Rattle.ipx_net.specs.declared.endinfo.EndInfo.{EndInfo}
 use Rattle.ipx_net.proofs.NetKept.{not_spent}
 use Rattle.ipx_net.proofs.NetTells.{range_on, tells_before, tells_err, tells_ok}
 use Rattle.ipx_net.proofs.TellingCounts.{notes_length}
@@ -32,7 +28,7 @@ returns-in-Ok-clause-tells c =
     let going = not_spent c.args.course.now c.args.event c.requires.sound in
     let host = c.touched-host.ensures in
     tells_ok c.args.event _ c.args.course.now c.go_on.new.self c.args.told.now.infos.items c.stand.new.told.infos.items c.go_on.new.told.infos.items c.tell.new.told.infos.items c.stand-in-Ok.new.told.infos.items
-    going (c.orders.ensures.order going) (c.orders-in-Ok.ensures.order c.in-Ok.ensures.going) (c.orders.ensures.told going) (c.orders-in-Ok.ensures.told c.in-Ok.ensures.going)
+    going (c.holds.ensures.links going).order (c.holds-in-Ok.ensures.links c.in-Ok.ensures.going).order (c.holds.ensures.links going).told (c.holds-in-Ok.ensures.links c.in-Ok.ensures.going).told
     c.in-Ok.ensures.ok c.requires.tells (subst (λ (k : Option ℕ). Restood (hosts_of c.args.course.now.now.world) k true c.args.told.now.infos.items c.stand.new.told.infos.items) host c.stand.ensures) c.go_on.ensures.told c.tell.ensures.same c.tell.ensures.log (subst (λ (k : Option ℕ). Restood (hosts_of c.go_on.new.self.now.world) k false c.tell.new.told.infos.items c.stand-in-Ok.new.told.infos.items) host c.stand-in-Ok.ensures)
 
 pub returns-in-Err-clause-tells : goal.returns-in-Err-clause-tells

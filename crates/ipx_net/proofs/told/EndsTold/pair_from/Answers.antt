@@ -1,11 +1,10 @@
-use Rattle.std.proofs.Common.{◌≡◌, ◌∙◌, ℕ, List, ap, length, subst, sym, take}
+use Rattle.std.proofs.Common.{◌≡◌, ◌∙◌, List, ap, length, subst, sym, take}
 use Rattle.ipx_log.specs.EndsTold.{peer_of}
 use Rattle.ipx_log.specs.Note.{Note}
 use Rattle.ipx_log.specs.Scan.{scan}
-use Rattle.ipx_net.specs.Ends.{told_of}
-use Rattle.ipx_net.specs.Entries.{entry_note, entry_notes}
-use Rattle.ipx_net.specs.Told.{AreNumbered, joins, paired_by}
-use Rattle.ipx_net.specs.declared.endinfo.EndInfo.{EndInfo}
+use Rattle.ipx_net.specs.Entries.{entry_note}
+use Rattle.ipx_net.specs.Theorems.{AreNumbered}
+use Rattle.ipx_net.specs.Told.{joins, paired_by}
 use Rattle.ipx_net.specs.declared.entry.Entry.{Entry}
 use Rattle.ipx_net.proofs.TellingPeers.{notes_take, paired_all, paired_next, paired_start}
 use Rattle.ipx_net.proofs.told.EndsTold.pair_from.Goals as goal

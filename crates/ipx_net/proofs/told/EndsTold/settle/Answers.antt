@@ -1,4 +1,4 @@
-use Rattle.std.proofs.Common.{refl, arith, subst, sym, ap, ◌≡◌, ◌∙◌, ℕ}
+use Rattle.std.proofs.Common.{refl, arith, subst, ap, ◌∙◌, ℕ}
 use Rattle.ipx_steps.specs.World.{end_at}
 use Rattle.std.proofs.lemmas.Option.{slice_get_within}
 use Rattle.ipx_hosts.specs.Telling.{here_at, state_at}

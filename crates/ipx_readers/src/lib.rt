@@ -1,0 +1,7 @@
+//! What a reader of a network in memory may conclude, from the public clauses of [`Net`] alone: he
+//! has a `&Net`, and does not know which events made it.
+#![tactic(auto)]
+
+mod closing;
+
+pub use closing::{closed_with, confirmed_have_peers};
