@@ -52,6 +52,7 @@ module _ (laws : LawsOfTables) where
       let base : 16 * 180000 ≤ (17 + 15 * most) * 180000 = omega arith in
       let same : (m r : ℕ) → clock 0 + (17 + 15 * most) * 180000 ≤ clock m → x m r ≡ x n r = λ m r by. settle net d most clock clock x x differ costs within f f m n r by (omega (arith, step, late)) in
       record {
+        own = λ r b mine. h.own n r b mine;
         told = λ r b has. elim (h.sourced n r b (omega (arith, step, late)) has) [
           | inl mine ↦ inl mine
           | inr w ↦ inr (w.who, w.route, sym (same w.step w.who (omega (arith, step, late, w.recent))) ∙ w.had, w.tells)

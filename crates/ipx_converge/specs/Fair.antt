@@ -46,9 +46,10 @@ RunsTakeLeastWays = (net : Internet) (d : Network) (clock : Clock) (x : Routing)
     → LeastWaysExtend net d → IsFairRun net d clock x → (n r : ℕ) (b : Route)
     → IsLeastWay net d r b → clock 0 + (16 + b.metric.hops) * 180000 ≤ clock n → x n r ≡ Some b
 
--- what the routers have then solves their own equations: each route is the router's own or is told
--- by another's route, and no route that is told is better
+-- what the routers have then solves their own equations: a router on the network has its own route,
+-- each other route is told by another's, and no route that is told is better
 pub record IsSolution (net : Internet) (d : Network) (now : ℕ → Option Route) : Type 0 where
+  pub own : (r : ℕ) (b : Route) → Owns net d r b → now r ≡ Some b
   pub told : (r : ℕ) (b : Route) → now r ≡ Some b → Owns net d r b
       ⊎ ((s : ℕ) × (a : Route) × (now s ≡ Some a) × TellsRoute net d s a r b)
   pub best : (s r : ℕ) (a b : Route) → now s ≡ Some a → TellsRoute net d s a r b
