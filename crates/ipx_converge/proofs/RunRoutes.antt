@@ -57,23 +57,30 @@ module _ (laws : LawsOfTables) (net : Internet) (d : Network) (clock : Clock) (c
     hears : is_heard ours e ≡ true
     alive : route_dead (route_metric e) ≡ false
 
-  abbrev Kept : ℕ → Network × Source → Word → Type 0
-  Kept r p w = (w.1 ≤ clock 0) ⊎ WasHeard r p w
+  -- heard at a step before
+  abbrev Kept : ℕ → ℕ → Network × Source → Word → Type 0
+  Kept t r p w = (w.1 ≤ clock 0) ⊎ ((h : WasHeard r p w) × (h.n < t))
 
-  kept : (n r : ℕ) (p : Network × Source) (w : Word) → c n r p ≡ Some w → Kept r p w
+  kept_later : (t r : ℕ) (p : Network × Source) (w : Word) → Kept t r p w → Kept (suc t) r p w
+  kept_later t r p w k = elim k [
+    | inl old ↦ inl old
+    | inr h ↦ inr (h.0, omega (arith, h.1))
+  ]
+
+  kept : (n r : ℕ) (p : Network × Source) (w : Word) → c n r p ≡ Some w → Kept n r p w
   kept zero r p w is = inl (run.past r p w.0 w.1 is)
   kept (suc n) r p w is = elim (bool_cases (r == (heard n).router)) [
     | inl same ↦
         let eq : r ≡ (heard n).router = eqb-true r (heard n).router same in
         let ours = run.hearer n in
         let now_is = sym (run.hears n ours.0 ours.1 p) ∙ ap (λ k. c (suc n) k p) (sym eq) ∙ is in
-        subst (λ k. Kept k p w) (sym eq)
+        subst (λ k. Kept (suc n) k p w) (sym eq)
         (elim (said_by ours.0 (heard n).source (clock n) p (after_age (c n (heard n).router) (clock n)) (heard n).entries w now_is) [
-          | inl old ↦ kept n (heard n).router p w (still_was (clock n) (c n (heard n).router p) w old)
+          | inl old ↦ kept_later n (heard n).router p w (kept n (heard n).router p w (still_was (clock n) (c n (heard n).router p) w old))
           | inr t ↦
               let h = honest n t.0 t.1 in
               let parts = same_parts (t.0.network, (heard n).source) p t.2.same in
-              inr (record {
+              let h' : WasHeard (heard n).router p w = record {
                 n = n;
                 source = (heard n).source;
                 from_it = parts.1;
@@ -87,11 +94,12 @@ module _ (laws : LawsOfTables) (net : Internet) (d : Network) (clock : Clock) (c
                 router = ours.1;
                 hears = t.2.heard;
                 alive = t.2.alive;
-              })
+              } in
+              inr (h', omega arith)
         ])
     | inr other ↦ elim (run.others n r p (λ eq. let no : true ≡ false = sym (eq-eqb r (heard n).router eq) ∙ other in cc)) [
-      | inl stays ↦ kept n r p w (sym stays ∙ is)
-      | inr aged ↦ kept n r p w (still_was (clock n) (c n r p) w (sym aged ∙ is))
+      | inl stays ↦ kept_later n r p w (kept n r p w (sym stays ∙ is))
+      | inr aged ↦ kept_later n r p w (kept n r p w (still_was (clock n) (c n r p) w (sym aged ∙ is)))
     ]
   ]
 
@@ -108,7 +116,8 @@ module _ (laws : LawsOfTables) (net : Internet) (d : Network) (clock : Clock) (c
           let young = ltb-true (clock t - h.1.moment) 180000 h.1.counts in
           elim (kept t r (d, h.0.0) (h.0.1, h.1.moment) h.1.stands) [
             | inl old ↦ absurd (omega (arith, young, old, late))
-            | inr w ↦
+            | inr heard_before ↦
+                let w = heard_before.0 in
                 let t' = w.told in
                 let same_ours : w.ours ≡ t'.meet.ours = some_same w.ours t'.meet.ours (sym w.router ∙ t'.meet.hearer) in
                 let ours_same : ours ≡ t'.meet.ours = some_same ours t'.meet.ours (sym at ∙ t'.meet.hearer) in
@@ -117,6 +126,7 @@ module _ (laws : LawsOfTables) (net : Internet) (d : Network) (clock : Clock) (c
                   who = t'.s;
                   route = w.said.route;
                   step = t'.told_at;
+                  before = omega (arith, t'.before, heard_before.1);
                   recent = omega (arith, young, w.at, t'.same_moment);
                   had = route_is laws t'.meet.theirs (c t'.told_at t'.s) (clock t'.told_at) d (x t'.told_at t'.s) w.said.route (are.of_router t'.told_at t'.s t'.meet.theirs t'.meet.teller) leads;
                   tells = record {

@@ -86,11 +86,12 @@ abbrev pub Clock : Type 0
 Clock = ℕ → ℕ
 
 module _ (net : Internet) (d : Network) (window : ℕ) (clock : Clock) (x : Routing) where
-  -- a route was told within the window, by a router whose route it then came from
+  -- a route was told at a step before, within the window, by a router whose route it then came from
   pub record WasTold (t r : ℕ) (b : Route) : Type 0 where
     pub who : ℕ
     pub route : Route
     pub step : ℕ
+    pub before : step < t
     pub recent : clock t < clock step + window
     pub had : x step who ≡ Some route
     pub tells : TellsRoute net d who route r b
