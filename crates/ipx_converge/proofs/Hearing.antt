@@ -15,7 +15,8 @@ use Rattle.ipx_tables.specs.Route.{network_cmp, network_exact, route_dead}
 use Rattle.ipx_router.specs.declared.port.Port.{Port}
 use Rattle.ipx_router.specs.Hearing.{after_route, after_routes, is_heard, route_metric}
 use Rattle.ipx_router.specs.Knowledge.{Routes}
-use Rattle.ipx_converge.proofs.Order.{source_exact, source_total}
+use Rattle.ipx_converge.specs.TableLaws.{LawsOfTables}
+use Rattle.ipx_converge.proofs.Order.{source_total}
 use Rattle.ipx_converge.proofs.Settling.{bool_cases}
 
 abbrev pub Word : Type 0
@@ -36,9 +37,9 @@ equal_by Less h = cc
 equal_by Equal h = refl
 equal_by Greater h = cc
 
-pub same_parts : (p q : Network × Source) → is_same network_cmp p q ≡ true → (p.0 ≡ q.0) × (p.1 ≡ q.1)
-same_parts p q h =
-    let one : (p.0, p.1) ≡ (q.0, q.1) = exact_pairs network_cmp source_cmp network_exact source_exact (p.0, p.1) (q.0, q.1) (equal_by _ h) in
+pub same_parts : (laws : LawsOfTables) (p q : Network × Source) → is_same network_cmp p q ≡ true → (p.0 ≡ q.0) × (p.1 ≡ q.1)
+same_parts laws p q h =
+    let one : (p.0, p.1) ≡ (q.0, q.1) = exact_pairs network_cmp source_cmp network_exact laws.apart (p.0, p.1) (q.0, q.1) (equal_by _ h) in
     (ap (λ z. z.0) one, ap (λ z. z.1) one)
 
 pair_total : IsTotalOrder (pair_cmp network_cmp)

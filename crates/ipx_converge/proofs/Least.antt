@@ -5,12 +5,13 @@ use Rattle.ipx_wire.specs.declared.address.Network.{Network}
 use Rattle.ipx_router.specs.declared.route.Route.{Route}
 use Rattle.ipx_converge.specs.Histories.{Clock, Internet, Owns, TellsRoute, Routing, HasAsGood, IsHistory}
 use Rattle.ipx_converge.specs.Ways.{IsLeastWay, LeastWaysExtend}
+use Rattle.ipx_converge.specs.TableLaws.{LawsOfTables}
 use Rattle.ipx_converge.proofs.Order.{told_apart}
 use Rattle.ipx_router.specs.Route.{direct_route}
 use Rattle.ipx_converge.proofs.Settling.{some_same}
 use Rattle.ipx_converge.proofs.Roots.{hops_told, are_ways}
 
-module _ (net : Internet) (d : Network) (window : ℕ) (clock : Clock) (x : Routing) (start : ℕ)
+module _ (laws : LawsOfTables) (net : Internet) (d : Network) (window : ℕ) (clock : Clock) (x : Routing) (start : ℕ)
     (history : IsHistory net d window clock x start (start + 16 * window)) (extend : LeastWaysExtend net d) where
   -- what was told through a window is on the least way
   settle : (t r s : ℕ) (a b : Route) → IsLeastWay net d r b → TellsRoute net d s a r b
@@ -18,7 +19,7 @@ module _ (net : Internet) (d : Network) (window : ℕ) (clock : Clock) (x : Rout
   settle t r s a b least tells late g =
       elim (history.sourced t r g.best (omega (arith, late)) g.has) [
         | inl mine ↦ absurd (own_is mine)
-        | inr w ↦ g.has ∙ ap (λ c. Some c) (told_apart net d r w.who s g.best b w.route a w.tells tells (least.least g.best (are_ways net d window clock x start history.sourced t r g.best (omega (arith, late)) g.has)) g.not_worse)
+        | inr w ↦ g.has ∙ ap (λ c. Some c) (told_apart laws net d r w.who s g.best b w.route a w.tells tells (least.least g.best (are_ways net d window clock x start history.sourced t r g.best (omega (arith, late)) g.has)) g.not_worse)
       ]
     where
       own_is : Owns net d r g.best → ⊥

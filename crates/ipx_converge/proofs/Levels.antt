@@ -13,7 +13,8 @@ use Rattle.ipx_tables.specs.Route.{route_before}
 use Rattle.ipx_router.specs.declared.route.Route.{Route}
 use Rattle.ipx_converge.specs.Histories.{Clock, Internet, IsHistory, Owns, Routing, TellsRoute, as_offer, better_route}
 use Rattle.ipx_converge.specs.Ways.{CostsUpTo, CostsWithin, Way, own, over}
-use Rattle.ipx_converge.proofs.Order.{better_ticks, rank_strict, told_apart}
+use Rattle.ipx_converge.specs.TableLaws.{LawsOfTables}
+use Rattle.ipx_converge.proofs.Order.{better_ticks, told_apart}
 use Rattle.ipx_converge.proofs.Roots.{are_ways, hops_told}
 use Rattle.ipx_converge.proofs.Settling as settling
 use Rattle.ipx_converge.proofs.Settling.{bool_cases}
@@ -70,14 +71,14 @@ module _ (net : Internet) (d : Network) (most : ℕ) (costs : CostsUpTo most net
       omega (arith, so.0, high)
 
   -- whatever the levels count, if a telling goes up and a better route is no higher
-  module _ (window : ℕ) (level : Route → ℕ)
+  module _ (laws : LawsOfTables) (window : ℕ) (level : Route → ℕ)
       (rises : (s r : ℕ) (a b : Route) → IsFew a → TellsRoute net d s a r b → level a < level b)
       (in_order : (a b : Route) → better_route a b ≡ true → level a ≤ level b)
       (top : ℕ) (within : (b : Route) → IsFew b → level b < top) (after : ℕ) (is : after ≡ 16 + top) where
     order : settling.Order (Owns net d) (TellsRoute net d) better_route IsFew level window
     order = record {
-      irreflexive = λ a. rank_strict.irreflexive (as_offer a);
-      total = λ r s u a b c e. told_apart net d r s u a b c e;
+      irreflexive = λ a. laws.strict.irreflexive (as_offer a);
+      total = λ r s u a b c e. told_apart laws net d r s u a b c e;
       rises = rises;
       in_order = λ r s a b tells c. in_order c b;
     }
@@ -110,17 +111,17 @@ Settled net d window after = (clock clock' : Clock) (x y : Routing) (start start
     → IsHistory net d window clock' y start' (start' + 16 * window) → (t t' r : ℕ)
     → start + after * window ≤ clock t → start' + after * window ≤ clock' t' → x t r ≡ y t' r
 
-pub settled_by_ticks : (net : Internet) (d : Network) (most : ℕ) → CostsWithin most net → most ≤ 4368
+pub settled_by_ticks : (laws : LawsOfTables) (net : Internet) (d : Network) (most : ℕ) → CostsWithin most net → most ≤ 4368
     → (window : ℕ) → Settled net d window (17 + 15 * most)
-settled_by_ticks net d most costs within window =
+settled_by_ticks laws net d most costs within window =
     let few : CostsUpTo most net = λ s q ports port at is. (costs s q ports port at is).1 in
-    settled net d most few window (λ b. b.metric.ticks)
+    settled net d most few laws window (λ b. b.metric.ticks)
     (λ s r a b low t. omega (arith, within, low, (costs s t.q t.meet.theirs t.meet.far t.meet.teller t.meet.at_far).0, (ticks_told net d most few s r a b t).1))
     better_ticks (1 + 15 * most) (λ b low. omega (arith, low)) (17 + 15 * most) (omega arith)
 
-pub settled_at_any_cost : (net : Internet) (d : Network) (most : ℕ) → CostsUpTo most net → most ≤ 4368
+pub settled_at_any_cost : (laws : LawsOfTables) (net : Internet) (d : Network) (most : ℕ) → CostsUpTo most net → most ≤ 4368
     → (window : ℕ) → Settled net d window (32 + 240 * most)
-settled_at_any_cost net d most costs within window =
-    settled net d most costs window steep
+settled_at_any_cost laws net d most costs within window =
+    settled net d most costs laws window steep
     (λ s r a b low t. let c = ticks_told net d most costs s r a b t in let h = hops_told net d s r a b t in omega (arith, within, low, c.1, h.0, h.1))
     better_steep (16 + 240 * most) (λ b low. omega (arith, low)) (32 + 240 * most) (omega arith)

@@ -79,7 +79,7 @@ module _ (laws : LawsOfTables) (net : Internet) (d : Network) (clock : Clock) (c
           | inl old ↦ kept_later n (heard n).router p w (kept n (heard n).router p w (still_was (clock n) (c n (heard n).router p) w old))
           | inr t ↦
               let h = honest n t.0 t.1 in
-              let parts = same_parts (t.0.network, (heard n).source) p t.2.same in
+              let parts = same_parts laws (t.0.network, (heard n).source) p t.2.same in
               let h' : WasHeard (heard n).router p w = record {
                 n = n;
                 source = (heard n).source;
@@ -176,7 +176,7 @@ module _ (laws : LawsOfTables) (net : Internet) (d : Network) (clock : Clock) (c
     agree n within recent at e m same =
         let h = honest n e m in
         let t' = h.0 in
-        let parts = same_parts (e.network, (heard n).source) pt same in
+        let parts = same_parts laws (e.network, (heard n).source) pt same in
         let one : Source = record { port = t'.p; neighbour = t'.meet.far.node } in
         let two : Source = record { port = tells.p; neighbour = tells.meet.far.node } in
         let sources : one ≡ two = sym t'.is ∙ parts.1 ∙ tells.from in

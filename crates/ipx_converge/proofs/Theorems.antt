@@ -1,9 +1,9 @@
 -- The theorems of histories, of runs.
-use Rattle.std.proofs.Common.{ℕ, ◌+◌, ◌*◌, ◌≤◌, ◌≡◌, Option, Some, None, refl, sym, ◌∙◌, inl, inr, arith}
+use Rattle.std.proofs.Common.{ℕ, ◌+◌, ◌-◌, ◌*◌, ◌≤◌, ◌≡◌, Option, Some, None, refl, sym, ◌∙◌, inl, inr, arith}
 use Rattle.ipx_wire.specs.declared.address.Network.{Network}
 use Rattle.ipx_router.specs.declared.route.Route.{Route}
 use Rattle.ipx_converge.specs.TableLaws.{LawsOfTables}
-use Rattle.ipx_converge.specs.Fair.{IsFairRun, RunsForget, RunsSettle, RunsSettleAtAnyCost, RunsSolve, RunsTakeLeastWays, RunsTakeWays}
+use Rattle.ipx_converge.specs.Fair.{IsFairRun, IsSolution, RunsForget, RunsSettle, RunsSettleAtAnyCost, RunsSolve, RunsTakeLeastWays, RunsTakeWays, SolutionsAreOne}
 use Rattle.ipx_converge.specs.Histories.{Clock, Internet, IsHistory, Routing}
 use Rattle.ipx_converge.specs.RouterRuns.{NodesDiffer, RunsAreHistories}
 use Rattle.ipx_converge.proofs.RunRoutes as runs
@@ -33,17 +33,17 @@ module _ (laws : LawsOfTables) where
 
   pub settle : RunsSettle
   settle net d most clock clock' x y differ costs within f g n n' r late late' =
-      settled_by_ticks net d most costs within 180000 clock clock' x y (clock 0) (clock' 0)
+      settled_by_ticks laws net d most costs within 180000 clock clock' x y (clock 0) (clock' 0)
       (of net d clock x differ f) (of net d clock' y differ g) n n' r late late'
 
   pub settle_at_any_cost : RunsSettleAtAnyCost
   settle_at_any_cost net d most clock clock' x y differ costs within f g n n' r late late' =
-      settled_at_any_cost net d most costs within 180000 clock clock' x y (clock 0) (clock' 0)
+      settled_at_any_cost laws net d most costs within 180000 clock clock' x y (clock 0) (clock' 0)
       (of net d clock x differ f) (of net d clock' y differ g) n n' r late late'
 
   pub take_least : RunsTakeLeastWays
   take_least net d clock x differ extend f n r b is late =
-      least.taken_within net d 180000 clock x (clock 0) (of net d clock x differ f) extend b.metric.hops n r b is (omega arith) late
+      least.taken_within laws net d 180000 clock x (clock 0) (of net d clock x differ f) extend b.metric.hops n r b is (omega arith) late
 
   pub solve : RunsSolve
   solve net d most clock x differ costs within f n late =
@@ -61,3 +61,23 @@ module _ (laws : LawsOfTables) where
             let g = h.heard n s r a b (omega (arith, step, base, late)) tells (λ u past recent. same u s (omega (arith, step, late, recent)) ∙ has) in
             (g.best, g.has, g.not_worse);
       }
+
+  -- a solution that stands still from the first step on is a history, with windows of two steps
+  as_history : (net : Internet) (d : Network) (x : ℕ → Option Route) → IsSolution net d x
+      → IsHistory net d 2 (λ n. n) (λ n. x) 0 32
+  as_history net d x is = record {
+    own = λ t r b mine. is.own r b mine;
+    sourced = λ t r b late has. elim (is.told r b has) [
+      | inl mine ↦ inl mine
+      | inr h ↦ inr (record { who = h.0; route = h.1; step = t - 1; before = omega (arith, late); recent = omega (arith, late); had = h.2; tells = h.3 })
+    ];
+    heard = λ t s r a b late tells still.
+        let g = is.best s r a b (still t (omega arith) (omega arith)) tells in
+        record { best = g.0; has = g.1; not_worse = g.2 };
+  }
+
+  pub one_solution : SolutionsAreOne
+  one_solution net d most x y costs within one two r =
+      let late : 0 + (32 + 240 * most) * 2 ≤ 64 + 480 * most = omega arith in
+      settled_at_any_cost laws net d most costs within 2 (λ n. n) (λ n. n) (λ n. x) (λ n. y) 0 0
+      (as_history net d x one) (as_history net d y two) (64 + 480 * most) (64 + 480 * most) r late late

@@ -22,7 +22,6 @@ use Rattle.ipx_converge.specs.TableLaws.{LawsOfTables}
 use Rattle.ipx_converge.specs.TwoRouters.{FairRunsExist, ForgedRouteGoes, IsFromOther, by_half_minutes, forged_route, from_other, gone_network, own_node, ports_of_two, two_routers}
 use Rattle.ipx_converge.specs.Ways.{CostsWithin, IsLeastWay, Way, own, over}
 use Rattle.ipx_converge.proofs.Hearing.{Word, said_by, same_parts, still_is, still_was}
-use Rattle.ipx_converge.proofs.Order.{rank_strict}
 use Rattle.ipx_converge.proofs.Settling.{bool_cases, some_same}
 use Rattle.ipx_converge.proofs.RunRoutes.{By}
 use Rattle.ipx_converge.proofs.Theorems.{forget}
@@ -213,7 +212,7 @@ not_both : (w : Word) → Some w ≡ None → ⊥
 not_both w e = cc
 
 -- where all came from that source, it is the route
-module _ (ports : List Port) (c : Routes) (now : ℕ) (d : Network) (source : Source) (only : (p : Network × Source) (w : Word) → c p ≡ Some w → p.1 ≡ source) where
+module _ (laws : LawsOfTables) (ports : List Port) (c : Routes) (now : ℕ) (d : Network) (source : Source) (only : (p : Network × Source) (w : Word) → c p ≡ Some w → p.1 ≡ source) where
   from_it : (s : Source) (w : Word) → c (d, s) ≡ Some w → c (d, source) ≡ Some w
   from_it s w is = sym (ap (λ z. c (d, z)) (only (d, s) w is)) ∙ is
 
@@ -225,7 +224,7 @@ module _ (ports : List Port) (c : Routes) (now : ℕ) (d : Network) (source : So
     least = λ s m t stands young.
         let same : (m, t) ≡ w = some_same (m, t) w (sym (ap (still now) (from_it s (m, t) stands) ∙ still_is now (m, t) young) ∙ is) in
         let offer : (s, m) ≡ (source, w.0) = ap (λ z. (z, m)) (only (d, s) (m, t) stands) ∙ ap (λ (z : Word). (source, z.0)) same in
-        ap (λ (z : Source × RouteMetric). is_better route_before z (source, w.0)) offer ∙ rank_strict.irreflexive (source, w.0);
+        ap (λ (z : Source × RouteMetric). is_better route_before z (source, w.0)) offer ∙ laws.strict.irreflexive (source, w.0);
   }
 
   none_is : still now (c (d, source)) ≡ None → NoneCounts c d now
@@ -242,7 +241,7 @@ module _ (ports : List Port) (c : Routes) (now : ℕ) (d : Network) (source : So
 the_other : (i r : ℕ) → i < 2 → r < 2 → i ≢ r → 1 - i ≡ r
 the_other i r one two apart = omega (arith, one, two, apart)
 
-module _ (first : ℕ → Routes) (from : IsFromOther first) where
+module _ (laws : LawsOfTables) (first : ℕ → Routes) (from : IsFromOther first) where
   abbrev table : Saying
   table = says first
 
@@ -258,7 +257,7 @@ module _ (first : ℕ → Routes) (from : IsFromOther first) where
   only_other (suc n) r p w is = elim (bool_cases (r == turn n)) [
     | inl mine ↦ elim (said_by (ports_of_two r) (from_other r) (by_half_minutes n) p (after_age (table n r) (by_half_minutes n)) (entry (1 - r) ∷ []) w (sym (in_turn n r p (eqb-true r (turn n) mine)) ∙ is)) [
       | inl old ↦ only_other n r p w (still_was (by_half_minutes n) (table n r p) w old)
-      | inr t ↦ sym (same_parts (t.0.network, from_other r) p t.2.same).1
+      | inr t ↦ sym (same_parts laws (t.0.network, from_other r) p t.2.same).1
     ]
     | inr other ↦ only_other n r p w (sym (ap (λ b. cond b (after_turn n r (table n r)) (table n r) p) other) ∙ is)
   ]
@@ -296,7 +295,7 @@ module _ (first : ℕ → Routes) (from : IsFromOther first) where
 
     are : AreRoutes two_routers d by_half_minutes table routes
     are = record {
-      of_router = λ n r ours at. subst (λ o. IsRouteOrNone ours (table n r) (by_half_minutes n) d (route_at n r o)) (sym at) (is_route_by ours (table n r) (by_half_minutes n) d (from_other r) (only_other n r) (direct_route ours d) refl (still (by_half_minutes n) (table n r (d, from_other r))) refl);
+      of_router = λ n r ours at. subst (λ o. IsRouteOrNone ours (table n r) (by_half_minutes n) d (route_at n r o)) (sym at) (is_route_by laws ours (table n r) (by_half_minutes n) d (from_other r) (only_other n r) (direct_route ours d) refl (still (by_half_minutes n) (table n r (d, from_other r))) refl);
       no_router = λ n r at. ap (route_at n r) at;
     }
 
@@ -333,7 +332,7 @@ module _ (first : ℕ → Routes) (from : IsFromOther first) where
 
 -- ---- each least way is a least way and one telling more
 
-module _ (d : Network) where
+module _ (laws : LawsOfTables) (d : Network) where
   owns_one : (r : ℕ) (a b : Route) → Owns two_routers d r a → Owns two_routers d r b → a ≡ b
   owns_one r a b one two =
       let ours : one.ours ≡ two.ours = some_same one.ours two.ours (sym one.router ∙ two.router) in
@@ -355,7 +354,7 @@ module _ (d : Network) where
   own_is_least s a mine = record { way = own mine; least = λ c way. no_better c way }
     where
       no_better : (c : Route) → Way two_routers d s c → better_route c a ≡ false
-      no_better c (own other) = ap (λ z. better_route z a) (owns_one s c a other mine) ∙ rank_strict.irreflexive (as_offer a)
+      no_better c (own other) = ap (λ z. better_route z a) (owns_one s c a other mine) ∙ laws.strict.irreflexive (as_offer a)
       no_better c (over {s = t} {a = e} way tells) = absurd (not_told t s e c a mine tells)
 
   least_one_on : (s r : ℕ) (a b : Route) → Way two_routers d s a → TellsRoute two_routers d s a r b → IsLeastWay two_routers d s a
@@ -366,14 +365,14 @@ module _ (d : Network) where
   extends_by r b (own mine) = inl mine
   extends_by r b (over {s = s} {a = a} way tells) = inr (s, a, least_one_on s r a b way tells, tells)
 
-pub exist : FairRunsExist
-exist d first from = (
-  routes first from d,
+pub exist : LawsOfTables → FairRunsExist
+exist laws d first from = (
+  routes laws first from d,
   record {
     nodes = nodes_differ;
     costs = cost_one;
-    extend = λ r b least. extends_by d r b least.way;
-    fair = fair first from d;
+    extend = λ r b least. extends_by laws d r b least.way;
+    fair = fair laws first from d;
     begins = refl;
   },
 )
@@ -384,11 +383,11 @@ exist d first from = (
 abbrev forged : ℕ → Routes
 forged r = content network_cmp (record { key = gone_network; source = from_other r; metric = record { ticks = 2; hops = 2 }; heard = 0 } ∷ [])
 
-forged_from_other : IsFromOther forged
-forged_from_other r p w is = elim (bool_cases (is_same network_cmp (gone_network, from_other r) p)) [
+forged_from_other : LawsOfTables → IsFromOther forged
+forged_from_other laws r p w is = elim (bool_cases (is_same network_cmp (gone_network, from_other r) p)) [
   | inl same ↦
       let value : (record { ticks = 2; hops = 2 }, 0) ≡ w = some_same (record { ticks = 2; hops = 2 }, 0) w (sym (ap (λ b. cond b (Some (record { ticks = 2; hops = 2 }, 0)) None) same) ∙ is) in
-      (sym (same_parts (gone_network, from_other r) p same).1, sym (ap (λ (z : Word). z.1) value))
+      (sym (same_parts laws (gone_network, from_other r) p same).1, sym (ap (λ (z : Word). z.1) value))
   | inr other ↦ let none : None ≡ Some w = sym (ap (λ b. cond b (Some (record { ticks = 2; hops = 2 }, 0)) None) other) ∙ is in cc
 ]
 
@@ -404,12 +403,12 @@ no_way r b (own mine) =
     cc
 no_way r b (over {s = s} {a = a} way tells) = no_way s a way
 
-at_first : (r : ℕ) → r < 2 → routes forged forged_from_other gone_network 0 r ≡ Some (forged_route r)
-at_first zero low = refl
-at_first (suc zero) low = refl
-at_first (suc (suc r)) low = absurd (omega (arith, low))
+at_first : (laws : LawsOfTables) (r : ℕ) → r < 2 → routes laws forged (forged_from_other laws) gone_network 0 r ≡ Some (forged_route r)
+at_first laws zero low = refl
+at_first laws (suc zero) low = refl
+at_first laws (suc (suc r)) low = absurd (omega (arith, low))
 
 pub forged_goes : LawsOfTables → ForgedRouteGoes
 forged_goes laws =
-    let run = fair forged forged_from_other gone_network in
-    (routes forged forged_from_other gone_network, run, at_first, λ n r late. forget laws two_routers gone_network by_half_minutes (routes forged forged_from_other gone_network) run.one no_way n r late)
+    let run = fair laws forged (forged_from_other laws) gone_network in
+    (routes laws forged (forged_from_other laws) gone_network, run, at_first laws, λ n r late. forget laws two_routers gone_network by_half_minutes (routes laws forged (forged_from_other laws) gone_network) run.one no_way n r late)

@@ -68,3 +68,9 @@ RunsSettleAtAnyCost =
     → IsFairRun net d clock' y → (n n' r : ℕ)
     → clock 0 + (32 + 240 * most) * 180000 ≤ clock n
     → clock' 0 + (32 + 240 * most) * 180000 ≤ clock' n' → x n r ≡ y n' r
+
+-- and the equations have one solution at most
+abbrev pub SolutionsAreOne : Type 0
+SolutionsAreOne = (net : Internet) (d : Network) (most : ℕ) (x y : ℕ → Option Route)
+    → CostsUpTo most net → most ≤ 4368 → IsSolution net d x → IsSolution net d y
+    → (r : ℕ) → x r ≡ y r

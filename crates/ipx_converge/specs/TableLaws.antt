@@ -4,7 +4,9 @@ use Rattle.std.specs.Prelude.{◌≡◌, ℕ}
 use Rattle.ipx_wire.specs.declared.address.Network.{Network}
 use Rattle.ipx_tables.specs.declared.route.RouteMetric.{RouteMetric}
 use Rattle.ipx_tables.specs.declared.source.Source.{Source}
-use Rattle.ipx_tables.specs.Best.{IsBest}
+use Rattle.ipx_tables.specs.Best.{IsBest, is_better}
+use Rattle.ipx_tables.specs.Content.{source_cmp}
+use Rattle.ipx_tables.specs.Order.{IsStrictTotal, TellsApart}
 use Rattle.ipx_tables.specs.Route.{route_before}
 use Rattle.ipx_router.specs.Knowledge.{Routes}
 
@@ -12,3 +14,7 @@ pub record LawsOfTables : Type 0 where
   -- a network has one best offer at most
   pub one_best : (c : Routes) (network : Network) (now : ℕ) (a b : Source × RouteMetric)
       → IsBest route_before c network now a → IsBest route_before c network now b → a ≡ b
+  -- of two different offers exactly one is better
+  pub strict : IsStrictTotal (is_better route_before)
+  -- no two sources tie
+  pub apart : TellsApart source_cmp

@@ -7,6 +7,7 @@ ghost use Rattle.ipx_converge.specs.Fair.{
   RunsSolve,
   RunsTakeLeastWays,
   RunsTakeWays,
+  SolutionsAreOne,
 };
 ghost use Rattle.ipx_converge.specs.RouterRuns.{RunsAreHistories};
 ghost use Rattle.ipx_converge.specs.ReceiveSteps.{ReceivingIsAStep};
@@ -50,6 +51,13 @@ pub fn runs_solve()
     laws_below();
 }
 
+/// There is one solution at most, whatever ports cost.
+pub fn solutions_are_one()
+    ensures { SolutionsAreOne }
+{
+    laws_below();
+}
+
 /// Where least ways extend one another, each router takes its own, three minutes for each hop
 /// later.
 pub fn runs_take_least_ways()
@@ -83,7 +91,9 @@ pub fn tellings_are_heard()
 /// theorems ask can be.
 pub fn fair_runs_exist()
     ensures { FairRunsExist }
-{}
+{
+    laws_below();
+}
 
 /// And one that begins with a forged route, which is gone 48 minutes later.
 pub fn forged_route_goes()

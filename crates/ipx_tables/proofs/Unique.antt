@@ -10,22 +10,25 @@ use Rattle.std.proofs.lemmas.Map.Lookups.{exact_unsigned, exact_bytes, exact_pai
 use Rattle.ipx_tables.specs.declared.source.Source.{Source}
 use Rattle.ipx_tables.specs.Order.{IsStrictTotal, TellsApart, strict_from_cmp}
 use Rattle.ipx_tables.specs.Content.{Content, source_cmp}
-use Rattle.ipx_tables.specs.Best.{metric_cmp, rank_cmp, IsBest}
+use Rattle.ipx_tables.specs.Best.{metric_cmp, rank_cmp, is_better, IsBest}
 use Rattle.ipx_tables.specs.Sorted.{IsRising}
 use Rattle.ipx_tables.specs.Listing.{listed_key, IsListing}
 use Rattle.ipx_tables.proofs.Best.{metric_equal, rank_total}
 
-source_exact : TellsApart source_cmp
+pub source_exact : TellsApart source_cmp
 source_exact a b h = ap (λ (p : ℕ × List ℕ). let s : Source = record { port = p.0; neighbour = record { 0 = p.1 } } in s) (exact_pairs nat_cmp (slice_cmp nat_cmp) exact_unsigned exact_bytes (a.port, a.neighbour.0) (b.port, b.neighbour.0) h)
 
 module _ {M : Type 0} {before : M → M → Bool} (strict : IsStrictTotal before) where
-  rank_exact : TellsApart (rank_cmp before)
+  pub rank_exact : TellsApart (rank_cmp before)
   rank_exact a b h = ap (λ (p : M × Source). (p.1, p.0)) (exact_pairs (metric_cmp before) source_cmp (metric_equal strict) source_exact (a.1, a.0) (b.1, b.0) h)
+
+  pub rank_strict : IsStrictTotal (is_better before)
+  rank_strict = strict_from_cmp (rank_total strict) rank_exact
 
   -- neither of two bests is better
   pub best_is_one : {K : Type 0} (c : Content K M) (key : K) (now : ℕ) (a b : Source × M) → IsBest before c key now a → IsBest before c key now b → a ≡ b
   best_is_one c key now a b is_a is_b =
-      (strict_from_cmp (rank_total strict) rank_exact).total a b
+      rank_strict.total a b
       (is_b.least a.0 a.1 is_a.moment is_a.stands is_a.counts)
       (is_a.least b.0 b.1 is_b.moment is_b.stands is_b.counts)
 

@@ -1,10 +1,10 @@
 //! Laws of tables, which follow from what a table says.
 
 ghost use Rattle.std.specs.Prelude.{◌≡◌, ◌↔◌, ℕ, List, Some, None, length};
-ghost use Rattle.ipx_tables.specs.Order.{TellsApart};
-ghost use Rattle.ipx_tables.specs.Content.{Content, Table, IsTable, content};
+ghost use Rattle.ipx_tables.specs.Order.{IsStrictTotal, TellsApart};
+ghost use Rattle.ipx_tables.specs.Content.{Content, Table, IsTable, content, source_cmp};
 ghost use Rattle.ipx_tables.specs.Calls.{Call, after_calls, IsLastWord};
-ghost use Rattle.ipx_tables.specs.Best.{IsBest};
+ghost use Rattle.ipx_tables.specs.Best.{IsBest, is_better, rank_cmp};
 ghost use Rattle.ipx_tables.specs.Listing.{IsListing};
 ghost use Rattle.ipx_tables.specs.Route.{network_cmp, route_before};
 ghost use Rattle.ipx_tables.specs.Service.{service_before, service_key_cmp};
@@ -21,6 +21,17 @@ pub fn last_word_stands<K: Ord + Copy, M: Metric + Copy>()
     ensures { (calls : List (Call K M)) (p : K × Source) (metric : M) (moment : ℕ)
         → (after_calls K.cmp M.dead (λ q. None) calls p ≡ Some (metric, moment))
         ↔ IsLastWord K.cmp M.dead calls p metric moment }
+{}
+
+/// No two sources tie.
+pub fn sources_are_apart()
+    ensures { TellsApart source_cmp }
+{}
+
+/// Of two different offers of a key exactly one is better.
+pub fn one_is_better<M: Metric + Copy>()
+    ensures apart { TellsApart (rank_cmp M.before) }
+    ensures strict { IsStrictTotal (is_better M.before) }
 {}
 
 /// A key has one best at most.
