@@ -1,6 +1,8 @@
 -- What makes something wants memory for what is made.
 use Rattle.std.proofs.Common.{ℕ, zero, suc, ◌≡◌, ◌+◌, ◌<◌, ◌++◌, ◌∷◌, inl, inr, List, [], length, set, false, Option, Some, Result, Ok, Err, refl, sym, ◌∙◌, ap, subst, arith}
-use Rattle.std.specs.Prelude.{IfOk, IfSome, OnErr, slice_get}
+use Rattle.std.specs.Prelude.{IfOk, IfSome, OnErr, slice_get, vec_capacity, vec_len}
+use Rattle.std.specs.Global.{Vec}
+use Rattle.std.proofs.lemmas.List.{length-append, length-map}
 use Rattle.ipx_wire.specs.declared.memory.OutOfMemory.{OutOfMemory}
 use Rattle.spx_link.specs.Offer.{first_of}
 use Rattle.spx_link.specs.declared.unit.Unit.{Unit as unit}
@@ -9,6 +11,9 @@ use Rattle.spx_messages.specs.EndpointView.{Held, held_at}
 use Rattle.spx_messages.specs.Taking.{TakenView}
 use Rattle.spx_messages.specs.declared.arrived.Arrived.{Arrived}
 use Rattle.spx_messages.specs.declared.fault.EndFault.{EndFault}
+use Rattle.ipx_router.specs.Packets.{SendingView, sending_of, sendings}
+use Rattle.ipx_router.specs.declared.outcome.Reply.{Reply}
+use Rattle.ipx_router.specs.declared.port.Port.{Port}
 use Rattle.ipx_log.specs.Note.{Note}
 use Rattle.ipx_steps.specs.Steps.{TakesOf, arrival_notes, unit_notes, whole_notes}
 use Rattle.ipx_steps.specs.World.{EndNow, ParcelView, Station}
@@ -17,8 +22,10 @@ use Rattle.ipx_hosts.specs.Refusing.{end_held, held_by}
 use Rattle.ipx_net.specs.AnswerView.{AnswerView}
 use Rattle.ipx_net.specs.GrowthView.{GrowthView, growth_view}
 use Rattle.ipx_net.specs.HostEvents.{DeliversSo}
+use Rattle.ipx_net.specs.RouterEvents.{told_growth}
 use Rattle.ipx_net.specs.WantOfMemory.{HostWantsMemory, IsMade, TakeIsTold}
 use Rattle.ipx_net.specs.declared.growth.Growth.{Growth}
+use Rattle.ipx_net.specs.declared.routers.RouterNow.{RouterNow}
 
 -- an answer alone makes nothing
 pub quiet_is_none : (g : Growth) (a : AnswerView) → growth_view g ≡ record { parcels = []; notes = []; answer = a } → IsMade (Ok g) → ⊥
@@ -89,3 +96,26 @@ module _ (old : HostsView) (host parcel now : ℕ) (bytes : List ℕ) where
       let notes : 0 < 0 + length g.notes = subst P d.parcels made in
       let some : 0 < length g.notes = omega (arith, notes) in
       inr (d.answer, new, d.delivered, subst (λ (ns : List Note). 0 < length ns) d.notes some)
+
+-- ---- a router is polled
+
+pub on_err : {T E : Type 0} {P : Type 0} (r : Result T E) → P → OnErr r P
+on_err (Ok x) has = tt
+on_err (Err e) has = has
+
+-- what finds no room behind others is something
+pub some_behind : (asked told : Vec Reply) → vec_capacity asked < vec_len asked + vec_len told → 0 < length (sendings asked.items ++ sendings told.items)
+some_behind asked told full =
+    let some : 0 < length told.items = omega (arith, full, asked.ok.0, asked.ok.1, told.ok.0) in
+    rw (length-append (sendings asked.items) (sendings told.items), length-map told.items sending_of) (omega (arith, some))
+
+-- what told of packets, told of some
+pub told_of_some : (g : GrowthView) (router : ℕ) (ports : List Port) (first : ℕ) (sent : List SendingView) → g ≡ told_growth router ports first sent → 0 < length g.parcels + length g.notes → 0 < length sent
+told_of_some g router ports first [] same made =
+    let none : 0 < 0 = subst (λ (v : GrowthView). 0 < length v.parcels + length v.notes) same made in
+    absurd (omega (arith, none))
+told_of_some g router ports first (s ∷ sent) same made = omega arith
+
+-- a router of a list wants it as the list says
+pub of_list : (P : RouterNow → Type 0) (routers : List RouterNow) (k : ℕ) (r : RouterNow) → slice_get routers k ≡ Some r → P r → IfSome (slice_get routers k) P
+of_list P routers k r at has = subst (λ (o : Option RouterNow). IfSome o P) (sym at) has

@@ -1,10 +1,16 @@
 -- The entries of a log, without where they lie in memory.
 use Rattle.std.specs.Prelude.{List, map}
+use Rattle.spx_link.specs.declared.unit.Unit.{Unit}
 use Rattle.spx_units.specs.Message.{message_view}
 use Rattle.ipx_log.specs.Note.{Note}
 use Rattle.ipx_net.specs.declared.entry.Entry.{Entry}
 use Rattle.ipx_net.specs.declared.entry.Entry.TheVariants as Entries
+use Rattle.ipx_net.specs.declared.entry.TakenUnit.{TakenUnit}
 use Rattle.ipx_log.specs.Note as Notes
+
+-- the unit that was taken
+abbrev pub taken_unit : TakenUnit → Unit
+taken_unit u = record { stream = u.stream; last = u.last; body = record { items = u.body.items } }
 
 abbrev pub entry_note : Entry → Note
 entry_note (Entries.Opened who host buffers) = Notes.Opened who host buffers
@@ -12,7 +18,7 @@ entry_note (Entries.Accepted who parcel buffers) = Notes.Accepted who parcel buf
 entry_note (Entries.Joined who parcel) = Notes.Joined who parcel
 entry_note (Entries.HandIn who message) = Notes.HandsIn who (message_view message)
 entry_note (Entries.HandOut who message) = Notes.HandsOut who (message_view message)
-entry_note (Entries.UnitTaken who unit) = Notes.TakesUnit who unit.value
+entry_note (Entries.UnitTaken who unit) = Notes.TakesUnit who (taken_unit unit)
 entry_note (Entries.EndAsked who) = Notes.AsksEnd who
 entry_note (Entries.Got who parcel) = Notes.Got who parcel
 entry_note (Entries.Released who) = Notes.Released who

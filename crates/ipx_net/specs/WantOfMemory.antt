@@ -1,6 +1,7 @@
 -- Which events may want memory, by what stands before them: those that make an entry or a parcel,
--- are answered with a list, or make a router's table grow. The entry point is `EventWantsMemory`.
-use Rattle.std.specs.Prelude.{ℕ, ◌≡◌, ◌⊎◌, ◌<◌, ◌+◌, ◌++◌, List, length, Option, None, Some, Result, Ok, Err, slice_get}
+-- or make a router's table grow. The entry point is `EventWantsMemory`.
+use Rattle.std.specs.Prelude.{ℕ, ◌≡◌, ◌⊎◌, ◌<◌, ◌+◌, ◌++◌, true, false, List, length, Option, None, Some, Result, Ok, Err, slice_get}
+use Rattle.ipx_wire.specs.declared.address.Node.{Node}
 use Rattle.ipx_wire.specs.declared.memory.OutOfMemory.{OutOfMemory}
 use Rattle.spx_link.specs.Offer.{first_of}
 use Rattle.spx_units.specs.Message.{message_view}
@@ -11,18 +12,24 @@ use Rattle.spx_messages.specs.declared.arrived.Arrived.{Arrived}
 use Rattle.ipx_router.specs.Answer.{Receives}
 use Rattle.ipx_router.specs.OutcomeView.{OutcomeView}
 use Rattle.ipx_router.specs.OutcomeView as Outcomes
+use Rattle.ipx_router.specs.Knowledge.{known_at}
+use Rattle.ipx_router.specs.Packets.{SendingView}
 use Rattle.ipx_router.specs.RouterView.{RouterView}
+use Rattle.ipx_router.specs.Telling.{HasToTell, is_due}
 use Rattle.ipx_router.specs.WantOfMemory.{WantsMemory}
 use Rattle.ipx_log.specs.Note.{Note}
 use Rattle.ipx_steps.specs.Steps.{arrival_notes, unit_notes, whole_notes}
 use Rattle.ipx_steps.specs.World.{ParcelView, Station}
-use Rattle.ipx_hosts.specs.Hosts.{DeliveredAt, HostsView}
+use Rattle.ipx_hosts.specs.Hosts.{DeliveredAt, HostsView, PolledAt}
 use Rattle.ipx_hosts.specs.Refusing.{close_fault, dial_fault, send_fault}
 use Rattle.ipx_net.specs.GrowthView.{growth_view}
 use Rattle.ipx_net.specs.HostEvents.{held_under}
 use Rattle.ipx_net.specs.NetView.{NetNow}
+use Rattle.ipx_net.specs.RouterMembers.{IsPolled}
 use Rattle.ipx_net.specs.declared.event.Event.{Event}
 use Rattle.ipx_net.specs.declared.event.Event.TheVariants as Events
+use Rattle.ipx_net.specs.declared.event.Member.{Member}
+use Rattle.ipx_net.specs.declared.event.Member.TheVariants as Members
 use Rattle.ipx_net.specs.declared.growth.Growth.{Growth}
 use Rattle.ipx_net.specs.declared.place.Place.{Place}
 use Rattle.ipx_net.specs.declared.place.Place.TheVariants as Places
@@ -63,6 +70,25 @@ RouterWantsMemory routers router port bytes now = (before : RouterNow)
     × (WantsMemory before.router port bytes now after
     ⊎ ((o : OutcomeView) × Receives before.router port bytes now o after × IsSent o))
 
+-- a host that is polled gives a packet
+abbrev pub PollIsSent : HostsView → ℕ → ℕ → Type 0
+PollIsSent v host now = (r : Node × ℕ) × (room written : List ℕ) × (new : HostsView)
+    × PolledAt v host now (Some r) room written new
+
+-- a router that is polled wants memory for what it asks as it starts, or where it is time and it has
+-- something to tell, or does so for packets that it gives
+abbrev pub RouterPollWantsMemory : RouterNow → ℕ → Type 0
+RouterPollWantsMemory before now = (before.started ≡ false)
+    ⊎ ((is_due before.router.told now ≡ true) × HasToTell (known_at before.router now) now)
+    ⊎ ((after : RouterNow) × (sent : List SendingView) × IsPolled before after now sent
+    × (0 < length sent))
+
+abbrev pub PollWantsMemory : NetNow → Member → Type 0
+PollWantsMemory n (Members.Host host) =
+    PollIsSent (record { stations = n.world.hosts; ends = n.world.ends }) host n.world.moment
+PollWantsMemory n (Members.Router router) = (before : RouterNow)
+    × (slice_get n.routers router ≡ Some before) × RouterPollWantsMemory before n.world.moment
+
 abbrev pub DeliveryWantsMemory : NetNow → ℕ → List ℕ → Place → Type 0
 DeliveryWantsMemory n parcel bytes (Places.Host host) =
     HostWantsMemory (record { stations = n.world.hosts; ends = n.world.ends }) host parcel bytes
@@ -70,9 +96,9 @@ DeliveryWantsMemory n parcel bytes (Places.Host host) =
 DeliveryWantsMemory n parcel bytes (Places.Port router port) =
     RouterWantsMemory n.routers router port bytes n.world.moment
 
--- an event may want memory: a call that no end refuses, a take that is told, a delivery that is
--- told, sent on or makes a router's table grow, and each poll, release and packet from outside. A
--- moment wants none
+-- an event may want memory: a call that no end refuses, a take that is told, a poll that gives a
+-- packet, a delivery that is told, sent on or makes a router's table grow, and each release and
+-- packet from outside. A moment wants none
 abbrev pub EventWantsMemory : NetNow → Event → Type 0
 EventWantsMemory n (Events.Dial host socket to buffers) =
     dial_fault (slice_get n.world.hosts host) ≡ None
@@ -82,7 +108,7 @@ EventWantsMemory n (Events.Take who) = TakeIsTold (held_under n.world who) who
 EventWantsMemory n (Events.Close who) = close_fault (held_under n.world who) ≡ None
 EventWantsMemory n (Events.Release who) = Unit {0}
 EventWantsMemory n (Events.Tick now) = ⊥
-EventWantsMemory n (Events.Poll member) = Unit {0}
+EventWantsMemory n (Events.Poll member) = PollWantsMemory n member
 EventWantsMemory n (Events.Deliver parcel place) = (letter : ParcelView)
     × (slice_get n.world.parcels parcel ≡ Some letter)
     × DeliveryWantsMemory n parcel letter.bytes place

@@ -8,12 +8,13 @@ ghost use Rattle.ipx_hosts.specs.Hosts.{FitTogether, SameHomes, stands};
 ghost use Rattle.ipx_hosts.specs.Refusing.{close_fault, dial_fault, end_held, send_fault};
 ghost use Rattle.ipx_steps.specs.Steps.{unit_notes, whole_notes};
 ghost use Rattle.ipx_net.specs.AnswerView as views;
+ghost use Rattle.ipx_net.specs.Entries.{taken_unit};
 ghost use Rattle.ipx_net.specs.GrowthView.{Grows, growth_view};
 ghost use Rattle.ipx_net.specs.HostEvents.{Closing, Dialling, Releasing, Sending, TakingFrom};
 ghost use Rattle.ipx_net.specs.WantOfMemory.{IsMade, TakeIsTold};
 
 use crate::answer::Answer;
-use crate::entry::Entry;
+use crate::entry::{Entry, TakenUnit};
 use crate::growth::{Growth, noted, quiet};
 use ipx_hosts::{Hosts, Refusal};
 use ipx_wire::{Address, OutOfMemory, Socket};
@@ -124,6 +125,18 @@ fn copy_of(alloc: Global, message: &Message) -> Result<Message, OutOfMemory>
     })
 }
 
+/// A unit as the log keeps it.
+fn kept(alloc: Global, unit: &Unit) -> Result<TakenUnit, OutOfMemory>
+    ensures { IfOk result (λ u. taken_unit u ≡ unit.now) }
+{
+    let body = Vec::from_slice(alloc, unit.body.as_slice())?;
+    Ok(TakenUnit {
+        stream: unit.stream,
+        last: unit.last,
+        body,
+    })
+}
+
 /// What is told of a take that was not refused: the unit that was held, and the message that it
 /// ended.
 fn taken(alloc: Global, who: usize, unit: Option<Unit>, taken: Taken) -> Result<Growth, OutOfMemory>
@@ -138,7 +151,7 @@ fn taken(alloc: Global, who: usize, unit: Option<Unit>, taken: Taken) -> Result<
 {
     let mut entries = Vec::new(alloc);
     if let Some(unit) = unit {
-        let unit = Box::new(alloc, unit)?;
+        let unit = kept(alloc, &unit)?;
         entries.push(Entry::UnitTaken { who, unit })?;
     }
     if let Taken::Whole(message) = &taken {

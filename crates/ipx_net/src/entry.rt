@@ -1,7 +1,15 @@
 //! The entries of a log.
 
-use spx_link::Unit;
 use spx_units::Message;
+
+/// A unit that was taken: its datastream type, whether a message ends with it, and its data, which
+/// take the room of their bytes.
+#[derive(Drop)]
+pub struct TakenUnit {
+    pub stream: u8,
+    pub last: bool,
+    pub body: Vec<u8>,
+}
 
 /// What happened in a network, one thing at a time. Ends, parcels, hosts and routers go by their
 /// numbers from 0; `who` is an end.
@@ -37,7 +45,7 @@ pub enum Entry {
     /// A unit was taken.
     UnitTaken {
         who: usize,
-        unit: Box<Unit>,
+        unit: TakenUnit,
     },
     /// An end was asked to end its connection.
     EndAsked {

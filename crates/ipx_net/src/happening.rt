@@ -6,7 +6,7 @@ ghost use Rattle.ipx_net.specs.GrowthView.{growth_view};
 ghost use Rattle.ipx_net.specs.NetEvents.{DeliversTo, Happens, IsOwed, PollsOf, injected};
 ghost use Rattle.ipx_net.specs.NetFaults.{fault_before, network_at, place_fault, poll_fault};
 ghost use Rattle.ipx_net.specs.NetView.{net_of};
-ghost use Rattle.ipx_net.specs.WantOfMemory.{EventWantsMemory, IsMade};
+ghost use Rattle.ipx_net.specs.WantOfMemory.{EventWantsMemory, IsMade, PollWantsMemory};
 ghost use Rattle.ipx_net.specs.declared.event.Event.TheVariants as Events;
 
 use crate::answer::Answer;
@@ -68,6 +68,8 @@ fn poll(
         (net_of hosts.old routers.old book.now.parcels book.now.log now)
         (net_of hosts.new routers.new (book.now.parcels ++ (growth_view g).parcels)
         (book.now.log ++ (growth_view g).notes) now)) }
+    ensures memory { IsMade result → PollWantsMemory
+        (net_of hosts.old routers.old book.now.parcels book.now.log now) member }
     ensures homes { SameHomes hosts.old hosts.new }
 {
     let first = book.parcels().len();

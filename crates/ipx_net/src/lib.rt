@@ -40,7 +40,7 @@ mod told;
 pub use answer::Answer;
 pub use book::Book;
 pub use endinfo::EndInfo;
-pub use entry::Entry;
+pub use entry::{Entry, TakenUnit};
 pub use event::{Event, Member};
 pub use fault::NetFault;
 pub use host::Host;

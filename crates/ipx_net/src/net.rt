@@ -156,8 +156,7 @@ impl Net {
             → (first_fault self.old event ≡ Some f) × (self.new ≡ self.old)) }
         ensures memory { result ≡ Err NetFaults.OutOfMemory
             → (first_fault self.old event ≡ None) × (self.new.spent ≡ true) }
-        // Only what makes an entry or a parcel, is answered with a list, or makes a router's table
-        // grow wants memory.
+        // Only what makes an entry or a parcel, or makes a router's table grow, wants memory.
         ensures wanted { result ≡ Err NetFaults.OutOfMemory
             → EventWantsMemory self.old.now event }
         ensures log { result ≡ Err NetFaults.OutOfMemory

@@ -1,7 +1,8 @@
 //! A host is polled.
 
-ghost use Rattle.std.specs.Prelude.{◌≡◌, ◌<◌, ◌∷◌, [], IfOk, length};
+ghost use Rattle.std.specs.Prelude.{◌≡◌, ◌<◌, ◌∷◌, [], IfOk, Some, length};
 ghost use Rattle.ipx_log.specs.Packets.{note_of};
+ghost use Rattle.ipx_steps.specs.World.{AtHost};
 ghost use Rattle.ipx_hosts.specs.Hosts.{SameHomes};
 ghost use Rattle.ipx_net.specs.AnswerView as views;
 ghost use Rattle.ipx_net.specs.Entries.{entry_note, entry_notes};
@@ -9,6 +10,7 @@ ghost use Rattle.ipx_net.specs.GrowthView.{Grows, growth_view};
 ghost use Rattle.ipx_net.specs.HostEvents.{PollingHost};
 ghost use Rattle.ipx_net.specs.Parcels.{parcel_view};
 ghost use Rattle.ipx_net.specs.Speaking.{spoken_notes};
+ghost use Rattle.ipx_net.specs.WantOfMemory.{IsMade, PollIsSent};
 
 use crate::answer::Answer;
 use crate::entry::Entry;
@@ -16,7 +18,7 @@ use crate::growth::{Growth, quiet};
 use crate::parcel::Parcel;
 use crate::place::Place;
 use ipx_hosts::Hosts;
-use ipx_wire::{OutOfMemory, SPX_MAX_PACKET_SIZE};
+use ipx_wire::{Network, Node, OutOfMemory, SPX_MAX_PACKET_SIZE};
 use spx_link::Sent;
 use std::alloc::Global;
 
@@ -70,7 +72,31 @@ fn posted(
     })
 }
 
-/// A host is asked what it has to send.
+/// What a host wrote as a parcel, which takes the room of these bytes.
+fn letter(
+    alloc: Global,
+    host: usize,
+    segment: Network,
+    next: Node,
+    written: &[u8],
+) -> Result<Parcel, OutOfMemory>
+    ensures { IfOk result (λ p. parcel_view p ≡ record {
+      segment = segment;
+      next = next;
+      bytes = written.now;
+      sent_by = Some (AtHost host);
+    }) }
+{
+    let bytes = Vec::from_slice(alloc, written)?;
+    Ok(Parcel {
+        segment,
+        next,
+        bytes,
+        sent_by: Some(Place::Host(host)),
+    })
+}
+
+/// A host is asked what it has to send. Where that is nothing, it takes no memory.
 pub fn poll_host(
     alloc: Global,
     hosts: &mut Hosts,
@@ -81,21 +107,15 @@ pub fn poll_host(
     requires { host < length hosts.old.stations }
     ensures grows { IfOk result (λ g. Grows hosts.old hosts.new first now (growth_view g)
         (PollingHost host)) }
+    ensures memory { IsMade result → PollIsSent hosts.old host now }
     ensures homes { SameHomes hosts.old hosts.new }
 {
     let segment = hosts.network(host).unwrap();
-    let mut bytes = vec![in alloc; 0; SPX_MAX_PACKET_SIZE]?;
-    let Some((next, length)) = hosts.poll(host, now, &mut bytes) else {
+    let mut room = [0; SPX_MAX_PACKET_SIZE];
+    let Some((next, length)) = hosts.poll(host, now, &mut room) else {
         return Ok(quiet(alloc, Answer::Parcels(Vec::new(alloc))));
     };
-    bytes.truncate(length);
     let entries = spoken(alloc, hosts.spoke(host), first)?;
-    let sent_by = Some(Place::Host(host));
-    let parcel = Parcel {
-        segment,
-        next,
-        bytes,
-        sent_by,
-    };
+    let parcel = letter(alloc, host, segment, next, &room[..length])?;
     posted(alloc, parcel, entries, first)
 }

@@ -1,6 +1,6 @@
 //! The routers of a network.
 
-ghost use Rattle.std.specs.Prelude.{◌≡◌, ◌+◌, ◌≤◌, [], IfOk, MatchBool, All, length, option_map};
+ghost use Rattle.std.specs.Prelude.{◌≡◌, ◌+◌, ◌<◌, ◌≤◌, [], IfOk, MatchBool, All, OnErr, false, length, option_map};
 ghost use Rattle.ipx_router.specs.NewRouter.{IsOwnNetwork};
 ghost use Rattle.ipx_router.specs.Packets.{AreOwn, sending_of, sendings};
 ghost use Rattle.ipx_router.specs.Ports.{AreOnPorts};
@@ -9,6 +9,7 @@ ghost use Rattle.ipx_steps.specs.Routers.{told_notes};
 ghost use Rattle.ipx_net.specs.Entries.{entry_notes};
 ghost use Rattle.ipx_net.specs.Parcels.{parcel_view, parcel_views};
 ghost use Rattle.ipx_net.specs.RouterMembers.{IsPolled, letter_of, letters_of, network_of, port_at};
+ghost use Rattle.ipx_net.specs.WantOfMemory.{RouterPollWantsMemory};
 
 use crate::entry::Entry;
 use crate::parcel::Parcel;
@@ -40,6 +41,7 @@ fn questions(alloc: Global, member: &RouterNow) -> Result<Vec<Reply>, OutOfMemor
     ensures there { IfOk result
         (λ v. AreOnPorts (length member.now.router.ports) (sendings v.items)) }
     ensures own { IfOk result (λ v. AreOwn (sendings v.items)) }
+    ensures refused { OnErr result (member.now.started ≡ false) }
 {
     if member.started {
         return Ok(Vec::new(alloc));
@@ -58,6 +60,7 @@ pub fn poll_router(
     ensures there { IfOk result
         (λ v. AreOnPorts (length member.old.router.ports) (sendings v.items)) }
     ensures own { IfOk result (λ v. AreOwn (sendings v.items)) }
+    ensures refused { OnErr result (RouterPollWantsMemory member.old now) }
     ensures ports { member.new.router.ports ≡ member.old.router.ports }
 {
     let mut packets = questions(alloc, member)?;
@@ -86,8 +89,9 @@ pub fn post_all(
     ports: &[Port],
     replies: Vec<Reply>,
 ) -> Result<Vec<Parcel>, OutOfMemory>
-    ensures { IfOk result (λ v.
+    ensures letters { IfOk result (λ v.
         parcel_views v.items ≡ letters_of router ports.now (sendings replies.items)) }
+    ensures refused { OnErr result (0 < length replies.items) }
 {
     let mut parcels = Vec::with_capacity(alloc, replies.len())?;
     for reply in replies {
@@ -104,8 +108,9 @@ pub fn told_entries(
     parcels: &[Parcel],
 ) -> Result<Vec<Entry>, OutOfMemory>
     requires { first + length parcels.now ≤ 18446744073709551615 }
-    ensures { IfOk result (λ v.
+    ensures notes { IfOk result (λ v.
         entry_notes v.items ≡ told_notes router first (parcel_views parcels.now)) }
+    ensures refused { OnErr result (0 < length parcels.now) }
 {
     let mut entries = Vec::with_capacity(alloc, parcels.len())?;
     let mut number = first;

@@ -1,13 +1,13 @@
 //! Events at routers, as growths of the book.
 
-ghost use Rattle.std.specs.Prelude.{◌≡◌, ◌+◌, ◌<◌, ◌≤◌, IfOk, IfSome, length, map, slice_get};
+ghost use Rattle.std.specs.Prelude.{◌≡◌, ◌+◌, ◌<◌, ◌≤◌, IfOk, IfSome, OnErr, length, map, slice_get};
 ghost use Rattle.std.specs.List.{range_with_len};
 ghost use Rattle.ipx_router.specs.OutcomeView.{view};
 ghost use Rattle.ipx_router.specs.declared.outcome.Outcome.TheVariants as Outcomes;
 ghost use Rattle.ipx_router.specs.Packets.{sending_of, sendings};
 ghost use Rattle.ipx_net.specs.GrowthView.{growth_view};
 ghost use Rattle.ipx_net.specs.RouterEvents.{MemberPolled, MemberReached, routed_growth, told_growth};
-ghost use Rattle.ipx_net.specs.WantOfMemory.{IsMade, IsSent, RouterWantsMemory};
+ghost use Rattle.ipx_net.specs.WantOfMemory.{IsMade, IsSent, RouterPollWantsMemory, RouterWantsMemory};
 
 use crate::answer::Answer;
 use crate::entry::Entry;
@@ -21,7 +21,9 @@ use std::alloc::Global;
 /// So many numbers, from the first on.
 fn numbers(alloc: Global, first: usize, count: usize) -> Result<Vec<usize>, OutOfMemory>
     requires { first + count ≤ 18446744073709551615 }
-    ensures { IfOk result (λ v. v.items ≡ map (λ k. first + k) (range_with_len 0 count)) }
+    ensures numbers { IfOk result (λ v.
+        v.items ≡ map (λ k. first + k) (range_with_len 0 count)) }
+    ensures refused { OnErr result (0 < count) }
 {
     let mut all = Vec::with_capacity(alloc, count)?;
     for k in 0..count {
@@ -38,8 +40,9 @@ fn told(
     replies: Vec<Reply>,
     first: usize,
 ) -> Result<Growth, OutOfMemory>
-    ensures { IfOk result
+    ensures grows { IfOk result
         (λ g. growth_view g ≡ told_growth router ports.now first (sendings replies.items)) }
+    ensures refused { OnErr result (0 < length replies.items) }
 {
     let count = replies.len();
     if count > usize::MAX - first {
@@ -94,8 +97,10 @@ pub fn poll_member(
     now: u64,
 ) -> Result<Growth, OutOfMemory>
     requires { router < length routers.old }
-    ensures { IfOk result
+    ensures polled { IfOk result
         (λ g. MemberPolled routers.old router first now (growth_view g) routers.new) }
+    ensures memory { IsMade result
+        → IfSome (slice_get routers.old router) (λ r. RouterPollWantsMemory r now) }
 {
     let member = &mut routers[router];
     let replies = poll_router(alloc, member, now)?;

@@ -90,7 +90,7 @@ fn two_that_are_refused(rt: HostRuntime) -> Result<(), Fail> {
 }
 
 /// Host 0 asks host 1 for a connection.
-fn dial(alloc: Global, net: &mut Net) -> Result<Answer, NetFault> {
+pub fn dial(alloc: Global, net: &mut Net) -> Result<Answer, NetFault> {
     let event = Event::Dial {
         host: 0,
         socket: Socket(0x4001),
@@ -123,7 +123,7 @@ fn a_call_in_a_new_network(rt: HostRuntime) -> Result<(), Fail> {
 }
 
 /// The network, made once more where memory was refused.
-fn net_at_last(rt: &impl Abort, alloc: Global) -> Result<Net, NewFault> {
+pub fn net_at_last(rt: &impl Abort, alloc: Global) -> Result<Net, NewFault> {
     match net_with(alloc, 0x33) {
         Ok(net) => Ok(net),
         Err(fault) => {

@@ -47,7 +47,7 @@ returns-in-Tick-clause-memory c = λ made. absurd (quiet_is_none c.quiet.result 
 
 pub returns-in-Poll-clause-memory : goal.returns-in-Poll-clause-memory
 returns-in-Poll-clause-memory c =
-    λ made. subst (EventWantsMemory (before c.args.hosts.now c.args.routers.now c.args.book.now c.args.moment.now)) (sym c.in-Poll.is) tt
+    subst (λ (e : Event). IsMade c.poll.result → EventWantsMemory (before c.args.hosts.now c.args.routers.now c.args.book.now c.args.moment.now) e) (sym c.in-Poll.is) c.poll.ensures.memory
 
 pub returns-in-Deliver-clause-memory : goal.returns-in-Deliver-clause-memory
 returns-in-Deliver-clause-memory c =

@@ -10,4 +10,4 @@ returns-in-Router-clause-polls c =
     let b = c.args.book.now in
     subst (λ (m : Member). IfOk c.poll_member.result (λ g. PollsOf m (growth_view g).answer (before c.args.hosts.now c.args.routers.now b c.args.now) (after c.args.hosts.now c.poll_member.new.routers b (growth_view g) c.args.now))) (sym c.in-Router.is)
     (polled_ok c.poll_member.result c.args.hosts.now c.args.routers.now c.poll_member.new.routers b c.in-Router.router (length c.parcels-first.result.now) c.args.now
-    (counted c.parcels-first.result.now b c.parcels-first.ensures) c.poll_member.ensures)
+    (counted c.parcels-first.result.now b c.parcels-first.ensures) c.poll_member.ensures.polled)
