@@ -6,3 +6,4 @@ pub mod Own
 pub mod Bursting
 pub mod Ports
 pub mod Rounds
+pub mod Parts

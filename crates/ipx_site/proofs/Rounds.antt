@@ -1,10 +1,12 @@
 -- One round of a router that runs.
-use Rattle.std.proofs.Common.{◌≡◌, ℕ, length, sym, ap, subst, inl, inr}
+use Rattle.std.proofs.Common.{◌≡◌, ℕ, length, Bool, true, false, Option, Some, None, is_some, sym, ap, subst, inl, inr}
+use Rattle.ipx_carrier.specs.declared.fault.RunFault.{RunFault}
 use Rattle.ipx_carrier.specs.RouterCore.{CoreView, Gives, Hears, Misses, Withholds}
 use Rattle.ipx_carrier.specs.Turns.{Peers}
 use Rattle.ipx_site.specs.declared.turns.Burst.{Burst}
 use Rattle.ipx_site.specs.Bursts.{Bursts}
-use Rattle.ipx_site.specs.Rounds.{AsksAgain, IsRound}
+use Rattle.ipx_site.specs.Leisure.{IsLeisure}
+use Rattle.ipx_site.specs.Rounds.{AsksAgain, IsRound, SleepsBehind}
 
 -- a core that asks again has the ports that it had
 pub same_ports : (now times times_after : ℕ) (old mid : CoreView) → AsksAgain now times times_after old mid
@@ -23,3 +25,24 @@ is_round tells clock told tick clock_after peers here i j n now times times_afte
     let by = subst (λ (it : Peers). Bursts Hears Misses Gives Withholds tells (length old.router.ports) it 256 b j n tick clock_after mid new) f at in
     let kept = subst (λ it. Bursts Hears Misses Gives Withholds tells (length old.router.ports) peers 256 b it n tick clock_after mid new) g by in
     (now, tick, mid, subst (λ it. tells clock now it) (sym e) h, asks, kept)
+
+-- how long a router waits, by how its burst ended
+pub rests : {K : Type 0} (todo : ℕ → Type 0) (clock clock' : K) (tells : K → ℕ → K → Type 0) (asked asked' : Option ℕ)
+    (fault : Option RunFault) (quiet : Bool) → is_some fault ≡ true → asked' ≡ Some 100 → clock' ≡ clock
+    → SleepsBehind todo clock clock' tells asked asked' fault quiet
+rests todo clock clock' tells asked asked' (Some f) quiet e at same = (at, same)
+rests todo clock clock' tells asked asked' None quiet e at same = absurd (cc)
+
+pub sleeps : {K : Type 0} (todo : ℕ → Type 0) (clock clock' : K) (tells : K → ℕ → K → Type 0) (asked asked' : Option ℕ)
+    (fault : Option RunFault) (quiet : Bool) → is_some fault ≡ false → quiet ≡ true → (now time : ℕ) → tells clock now clock'
+    → IsLeisure todo now time → asked' ≡ Some time → SleepsBehind todo clock clock' tells asked asked' fault quiet
+sleeps todo clock clock' tells asked asked' (Some f) quiet e q now time told leisure at = absurd (cc)
+sleeps todo clock clock' tells asked asked' None true e q now time told leisure at = (now, time, told, leisure, at)
+sleeps todo clock clock' tells asked asked' None false e q now time told leisure at = absurd (cc)
+
+pub goes_on : {K : Type 0} (todo : ℕ → Type 0) (clock clock' : K) (tells : K → ℕ → K → Type 0) (asked asked' : Option ℕ)
+    (fault : Option RunFault) (quiet : Bool) → is_some fault ≡ false → quiet ≡ false → asked' ≡ asked → clock' ≡ clock
+    → SleepsBehind todo clock clock' tells asked asked' fault quiet
+goes_on todo clock clock' tells asked asked' (Some f) quiet e q at same = absurd (cc)
+goes_on todo clock clock' tells asked asked' None true e q at same = absurd (cc)
+goes_on todo clock clock' tells asked asked' None false e q at same = (at, same)

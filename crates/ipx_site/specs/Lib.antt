@@ -9,4 +9,5 @@ pub mod Loading
 pub mod Peers
 pub mod Moments
 pub mod Bursts
+pub mod Leisure
 pub mod Rounds

@@ -1,14 +1,27 @@
--- When a router that starts asks again, and when a cause is told. All of it is own.
-use Rattle.std.specs.Prelude.{◌<◌, ◌≤◌, ℕ, ◌+◌, List, [], ◌∷◌, Option, MatchOption}
+-- When a router that starts asks again, when a cause is told, and when something is done again. All of
+-- it is own.
+use Rattle.std.specs.Prelude.{◌≡◌, ◌<◌, ◌≤◌, ℕ, ◌+◌, List, [], ◌∷◌, Option, Some, MatchOption, slice_get}
 use Rattle.ipx_site.specs.declared.causes.Cause.{Cause}
 
 -- the moments at which a router asks again, in milliseconds since its start
 abbrev pub askings : List ℕ
 askings = 1000 ∷ 2000 ∷ 4000 ∷ 8000 ∷ 16000 ∷ 32000 ∷ []
 
+-- a router that asked again so often is to ask once more
+abbrev pub IsToAskAgain : ℕ → ℕ → Type 0
+IsToAskAgain times now = (moment : ℕ) × (slice_get askings times ≡ Some moment) × (moment ≤ now)
+
+-- so many milliseconds are over since something was done, or it never was
+abbrev pub HasPassed : ℕ → Option ℕ → ℕ → Type 0
+HasPassed period at now = MatchOption at (Unit {0}) (λ t. t + period ≤ now)
+
 -- a minute is over since a line, or there was none
 abbrev pub IsMinuteOver : Option ℕ → ℕ → Type 0
-IsMinuteOver at now = MatchOption at (Unit {0}) (λ t. t + 60000 ≤ now)
+IsMinuteOver at now = HasPassed 60000 at now
+
+-- it is that moment, if there is one, or later
+abbrev pub IsReached : Option ℕ → ℕ → Type 0
+IsReached moment now = MatchOption moment ⊥ (λ t. t ≤ now)
 
 -- a cause is told: it happened since it was told last, and that was a minute ago or never
 abbrev pub IsDue : Cause → ℕ → ℕ → Type 0

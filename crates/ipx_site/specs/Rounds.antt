@@ -1,14 +1,13 @@
--- What one round of a router that runs does to its core and its clock. All of it is own.
-use Rattle.std.specs.Prelude.{◌≡◌, ◌≤◌, ◌⊎◌, ℕ, ◌+◌, length, false, Some, slice_get}
+-- What one round of a router that runs does to its core and its clock, and how long it waits then. All
+-- of it is own.
+use Rattle.std.specs.Prelude.{◌≡◌, ◌⊎◌, ℕ, ◌+◌, length, Bool, false, true, Option, Some, None}
+use Rattle.ipx_carrier.specs.declared.fault.RunFault.{RunFault}
 use Rattle.ipx_carrier.specs.RouterCore.{CoreView, Gives, Hears, Misses, Withholds}
 use Rattle.ipx_carrier.specs.Turns.{Peers}
 use Rattle.ipx_site.specs.declared.turns.Burst.{Burst}
 use Rattle.ipx_site.specs.Bursts.{Bursts}
-use Rattle.ipx_site.specs.Moments.{askings}
-
--- a router that asked again so often is to ask once more
-abbrev pub IsToAskAgain : ℕ → ℕ → Type 0
-IsToAskAgain times now = (moment : ℕ) × (slice_get askings times ≡ Some moment) × (moment ≤ now)
+use Rattle.ipx_site.specs.Leisure.{IsLeisure}
+use Rattle.ipx_site.specs.Moments.{IsToAskAgain}
 
 -- then its core gives the packets of its start once more, and at no other time
 abbrev pub AsksAgain : ℕ → ℕ → ℕ → CoreView → CoreView → Type 0
@@ -24,6 +23,13 @@ IsRound {K} clock clock_after tells peers kept kept_after times times_after old 
     × AsksAgain now times times_after old mid
     × Bursts Hears Misses Gives Withholds tells (length old.router.ports) peers 256 b kept kept_after tick clock_after mid new
 
--- a clock is read once more, or is not
-abbrev pub ReadsOnceMore : {K : Type 0} → K → K → (K → ℕ → K → Type 0) → Type 0
-ReadsOnceMore clock clock_after tells = (clock_after ≡ clock) ⊎ ((moment : ℕ) × tells clock moment clock_after)
+-- how long it waits then, and when: 100 ms behind a fault; not at all behind a burst that was not quiet;
+-- and behind a quiet one, at the moment that the clock tells, as long as there is nothing to do. What it
+-- waited last before is told too
+abbrev pub SleepsBehind : {K : Type 0} → (ℕ → Type 0) → K → K → (K → ℕ → K → Type 0) → Option ℕ → Option ℕ → Option RunFault → Bool → Type 0
+SleepsBehind todo clock clock_after tells asked asked_after (Some f) quiet =
+    (asked_after ≡ Some 100) × (clock_after ≡ clock)
+SleepsBehind todo clock clock_after tells asked asked_after None false =
+    (asked_after ≡ asked) × (clock_after ≡ clock)
+SleepsBehind todo clock clock_after tells asked asked_after None true = (now time : ℕ)
+    × tells clock now clock_after × IsLeisure todo now time × (asked_after ≡ Some time)

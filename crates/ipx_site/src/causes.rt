@@ -1,7 +1,7 @@
 //! How often a line says what happens again and again.
 
 ghost use Rattle.std.specs.Prelude.{◌≡◌, ◌↔◌, ◌+◌, ◌^◌, ◌<◌, ◌≤◌, ℕ, IsTrue, MatchOption, Some, IfSome, None};
-ghost use Rattle.ipx_site.specs.Moments.{IsDue};
+ghost use Rattle.ipx_site.specs.Moments.{IsDue, IsReached};
 
 /// How long a cause is not told again, in milliseconds.
 const PAUSE: u64 = 60_000;
@@ -56,8 +56,9 @@ impl Cause {
     /// The moment from which on it is time, where it happened so often; none where no clock can
     /// show that moment.
     pub fn next(&self, count: u64) -> Option<u64>
-        ensures { MatchOption result ((t : ℕ) → t < 2 ^ 64 → IsDue self.now count t → ⊥)
+        ensures next { MatchOption result ((t : ℕ) → t < 2 ^ 64 → IsDue self.now count t → ⊥)
             (λ m. (t : ℕ) → IsDue self.now count t ↔ (m ≤ t)) }
+        ensures reached { (t : ℕ) → t < 2 ^ 64 → IsReached result t ↔ IsDue self.now count t }
     {
         if count <= self.told {
             return None;

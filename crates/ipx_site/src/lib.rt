@@ -17,6 +17,7 @@ mod figures;
 mod files;
 mod host;
 mod key;
+mod moments;
 mod own_word;
 mod peers;
 mod port;

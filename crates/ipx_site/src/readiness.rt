@@ -1,6 +1,6 @@
 //! Waiting until something is to be read, or for some time.
 
-ghost use Rattle.std.specs.Prelude.{◌≡◌, ◌+◌, IfOk, OnOk, length};
+ghost use Rattle.std.specs.Prelude.{◌≡◌, ◌+◌, IfOk, None, OnOk, Some, length};
 ghost use Rattle.ipx_carrier.specs.Fates.{raised};
 ghost use Rattle.ipx_site.specs.Bursts.{counted};
 
@@ -34,12 +34,15 @@ pub struct Readiness {
     events: Events,
     /// For how many descriptors it was asked to wait.
     watched: usize,
+    /// How many milliseconds it was asked to wait at most when it waited last.
+    asked: Option<u64>,
 }
 
 impl Readiness {
     /// Waits for each of the sockets.
     pub fn new<R: Net>(rt: &R, alloc: Global, sockets: &SiteSockets) -> Result<Readiness, WaitFault>
-        ensures { IfOk result (λ r. r.watched ≡ length sockets.now.sockets.items) }
+        ensures watched { IfOk result (λ r. r.watched ≡ length sockets.now.sockets.items) }
+        ensures asked { IfOk result (λ r. r.asked ≡ None) }
     {
         let Ok(poll) = Poll::new(rt) else {
             return Err(WaitFault::System);
@@ -51,14 +54,16 @@ impl Readiness {
             poll,
             events,
             watched: 0,
+            asked: None,
         };
         readiness.watch_sockets(sockets)?;
         Ok(readiness)
     }
 
     fn watch_sockets(&mut self, sockets: &SiteSockets) -> Result<(), WaitFault>
-        ensures { OnOk result (self.new.watched
+        ensures watched { OnOk result (self.new.watched
             ≡ counted (self.old.watched + length sockets.now.sockets.items)) }
+        ensures asked { self.new.asked ≡ self.old.asked }
     {
         for port in 0..sockets.ports() {
             if let Some(descriptor) = sockets.descriptor(port) {
@@ -73,7 +78,8 @@ impl Readiness {
     /// Waits for this descriptor too, until it is readable. False where the system can't: a file of
     /// a disk always is.
     pub fn watch_reading(&mut self, descriptor: RawFd) -> bool
-        ensures { self.new.watched ≡ raised self.old.watched }
+        ensures watched { self.new.watched ≡ raised self.old.watched }
+        ensures asked { self.new.asked ≡ self.old.asked }
     {
         let token = Token(self.watched);
         self.watched = self.watched.saturating_add(1);
@@ -86,8 +92,11 @@ impl Readiness {
     /// Waits until something is readable, a signal comes, or so many milliseconds are over. It
     /// answers whether something is.
     pub fn wait(&mut self, most: u64) -> Result<bool, WaitFault>
-        ensures { self.new.watched ≡ self.old.watched }
+        ensures watched { self.new.watched ≡ self.old.watched }
+        // So long the system is asked to wait, whatever comes of it.
+        ensures asked { self.new.asked ≡ Some most }
     {
+        self.asked = Some(most);
         let timeout = Duration::from_millis(most);
         match self.poll.poll(&mut self.events, Some(timeout)) {
             Ok(()) => Ok(!self.events.is_empty()),

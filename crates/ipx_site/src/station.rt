@@ -2,13 +2,15 @@
 
 ghost use Rattle.std.specs.Prelude.{◌≡◌, ◌≤◌, length, map};
 ghost use Rattle.ipx_carrier.specs.Turns.{peers_of};
+ghost use Rattle.ipx_site.specs.Leisure.{IsLeisure, IsToDo, agenda, happened, happened_in, look_after};
 ghost use Rattle.ipx_site.specs.Peers.{kept_in};
 ghost use Rattle.ipx_site.specs.Ports.{access_by};
-ghost use Rattle.ipx_site.specs.Rounds.{AsksAgain, IsRound, ReadsOnceMore};
+ghost use Rattle.ipx_site.specs.Rounds.{AsksAgain, IsRound, SleepsBehind};
 
 use crate::asking::asking_moment;
 use crate::clock::SteadyClock;
 use crate::figures::Figures;
+use crate::moments::{LONGEST, end_of, is_over, sooner, time_to};
 use crate::peers::PeersOnly;
 use crate::readiness::{Readiness, WaitFault};
 use crate::sockets::SiteSockets;
@@ -23,7 +25,7 @@ use std::alloc::Global;
 use std::rt::{Clock as SystemClock, Files};
 
 /// How often the figures are written, and one looks for what grew old, in milliseconds.
-const PERIOD: u64 = 10_000;
+const PERIOD: u64 = LONGEST;
 
 /// How soon one looks again where something was heard, in milliseconds.
 const SOON: u64 = 1000;
@@ -69,33 +71,6 @@ pub struct Parts<'a, R: SystemClock> {
     pub status: Option<String>,
 }
 
-/// How long it is to the first of these moments, at most a period.
-fn time_to(moments: [Option<u64>; 5], now: u64) -> u64 {
-    let mut least = PERIOD;
-    for moment in moments {
-        if let Some(moment) = moment {
-            least = least.min(moment.saturating_sub(now));
-        }
-    }
-    least
-}
-
-/// Whether a period is over since something was done, or it never was.
-fn is_over(last: Option<u64>, period: u64, now: u64) -> bool {
-    match last {
-        None => true,
-        Some(last) => now.saturating_sub(last) >= period,
-    }
-}
-
-/// The moment at which it is over.
-fn end_of(last: Option<u64>, period: u64) -> Option<u64> {
-    match last {
-        None => Some(0),
-        Some(last) => Some(last.saturating_add(period)),
-    }
-}
-
 impl<'a, R: SystemClock> Station<'a, R> {
     /// A router that begins to run. The caller owes a socket and a list of peers for each port.
     pub fn new(alloc: Global, parts: Parts<'a, R>) -> Station<'a, R>
@@ -125,13 +100,18 @@ impl<'a, R: SystemClock> Station<'a, R> {
         }
     }
 
-    fn figures(&self, now: u64) -> Figures {
+    fn figures(&self, now: u64) -> Figures
+        ensures { happened_in result ≡ happened self.now.tally self.now.core
+            self.now.device.kept self.now.device.refused self.now.device.device.faults }
+    {
         self.tally
             .figures(&self.core, &self.device, &self.known, now)
     }
 
     /// How long to wait for the next look: shortly, where a response was heard since.
-    fn look_period(&self) -> u64 {
+    fn look_period(&self) -> u64
+        ensures { result ≡ look_after self.now.core.fates.heard self.now.responses }
+    {
         if self.core.fates().heard == self.responses {
             PERIOD
         } else {
@@ -145,6 +125,7 @@ impl<'a, R: SystemClock> Station<'a, R> {
         ensures device { self.new.device ≡ self.old.device }
         ensures peers { self.new.peers ≡ self.old.peers }
         ensures clock { self.new.clock ≡ self.old.clock }
+        ensures ready { self.new.ready ≡ self.old.ready }
     {
         if let Some(moment) = asking_moment(self.asked) {
             if now >= moment {
@@ -160,6 +141,7 @@ impl<'a, R: SystemClock> Station<'a, R> {
         ensures device { self.new.device ≡ self.old.device }
         ensures peers { self.new.peers ≡ self.old.peers }
         ensures clock { self.new.clock ≡ self.old.clock }
+        ensures ready { self.new.ready ≡ self.old.ready }
         ensures asked { self.new.asked ≡ self.old.asked }
     {
         if !is_over(self.looked, self.look_period(), now) {
@@ -178,6 +160,7 @@ impl<'a, R: SystemClock> Station<'a, R> {
         ensures device { self.new.device ≡ self.old.device }
         ensures peers { self.new.peers ≡ self.old.peers }
         ensures clock { self.new.clock ≡ self.old.clock }
+        ensures ready { self.new.ready ≡ self.old.ready }
         ensures asked { self.new.asked ≡ self.old.asked }
     {
         if !is_over(self.written, PERIOD, now) {
@@ -203,6 +186,7 @@ impl<'a, R: SystemClock> Station<'a, R> {
         ensures device { self.new.device ≡ self.old.device }
         ensures peers { self.new.peers ≡ self.old.peers }
         ensures clock { self.new.clock ≡ self.old.clock }
+        ensures ready { self.new.ready ≡ self.old.ready }
     {
         self.ask(now);
         self.look(rt, alloc, now);
@@ -212,15 +196,20 @@ impl<'a, R: SystemClock> Station<'a, R> {
     }
 
     /// How long there is nothing to do, unless something comes, in milliseconds.
-    fn leisure(&self, now: u64) -> u64 {
-        let moments = [
-            asking_moment(self.asked),
-            end_of(self.looked, self.look_period()),
+    fn leisure(&self, now: u64) -> u64
+        ensures { IsLeisure (IsToDo (agenda self.now.asked self.now.looked self.now.responses
+            self.now.written self.now.core self.now.troubles (happened self.now.tally self.now.core
+            self.now.device.kept self.now.device.refused self.now.device.device.faults)))
+            now result }
+    {
+        let telling = self.core.router().next_telling();
+        let packets = sooner(asking_moment(self.asked), telling);
+        let look = end_of(self.looked, self.look_period());
+        let figures = sooner(
             end_of(self.written, PERIOD),
-            self.core.router().next_telling(),
             self.troubles.next(&self.figures(now)),
-        ];
-        time_to(moments, now)
+        );
+        time_to(sooner(packets, sooner(look, figures)), now)
     }
 
     /// Does what is to be done now, and takes turns as long as there is something to hear or to send.
@@ -230,6 +219,7 @@ impl<'a, R: SystemClock> Station<'a, R> {
             (peers_of self.old.peers.items)
             (kept_in self.old.device.kept) (kept_in self.new.device.kept)
             self.old.asked self.new.asked self.old.core self.new.core result }
+        ensures ready { self.new.ready ≡ self.old.ready }
         ensures peers { self.new.peers ≡ self.old.peers }
         ensures access { map access_by self.new.device.guards.items
             ≡ map access_by self.old.device.guards.items }
@@ -251,15 +241,18 @@ impl<'a, R: SystemClock> Station<'a, R> {
     /// Does what is to be done now, takes turns as long as there is something to hear or to send,
     /// and waits.
     pub fn step<S: Log + Files>(&mut self, rt: &S, alloc: Global) -> Result<(), WaitFault>
-        // A round, and behind it the clock is read once more at most.
+        // A round, and behind it a wait, as long as there is nothing to do.
         ensures core { (between : SteadyClock R) × (burst : Burst)
             × IsRound self.old.clock between
             (λ old moment new. (old.last ≤ moment) × (new.last ≡ moment))
             (peers_of self.old.peers.items)
             (kept_in self.old.device.kept) (kept_in self.new.device.kept)
             self.old.asked self.new.asked self.old.core self.new.core burst
-            × ReadsOnceMore between self.new.clock
-            (λ old moment new. (old.last ≤ moment) × (new.last ≡ moment)) }
+            × SleepsBehind (IsToDo (agenda self.new.asked self.new.looked self.new.responses
+            self.new.written self.new.core self.new.troubles (happened self.new.tally self.new.core
+            self.new.device.kept self.new.device.refused self.new.device.device.faults)))
+            between self.new.clock (λ old moment new. (old.last ≤ moment) × (new.last ≡ moment))
+            self.old.ready.asked self.new.ready.asked burst.fault burst.quiet }
         ensures peers { self.new.peers ≡ self.old.peers }
         ensures access { map access_by self.new.device.guards.items
             ≡ map access_by self.old.device.guards.items }

@@ -1,5 +1,8 @@
 //! What a router that runs counts.
 
+ghost use Rattle.std.specs.Prelude.{◌≡◌};
+ghost use Rattle.ipx_site.specs.Leisure.{happened, happened_in};
+
 use crate::figures::Figures;
 use crate::peers::PeersOnly;
 use crate::sockets::SiteSockets;
@@ -53,7 +56,10 @@ impl Tally {
         device: &PeersOnly<SiteSockets>,
         known: &Known,
         now: u64,
-    ) -> Figures {
+    ) -> Figures
+        ensures { happened_in result ≡ happened self.now core.now
+            device.now.kept device.now.refused device.now.device.faults }
+    {
         Figures {
             heard: self.heard,
             sent: device.device().sent(),

@@ -1,7 +1,12 @@
 //! The troubles that a person is told of, each at most once a minute.
 
+ghost use Rattle.std.specs.Prelude.{◌↔◌, ◌<◌, ◌^◌, ℕ};
+ghost use Rattle.ipx_site.specs.Leisure.{IsLineDue, happened_in};
+ghost use Rattle.ipx_site.specs.Moments.{IsReached};
+
 use crate::causes::Cause;
 use crate::figures::Figures;
+use crate::moments::sooner;
 use crate::peers::Kept;
 use log::{Log, warn};
 
@@ -35,15 +40,6 @@ fn tell_kept<R: Log>(rt: &R, cause: &mut Cause, kept: Kept, now: u64, what: &str
     if let Some(more) = cause.tell(count, now) {
         warn!(rt; target: "ipx",
             "{more} {what} ({count} since the start), the last from {a}.{b}.{c}.{d}");
-    }
-}
-
-/// The sooner of two moments, where there are any.
-fn sooner(a: Option<u64>, b: Option<u64>) -> Option<u64> {
-    match (a, b) {
-        (Some(a), Some(b)) => Some(a.min(b)),
-        (Some(a), None) => Some(a),
-        (None, b) => b,
     }
 }
 
@@ -90,8 +86,11 @@ impl Troubles {
         tell(rt, &mut self.file, f.file_faults, now, what);
     }
 
-    /// The moment at which it is time to tell one.
-    pub fn next(&self, figures: &Figures) -> Option<u64> {
+    /// The moment from which on it is time to tell one; none where no clock can show that moment.
+    pub fn next(&self, figures: &Figures) -> Option<u64>
+        ensures { (t : ℕ) → t < 2 ^ 64
+            → IsReached result t ↔ IsLineDue self.now (happened_in figures.now) t }
+    {
         let f = *figures;
         let people = sooner(
             self.strangers.next(f.kept.strangers.count),

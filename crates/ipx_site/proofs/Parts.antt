@@ -1,0 +1,55 @@
+-- When there is something to do of several things.
+use Rattle.std.proofs.Common.{◌≡◌, ◌⊎◌, ◌↔◌, ◌<◌, ◌≤◌, ◌+◌, ◌^◌, ◌∙◌, ℕ, true, Option, Some, None, inl, inr, refl, sym, subst}
+use Rattle.std.proofs.lemmas.Bool.{le-leb, leb-true}
+use Rattle.ipx_router.specs.Telling.{IsNextTelling, is_due}
+use Rattle.ipx_site.specs.Leisure.{IsLeisure}
+use Rattle.ipx_site.specs.Moments.{IsReached}
+
+forth : {A B C D : Type 0} → (A → C) → (B → D) → A ⊎ B → C ⊎ D
+forth f g (inl a) = inl (f a)
+forth f g (inr b) = inr (g b)
+
+pub both : {A B C D E : Type 0} → (E ↔ (A ⊎ B)) → (A ↔ C) → (B ↔ D) → E ↔ (C ⊎ D)
+both e f g = (λ h. forth f.0 g.0 (e.0 h), λ h. e.1 (forth f.1 g.1 h))
+
+pub then : {A B C : Type 0} → (A ↔ B) → (B ↔ C) → A ↔ C
+then f g = (λ a. g.0 (f.0 a), λ c. f.1 (g.1 c))
+
+on : {A B C : Type 0} → (A ⊎ B) ⊎ C → A ⊎ (B ⊎ C)
+on (inl (inl a)) = inl a
+on (inl (inr b)) = inr (inl b)
+on (inr c) = inr (inr c)
+
+off : {A B C : Type 0} → A ⊎ (B ⊎ C) → (A ⊎ B) ⊎ C
+off (inl a) = inl (inl a)
+off (inr (inl b)) = inl (inr b)
+off (inr (inr c)) = inr c
+
+-- of three, whichever two come first
+pub regrouped : {A B C : Type 0} → ((A ⊎ B) ⊎ C) ↔ (A ⊎ (B ⊎ C))
+regrouped = (on, off)
+
+pub same : {A : Type 0} → A ↔ A
+same = (λ a. a, λ a. a)
+
+-- the same on both sides of a sum
+pub beside : {A B C D : Type 0} → (A ↔ C) → (B ↔ D) → (A ⊎ B) ↔ (C ⊎ D)
+beside f g = (forth f.0 g.0, forth f.1 g.1)
+
+-- a moment that there may be is reached just where there is one, and it is
+pub reached : (o : Option ℕ) (t : ℕ) → IsReached o t ↔ ((moment : ℕ) × (o ≡ Some moment) × (moment ≤ t))
+reached None t = (λ h. absurd h, λ (m, e, h). absurd (cc))
+reached (Some n) t = (λ h. (n, refl, h), λ (m, e, h). subst (λ o. IsReached o t) (sym e) h)
+
+-- by the moment of the next telling, it is time to tell
+pub telling : (last o : Option ℕ) (t : ℕ) → IsNextTelling last o → t < 2 ^ 64 → IsReached o t ↔ (is_due last t ≡ true)
+telling last None t h less = (λ k. absurd k, λ e. absurd (cc (sym e ∙ h t less)))
+telling last (Some m) t h less = (λ k. h t ∙ le-leb m t k, λ e. leb-true m t (sym (h t) ∙ e))
+
+-- nothing to do of what is the same at each moment that a clock can show
+pub as_long : (P Q : ℕ → Type 0) (now time : ℕ) → ((t : ℕ) → t < 2 ^ 64 → P t ↔ Q t) → IsLeisure P now time → IsLeisure Q now time
+as_long P Q now time e l = record {
+  most = l.most;
+  nothing = λ t a b h q. l.nothing t a b h ((e t h).1 q);
+  something = λ h. let s = l.something h in (s.0, (e (now + time) s.0).0 s.1);
+}

@@ -1,0 +1,99 @@
+-- What a router that runs does by itself, and how long it has nothing to do. All of it is own.
+use Rattle.std.specs.Prelude.{◌≡◌, ◌≤◌, ◌<◌, ◌⊎◌, ◌==◌, ◌^◌, ℕ, ◌+◌, true, Option, if◌then◌else◌}
+use Rattle.ipx_carrier.specs.RouterCore.{CoreView}
+use Rattle.ipx_router.specs.Telling.{is_due}
+use Rattle.ipx_site.specs.declared.figures.Figures.{Figures}
+use Rattle.ipx_site.specs.declared.peers.KeptBack.{KeptBack}
+use Rattle.ipx_site.specs.declared.tally.Tally.{Tally}
+use Rattle.ipx_site.specs.declared.troubles.Troubles.{Troubles}
+use Rattle.ipx_site.specs.Bursts.{counted}
+use Rattle.ipx_site.specs.Moments.{HasPassed, IsDue, IsToAskAgain}
+
+-- how often each cause happened of which a line is told
+pub record Happened : Type 0 where
+  pub strangers : ℕ
+  pub forged : ℕ
+  pub refused : ℕ
+  pub table_full : ℕ
+  pub queue_full : ℕ
+  pub device : ℕ
+  pub memory : ℕ
+  pub file : ℕ
+
+-- by its figures
+abbrev pub happened_in : Figures → Happened
+happened_in f = record {
+  strangers = f.kept.strangers.count;
+  forged = f.kept.forged.count;
+  refused = f.refused;
+  table_full = f.fates.table_full;
+  queue_full = f.queue_full;
+  device = f.device_faults;
+  memory = f.memory_faults;
+  file = f.file_faults;
+}
+
+-- by what it tallies, what its core counts, and what its device kept back, did not send and lost
+abbrev pub happened : Tally → CoreView → KeptBack → ℕ → ℕ → Happened
+happened tally core kept refused lost = record {
+  strangers = kept.strangers.count;
+  forged = kept.forged.count;
+  refused = refused;
+  table_full = core.fates.table_full;
+  queue_full = core.dropped;
+  device = counted (tally.device_faults + lost);
+  memory = tally.memory_faults;
+  file = tally.file_faults;
+}
+
+-- a line of some cause is to be told
+abbrev pub IsLineDue : Troubles → Happened → ℕ → Type 0
+IsLineDue t n now = IsDue t.strangers n.strangers now ⊎ IsDue t.forged n.forged now
+    ⊎ IsDue t.refused n.refused now ⊎ IsDue t.table_full n.table_full now
+    ⊎ IsDue t.queue_full n.queue_full now ⊎ IsDue t.device n.device now
+    ⊎ IsDue t.memory n.memory now ⊎ IsDue t.file n.file now
+
+-- what all that depends on which a router does by itself
+pub record Agenda : Type 0 where
+  -- how often it asked again
+  pub asked : ℕ
+  -- when it looked last what it knows, and how many responses it had heard by then
+  pub looked : Option ℕ
+  pub responses : ℕ
+  -- when it wrote its figures last
+  pub written : Option ℕ
+  pub core : CoreView
+  pub troubles : Troubles
+  pub count : Happened
+
+abbrev pub agenda : ℕ → Option ℕ → ℕ → Option ℕ → CoreView → Troubles → Happened → Agenda
+agenda asked looked responses written core troubles count = record {
+  asked = asked;
+  looked = looked;
+  responses = responses;
+  written = written;
+  core = core;
+  troubles = troubles;
+  count = count;
+}
+
+-- it looks each ten seconds what it knows, and one second after the last look where a response was
+-- heard since
+abbrev pub look_after : ℕ → ℕ → ℕ
+look_after heard responses = if heard == responses then 10000 else 1000
+
+-- there is something to do: to ask again, to tell the neighbours, to look, to write the figures, or to
+-- tell a line
+abbrev pub IsToDo : Agenda → ℕ → Type 0
+IsToDo a now = IsToAskAgain a.asked now
+    ⊎ (is_due a.core.router.told now ≡ true)
+    ⊎ HasPassed (look_after a.core.fates.heard a.responses) a.looked now
+    ⊎ HasPassed 10000 a.written now
+    ⊎ IsLineDue a.troubles a.count now
+
+-- so long from now there is nothing to do, at any moment that a clock can show; where that is less than
+-- ten seconds, which is the most, there is something then
+pub record IsLeisure (todo : ℕ → Type 0) (now time : ℕ) : Type 0 where
+  pub most : time ≤ 10000
+  pub nothing : (t : ℕ) → now ≤ t → t < now + time → t < 2 ^ 64 → todo t → ⊥
+  pub something : time < 10000 → (now + time < 2 ^ 64) × todo (now + time)
