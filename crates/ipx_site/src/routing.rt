@@ -10,12 +10,13 @@ use crate::clock::SteadyClock;
 use crate::files::load_site;
 use crate::peers::{Guard, PeersOnly};
 use crate::readiness::{Readiness, WaitFault};
+use crate::room::SOCKET_ROOM;
 use crate::site::{Accept, SiteFile, SitePort};
 use crate::sockets::SiteSockets;
 use crate::station::{Parts, Station};
 use ipx_carrier::{RouterCore, node_of};
 use ipx_router::{NewFault, Port, Router};
-use log::{Log, info};
+use log::{Log, info, warn};
 use std::alloc::{AllocError, Global};
 use std::net::Net;
 use std::rt::{Clock as SystemClock, Files};
@@ -128,7 +129,7 @@ fn guards_of(alloc: Global, ports: &[SitePort]) -> Result<Vec<Guard>, AllocError
 }
 
 /// Tells a port, as the router starts.
-fn tell_port<R: Log>(rt: &R, number: usize, port: &SitePort) {
+fn tell_port<R: Log>(rt: &R, number: usize, port: &SitePort, room: u32) {
     let network = port.network;
     let node = node_of(port.address);
     let [a, b, c, d] = port.address;
@@ -139,12 +140,19 @@ fn tell_port<R: Log>(rt: &R, number: usize, port: &SitePort) {
         Accept::Peers => "",
     };
     info!(rt; target: "ipx",
-        "port {number} network {network} node {node} udp {a}.{b}.{c}.{d}:{udp} peers {peers}{any}");
+        "port {number} network {network} node {node} udp {a}.{b}.{c}.{d}:{udp} \
+             peers {peers}{any} room {room}");
+    if room < SOCKET_ROOM {
+        warn!(rt; target: "ipx",
+            "port {number}: its socket holds {room} bytes: \
+             net.core.rmem_max = {SOCKET_ROOM} gives it what it asks for");
+    }
 }
 
-fn tell_ports<R: Log>(rt: &R, ports: &[SitePort]) {
+fn tell_ports<R: Log>(rt: &R, ports: &[SitePort], sockets: &SiteSockets) {
     for (place, port) in ports.iter().enumerate() {
-        tell_port(rt, place + 1, port);
+        let room = sockets.room(place).unwrap_or(0);
+        tell_port(rt, place + 1, port, room);
     }
 }
 
@@ -170,7 +178,7 @@ fn start<'a, R: Net + Log + SystemClock>(
     let guards = guards_of(alloc, &site.ports)?;
     let sockets = SiteSockets::bind(rt, alloc, &site.ports)?;
     let ready = Readiness::new(rt, alloc, &sockets)?;
-    tell_ports(rt, &site.ports);
+    tell_ports(rt, &site.ports, &sockets);
     let parts = Parts {
         core: RouterCore::new(alloc, router),
         device: PeersOnly::new(sockets, guards),

@@ -1,11 +1,12 @@
 //! Sockets of UDP, one for each port of a site.
 
-ghost use Rattle.std.specs.Prelude.{◌≡◌, ◌⊎◌, ◌<◌, ◌↔◌, ◌∷◌, [], IfOk, IsSome, OnErr, length, map};
+ghost use Rattle.std.specs.Prelude.{◌≡◌, ◌⊎◌, ◌<◌, ◌↔◌, ◌∷◌, [], IfOk, IfSome, IsSome, OnErr, Some, length, map, slice_get};
 ghost use Rattle.ipx_carrier.specs.Fates.{raised};
 ghost use Rattle.ipx_site.specs.Ports.{udp_ports};
 
 use crate::bind_fault::{BindFault, obstacle_of};
 use crate::peers::raise;
+use crate::room::ask_room;
 use crate::senders::Senders;
 use crate::site::SitePort;
 use ipx_carrier::{Datagrams, DeviceFault};
@@ -15,11 +16,12 @@ use std::io::ErrorKind;
 use std::net::{Ipv4Addr, Net, SocketAddr, SocketAddrV4, UdpSocket};
 use std::os::fd::{AsRawFd, RawFd};
 
-/// The socket of a port, and the port of UDP of its peers.
+/// The socket of a port, the port of UDP of its peers, and how many bytes it holds.
 #[derive(Drop)]
 struct PortSocket {
     socket: UdpSocket,
     udp_port: u16,
+    room: u32,
 }
 
 /// A device that has a socket of UDP for each port of a site.
@@ -61,7 +63,12 @@ fn bound_socket<R: Net>(rt: &R, ip: [u8; 4], udp_port: u16) -> io::Result<PortSo
     }
     let socket = UdpSocket::bind(rt, place_of(ip, udp_port))?;
     socket.set_nonblocking(true)?;
-    Ok(PortSocket { socket, udp_port })
+    let room = ask_room(socket.as_raw_fd());
+    Ok(PortSocket {
+        socket,
+        udp_port,
+        room,
+    })
 }
 
 /// A device with these sockets.
@@ -134,6 +141,16 @@ impl SiteSockets {
     {
         let port = self.sockets.get(port)?;
         Some(port.socket.as_raw_fd())
+    }
+
+    /// How many bytes the socket of a port holds of what waits to be read, as the system said when it
+    /// was bound; 0 where it did not say. The first port is 0.
+    pub fn room(&self, port: usize) -> Option<u32>
+        ensures there { IsSome result ↔ port < length self.now.sockets.items }
+        ensures room { IfSome (slice_get self.now.sockets.items port) (λ s. result ≡ Some s.room) }
+    {
+        let port = self.sockets.get(port)?;
+        Some(port.room)
     }
 
     fn count_fault(&mut self)
