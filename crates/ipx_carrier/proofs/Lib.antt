@@ -5,3 +5,4 @@ pub mod Courses
 pub mod Givable
 pub mod Putting
 pub mod Waiting
+pub mod Draining

@@ -1,6 +1,7 @@
 pub mod Mapping
 pub mod Fault
 pub mod Device
+pub mod Waits
 pub mod Turns
 pub mod Given
 pub mod Counts

@@ -1,9 +1,13 @@
--- What a device in memory received and sent, by what it keeps, and what waits at its ports.
-use Rattle.std.specs.Prelude.{◌≡◌, ℕ, List, [], ◌∷◌, ◌++◌, Some, map, option_map, slice_get, slice_set}
+-- What a device in memory received and sent, by what it keeps, what waits at its ports, and which of
+-- its calls fail.
+use Rattle.std.specs.Prelude.{Vec, ◌≡◌, ℕ, ◌-◌, Bool, true, false, List, [], ◌∷◌, ◌++◌, Option, Some, None, MatchBool, map, option_map, slice_get, slice_set, ◌==◌, if◌then◌else◌}
+use Rattle.std.specs.Global.{Global}
 use Rattle.ipx_carrier.specs.declared.memory.KeptAnswer.{KeptAnswer}
 use Rattle.ipx_carrier.specs.declared.memory.SentDatagram.{SentDatagram}
 use Rattle.ipx_carrier.specs.declared.memory.MemoryDatagrams.{MemoryDatagrams}
 use Rattle.ipx_carrier.specs.Device.{Datagram, Reception, Traffic}
+use Rattle.ipx_carrier.specs.Fates.{raised}
+use Rattle.ipx_carrier.specs.Waits.{WaitingDatagrams}
 
 abbrev pub memory_sent : SentDatagram → Datagram
 memory_sent d = record { port = d.port; to = d.to; bytes = d.bytes.items }
@@ -17,12 +21,15 @@ traffic_of m = record {
   sent = map memory_sent m.sent.items;
 }
 
+abbrev pub datagram_bytes : Vec ℕ Global → List ℕ
+datagram_bytes v = v.items
+
 -- the datagrams that wait at each port, the first one first
-abbrev pub waiting_of : MemoryDatagrams → List (List (List ℕ))
-waiting_of m = map (λ q. map (λ v. v.items) q.items) m.waiting.items
+abbrev pub waiting_of : MemoryDatagrams → WaitingDatagrams
+waiting_of m = map (λ q. map datagram_bytes q.items) m.waiting.items
 
 -- a datagram waits behind those of its port, and each other port is as it was
-abbrev pub WaitsLast : List (List (List ℕ)) → ℕ → List ℕ → List (List (List ℕ)) → Type 0
+abbrev pub WaitsLast : WaitingDatagrams → ℕ → List ℕ → WaitingDatagrams → Type 0
 WaitsLast old port bytes new = (here : List (List ℕ)) × (slice_get old port ≡ Some here)
     × (new ≡ slice_set old port (here ++ bytes ∷ []))
 
@@ -31,3 +38,21 @@ pub record KeepsRest (old new : MemoryDatagrams) : Type 0 where
   pub traffic : traffic_of new ≡ traffic_of old
   pub failures : new.failures ≡ old.failures
   pub fails_after : new.fails_after ≡ old.fails_after
+  pub refusals : new.refusals ≡ old.refusals
+
+-- the next call is the one that was named to fail
+abbrev pub is_named : Option ℕ → Bool
+is_named None = false
+is_named (Some k) = k == 1
+
+-- the call that is named once one more was made: none is behind the named one
+abbrev pub named_after : Option ℕ → Option ℕ
+named_after named = if is_named named then None else option_map (λ k. k - 1) named
+
+-- a call of `send` or `receive`, and whether it failed: the one that was named fails, and any other just
+-- where memory was refused, which is counted
+abbrev pub FailsAsNamed : MemoryDatagrams → Bool → MemoryDatagrams → Type 0
+FailsAsNamed old failed new = (new.fails_after ≡ named_after old.fails_after)
+    × MatchBool (is_named old.fails_after)
+    ((failed ≡ true) × (new.refusals ≡ old.refusals))
+    (new.refusals ≡ (if failed then raised old.refusals else old.refusals))

@@ -1,9 +1,10 @@
 -- Words of private functions: the parts of a turn. What asking the ports, and what
 -- sending the core's packets, leave.
-use Rattle.std.specs.Prelude.{◌≡◌, ◌<◌, ◌≤◌, ℕ, ◌+◌, Bool, List, [], ◌∷◌, ◌++◌, length, Option, Some, None, is_some, if◌then◌else◌}
+use Rattle.std.specs.Prelude.{◌≡◌, ◌<◌, ℕ, Bool, List, [], ◌∷◌, ◌++◌, length, Option, Some, None, is_some, if◌then◌else◌}
 use Rattle.ipx_carrier.specs.declared.fault.RunFault.{RunFault}
 use Rattle.ipx_carrier.specs.declared.report.Tally.{Tally}
 use Rattle.ipx_carrier.specs.Device.{Datagram, Passes, Reception, Traffic}
+use Rattle.ipx_carrier.specs.Waits.{LeavesPort, WaitingDatagrams}
 use Rattle.ipx_carrier.specs.Turns.{FailsAfter, FailsAtPort, GivesAll, GivesEach, Given, HearsAnswer, HearsEach, IsFrontOf, Peers, datagrams_of, sent_of}
 use Rattle.ipx_carrier.specs.Counts.{heard_in, is_unmapped, unmapped_in}
 
@@ -11,6 +12,19 @@ use Rattle.ipx_carrier.specs.Counts.{heard_in, is_unmapped, unmapped_in}
 abbrev pub SendsFrontOf : List Datagram → Option Traffic → Option Traffic → Type 0
 SendsFrontOf all before after =
     (sent : List Datagram) × IsFrontOf sent all × Passes before after [] sent
+
+-- ports were asked, one after another and with so much room each time, and answered these
+abbrev pub LeavePorts : ℕ → Option WaitingDatagrams → List Reception → Option WaitingDatagrams
+    → Type 0
+LeavePorts room old [] new = new ≡ old
+LeavePorts room old (r ∷ rs) new = (mid : Option WaitingDatagrams)
+    × LeavesPort room r.port old r.bytes mid × LeavePorts room mid rs new
+
+-- what a device received meanwhile was taken from what waits, and nothing else was
+abbrev pub TakesFromDevice : ℕ → Option Traffic → Option Traffic → Option WaitingDatagrams
+    → Option WaitingDatagrams → Type 0
+TakesFromDevice room before after old new = (received : List Reception) × (sent : List Datagram)
+    × Passes before after received sent × LeavePorts room old received new
 
 -- how many datagrams a packet was sent by, or that it could not be
 abbrev pub count_of : Peers → Given → Option ℕ

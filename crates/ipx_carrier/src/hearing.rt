@@ -2,7 +2,7 @@
 
 ghost use Rattle.std.specs.Prelude.{◌≡◌, ◌<◌, ◌≤◌, ◌+◌, ◌^◌, IfOk, IfErr, length};
 ghost use Rattle.ipx_carrier.specs.Fault.{failures_after};
-ghost use Rattle.ipx_carrier.specs.Parts.{AsksInVain, AsksPort, AsksPorts, AsksSomePorts};
+ghost use Rattle.ipx_carrier.specs.Parts.{AsksInVain, AsksPort, AsksPorts, AsksSomePorts, TakesFromDevice};
 
 use crate::cores::Core;
 use crate::datagrams::Datagrams;
@@ -25,6 +25,9 @@ fn hear_port<C: Core, D: Datagrams>(
         (D.traffic datagrams.old) (D.traffic datagrams.new) core.old core.new heard) }
     ensures fault { IfErr result (λ f. AsksInVain C.hears C.misses now port
         (D.traffic datagrams.old) (D.traffic datagrams.new) f core.old core.new) }
+    ensures waiting { TakesFromDevice (length room.old)
+        (D.traffic datagrams.old) (D.traffic datagrams.new)
+        (D.waiting datagrams.old) (D.waiting datagrams.new) }
     ensures failures { D.failed datagrams.new ≡ failures_after result (D.failed datagrams.old) }
     ensures core_ports { C.port_count core.new ≡ C.port_count core.old }
     ensures device_ports { D.port_count datagrams.new ≡ D.port_count datagrams.old }
@@ -53,6 +56,9 @@ pub fn hear_ports<C: Core, D: Datagrams>(
         (D.traffic datagrams.old) (D.traffic datagrams.new) core.old core.new count) }
     ensures fault { IfErr result (λ f. AsksSomePorts C.hears C.misses now (C.port_count core.old)
         (D.traffic datagrams.old) (D.traffic datagrams.new) f core.old core.new) }
+    ensures waiting { TakesFromDevice (length room.old)
+        (D.traffic datagrams.old) (D.traffic datagrams.new)
+        (D.waiting datagrams.old) (D.waiting datagrams.new) }
     ensures failures { D.failed datagrams.new ≡ failures_after result (D.failed datagrams.old) }
     ensures few { IfOk result (λ count. count < 2 ^ 64) }
     ensures core_ports { C.port_count core.new ≡ C.port_count core.old }

@@ -1,8 +1,8 @@
 //! Datagrams in memory, for tests and for what is run without a network.
 
-ghost use Rattle.std.specs.Prelude.{◌≡◌, ◌<◌, ◌≤◌, [], ◌∷◌, ◌++◌, OnOk, OnErr, IfOk, IfSome, Some, length, map};
+ghost use Rattle.std.specs.Prelude.{◌≡◌, ◌<◌, ◌≤◌, [], ◌∷◌, ◌++◌, OnOk, OnErr, IfOk, IfSome, Some, None, drop, length, map, option_map, replicate, slice_get, take};
 ghost use Rattle.ipx_carrier.specs.Device.{received_in};
-ghost use Rattle.ipx_carrier.specs.Memory.{KeepsRest, WaitsLast, memory_received, memory_sent, traffic_of, waiting_of};
+ghost use Rattle.ipx_carrier.specs.Memory.{KeepsRest, WaitsLast, datagram_bytes, is_named, memory_received, memory_sent, named_after, traffic_of, waiting_of};
 
 use crate::datagrams::Datagrams;
 use crate::fault::DeviceFault;
@@ -30,7 +30,7 @@ pub struct KeptAnswer {
 /// A device whose datagrams are put into it, and which keeps what it sent.
 ///
 /// Datagrams of a port come in the order they were put. Want of memory in `send` and `receive` is a
-/// failure of the device, as is the call that [`MemoryDatagrams::fail_at`] names.
+/// failure of the device, as is the call that [`MemoryDatagrams::fail_at`] names, and no other is.
 #[derive(Drop)]
 pub struct MemoryDatagrams {
     alloc: Global,
@@ -39,14 +39,18 @@ pub struct MemoryDatagrams {
     sent: Vec<SentDatagram>,
     failures: u64,
     fails_after: Option<u64>,
+    refusals: u64,
 }
 
 impl MemoryDatagrams {
     /// A device of so many ports, to which nothing came yet.
     pub fn new(alloc: Global, ports: usize) -> Result<MemoryDatagrams, OutOfMemory>
         ensures ports { IfOk result (λ m. length m.waiting.items ≡ ports) }
+        ensures waiting { IfOk result (λ m. waiting_of m ≡ replicate ports []) }
         ensures traffic { IfOk result (λ m. traffic_of m ≡ record { received = []; sent = [] }) }
         ensures failures { IfOk result (λ m. m.failures ≡ 0) }
+        ensures named { IfOk result (λ m. m.fails_after ≡ None) }
+        ensures refusals { IfOk result (λ m. m.refusals ≡ 0) }
     {
         let mut waiting = Vec::new(alloc);
         for _port in 0..ports {
@@ -59,6 +63,7 @@ impl MemoryDatagrams {
             sent: Vec::new(alloc),
             failures: 0,
             fails_after: None,
+            refusals: 0,
         })
     }
 
@@ -89,26 +94,38 @@ impl MemoryDatagrams {
         self.answers.len()
     }
 
+    /// How many times `send` or `receive` failed since memory was refused. It stays at the greatest
+    /// u64.
+    pub fn refusals(&self) -> u64
+        ensures { result ≡ self.now.refusals }
+    {
+        self.refusals
+    }
+
     /// The k-th `send` or `receive` from now on, counted from 1, fails. Later ones go on.
     pub fn fail_at(&mut self, k: u64)
         ensures named { self.new.fails_after ≡ Some k }
         ensures waiting { waiting_of self.new ≡ waiting_of self.old }
         ensures traffic { traffic_of self.new ≡ traffic_of self.old }
         ensures failures { self.new.failures ≡ self.old.failures }
+        ensures refusals { self.new.refusals ≡ self.old.refusals }
     {
         self.fails_after = Some(k);
     }
 }
 
 /// Whether this is the call that is to fail, of those that are counted.
-fn fails_now(fails_after: &mut Option<u64>) -> bool {
+fn fails_now(fails_after: &mut Option<u64>) -> bool
+    ensures named { result ≡ is_named fails_after.old }
+    ensures after { fails_after.new ≡ named_after fails_after.old }
+{
     match *fails_after {
         Some(1) => {
             *fails_after = None;
             true
         }
         Some(left) => {
-            *fails_after = left.checked_sub(1);
+            *fails_after = Some(left.saturating_sub(1));
             false
         }
         None => false,
@@ -145,6 +162,10 @@ fn take_waiting(
         map memory_received answers.new.items ≡ map memory_received answers.old.items
         ++ record { port = port; bytes = received_in room.new count } ∷ []) }
     ensures within { IfOk result (λ count. IfSome count (λ n. n ≤ length room.old)) }
+    ensures first { IfOk result (λ count. received_in room.new count ≡ option_map
+        (take (length room.old)) (slice_get (map datagram_bytes waiting.old.items) 0)) }
+    ensures left { IfOk result (λ count. map datagram_bytes waiting.new.items
+        ≡ drop 1 (map datagram_bytes waiting.old.items)) }
     ensures refused { OnErr result
         ((answers.new.items ≡ answers.old.items) × (waiting.new.items ≡ waiting.old.items)) }
 {
@@ -165,13 +186,17 @@ fn take_waiting(
 
 impl Datagrams for MemoryDatagrams {
     ghost use Rattle.std.specs.Prelude.{Some, length};
-    ghost use Rattle.ipx_carrier.specs.Memory.{traffic_of};
+    ghost use Rattle.ipx_carrier.specs.Memory.{FailsAsNamed, traffic_of, waiting_of};
 
     ghost port_count = { λ m. length m.waiting.items };
 
     ghost failed = { λ m. m.failures };
 
     ghost traffic = { λ m. Some (traffic_of m) };
+
+    ghost waiting = { λ m. Some (waiting_of m) };
+
+    ghost fails = { FailsAsNamed };
 
     ghost access = { λ d. [] };
 
@@ -186,8 +211,12 @@ impl Datagrams for MemoryDatagrams {
     }
 
     fn send(&mut self, port: usize, to: [u8; 4], bytes: &[u8]) -> Result<(), DeviceFault> {
-        let failed = fails_now(&mut self.fails_after);
-        if failed || keep_sent(self.alloc, &mut self.sent, port, to, bytes).is_err() {
+        if fails_now(&mut self.fails_after) {
+            self.failures += 1;
+            return Err(DeviceFault);
+        }
+        if keep_sent(self.alloc, &mut self.sent, port, to, bytes).is_err() {
+            self.refusals = self.refusals.saturating_add(1);
             self.failures += 1;
             return Err(DeviceFault);
         }
@@ -201,6 +230,7 @@ impl Datagrams for MemoryDatagrams {
         }
         let waiting = &mut self.waiting[port];
         let Ok(count) = take_waiting(self.alloc, waiting, &mut self.answers, port, room) else {
+            self.refusals = self.refusals.saturating_add(1);
             self.failures += 1;
             return Err(DeviceFault);
         };

@@ -4,7 +4,9 @@ ghost use Rattle.std.specs.Prelude.{◌≡◌, ◌<◌, ◌≤◌, ◌+◌, ◌*
 ghost use Rattle.ipx_carrier.specs.Fault.{failures_after};
 ghost use Rattle.ipx_carrier.specs.Turns.{peers_of};
 ghost use Rattle.ipx_carrier.specs.Counts.{plus};
+ghost use Rattle.ipx_carrier.specs.Parts.{TakesFromDevice};
 ghost use Rattle.ipx_carrier.specs.Runs.{EndsEarly, Runs};
+ghost use Rattle.ipx_carrier.specs.Waits.{DrainsDevice};
 
 use crate::clock::Clock;
 use crate::cores::Core;
@@ -59,6 +61,9 @@ fn take_turn<C: Core, D: Datagrams, K: Clock>(
         (C.port_count core.old) (peers_of peers.now) 1
         (D.traffic datagrams.old) (D.traffic datagrams.new) clock.old clock.new
         f core.old core.new) }
+    ensures waiting { TakesFromDevice (length room.old)
+        (D.traffic datagrams.old) (D.traffic datagrams.new)
+        (D.waiting datagrams.old) (D.waiting datagrams.new) }
     ensures failures { D.failed datagrams.new ≡ failures_after result (D.failed datagrams.old) }
     ensures core_ports { C.port_count core.new ≡ C.port_count core.old }
     ensures device_ports { D.port_count datagrams.new ≡ D.port_count datagrams.old }
@@ -109,6 +114,10 @@ pub fn run<C: Core, D: Datagrams, K: Clock>(
         (C.port_count core.old) (peers_of peers.now) turns
         (D.traffic datagrams.old) (D.traffic datagrams.new) clock.old clock.new
         f core.old core.new) }
+    // At each port what was received is the first datagrams that waited there, each as far as 1,536
+    // bytes, and the others still wait; at a fault too.
+    ensures waiting { DrainsDevice 1536 (D.traffic datagrams.old) (D.traffic datagrams.new)
+        (D.waiting datagrams.old) (D.waiting datagrams.new) }
     // `Device` comes just where the device failed.
     ensures failures { D.failed datagrams.new ≡ failures_after result (D.failed datagrams.old) }
     ensures core_ports { C.port_count core.new ≡ C.port_count core.old }

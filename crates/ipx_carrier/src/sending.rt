@@ -29,6 +29,7 @@ fn send_to_each<D: Datagrams>(
     ensures fault { OnErr result (SendsFrontOf
         (map (λ to. record { port = port; to = to; bytes = bytes.now }) peers.now)
         (D.traffic datagrams.old) (D.traffic datagrams.new)) }
+    ensures waiting { D.waiting datagrams.new ≡ D.waiting datagrams.old }
     ensures failures { D.failed datagrams.new ≡ device_failures result (D.failed datagrams.old) }
     ensures ports { D.port_count datagrams.new ≡ D.port_count datagrams.old }
     ensures access { D.access datagrams.new ≡ D.access datagrams.old }
@@ -69,6 +70,7 @@ fn send_packet<D: Datagrams>(
         (datagrams_of (peers_of peers.now)
         (record { port = port; node = node; bytes = bytes.now }))
         (D.traffic datagrams.old) (D.traffic datagrams.new)) }
+    ensures waiting { D.waiting datagrams.new ≡ D.waiting datagrams.old }
     ensures failures { D.failed datagrams.new ≡ device_failures result (D.failed datagrams.old) }
     ensures ports { D.port_count datagrams.new ≡ D.port_count datagrams.old }
     ensures access { D.access datagrams.new ≡ D.access datagrams.old }
@@ -103,6 +105,7 @@ fn send_next<C: Core, D: Datagrams>(
         (D.traffic datagrams.old) (D.traffic datagrams.new) core.old core.new (view sending)) }
     ensures fault { IfErr result (λ f. SendsSome C.gives C.withholds 1 now (peers_of peers.now)
         (D.traffic datagrams.old) (D.traffic datagrams.new) f core.old core.new) }
+    ensures waiting { D.waiting datagrams.new ≡ D.waiting datagrams.old }
     ensures failures { D.failed datagrams.new ≡ failures_after result (D.failed datagrams.old) }
     ensures core_ports { C.port_count core.new ≡ C.port_count core.old }
     ensures device_ports { D.port_count datagrams.new ≡ D.port_count datagrams.old }
@@ -155,6 +158,7 @@ pub fn send_all<C: Core, D: Datagrams>(
     ensures few_unmapped { IfOk result (λ tally. tally.unmapped ≤ 64) }
     ensures fault { IfErr result (λ f. SendsSome C.gives C.withholds 64 now (peers_of peers.now)
         (D.traffic datagrams.old) (D.traffic datagrams.new) f core.old core.new) }
+    ensures waiting { D.waiting datagrams.new ≡ D.waiting datagrams.old }
     ensures failures { D.failed datagrams.new ≡ failures_after result (D.failed datagrams.old) }
     ensures core_ports { C.port_count core.new ≡ C.port_count core.old }
     ensures device_ports { D.port_count datagrams.new ≡ D.port_count datagrams.old }

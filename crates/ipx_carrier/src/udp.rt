@@ -71,6 +71,10 @@ impl Datagrams for UdpDatagrams {
 
     ghost traffic = { λ d. None };
 
+    ghost waiting = { λ d. None };
+
+    ghost fails = { λ d failed e. Unit {0} };
+
     ghost access = { λ d. [] };
 
     ghost kept_back = { λ d. 0 };

@@ -2,7 +2,7 @@
 //! Run it with each request refused.
 
 use crate::fixture::{one_peer_each, one_turn, two_ports};
-use ipx_carrier::{MemoryDatagrams, Report, RouterCore, RunFault};
+use ipx_carrier::{Datagrams, MemoryDatagrams, Report, RouterCore, RunFault};
 use ipx_wire::OutOfMemory;
 use std::alloc::Global;
 use std::test::Fail;
@@ -53,5 +53,6 @@ fn refused_memory_of_a_run(rt: HostRuntime) -> Result<(), Fail> {
     let report = turn_at_last(alloc, &mut core, &mut datagrams, &peers)?;
     assert!(rt; report.turns == 1);
     assert!(rt; datagrams.sent().len() <= 6);
+    assert_eq!(rt; datagrams.refusals(), datagrams.failures());
     Ok(())
 }

@@ -67,6 +67,7 @@ fn fails_at(rt: &impl Abort, alloc: Global, k: u64) -> Result<(), Fail> {
     let answer = one_turn(alloc, &mut core, &mut datagrams, &one_peer_each(alloc)?);
     assert!(rt; matches!(answer, Err(RunFault::Device)));
     assert_eq!(rt; datagrams.failures(), 1);
+    assert_eq!(rt; datagrams.refusals(), 0);
     assert_eq!(rt; datagrams.sent().len() as u64, k.saturating_sub(3));
     are_first(rt, alloc, datagrams.sent())
 }

@@ -1,9 +1,10 @@
 //! A device that hears its peers alone, and sends to them alone.
 
-ghost use Rattle.std.specs.Prelude.{◌≡◌, ◌<◌, ◌≤◌, ◌+◌, ◌^◌, [], ◌∷◌, ℕ, true, false, Ok, Option, Some, OnErr, OnOk, IfOk, IfSome, length, map, slice_get};
+ghost use Rattle.std.specs.Prelude.{◌≡◌, ◌<◌, ◌≤◌, ◌+◌, ◌^◌, [], ◌∷◌, ℕ, true, false, Ok, Option, Some, OnErr, OnOk, IfOk, IfSome, is_err, length, map, slice_get};
 ghost use Rattle.ipx_carrier.specs.Device.{Passes, received_in};
 ghost use Rattle.ipx_carrier.specs.Fates.{raised};
 ghost use Rattle.ipx_carrier.specs.Fault.{device_failures};
+ghost use Rattle.ipx_carrier.specs.Waits.{LeavesPort};
 ghost use Rattle.ipx_site.specs.Peers.{IsWordOn, TakesIn, hears_from, is_peer, kept_in, may_go, none_kept, nothing_kept, one_more};
 ghost use Rattle.ipx_site.specs.Ports.{access_by};
 
@@ -203,6 +204,12 @@ impl<D: Senders + Drop> Datagrams for PeersOnly<D> {
     // What it lets down is told by the device below.
     ghost traffic = { λ p. None };
 
+    // What is kept back leaves its port below and isn't handed up, so it can't tell what will be.
+    ghost waiting = { λ p. None };
+
+    // What may not go is no call of the device below.
+    ghost fails = { λ p failed q. Unit {0} };
+
     // Its guards say who may speak, and those who may not are strangers.
     ghost access = { λ p. map access_by p.guards.items };
 
@@ -232,6 +239,9 @@ impl<D: Senders + Drop> Datagrams for PeersOnly<D> {
             (result ≡ Ok tt) × (self.new.device ≡ self.old.device)
             × (self.new.refused ≡ raised self.old.refused) }
         ensures kept { self.new.kept ≡ self.old.kept }
+        ensures waiting { D.waiting self.new.device ≡ D.waiting self.old.device }
+        ensures fails { may_go (slice_get self.old.guards.items port) to ≡ true
+            → D.fails self.old.device (is_err result) self.new.device }
         ensures guards { self.new.guards ≡ self.old.guards }
         ensures failures { D.failed self.new.device
             ≡ device_failures result (D.failed self.old.device) }
@@ -251,11 +261,15 @@ impl<D: Senders + Drop> Datagrams for PeersOnly<D> {
         ensures received { IfOk result (λ up. (came : Option ℕ)
             × Passes (D.traffic self.old.device) (D.traffic self.new.device)
             (record { port = port; bytes = received_in room.new came } ∷ []) []
+            × LeavesPort (length room.old) port (D.waiting self.old.device)
+            (received_in room.new came) (D.waiting self.new.device)
             × TakesIn (slice_get self.old.guards.items port) (D.last_sender self.new.device)
             room.new came up self.old.kept self.new.kept) }
         ensures within { IfOk result (λ up. IfSome up (λ n. n ≤ length room.old)) }
         ensures faulty { OnErr result ((D.traffic self.new.device ≡ D.traffic self.old.device)
+            × (D.waiting self.new.device ≡ D.waiting self.old.device)
             × (self.new.kept ≡ self.old.kept)) }
+        ensures fails { D.fails self.old.device (is_err result) self.new.device }
         ensures kept_back { kept_in self.old.kept ≤ kept_in self.new.kept }
         ensures refused { self.new.refused ≡ self.old.refused }
         ensures guards { self.new.guards ≡ self.old.guards }

@@ -172,6 +172,11 @@ impl Datagrams for SiteSockets {
 
     ghost traffic = { λ d. None };
 
+    // What waits is the system's.
+    ghost waiting = { λ d. None };
+
+    ghost fails = { λ d failed e. Unit {0} };
+
     // Whoever reaches them is heard.
     ghost access = { λ d. [] };
 

@@ -1,6 +1,7 @@
-use Rattle.std.proofs.Common.{rules, ◌≡◌, ◌≤◌, ◌+◌, cond, arith}
+use Rattle.std.proofs.Common.{rules, refl, lit≤, ◌≡◌, ◌≤◌, ◌+◌, cond, arith}
 use Rattle.std.proofs.lemmas.Result.{err_from_is_err_and}
-use Rattle.ipx_carrier.proofs.Asking.{asked_more, asked_some}
+use Rattle.ipx_carrier.proofs.Asking.{asked_more, asked_none, asked_some}
+use Rattle.ipx_carrier.proofs.Draining.{takes_more, takes_nothing}
 use Rattle.ipx_carrier.proofs.hearing.hear_ports.Goals as goal
 use Rattle.ipx_carrier.proofs.hearing.hear_ports.Goals.{then-branch, else-branch}
 
@@ -9,6 +10,23 @@ returns-in_err-hear_port-clause-fault g c =
     let p = err_from_is_err_and c.from_residual.result c.from_residual.ensures.1 in
     rw (p.1, p.2)
     (asked_some g.C.Core.hears g.C.Core.misses c.args.now c.loop-port.port _ _ _ _ _ _ _ c.loop-port.heard _ c.loop-port.invariant.asked c.in_err-hear_port.ensures.fault (omega arith))
+
+pub returns-in_err-hear_port-clause-waiting : goal.returns-in_err-hear_port-clause-waiting
+returns-in_err-hear_port-clause-waiting g c =
+    takes_more _ _ _ _ _ _ _ _ c.loop-port.invariant.room c.loop-port.invariant.waiting c.in_err-hear_port.ensures.waiting
+
+pub loop-port-init : goal.loop-port-init
+loop-port-init g c = record {
+  asked = asked_none g.C.Core.hears c.args.now (g.D.Datagrams.traffic c.args.datagrams.now) c.args.core.now;
+  few = lit≤ tt;
+  room = refl;
+  waiting = takes_nothing _ _ _ _ _ refl refl;
+  failures = refl;
+  core_ports = refl;
+  device_ports = refl;
+  access = refl;
+  kept_back = omega arith;
+}
 
 pub loop-port-preserved : goal.loop-port-preserved
 loop-port-preserved g c =
@@ -19,6 +37,8 @@ loop-port-preserved g c =
     record {
       asked = asked_more g.C.Core.hears c.args.now c.loop-port.port _ _ _ _ _ _ c.loop-port.heard c.if-branch.heard c.in_ok-hear_port.field-0 c.loop-port.invariant.asked c.in_ok-hear_port.ensures.heard grows;
       few = few;
+      room = search rules;
+      waiting = takes_more _ _ _ _ _ _ _ _ c.loop-port.invariant.room c.loop-port.invariant.waiting c.in_ok-hear_port.ensures.waiting;
       failures = search rules;
       core_ports = search rules;
       device_ports = search rules;

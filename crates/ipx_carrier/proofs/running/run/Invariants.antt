@@ -1,5 +1,6 @@
 use Rattle.std.proofs.Common.{◌≡◌, ◌≤◌, ◌*◌, ◌^◌}
 use Rattle.ipx_carrier.specs.Turns.{peers_of}
+use Rattle.ipx_carrier.specs.Parts.{TakesFromDevice}
 use Rattle.ipx_carrier.specs.Runs.{Runs}
 use Rattle.ipx_carrier.proofs.running.run.Given as goal
 
@@ -10,6 +11,7 @@ invariant-loop-turn g l = record {
   heard : l.report.heard ≤ l._turn * 2 ^ 64;
   sent : l.report.sent ≤ l._turn * (64 * 2 ^ 64);
   unmapped : l.report.unmapped ≤ l._turn * 64;
+  waiting : TakesFromDevice 1536 (g.D.Datagrams.traffic l.fn.datagrams) (g.D.Datagrams.traffic l.datagrams) (g.D.Datagrams.waiting l.fn.datagrams) (g.D.Datagrams.waiting l.datagrams);
   failures : g.D.Datagrams.failed l.datagrams ≡ g.D.Datagrams.failed l.fn.datagrams;
   core_ports : g.C.Core.port_count l.core ≡ g.C.Core.port_count l.fn.core;
   device_ports : g.D.Datagrams.port_count l.datagrams ≡ g.D.Datagrams.port_count l.fn.datagrams;

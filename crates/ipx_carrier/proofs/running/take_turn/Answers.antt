@@ -1,6 +1,7 @@
 use Rattle.std.proofs.lemmas.Result.{err_from_is_err_and}
 use Rattle.ipx_carrier.specs.Turns.{peers_of}
 use Rattle.ipx_carrier.proofs.Courses.{ends_hearing, ends_sending, ran_one}
+use Rattle.ipx_carrier.proofs.Draining.{takes_sent}
 use Rattle.ipx_carrier.proofs.running.take_turn.Goals as goal
 
 pub returns-in_err-heard-clause-fault : goal.returns-in_err-heard-clause-fault
@@ -18,3 +19,13 @@ returns-in_err-tally-clause-fault g c =
 pub returns-clause-turn : goal.returns-clause-turn
 returns-clause-turn g c =
     ran_one g.C.Core.hears g.C.Core.gives g.K.Clock.tells (g.C.Core.port_count c.args.core.now) (peers_of c.args.peers.now) c.now-now.result _ _ _ _ _ _ _ _ c.in_ok-heard.heard c.in_ok-tally.tally c.now-now.ensures c.in_ok-heard.ensures.heard c.in_ok-tally.ensures.sent
+
+pub returns-in_err-tally-clause-waiting : goal.returns-in_err-tally-clause-waiting
+returns-in_err-tally-clause-waiting g c =
+    let sent = c.in_err-tally.ensures.fault in
+    takes_sent _ _ _ _ _ _ _ sent.1 c.in_ok-heard.ensures.waiting sent.3 c.in_err-tally.ensures.waiting
+
+pub returns-clause-waiting : goal.returns-clause-waiting
+returns-clause-waiting g c =
+    let sent = c.in_ok-tally.ensures.sent in
+    takes_sent _ _ _ _ _ _ _ _ c.in_ok-heard.ensures.waiting sent.2 c.in_ok-tally.ensures.waiting

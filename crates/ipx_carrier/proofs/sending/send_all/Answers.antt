@@ -24,6 +24,7 @@ loop-asked-preserved g c =
       sent = sends_more g.C.Core.gives c.loop-asked._asked c.args.now peers _ t u _ c.loop-asked.core c.send_next.new.core c.loop-asked.tally c.with_packet-tally.result (count_in c.in-Some.sending) c.loop-asked.invariant.sent next c.with_packet-tally.ensures.added;
       few = omega arith;
       few_unmapped = omega arith;
+      waiting = search rules;
       failures = search rules;
       core_ports = search rules;
       device_ports = search rules;

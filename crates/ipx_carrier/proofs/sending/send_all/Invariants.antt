@@ -8,6 +8,7 @@ invariant-loop-asked g l = record {
   sent : SendsEach g.C.Core.gives l._asked l.now (peers_of l.peers) (g.D.Datagrams.traffic l.fn.datagrams) (g.D.Datagrams.traffic l.datagrams) l.fn.core l.core l.tally;
   few : l.tally.sent ≤ l._asked * 2 ^ 64;
   few_unmapped : l.tally.unmapped ≤ l._asked;
+  waiting : g.D.Datagrams.waiting l.datagrams ≡ g.D.Datagrams.waiting l.fn.datagrams;
   failures : g.D.Datagrams.failed l.datagrams ≡ g.D.Datagrams.failed l.fn.datagrams;
   core_ports : g.C.Core.port_count l.core ≡ g.C.Core.port_count l.fn.core;
   device_ports : g.D.Datagrams.port_count l.datagrams ≡ g.D.Datagrams.port_count l.fn.datagrams;

@@ -7,6 +7,7 @@ invariant-loop-to g l =
     let f : List ℕ → Datagram = λ to. record { port = l.port; to = to; bytes = l.bytes } in
     record {
       sent : Passes (g.D.Datagrams.traffic l.fn.datagrams) (g.D.Datagrams.traffic l.datagrams) [] (map f (take l.to-index l.peers));
+      waiting : g.D.Datagrams.waiting l.datagrams ≡ g.D.Datagrams.waiting l.fn.datagrams;
       failures : g.D.Datagrams.failed l.datagrams ≡ g.D.Datagrams.failed l.fn.datagrams;
       ports : g.D.Datagrams.port_count l.datagrams ≡ g.D.Datagrams.port_count l.fn.datagrams;
       access : g.D.Datagrams.access l.datagrams ≡ g.D.Datagrams.access l.fn.datagrams;
