@@ -149,8 +149,8 @@ impl SiteSockets {
         ensures there { IsSome result ↔ port < length self.now.sockets.items }
         ensures room { IfSome (slice_get self.now.sockets.items port) (λ s. result ≡ Some s.room) }
     {
-        let port = self.sockets.get(port)?;
-        Some(port.room)
+        let socket = self.sockets.get(port)?;
+        Some(socket.room)
     }
 
     fn count_fault(&mut self)
