@@ -1,16 +1,14 @@
 -- What a host that sends lets go of what came.
 use Rattle.std.proofs.Common.{◌≡◌, ◌≢◌, ◌∙◌, ◌⊎◌, ◌+◌, ◌<◌, ℕ, suc, Bool, true, false, List, [], ◌∷◌, Option, Some, None, Result, Ok, Err, inl, inr, refl, sym, ap, subst, arith}
-use Rattle.std.specs.Prelude.{IfSome, if◌then◌else◌}
+use Rattle.std.specs.Prelude.{IfSome}
 use Rattle.spx_link.specs.declared.unit.Unit.{Unit as Piece}
 use Rattle.spx_link.specs.LinkView.{is_end}
 use Rattle.spx_link.specs.Offer.{first_of as first_held}
-use Rattle.spx_units.specs.declared.fault.MessageFault.TheVariants as MessageFaults
 use Rattle.spx_units.specs.Joining.{is_overlong}
 use Rattle.spx_messages.specs.Changes.{ChangesEnd, SameBut}
 use Rattle.spx_messages.specs.EndpointView.{EndpointView, Held, held_at}
 use Rattle.spx_messages.specs.Taking.{IsPushed, Nothing, Part, PeerEnd, TakenView, Whole, joins_on, overlong, overrun, result_view, take_end, taken_held, takes_data, takes_first}
 use Rattle.spx_messages.specs.declared.fault.EndFault.{EndFault}
-use Rattle.spx_messages.specs.declared.fault.EndFault.TheVariants as EndFaults
 use Rattle.spx_messages.specs.declared.taken.Taken.{Taken}
 use Rattle.spx_messages.specs.declared.taken.Taken.TheVariants as Takens
 use Rattle.ipx_ends.specs.Dropping.{DropsFrom, StopsAt}

@@ -11,3 +11,4 @@ pub mod Dropped
 pub mod Dialed
 pub mod Reading
 pub mod Rounded
+pub mod Slept

@@ -10,6 +10,7 @@ pub mod Outlet
 pub mod Passing
 pub mod Rounds
 pub mod Sent
+pub mod Sleeping
 pub mod Steps
 pub mod Stop
 pub mod Target

@@ -30,6 +30,7 @@ impl<'a, R: Net + Log + Clock + Eprint> Sending<'a, R> {
             ≡ record self.old.station.core { endpoint = self.new.station.core.endpoint } }
         ensures clock { self.new.station.clock ≡ self.old.station.clock }
         ensures peers { self.new.station.wire.peers ≡ self.old.station.wire.peers }
+        ensures readiness { self.new.station.readiness ≡ self.old.station.readiness }
         ensures id { self.new.id ≡ self.old.id }
         ensures joined { self.new.joined ≡ self.old.joined }
         ensures left { self.new.left ≡ self.old.left }
@@ -84,6 +85,7 @@ impl<'a, R: Net + Log + Clock + Eprint> Sending<'a, R> {
             ≡ record self.old.station.core { endpoint = self.new.station.core.endpoint } }
         ensures clock { self.new.station.clock ≡ self.old.station.clock }
         ensures peers { self.new.station.wire.peers ≡ self.old.station.wire.peers }
+        ensures readiness { self.new.station.readiness ≡ self.old.station.readiness }
         ensures id { self.new.id ≡ self.old.id }
         ensures joined { self.new.joined ≡ self.old.joined }
         ensures left { self.new.left ≡ self.old.left }
@@ -110,6 +112,7 @@ impl<'a, R: Net + Log + Clock + Eprint> Sending<'a, R> {
             ≡ record self.old.station.core { endpoint = self.new.station.core.endpoint } }
         ensures clock { self.new.station.clock ≡ self.old.station.clock }
         ensures peers { self.new.station.wire.peers ≡ self.old.station.wire.peers }
+        ensures readiness { self.new.station.readiness ≡ self.old.station.readiness }
         ensures id { self.new.id ≡ self.old.id }
         ensures joined { self.new.joined ≡ self.old.joined }
         ensures left { self.new.left ≡ self.old.left }

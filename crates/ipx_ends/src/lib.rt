@@ -15,6 +15,7 @@ mod ledger;
 mod listen;
 mod listening;
 mod outlet;
+mod resting;
 mod send;
 mod sending;
 mod start;

@@ -14,7 +14,7 @@ ghost use Rattle.ipx_ends.specs.declared.callers.Caller.{Caller};
 ghost use Rattle.ipx_ends.specs.declared.listening.Stop.{Stop as AStop};
 ghost use Rattle.ipx_ends.specs.declared.listening.Stop.TheVariants as Stops;
 
-use crate::callers::{Caller, LINGER, SILENCE, Standing, hear_one};
+use crate::callers::{Caller, Standing, hear_one};
 use crate::end_core::Accepted;
 use crate::gate::Gate;
 use crate::outlet::{Outlet, WriteFault};
@@ -33,9 +33,6 @@ use std::rt::Clock;
 
 /// The most connections that a host holds.
 pub const MOST_CALLERS: usize = 16;
-
-/// The longest wait, in milliseconds.
-const LONG: u64 = 3_600_000;
 
 /// The descriptor of standard output.
 const STDOUT: RawFd = 1;
@@ -224,20 +221,6 @@ impl<'a, R: Net + Log + Clock> Listening<'a, R> {
         let wrote = self.outlet.write(writer)?;
         let took = self.take_all(alloc, writer)?;
         Ok(wrote || took)
-    }
-
-    /// How long to wait at most, in milliseconds.
-    fn rest(&self) -> u64 {
-        let moment = self.station.moment();
-        let moments = self.callers.iter().map(|caller| match caller.standing {
-            Standing::Open => caller.heard.saturating_add(SILENCE),
-            Standing::Asked => moment.saturating_add(LONG),
-            Standing::Ended => caller.heard.saturating_add(LINGER),
-        });
-        match moments.min() {
-            Some(first) => first.saturating_sub(moment),
-            None => LONG,
-        }
     }
 
     /// Takes a turn, and notes the datagram that it heard.

@@ -8,6 +8,7 @@ ghost use Rattle.spx_messages.specs.EndpointView.{held_at};
 ghost use Rattle.ipx_ends.specs.Books.{Follows};
 ghost use Rattle.ipx_ends.specs.Rounds.{EndsWith, IsStep, LastsOn, Transfers, place};
 ghost use Rattle.ipx_ends.specs.Sent.{IsDialing};
+ghost use Rattle.ipx_ends.specs.Sleeping.{MayWait, longest_wait};
 ghost use Rattle.ipx_ends.specs.Steps.{IsFeedFault, IsStepFault, noted};
 ghost use Rattle.ipx_ends.specs.Transfer.{IsWaiting, IsWholeAt, joined_at, left_at, state_at};
 ghost use Rattle.ipx_ends.specs.declared.verdict.Verdict.TheVariants as Verdicts;
@@ -109,6 +110,7 @@ impl<'a, R: Net + Log + Clock + Eprint> Sending<'a, R> {
         ensures core { self.new.station.core ≡ self.old.station.core }
         ensures clock { self.new.station.clock ≡ self.old.station.clock }
         ensures peers { self.new.station.wire.peers ≡ self.old.station.wire.peers }
+        ensures readiness { self.new.station.readiness ≡ self.old.station.readiness }
         ensures id { self.new.id ≡ self.old.id }
         ensures read { self.new.read ≡ self.old.read }
         ensures closed { self.new.closed ≡ self.old.closed }
@@ -158,6 +160,7 @@ impl<'a, R: Net + Log + Clock + Eprint> Sending<'a, R> {
         ensures core { self.new.station.core ≡ self.old.station.core }
         ensures clock { self.new.station.clock ≡ self.old.station.clock }
         ensures peers { self.new.station.wire.peers ≡ self.old.station.wire.peers }
+        ensures readiness { self.new.station.readiness ≡ self.old.station.readiness }
         ensures id { self.new.id ≡ self.old.id }
         ensures joined { self.new.joined ≡ self.old.joined }
         ensures left { self.new.left ≡ self.old.left }
@@ -190,6 +193,7 @@ impl<'a, R: Net + Log + Clock + Eprint> Sending<'a, R> {
             (λ old moment new. (old.last ≤ moment) × (new.last ≡ moment))
             (peers_of self.old.station.wire.peers.items) self.old.id }
         ensures peers { self.new.station.wire.peers ≡ self.old.station.wire.peers }
+        ensures readiness { self.new.station.readiness ≡ self.old.station.readiness }
         ensures done { result ≡ Err Verdicts.Done
             → IsWholeAt self.new.station.core.endpoint self.new.id }
         // Then all is read, and the end is queued.
@@ -207,6 +211,17 @@ impl<'a, R: Net + Log + Clock + Eprint> Sending<'a, R> {
         let fed = state == Some(State::Live) && self.feed(alloc, reader)?;
         self.show(rt);
         Ok(turn.active || fed)
+    }
+
+    /// How long it waits at most, in milliseconds.
+    fn longest(&self) -> u64
+        ensures { result ≡ longest_wait self.now.shows self.now.left }
+    {
+        if self.shows || self.left.is_some() {
+            SECOND
+        } else {
+            LONG
+        }
     }
 
     /// Takes a turn, and waits where there is nothing to do.
@@ -229,6 +244,10 @@ impl<'a, R: Net + Log + Clock + Eprint> Sending<'a, R> {
             (λ old moment new. (old.last ≤ moment) × (new.last ≡ moment))
             (peers_of self.old.station.wire.peers.items) self.old.id }
         ensures peers { self.new.station.wire.peers ≡ self.old.station.wire.peers }
+        // It waits only as long as no link has anything to do; and a second at most where it shows
+        // how far it is, or the end of the peer was seen.
+        ensures waits { MayWait self.new.shows self.new.left self.new.station.core
+            self.old.station.readiness.asked self.new.station.readiness.asked }
         ensures done { result ≡ Err Verdicts.Done
             → IsWholeAt self.new.station.core.endpoint self.new.id }
         // Then all is read, and the end is queued.
@@ -239,12 +258,8 @@ impl<'a, R: Net + Log + Clock + Eprint> Sending<'a, R> {
         if self.step(rt, alloc, reader)? {
             return Ok(());
         }
-        let most = if self.shows || self.left.is_some() {
-            SECOND
-        } else {
-            LONG
-        };
-        match self.station.wait(most) {
+        let longest = self.longest();
+        match self.station.wait(longest) {
             Ok(()) => Ok(()),
             Err(_) => Err(Verdict::Unwaited),
         }

@@ -1,6 +1,6 @@
 //! A host by its file: its endpoint, its socket and its clock.
 
-ghost use Rattle.std.specs.Prelude.{◌≡◌, ◌≤◌, ◌∷◌, [], ℕ, IfOk, None, OnErr, length, map};
+ghost use Rattle.std.specs.Prelude.{◌≡◌, ◌≤◌, ◌∷◌, [], ℕ, IfOk, None, OnErr, Some, length, map};
 ghost use Rattle.ipx_carrier.specs.Mapping.{node_at};
 ghost use Rattle.ipx_carrier.specs.Runs.{EndsEarly, Runs};
 ghost use Rattle.ipx_carrier.specs.Turns.{peers_of};
@@ -8,6 +8,7 @@ ghost use Rattle.ipx_carrier.specs.declared.fault.RunFault.TheVariants as RunFau
 ghost use Rattle.ipx_wire.specs.declared.address.Socket.{Socket};
 ghost use Rattle.spx_link.specs.Links.{count_of};
 ghost use Rattle.spx_messages.specs.EndpointView.{buffers_at, held_at};
+ghost use Rattle.ipx_ends.specs.Sleeping.{IsSleep};
 ghost use Rattle.ipx_ends.specs.Turning.{TakesTurn, gives, hears, misses, withholds};
 
 use crate::end_core::EndCore;
@@ -188,6 +189,10 @@ impl<'a, R: Net + Log + Clock> Station<'a, R> {
         ensures core { self.new.core ≡ self.old.core }
         ensures clock { self.new.clock ≡ self.old.clock }
         ensures wire { self.new.wire ≡ self.old.wire }
+        // So long the system is asked to wait, and till then no link has anything to do.
+        ensures sleeps { let core = self.old.core in (time : ℕ)
+            × IsSleep core.endpoint.links core.moment most time
+            × (self.new.readiness.asked ≡ Some time) }
     {
         let now = self.core.moment();
         let due = match self.core.endpoint.next_due() {

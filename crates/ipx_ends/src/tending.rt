@@ -25,7 +25,7 @@ pub fn let_link_go(endpoint: &mut Endpoint, id: u16)
 
 impl<'a, R: Net + Log + Clock> Listening<'a, R> {
     /// What becomes of a connection.
-    fn fate_of(&self, caller: &Caller) -> Fate
+    pub fn fate_of(&self, caller: &Caller) -> Fate
         ensures { IsFateOf self.now.station.core caller.now result }
     {
         let state = self.station.core.endpoint.state(caller.id).ok();

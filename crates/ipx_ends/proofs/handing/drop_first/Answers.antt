@@ -1,6 +1,3 @@
-use Rattle.std.proofs.Common.{◌≡◌, arith, rules}
-use Rattle.std.proofs.lemmas.Grind.{common_steps}
-use Rattle.ipx_ends.proofs.Dropped.{drops, stops, took_some}
 use Rattle.ipx_ends.proofs.Fed.{took}
 use Rattle.ipx_ends.proofs.handing.drop_first.Goals as goal
 

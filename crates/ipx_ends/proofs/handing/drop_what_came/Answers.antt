@@ -2,7 +2,7 @@ use Rattle.std.proofs.Common.{◌≡◌, ◌<◌, ◌∙◌, ◌+◌, true, fals
 use Rattle.std.proofs.lemmas.Grind.{common_steps}
 use Rattle.spx_messages.specs.EndpointView.{held_at}
 use Rattle.ipx_ends.proofs.Dialed.{same_on, same_self}
-use Rattle.ipx_ends.proofs.Dropped.{as_many, no_more, one_more, so_far}
+use Rattle.ipx_ends.proofs.Dropped.{no_more, one_more, so_far}
 use Rattle.ipx_ends.proofs.Fed.{keeps_on, keeps_same}
 use Rattle.ipx_ends.proofs.handing.drop_what_came.Goals as goal
 

@@ -1,4 +1,4 @@
-use Rattle.std.proofs.Common.{◌∙◌, ℕ, List, [], Option, Err, inl, inr, refl, sym, subst, ap}
+use Rattle.std.proofs.Common.{◌∙◌, ℕ, List, [], Option, Err, inl, refl, sym, subst, ap}
 use Rattle.std.specs.List.{concat}
 use Rattle.std.specs.Io.KnownBytes.{Consumes, IsAtEnd}
 use Rattle.ipx_carrier.specs.Turns.{peers_of}

@@ -2,9 +2,7 @@ use Rattle.std.proofs.Common.{◌≡◌, ◌≢◌, ◌∙◌, ℕ, Bool, List, 
 use Rattle.std.proofs.lemmas.Grind.{common_steps}
 use Rattle.std.proofs.lemmas.Result.{err_from_is_err_and}
 use Rattle.spx_link.specs.declared.state.State.TheVariants.{Live}
-use Rattle.ipx_ends.specs.Dropping.{DropsCame}
 use Rattle.ipx_ends.specs.Feeding.{Feeds, Intake, Rests, intake}
-use Rattle.ipx_ends.specs.Steps.{FeedsOn}
 use Rattle.ipx_ends.specs.declared.end_core.EndCore.{EndCore}
 use Rattle.ipx_ends.specs.Transfer.{ended_at, state_at}
 use Rattle.ipx_ends.specs.declared.verdict.Verdict.{Verdict}

@@ -1,5 +1,7 @@
+use Rattle.std.proofs.Common.{ap, inl}
 use Rattle.std.proofs.lemmas.Result.{err_from_is_err_and}
 use Rattle.ipx_ends.proofs.Fed.{step_err, step_ok, step_unwaited, step_waited}
+use Rattle.ipx_ends.proofs.Slept.{may_wait}
 use Rattle.ipx_ends.specs.Rounds.{place}
 use Rattle.ipx_ends.specs.Steps.{noted}
 use Rattle.ipx_ends.proofs.sending.Sending.step_or_wait.Goals as goal
@@ -40,3 +42,15 @@ returns-in_err-step-clause-steps g c =
     let after = place new.station.clock new.station.core (noted new.joined new.left) new.read new.closed new.ledger (g.I.Read.remaining c.step.new.reader) in
     let p = err_from_is_err_and c.from_residual.result c.from_residual.ensures.1 in
     rw (p.1, p.2) (step_err before after _ _ _ old.id c.in_err-step.ensures.steps)
+
+pub returns-then-branch-clause-waits : goal.returns-then-branch-clause-waits
+returns-then-branch-clause-waits g c = inl (ap (λ r. r.asked) c.step.ensures.readiness)
+
+pub returns-in_err-step-clause-waits : goal.returns-in_err-step-clause-waits
+returns-in_err-step-clause-waits g c = inl (ap (λ r. r.asked) c.step.ensures.readiness)
+
+pub returns-in-Ok-clause-waits : goal.returns-in-Ok-clause-waits
+returns-in-Ok-clause-waits g c = may_wait c.step.new.self.shows c.step.new.self.left c.step.new.self.station.core c.wait.new.self.core _ _ c.longest-longest.result c.longest-longest.ensures c.wait.ensures.core c.wait.ensures.sleeps
+
+pub returns-in-Err-clause-waits : goal.returns-in-Err-clause-waits
+returns-in-Err-clause-waits g c = may_wait c.step.new.self.shows c.step.new.self.left c.step.new.self.station.core c.wait.new.self.core _ _ c.longest-longest.result c.longest-longest.ensures c.wait.ensures.core c.wait.ensures.sleeps
