@@ -114,7 +114,10 @@ fn reads_who_may_connect(rt: HostRuntime) {
 #[test]
 fn tells_who_is_named(rt: HostRuntime) {
     let (own, socket) = (Network(0x11), Socket(0x4003));
-    let (this, other) = (Node([0, 0, 0x0a, 2, 0, 0x1e]), Node([0, 0, 0x0a, 2, 0, 0x1f]));
+    let (this, other) = (
+        Node([0, 0, 0x0a, 2, 0, 0x1e]),
+        Node([0, 0, 0x0a, 2, 0, 0x1f]),
+    );
     let one = Origin {
         network: Network(0x22),
         node: Some(this),
