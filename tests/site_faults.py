@@ -17,7 +17,7 @@ router = "127.0.1.1"
 udp_port = 20999
 socket = "4002"
 """
-KEYS = "a router has status and port, a host network, address, router, udp_port, socket and buffers"
+KEYS = "a router has status and port, a host network, address, router, udp_port, socket, buffers and from"
 PORT_KEYS = "the keys are network, address, udp_port, cost, peers, accept"
 NETWORK = 'eight hex digits, neither all 0 nor all f, as "00000011"'
 ADDRESS = 'an IP address of this machine, as "192.0.2.10"'
@@ -28,6 +28,8 @@ PORTS = "one to sixteen tables, each begun by [[port]]"
 SOCKET = 'four hex digits, not all 0, as "4002"'
 ROUTER = 'the IP address of a router, as "10.1.0.1"'
 BUFFERS = "a number from 1 to 8192, as 64"
+FROM = ('a list of at most 256 networks, each alone or with a node behind it, as '
+        '["00000022 00000a02001e", "00000033"]')
 STATUS = 'the name of a file, as "/run/ipx/hq/hq.prom"'
 
 
@@ -104,6 +106,17 @@ HOST_FILES = [
     (changed(HOST, "udp_port", "-1"), f"udp_port is to be {NUMBER}"),
     (HOST + "buffers = 0\n", f"buffers is to be {BUFFERS}"),
     (HOST + "buffers = 8193\n", f"buffers is to be {BUFFERS}"),
+    (HOST + "from = \"00000033\"\n", f"from is to be {FROM}"),
+    (HOST + "from = [33]\n", f"from is to be {FROM}"),
+    (HOST + "from = [\"00000033\", \"33\"]\n", f"from is to be {FROM}"),
+    (HOST + "from = [\"00000000\"]\n", f"from is to be {FROM}"),
+    (HOST + "from = [\"ffffffff\"]\n", f"from is to be {FROM}"),
+    (HOST + "from = [\"0000002g\"]\n", f"from is to be {FROM}"),
+    (HOST + "from = [\"00000022 00000a02001\"]\n", f"from is to be {FROM}"),
+    (HOST + "from = [\"00000022-00000a02001e\"]\n", f"from is to be {FROM}"),
+    (HOST + "from = [\"00000000 00000a02001e\"]\n", f"from is to be {FROM}"),
+    (HOST + f"from = {['00000033'] * 257}\n".replace("'", '"'), f"from is to be {FROM}"),
+    (HOST + "buffers = 0\nfrom = 1\n", f"buffers is to be {BUFFERS}"),
     (HOST + "peers = []\n", f"peers is no key here: {KEYS}"),
 ]
 

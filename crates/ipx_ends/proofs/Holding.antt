@@ -137,12 +137,11 @@ heard_either : (b : Bool) (now : ℕ) (c : Caller) → (cond b (once_heard now c
 heard_either true now c e = heard_ended c.standing e
 heard_either false now c e = e
 
-heard_one : (heard : Option ℕ) (now : ℕ) (c : Caller) → (heard_by heard now c).standing ≡ Standings.Ended → c.standing ≡ Standings.Ended
-heard_one None now c e = e
-heard_one (Some id) now c e = heard_either (c.id == id) now c e
+heard_one : (id now : ℕ) (c : Caller) → (heard_by id now c).standing ≡ Standings.Ended → c.standing ≡ Standings.Ended
+heard_one id now c e = heard_either (c.id == id) now c e
 
 -- one is heard
-pub keeps_heard : (once : Bool) (cs : List Caller) (left : List ℕ) (heard : Option ℕ) (now : ℕ) → KeepsOne once cs left → KeepsOne once (map (heard_by heard now) cs) left
+pub keeps_heard : (once : Bool) (cs : List Caller) (left : List ℕ) (heard now : ℕ) → KeepsOne once cs left → KeepsOne once (map (heard_by heard now) cs) left
 keeps_heard false cs left heard now keeps = tt
 keeps_heard true [] left heard now keeps = tt
 keeps_heard true (c ∷ []) left heard now keeps = λ ended. keeps (heard_one heard now c ended)

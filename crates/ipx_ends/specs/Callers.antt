@@ -1,5 +1,5 @@
 -- The connections that a listening host holds, as they come, are heard, and go. All of it is own.
-use Rattle.std.specs.Prelude.{◌≡◌, ◌≢◌, ◌≤◌, ◌⊎◌, ◌==◌, ℕ, Bool, true, false, IsTrue, List, [], ◌∷◌, ◌++◌, length, map, Option, Some, None, MatchOption, if◌then◌else◌}
+use Rattle.std.specs.Prelude.{◌≡◌, ◌≢◌, ◌≤◌, ◌⊎◌, ◌==◌, ℕ, Bool, true, false, IsTrue, List, [], ◌∷◌, ◌++◌, length, map, Option, Some, None, if◌then◌else◌}
 use Rattle.std.specs.Coded.{Unit-prop}
 use Rattle.std.proofs.Props.{props}
 use Rattle.spx_link.specs.Offer.{offer_link}
@@ -10,16 +10,17 @@ use Rattle.ipx_ends.specs.Fate.{standing_heard}
 use Rattle.ipx_ends.specs.declared.callers.Caller.{Caller}
 use Rattle.ipx_ends.specs.declared.callers.Standing.TheVariants as Standings
 use Rattle.ipx_ends.specs.declared.end_core.Accepted.{Accepted}
+use Rattle.ipx_ends.specs.declared.end_core.Came.{Came}
+use Rattle.ipx_ends.specs.declared.end_core.Came.TheVariants as Cames
 use Rattle.ipx_ends.specs.declared.end_core.EndCore.{EndCore}
 
 -- a connection that is heard at a moment
 abbrev pub once_heard : ℕ → Caller → Caller
 once_heard now c = record c { heard = now; standing = standing_heard c.standing }
 
--- a datagram of an id, if of any, is heard: the connection of that id is heard, and no other one
-abbrev pub heard_by : Option ℕ → ℕ → Caller → Caller
-heard_by None now c = c
-heard_by (Some id) now c = if c.id == id then once_heard now c else c
+-- a datagram of an id is heard: the connection of that id is heard, and no other one
+abbrev pub heard_by : ℕ → ℕ → Caller → Caller
+heard_by id now c = if c.id == id then once_heard now c else c
 
 -- a connection that was accepted at a moment
 abbrev pub caller_of : Accepted → ℕ → Caller
@@ -42,18 +43,19 @@ Admits once c old new callers callers' =
     ((IsFull once callers → ⊥) × (callers' ≡ callers ++ c ∷ []) × (new ≡ old))
     ⊎ (IsFull once callers × (callers' ≡ callers) × LetsLinkGo old new c.id)
 
--- the connections of a host once the datagram that its core read last is heard
-abbrev pub heard_in : EndCore → List Caller → List Caller
-heard_in core callers = map (heard_by core.endpoint.heard core.moment) callers
+-- what a host does of what its core noted: the connection that was heard is heard, or one comes
+abbrev pub DoesNoted : Bool → Option Came → ℕ → EndpointView → EndpointView → List Caller → List Caller → Type 0
+DoesNoted once None now old new callers callers' = (callers' ≡ callers) × (new ≡ old)
+DoesNoted once (Some (Cames.Heard id)) now old new callers callers' =
+    (callers' ≡ map (heard_by id now) callers) × (new ≡ old)
+DoesNoted once (Some (Cames.Accepted a)) now old new callers callers' =
+    Admits once (caller_of a now) old new callers callers'
 
--- what the core of a host heard last is noted: the connection that it was of is heard, and the one that
--- it made comes, if it made one, which is told once
+-- it is done of what the core heard last, which is told once
 abbrev pub NotesHeard : Bool → EndCore → EndCore → List Caller → List Caller → Type 0
 NotesHeard once old new callers callers' =
-    (new ≡ record old { endpoint = new.endpoint; accepted = None })
-    × MatchOption old.accepted
-    ((callers' ≡ heard_in old callers) × (new.endpoint ≡ old.endpoint))
-    (λ a. Admits once (caller_of a old.moment) old.endpoint new.endpoint (heard_in old callers) callers')
+    (new ≡ record old { endpoint = new.endpoint; came = None })
+    × DoesNoted once old.came old.moment old.endpoint new.endpoint callers callers'
 
 -- a connection is asked whether it is there: a message of no bytes is queued on its link; or that is
 -- refused, and its silence counts anew

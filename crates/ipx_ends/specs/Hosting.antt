@@ -5,6 +5,7 @@ use Rattle.std.specs.Prelude.{◌≡◌, ◌≢◌, ◌⊎◌, ◌-◌, ◌^◌,
 use Rattle.std.specs.Io.KnownBytes.{Appends}
 use Rattle.ipx_carrier.specs.Mapping.{node_at}
 use Rattle.ipx_carrier.specs.Turns.{Peers}
+use Rattle.ipx_site.specs.Origins.{named_in}
 use Rattle.ipx_site.specs.declared.host.HostFile.{HostFile}
 use Rattle.ipx_wire.specs.declared.address.Socket.{Socket}
 use Rattle.spx_messages.specs.EndpointView.{buffers_at, held_at}
@@ -126,7 +127,9 @@ pub record Begins {K : Type 0} (file : HostFile) (start : Host K) (peers : Peers
   pub listens : buffers_at start.core.endpoint file.socket ≡ Some file.buffers
   pub alone : (s : Socket) → s.0 ≢ file.socket.0 → buffers_at start.core.endpoint s ≡ None
   pub unlinked : (id : ℕ) → held_at start.core.endpoint id ≡ None
-  pub unasked : start.core.accepted ≡ None
+  pub unasked : start.core.came ≡ None
+  pub from : named_in start.core.from ≡ named_in file.from
+  pub own : start.core.network ≡ file.network
   pub nobody : start.callers ≡ []
   pub nothing : start.left ≡ []
   pub known : start.written ≡ written

@@ -1,4 +1,5 @@
 pub mod Books
+pub mod Barring
 pub mod Callers
 pub mod Dropping
 pub mod Fate

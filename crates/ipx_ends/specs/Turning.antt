@@ -5,23 +5,22 @@ use Rattle.ipx_carrier.specs.declared.report.Report.{Report}
 use Rattle.ipx_carrier.specs.HostCore.{Gives, Misses}
 use Rattle.ipx_carrier.specs.Runs.{EndsEarly, Runs}
 use Rattle.ipx_carrier.specs.Turns.{Given, Peers}
-use Rattle.ipx_ends.specs.Noting.{HearsAndNotes}
+use Rattle.ipx_ends.specs.Barring.{HearsAllowed}
 use Rattle.ipx_ends.specs.declared.end_core.EndCore.{EndCore}
 use Rattle.ipx_ends.specs.declared.station.Turn.{Turn}
 
--- a core of one port hears, gives and misses as its endpoint does, and withholds nothing. It notes
--- the connection that the datagram made that it heard last, and the moment
+-- a core of one port hears all but requests of those who may not ask, gives and misses as its endpoint
+-- does, and withholds nothing. It notes what the datagram was that it heard last, and the moment
 abbrev pub hears : EndCore → ℕ → List ℕ → ℕ → EndCore → Type 0
-hears old port bytes now new =
-    HearsAndNotes old.endpoint bytes now new.endpoint new.accepted × (new.moment ≡ now)
+hears old port bytes now new = HearsAllowed old bytes now new
 
 abbrev pub gives : EndCore → ℕ → Option Given → EndCore → Type 0
 gives old now given new = Gives old.endpoint now given new.endpoint
-    × (new.accepted ≡ old.accepted) × (new.moment ≡ now)
+    × (new ≡ record old { endpoint = new.endpoint; moment = now })
 
 abbrev pub misses : EndCore → ℕ → List ℕ → ℕ → EndCore → Type 0
 misses old port bytes now new = Misses old.endpoint bytes new.endpoint
-    × (new.accepted ≡ old.accepted) × (new.moment ≡ now)
+    × (new ≡ record old { endpoint = new.endpoint; moment = now })
 
 abbrev pub withholds : EndCore → ℕ → EndCore → Type 0
 withholds old now new = ⊥

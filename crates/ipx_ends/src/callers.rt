@@ -52,17 +52,17 @@ impl Caller {
     }
 
     /// It is heard at a moment, if it is the one that was heard.
-    fn note(&mut self, heard: Option<u16>, now: u64)
+    fn note(&mut self, heard: u16, now: u64)
         ensures { self.new ≡ heard_by heard now self.old }
     {
-        if Some(self.id) == heard {
+        if self.id == heard {
             self.hear(now);
         }
     }
 }
 
-/// Notes in each connection which one was heard at a moment, if one was.
-pub fn hear_one(callers: &mut [Caller], heard: Option<u16>, moment: u64)
+/// Notes in each connection which one was heard at a moment.
+pub fn hear_one(callers: &mut [Caller], heard: u16, moment: u64)
     ensures { callers.new ≡ map (heard_by heard moment) callers.old }
 {
     for caller in callers.iter_mut() {

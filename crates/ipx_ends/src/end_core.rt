@@ -1,16 +1,20 @@
 //! The core of a host that one runs.
 
-ghost use Rattle.std.specs.Prelude.{◌≡◌, ℕ, IfSome, Some};
+ghost use Rattle.std.specs.Prelude.{◌≡◌, ◌↔◌, ℕ, IfOk, IfSome, IsTrue, Some};
 ghost use Rattle.ipx_wire.specs.Ipx.{BeginsWith, PacketView};
 ghost use Rattle.spx_messages.specs.Arrives.{Arrives};
 ghost use Rattle.spx_messages.specs.EndpointView.{EndpointView};
 ghost use Rattle.spx_messages.specs.declared.arrived.Arrived.TheVariants as Arriveds;
+ghost use Rattle.ipx_site.specs.Origins.{may_ask as may_be_asked_by, named_in};
+ghost use Rattle.ipx_ends.specs.Barring.{IsBarred};
 ghost use Rattle.ipx_ends.specs.Noting.{Notes};
 
+use crate::asking::{asker_of, is_among};
 use ipx_carrier::Core;
-use ipx_wire::{Address, Node, OutOfMemory, decode};
+use ipx_site::Origin;
+use ipx_wire::{Address, Network, Node, OutOfMemory, decode};
 use spx_messages::{Arrived, Endpoint};
-use std::alloc::Global;
+use std::alloc::{AllocError, Global};
 
 /// A connection that was accepted: its id, and the address that asked for it.
 #[derive(Clone, Copy, Debug)]
@@ -19,13 +23,41 @@ pub struct Accepted {
     pub from: Address,
 }
 
-/// A host of one port, as `HostCore` of the carrier is. It keeps what it accepted last, and the
-/// moment at which it was called last.
+/// What came with a datagram.
+#[derive(Clone, Copy, Debug)]
+pub enum Came {
+    /// The link of this id read it.
+    Heard(u16),
+    /// It made a connection.
+    Accepted(Accepted),
+}
+
+/// A host of one port, as `HostCore` of the carrier is, that says who may ask it for a connection.
+/// It keeps what came last, and the moment at which it was called last.
 #[derive(Drop)]
 pub struct EndCore {
     pub endpoint: Endpoint,
-    accepted: Option<Accepted>,
+    /// The network that it is on.
+    network: Network,
+    /// Who may ask it. None stands for everybody.
+    from: Option<Vec<Origin>>,
+    came: Option<Came>,
+    /// The requests of those who may not ask.
+    barred: u64,
     moment: u64,
+}
+
+/// A copy of who may ask.
+pub fn copy_origins(
+    alloc: Global,
+    from: &Option<Vec<Origin>>,
+) -> Result<Option<Vec<Origin>>, AllocError>
+    ensures { IfOk result (λ copy. named_in copy ≡ named_in from.now) }
+{
+    match from {
+        Some(origins) => Ok(Some(Vec::from_slice(alloc, origins)?)),
+        None => Ok(None),
+    }
 }
 
 /// The address that a packet is from.
@@ -39,28 +71,30 @@ fn sender_of(bytes: &[u8]) -> Option<Address>
 }
 
 /// The connection that a datagram made.
-fn accepted_by(arrived: Arrived, bytes: &[u8]) -> Option<Accepted>
-    ensures made { IfSome result (λ a. arrived ≡ Arriveds.Accepted a.id) }
+fn accepted_by(id: u16, bytes: &[u8]) -> Option<Came>
     // Of a datagram that an endpoint answered so.
-    ensures notes { (old new : EndpointView) (now : ℕ) → Arrives old bytes.now now arrived new
-        → Notes arrived bytes.now result }
+    ensures { (old new : EndpointView) (now : ℕ)
+        → Arrives old bytes.now now (Arriveds.Accepted id) new
+        → Notes (Arriveds.Accepted id) new.heard bytes.now result }
 {
-    let Arrived::Accepted(id) = arrived else {
-        return None;
-    };
     let from = sender_of(bytes)?;
-    Some(Accepted { id, from })
+    Some(Came::Accepted(Accepted { id, from }))
 }
 
 impl EndCore {
-    /// The core of an endpoint.
-    pub fn new(endpoint: Endpoint) -> EndCore
+    /// The core of an endpoint on a network, and who may ask it.
+    pub fn new(endpoint: Endpoint, network: Network, from: Option<Vec<Origin>>) -> EndCore
         ensures endpoint { result.endpoint ≡ endpoint }
-        ensures nobody { result.accepted ≡ None }
+        ensures network { result.network ≡ network }
+        ensures from { result.from ≡ from }
+        ensures nobody { result.came ≡ None }
     {
         EndCore {
             endpoint,
-            accepted: None,
+            network,
+            from,
+            came: None,
+            barred: 0,
             moment: 0,
         }
     }
@@ -72,30 +106,69 @@ impl EndCore {
         self.moment
     }
 
-    /// The connection that the last datagram made, told once.
-    pub fn take_accepted(&mut self) -> Option<Accepted>
-        ensures told { result ≡ self.old.accepted }
-        ensures once { self.new ≡ record self.old { accepted = None } }
+    /// How many requests came of those who may not ask.
+    pub fn barred(&self) -> u64
+        ensures { result ≡ self.now.barred }
     {
-        self.accepted.take()
+        self.barred
+    }
+
+    /// What came with the last datagram, told once.
+    pub fn take_came(&mut self) -> Option<Came>
+        ensures told { result ≡ self.old.came }
+        ensures once { self.new ≡ record self.old { came = None } }
+    {
+        self.came.take()
+    }
+
+    /// Whether an address may ask for a connection.
+    fn may_ask(&self, from: &Address) -> bool
+        ensures { result ≡ may_be_asked_by (named_in self.now.from) self.now.network from.now }
+    {
+        match &self.from {
+            Some(origins) => is_among(origins, self.network, from),
+            None => true,
+        }
+    }
+
+    /// Whether bytes are a request of one who may not ask.
+    fn bars(&self, bytes: &[u8]) -> bool
+        ensures { IsTrue result ↔ IsBarred self.now bytes.now }
+    {
+        match asker_of(bytes) {
+            Some(from) => !self.may_ask(&from),
+            None => false,
+        }
+    }
+
+    /// What came with a datagram that the endpoint answered so.
+    fn came_of(&self, arrived: Arrived, bytes: &[u8]) -> Option<Came>
+        ensures { (old : EndpointView) (now : ℕ)
+            → Arrives old bytes.now now arrived self.now.endpoint
+            → Notes arrived self.now.endpoint.heard bytes.now result }
+    {
+        match arrived {
+            Arrived::Accepted(id) => accepted_by(id, bytes),
+            Arrived::Link(_, _) => self.endpoint.heard().map(Came::Heard),
+            _ => None,
+        }
     }
 }
 
 impl Core for EndCore {
     ghost use Rattle.std.specs.Prelude.{◌≡◌};
     ghost use Rattle.ipx_carrier.specs.HostCore.{Gives, Misses};
-    ghost use Rattle.ipx_ends.specs.Noting.{HearsAndNotes};
+    ghost use Rattle.ipx_ends.specs.Barring.{HearsAllowed};
 
     ghost port_count = { λ c. 1 };
 
-    ghost hears = { λ old port bytes now new.
-        HearsAndNotes old.endpoint bytes now new.endpoint new.accepted × (new.moment ≡ now) };
+    ghost hears = { λ old port bytes now new. HearsAllowed old bytes now new };
 
     ghost gives = { λ old now given new. Gives old.endpoint now given new.endpoint
-        × (new.accepted ≡ old.accepted) × (new.moment ≡ now) };
+        × (new ≡ record old { endpoint = new.endpoint; moment = now }) };
 
     ghost misses = { λ old port bytes now new. Misses old.endpoint bytes new.endpoint
-        × (new.accepted ≡ old.accepted) × (new.moment ≡ now) };
+        × (new ≡ record old { endpoint = new.endpoint; moment = now }) };
 
     ghost withholds = { λ old now new. ⊥ };
 
@@ -111,8 +184,13 @@ impl Core for EndCore {
         now: u64,
     ) -> Result<(), OutOfMemory> {
         self.moment = now;
+        if self.bars(bytes) {
+            self.came = None;
+            self.barred = self.barred.saturating_add(1);
+            return Ok(());
+        }
         let arrived = self.endpoint.receive(alloc, bytes, now)?;
-        self.accepted = accepted_by(arrived, bytes);
+        self.came = self.came_of(arrived, bytes);
         Ok(())
     }
 

@@ -5,6 +5,7 @@
 //! sends what it reads. Each runs by the file of a host until it is over.
 #![tactic(auto)]
 
+mod asking;
 mod callers;
 mod end_core;
 mod feeding;

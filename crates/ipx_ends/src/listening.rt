@@ -3,6 +3,7 @@
 ghost use Rattle.std.specs.Prelude.{◌≡◌, ◌≢◌, ◌<◌, ◌≤◌, ◌↔◌, ◌∷◌, ◌++◌, [], ℕ, List, false, IfOk, IsTrue, None, OnErr, OnOk, Some, Err, Ok, vec_capacity};
 ghost use Rattle.ipx_carrier.specs.Mapping.{node_at};
 ghost use Rattle.ipx_carrier.specs.Turns.{peers_of};
+ghost use Rattle.ipx_site.specs.Origins.{named_in};
 ghost use Rattle.ipx_wire.specs.declared.address.Socket.{Socket};
 ghost use Rattle.spx_messages.specs.EndpointView.{buffers_at, held_at};
 ghost use Rattle.ipx_ends.specs.Callers.{Admits, KeepsOne, NotesHeard, caller_of, keeps_one_prop};
@@ -15,7 +16,7 @@ ghost use Rattle.ipx_ends.specs.declared.listening.Stop.{Stop as AStop};
 ghost use Rattle.ipx_ends.specs.declared.listening.Stop.TheVariants as Stops;
 
 use crate::callers::{Caller, Standing, hear_one};
-use crate::end_core::Accepted;
+use crate::end_core::{Accepted, Came};
 use crate::gate::Gate;
 use crate::outlet::{Outlet, WriteFault};
 use crate::start::StartFault;
@@ -106,7 +107,11 @@ impl<'a, R: Net + Log + Clock> Listening<'a, R> {
         ensures router { IfOk result (λ l.
             l.station.core.endpoint.router ≡ node_at file.now.router) }
         ensures links { IfOk result (λ l. (id : ℕ) → held_at l.station.core.endpoint id ≡ None) }
-        ensures accepted { IfOk result (λ l. l.station.core.accepted ≡ None) }
+        ensures accepted { IfOk result (λ l. l.station.core.came ≡ None) }
+        // Who may ask it for a connection, its file says.
+        ensures from { IfOk result (λ l.
+            named_in l.station.core.from ≡ named_in file.now.from) }
+        ensures own { IfOk result (λ l. l.station.core.network ≡ file.now.network) }
         ensures peers { IfOk result (λ l.
             peers_of l.station.wire.peers.items ≡ (file.now.router ∷ []) ∷ []) }
     {
@@ -167,10 +172,10 @@ impl<'a, R: Net + Log + Clock> Listening<'a, R> {
         ensures once { self.new.once ≡ self.old.once }
     {
         let moment = self.station.moment();
-        let heard = self.station.core.endpoint.heard();
-        hear_one(&mut self.callers, heard, moment);
-        if let Some(accepted) = self.station.core.take_accepted() {
-            self.admit(accepted, moment);
+        match self.station.core.take_came() {
+            Some(Came::Heard(id)) => hear_one(&mut self.callers, id, moment),
+            Some(Came::Accepted(accepted)) => self.admit(accepted, moment),
+            None => {}
         }
     }
 

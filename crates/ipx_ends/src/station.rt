@@ -4,6 +4,7 @@ ghost use Rattle.std.specs.Prelude.{◌≡◌, ◌≤◌, ◌∷◌, [], ℕ, If
 ghost use Rattle.ipx_carrier.specs.Mapping.{node_at};
 ghost use Rattle.ipx_carrier.specs.Runs.{EndsEarly, Runs};
 ghost use Rattle.ipx_carrier.specs.Turns.{peers_of};
+ghost use Rattle.ipx_site.specs.Origins.{named_in};
 ghost use Rattle.ipx_carrier.specs.declared.fault.RunFault.TheVariants as RunFaults;
 ghost use Rattle.ipx_wire.specs.declared.address.Socket.{Socket};
 ghost use Rattle.spx_link.specs.Links.{count_of};
@@ -11,7 +12,7 @@ ghost use Rattle.spx_messages.specs.EndpointView.{buffers_at, held_at};
 ghost use Rattle.ipx_ends.specs.Sleeping.{IsSleep};
 ghost use Rattle.ipx_ends.specs.Turning.{TakesTurn, gives, hears, misses, withholds};
 
-use crate::end_core::EndCore;
+use crate::end_core::{EndCore, copy_origins};
 use crate::start::{StartFault, check_streams};
 use ipx_carrier::{Report, node_of, run};
 use ipx_site::{Cause, HostFile, Readiness, SiteSockets, SteadyClock, WaitFault};
@@ -52,6 +53,7 @@ pub struct Station<'a, R: Clock> {
     unheard: u64,
     of_memory: Cause,
     of_system: Cause,
+    of_barred: Cause,
 }
 
 impl Wire {
@@ -92,7 +94,9 @@ impl<'a, R: Net + Log + Clock> Station<'a, R> {
         ensures deaf { IfOk result (λ s.
             (socket : Socket) → buffers_at s.core.endpoint socket ≡ None) }
         ensures nobody { IfOk result (λ s. s.core.endpoint.heard ≡ None) }
-        ensures accepted { IfOk result (λ s. s.core.accepted ≡ None) }
+        ensures accepted { IfOk result (λ s. s.core.came ≡ None) }
+        ensures from { IfOk result (λ s. named_in s.core.from ≡ named_in file.now.from) }
+        ensures own { IfOk result (λ s. s.core.network ≡ file.now.network) }
         // Its router is its one peer.
         ensures peers { IfOk result (λ s.
             peers_of s.wire.peers.items ≡ (file.now.router ∷ []) ∷ []) }
@@ -107,7 +111,7 @@ impl<'a, R: Net + Log + Clock> Station<'a, R> {
         let sockets = SiteSockets::bind_one(rt, alloc, file.address, file.udp_port)?;
         let readiness = Readiness::new(rt, alloc, &sockets)?;
         Ok(Station {
-            core: EndCore::new(endpoint),
+            core: EndCore::new(endpoint, file.network, copy_origins(alloc, &file.from)?),
             wire: Wire {
                 sockets,
                 peers: vec![in alloc; router]?,
@@ -117,6 +121,7 @@ impl<'a, R: Net + Log + Clock> Station<'a, R> {
             unheard: 0,
             of_memory: Cause::new(),
             of_system: Cause::new(),
+            of_barred: Cause::new(),
         })
     }
 
@@ -156,6 +161,11 @@ impl<'a, R: Net + Log + Clock> Station<'a, R> {
         let unheard = self.unheard;
         if let Some(more) = self.of_memory.tell(unheard, now) {
             warn!(rt; target: "ipx", "{more} times memory was refused ({unheard} since the start)");
+        }
+        let barred = self.core.barred();
+        if let Some(more) = self.of_barred.tell(barred, now) {
+            warn!(rt; target: "ipx",
+                "{more} requests came from nobody who may connect ({barred} since the start)");
         }
         turn
     }

@@ -1,7 +1,8 @@
-pub mod Addresses
+pub mod Each
 pub mod Faults
 pub mod Found
 pub mod HexText
+pub mod Naming
 pub mod Own
 pub mod Bursting
 pub mod Ports

@@ -45,6 +45,10 @@ module _ {A : Type 0} (Means : Data → A → Type 0) where
     abbrev pub HoldsOr : A → A → Type 0
     HoldsOr default a = ((get_member (key_text key) ms ≡ None) × (a ≡ default)) ⊎ Holds a
 
+    -- so it is, or the key is not there and there is none
+    abbrev pub HoldsIf : Option A → Type 0
+    HoldsIf found = MatchOption found (get_member (key_text key) ms ≡ None) Holds
+
     -- a fault of another key is told only where this one has none
     abbrev pub IsRight : Type 0
     IsRight = (a : A) × Holds a
@@ -68,3 +72,7 @@ module _ {A : Type 0} (Means : Data → A → Type 0) where
     abbrev pub GivesOr : ℕ → A → Result A FileFault → Type 0
     GivesOr table default r =
         MatchResult r (HoldsOr default) (λ f. (f ≡ OutOfMemory) ⊎ IsWrong table f)
+
+    -- and of one that may be left out
+    abbrev pub GivesIf : ℕ → Result (Option A) FileFault → Type 0
+    GivesIf table r = MatchResult r HoldsIf (λ f. (f ≡ OutOfMemory) ⊎ IsWrong table f)

@@ -6,8 +6,9 @@ use Rattle.ipx_site.specs.declared.fault.FileFault.{FileFault}
 use Rattle.ipx_site.specs.declared.key.Key.TheVariants as Key
 use Rattle.ipx_site.specs.declared.host.HostFile.{HostFile}
 use Rattle.ipx_site.specs.Keys.{first_unknown, host_keys}
+use Rattle.ipx_site.specs.Origins.{AreOrigins}
 use Rattle.ipx_site.specs.Values.{IsAddress, IsCount, IsNetwork, IsSocket}
-use Rattle.ipx_site.specs.Fields.{Holds, HoldsOr, IsFault, IsNoToml, IsRight, IsRightOr, IsUnknown, IsWrong}
+use Rattle.ipx_site.specs.Fields.{Holds, HoldsIf, HoldsOr, IsFault, IsNoToml, IsRight, IsRightOr, IsUnknown, IsWrong}
 
 -- a table is that of a host
 pub record IsHost (ms : Members) (h : HostFile) : Type 0 where
@@ -18,6 +19,7 @@ pub record IsHost (ms : Members) (h : HostFile) : Type 0 where
   pub udp_port : HoldsOr (IsCount 65535) Key.UdpPort ms 213 h.udp_port
   pub socket : Holds IsSocket Key.Socket ms h.socket
   pub buffers : HoldsOr (IsCount 8192) Key.Buffers ms 64 h.buffers
+  pub from : HoldsIf AreOrigins Key.From ms h.from
 
 -- its first fault: a name that is no key, and then the keys in order
 abbrev pub IsHostFault : Members → FileFault → Type 0
@@ -28,7 +30,8 @@ IsHostFault ms f =
     ⊎ (IsRight IsAddress Key.Address ms × (IsFault IsAddress Key.Router ms 0 f
     ⊎ (IsRight IsAddress Key.Router ms × (IsWrong (IsCount 65535) Key.UdpPort ms 0 f
     ⊎ (IsRightOr (IsCount 65535) Key.UdpPort ms × (IsFault IsSocket Key.Socket ms 0 f
-    ⊎ (IsRight IsSocket Key.Socket ms × IsWrong (IsCount 8192) Key.Buffers ms 0 f)))))))))))
+    ⊎ (IsRight IsSocket Key.Socket ms × (IsWrong (IsCount 8192) Key.Buffers ms 0 f
+    ⊎ (IsRightOr (IsCount 8192) Key.Buffers ms × IsWrong AreOrigins Key.From ms 0 f)))))))))))))
 
 -- a text is the file of a host
 abbrev pub IsHostText : List ℕ → HostFile → Type 0

@@ -4,7 +4,7 @@ use Rattle.std.specs.List.{list_any}
 use Rattle.std.specs.Cmp.Lexicographic.{pointwise}
 use Rattle.toml.specs.Data.{Members, no_members, member}
 use Rattle.ipx_site.specs.declared.key.Key.{Key}
-use Rattle.ipx_site.specs.declared.key.Key.TheVariants.{Status, Port, Network, Address, UdpPort, Cost, Peers, Accept, Router, Socket, Buffers}
+use Rattle.ipx_site.specs.declared.key.Key.TheVariants.{Status, Port, Network, Address, UdpPort, Cost, Peers, Accept, Router, Socket, Buffers, From}
 
 -- how a key is written
 abbrev pub key_text : Key → List ℕ
@@ -19,6 +19,7 @@ key_text Accept = codes "accept"
 key_text Router = codes "router"
 key_text Socket = codes "socket"
 key_text Buffers = codes "buffers"
+key_text From = codes "from"
 
 -- a text is one of these keys
 abbrev pub is_key : List Key → List ℕ → Bool
@@ -38,4 +39,4 @@ abbrev pub site_keys : List Key
 site_keys = Status ∷ Port ∷ []
 
 abbrev pub host_keys : List Key
-host_keys = Network ∷ Address ∷ Router ∷ UdpPort ∷ Socket ∷ Buffers ∷ []
+host_keys = Network ∷ Address ∷ Router ∷ UdpPort ∷ Socket ∷ Buffers ∷ From ∷ []

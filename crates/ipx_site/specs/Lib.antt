@@ -1,5 +1,6 @@
 pub mod Keys
 pub mod Values
+pub mod Origins
 pub mod Fields
 pub mod Port
 pub mod Site

@@ -50,11 +50,15 @@ accept_text Any = codes "any"
 abbrev pub IsAccept : Data → Accept → Type 0
 IsAccept d a = as_str d ≡ Some (accept_text a)
 
--- item by item, these IP addresses
+-- item by item, what each of them means
+abbrev pub AreEach : {A : Type 0} → (Data → A → Type 0) → Items → List A → Type 0
+AreEach Means no_items all = all ≡ []
+AreEach {A} Means (item d ds) all = (first : A) × (rest : List A) × (all ≡ first ∷ rest)
+    × Means d first × AreEach Means ds rest
+
+-- these IP addresses
 abbrev pub AreAddresses : Items → List (List ℕ) → Type 0
-AreAddresses no_items ips = ips ≡ []
-AreAddresses (item d ds) ips = (ip : List ℕ) × (rest : List (List ℕ)) × (ips ≡ ip ∷ rest)
-    × IsAddress d ip × AreAddresses ds rest
+AreAddresses ds ips = AreEach IsAddress ds ips
 
 -- an array of strings that are IP addresses
 abbrev pub ArePeers : Data → Vec (List ℕ) Global → Type 0

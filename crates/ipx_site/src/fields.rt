@@ -5,11 +5,13 @@ ghost use Rattle.std.specs.Global.{Global};
 ghost use Rattle.toml.specs.Data.{get_member};
 ghost use Rattle.toml.specs.View.{table_view, view};
 ghost use Rattle.ipx_site.specs.Keys.{first_unknown, key_text};
+ghost use Rattle.ipx_site.specs.Origins.{AreOrigins};
 ghost use Rattle.ipx_site.specs.Values.{ArePeers, IsAccept, IsAddress, IsCount, IsNetwork, IsSocket, IsText};
-ghost use Rattle.ipx_site.specs.Fields.{Gives, GivesOr, Holds, IsMissing, IsUnknown, IsWrong};
+ghost use Rattle.ipx_site.specs.Fields.{Gives, GivesIf, GivesOr, Holds, IsMissing, IsUnknown, IsWrong};
 
 use crate::fault::FileFault;
 use crate::key::{Key, is_one_of};
+use crate::origin::{Origin, origins_of};
 use crate::site::Accept;
 use crate::values::{accept_of, address_of, count_of, network_of, peers_of, socket_of, text_of};
 use ipx_wire::{Network, OutOfMemory, Socket};
@@ -148,5 +150,23 @@ pub fn text_in(alloc: Global, table: &Table, key: Key) -> Result<Option<String>,
     match text_of(alloc, value)? {
         Some(text) => Ok(Some(text)),
         None => Err(FileFault::Wrong(0, key)),
+    }
+}
+
+/// Who may ask for a connection, if somebody is named.
+pub fn origins_in(
+    alloc: Global,
+    table: &Table,
+    number: usize,
+    key: Key,
+) -> Result<Option<Vec<Origin>>, FileFault>
+    ensures { GivesIf AreOrigins key (table_view table.now) number result }
+{
+    let Some(value) = held(table, key) else {
+        return Ok(None);
+    };
+    match origins_of(alloc, value)? {
+        Some(origins) => Ok(Some(origins)),
+        None => Err(FileFault::Wrong(number, key)),
     }
 }

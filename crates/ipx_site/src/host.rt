@@ -5,15 +5,16 @@ ghost use Rattle.toml.specs.View.{table_view};
 ghost use Rattle.ipx_site.specs.Host.{IsHost, IsHostFault, IsHostText, IsHostTextFault};
 
 use crate::fault::FileFault;
-use crate::fields::{address_in, count_in, network_in, refuse_unknown, socket_in};
+use crate::fields::{address_in, count_in, network_in, origins_in, refuse_unknown, socket_in};
 use crate::key::Key;
+use crate::origin::Origin;
 use crate::toml_text::table_of;
 use ipx_wire::{Network, Socket};
 use std::alloc::Global;
 use toml::Table;
 
 /// The file of a host.
-#[derive(Clone, Copy, Debug, PartialEq, Eq, Drop)]
+#[derive(Drop)]
 pub struct HostFile {
     /// The network that it is on.
     pub network: Network,
@@ -27,16 +28,19 @@ pub struct HostFile {
     pub socket: Socket,
     /// The buffers of a connection, 1 to 8,192.
     pub buffers: u16,
+    /// Who may ask for a connection, 256 entries at most. None stands for everybody.
+    pub from: Option<Vec<Origin>>,
 }
 
 /// The keys of a host, in the order in which their faults are told.
-const KEYS: [Key; 6] = [
+const KEYS: [Key; 7] = [
     Key::Network,
     Key::Address,
     Key::Router,
     Key::UdpPort,
     Key::Socket,
     Key::Buffers,
+    Key::From,
 ];
 
 fn host_of(alloc: Global, table: &Table) -> Result<HostFile, FileFault>
@@ -51,6 +55,7 @@ fn host_of(alloc: Global, table: &Table) -> Result<HostFile, FileFault>
     let udp_port = count_in(table, 0, Key::UdpPort, 65535, 213)?;
     let socket = socket_in(table, 0)?;
     let buffers = count_in(table, 0, Key::Buffers, 8192, 64)?;
+    let from = origins_in(alloc, table, 0, Key::From)?;
     Ok(HostFile {
         network,
         address,
@@ -58,6 +63,7 @@ fn host_of(alloc: Global, table: &Table) -> Result<HostFile, FileFault>
         udp_port,
         socket,
         buffers,
+        from,
     })
 }
 

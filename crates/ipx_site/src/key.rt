@@ -17,6 +17,7 @@ pub enum Key {
     Router,
     Socket,
     Buffers,
+    From,
 }
 
 impl Key {
@@ -36,6 +37,7 @@ impl Key {
             Key::Router => "router",
             Key::Socket => "socket",
             Key::Buffers => "buffers",
+            Key::From => "from",
         }
     }
 
@@ -53,6 +55,10 @@ impl Key {
             Key::Router => "the IP address of a router, as \"10.1.0.1\"",
             Key::Socket => "four hex digits, not all 0, as \"4002\"",
             Key::Buffers => "a number from 1 to 8192, as 64",
+            Key::From => {
+                "a list of at most 256 networks, each alone or with a node behind it, as \
+                 [\"00000022 00000a02001e\", \"00000033\"]"
+            }
         }
     }
 }

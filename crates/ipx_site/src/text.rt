@@ -9,7 +9,7 @@ use std::fmt;
 fn keys_of(table: usize) -> &'static str {
     if table == 0 {
         return "a router has status and port, \
-            a host network, address, router, udp_port, socket and buffers";
+            a host network, address, router, udp_port, socket, buffers and from";
     }
     "the keys are network, address, udp_port, cost, peers, accept"
 }

@@ -32,7 +32,7 @@ const SITES: [(&str, &str); 9] = [
     ),
     (
         "Status = \"a\"",
-        "Status is no key here: a router has status and port, a host network, address, router, udp_port, socket and buffers",
+        "Status is no key here: a router has status and port, a host network, address, router, udp_port, socket, buffers and from",
     ),
     (
         "status = 1",
@@ -91,7 +91,7 @@ const HOSTS: [(&str, &str); 3] = [
     ),
     (
         "port = 1",
-        "port is no key here: a router has status and port, a host network, address, router, udp_port, socket and buffers",
+        "port is no key here: a router has status and port, a host network, address, router, udp_port, socket, buffers and from",
     ),
 ];
 

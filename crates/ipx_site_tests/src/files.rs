@@ -1,8 +1,8 @@
 //! Files without a fault: what is read of them.
 
 use crate::fixture::{host, site};
-use ipx_site::{Accept, SitePort};
-use ipx_wire::{Network, Socket};
+use ipx_site::{Accept, Origin, SitePort};
+use ipx_wire::{Address, Network, Node, Socket};
 
 const SITE: &str = "\
 # the router of one site
@@ -27,6 +27,15 @@ network = \"00000011\"
 address = \"10.1.0.20\"
 router = \"10.1.0.1\"
 socket = \"4002\"
+";
+
+/// A host that says who may connect.
+const FROM: &str = "\
+network = \"00000011\"
+address = \"10.1.0.20\"
+router = \"10.1.0.1\"
+socket = \"4002\"
+from = [\"00000022 00000A02001e\", \"00000033\"]
 ";
 
 fn is_first(port: &SitePort) -> bool {
@@ -84,4 +93,53 @@ fn reads_a_host(rt: HostRuntime) {
     assert!(rt; host.network == Network(0x11) && host.socket == Socket(0x4002));
     assert!(rt; host.address == [10, 1, 0, 20] && host.router == [10, 1, 0, 1]);
     assert!(rt; host.udp_port == 213 && host.buffers == 64);
+    assert!(rt; host.from.is_none());
+}
+
+#[test]
+fn reads_who_may_connect(rt: HostRuntime) {
+    let Some(host) = host(rt.alloc(), FROM) else {
+        panic!(rt; "the file has a fault");
+    };
+    let Some(from) = &host.from else {
+        panic!(rt; "it names nobody");
+    };
+    let node = Node([0, 0, 0x0a, 2, 0, 0x1e]);
+    assert!(rt; from.len() == 2);
+    assert!(rt; from[0].network == Network(0x22) && from[0].node == Some(node));
+    assert!(rt; from[1].network == Network(0x33) && from[1].node.is_none());
+}
+
+/// Of a network its nodes are, and of a node it alone; network 0 is the host's own.
+#[test]
+fn tells_who_is_named(rt: HostRuntime) {
+    let (own, socket) = (Network(0x11), Socket(0x4003));
+    let (this, other) = (
+        Node([0, 0, 0x0a, 2, 0, 0x1e]),
+        Node([0, 0, 0x0a, 2, 0, 0x1f]),
+    );
+    let one = Origin {
+        network: Network(0x22),
+        node: Some(this),
+    };
+    let all = Origin {
+        network: Network(0x11),
+        node: None,
+    };
+    let rows = [
+        (0x22, this, true, false),
+        (0x22, other, false, false),
+        (0x23, this, false, false),
+        (0x11, other, false, true),
+        (0, other, false, true),
+    ];
+    for (number, node, by_one, by_all) in rows {
+        let network = Network(number);
+        let from = Address {
+            network,
+            node,
+            socket,
+        };
+        assert!(rt; one.has(own, &from) == by_one && all.has(own, &from) == by_all);
+    }
 }

@@ -26,6 +26,7 @@ network = \"00000011\"
 address = \"10.1.0.20\"
 router = \"10.1.0.1\"
 socket = \"4002\"
+from = [\"00000022 00000a02001e\", \"00000033\"]
 ";
 
 /// A key that a host does not have.
@@ -48,7 +49,10 @@ fn refused_site(rt: HostRuntime) {
 #[test]
 fn refused_host(rt: HostRuntime) {
     match read_host(rt.alloc(), HOST) {
-        Ok(host) => assert!(rt; host.router == [10, 1, 0, 1] && host.buffers == 64),
+        Ok(host) => {
+            assert!(rt; host.router == [10, 1, 0, 1] && host.buffers == 64);
+            assert!(rt; host.from.as_ref().is_some_and(|from| from.len() == 2));
+        }
         Err(fault) => assert!(rt; matches!(fault, FileFault::OutOfMemory)),
     }
 }

@@ -1,7 +1,7 @@
 use Rattle.std.proofs.Common.{◌≡◌, ◌∙◌, ℕ, ◌+◌, [], ◌∷◌, ◌++◌, drop, inr, ap, refl}
 use Rattle.std.proofs.lemmas.List.{append-nil, append_assoc, drop_all}
 use Rattle.std.proofs.lemmas.Result.{err_from_is_err_and}
-use Rattle.ipx_site.proofs.Addresses.{item_left}
+use Rattle.ipx_site.proofs.Each.{item_left}
 use Rattle.ipx_site.proofs.Faults.{item_fault, later_fault, one_more_port, or_memory, twin_fault}
 use Rattle.ipx_site.proofs.reading.ports_of.Goals as goal
 

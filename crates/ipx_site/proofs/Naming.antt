@@ -1,0 +1,77 @@
+-- which texts name a network, or a node of one
+use Rattle.std.proofs.Common.{Vec, ◌≡◌, ◌≤◌, Result, Ok, Err, ℕ, zero, suc, ◌+◌, ◌<◌, List, ◌∷◌, ◌++◌, length, take, drop, Option, Some, None, get_or, refl, sym, ap, ◌∙◌, subst, arith}
+use Rattle.std.proofs.lemmas.List.{length-append}
+use Rattle.std.proofs.Math.Seq.{take-append_seam, drop-append-add, get_or-append_seam}
+use Rattle.std.proofs.lemmas.Option.{same_Some}
+use Rattle.std.specs.Prelude.{IfOk, MatchOption}
+use Rattle.std.specs.Global.{Global}
+use Rattle.toml.specs.Data.{Data, Items, as_array}
+use Rattle.toml.specs.View.{items_view}
+use Rattle.toml.specs.declared.value.Value.{Value}
+use Rattle.ipx_wire.specs.declared.address.Network.{Network}
+use Rattle.ipx_wire.specs.declared.address.Node.{Node}
+use Rattle.ipx_site.specs.Fields.{Reads}
+use Rattle.ipx_site.specs.Origins.{AreOrigins, IsOrigin, ReadsOrigins, WritesNetwork, WritesNode, WritesOrigin}
+use Rattle.ipx_site.specs.Values.{AreEach}
+use Rattle.ipx_site.specs.declared.origin.Origin.{Origin}
+use Rattle.ipx_site.proofs.Each.{as_many}
+
+-- a network and a node behind it
+abbrev pub WritesBoth : List ℕ → Network → Node → Type 0
+WritesBoth text network node = (front digits : List ℕ) × (text ≡ front ++ 32 ∷ digits)
+    × WritesNetwork front network × WritesNode digits node
+
+abbrev pub WritesAs : List ℕ → Network → Option Node → Type 0
+WritesAs text network node = MatchOption node (WritesNetwork text network) (WritesBoth text network)
+
+-- where both stand
+pub places : (text : List ℕ) (network : Network) (node : Node) → WritesBoth text network node
+    → (8 < length text) × (get_or text 8 0 ≡ 32) × WritesNetwork (take 8 text) network × WritesNode (drop 9 text) node
+places text network node (front, digits, is, written, last) =
+    let size : length front ≡ 8 = written.0 in
+    let all : length text ≡ length front + length (32 ∷ digits) = ap length is ∙ length-append front (32 ∷ digits) in
+    let seam : get_or text 8 0 ≡ 32 =
+    subst (λ (n : ℕ). get_or text n 0 ≡ 32) size (ap (λ (l : List ℕ). get_or l (length front) 0) is ∙ get_or-append_seam front 32 digits 0) in
+    let first : take 8 text ≡ front =
+    subst (λ (n : ℕ). take n text ≡ front) size (ap (take (length front)) is ∙ take-append_seam front (32 ∷ digits)) in
+    let next : length front + 1 ≡ 9 = omega (arith, size) in
+    let rest : drop 9 text ≡ digits =
+    subst (λ (n : ℕ). drop n text ≡ digits) next (ap (drop (length front + 1)) is ∙ drop-append-add front (32 ∷ digits) 1) in (
+      omega (arith, all, size),
+      seam,
+      subst (λ (l : List ℕ). WritesNetwork l network) (sym first) written,
+      subst (λ (l : List ℕ). WritesNode l node) (sym rest) last,
+    )
+
+alone : (text : List ℕ) (network : Network) (node : Option Node) → length text ≡ 8 → (WritesNetwork text network → ⊥) → WritesAs text network node → ⊥
+alone text network None short none w = none w
+alone text network (Some node) short none w = let at = places text network node w in absurd (omega (arith, short, at.0))
+
+-- eight digits that write no network name nothing
+pub no_network : (text : List ℕ) → length text ≡ 8 → ((n : Network) → WritesNetwork text n → ⊥) → (o : Origin) → WritesOrigin text o → ⊥
+no_network text short none o w = alone text o.network o.node short (none o.network) w
+
+both : (text : List ℕ) (network : Network) (node : Option Node) → (length text ≡ 8 → ⊥) → ((n : Node) → WritesBoth text network n → ⊥) → WritesAs text network node → ⊥
+both text network None long none w = long w.0
+both text network (Some node) long none w = none node w
+
+-- what is no network alone names nothing, where no network and a node stand there
+pub no_node : (text : List ℕ) → (length text ≡ 8 → ⊥) → ((network : Network) (n : Node) → WritesBoth text network n → ⊥) → (o : Origin) → WritesOrigin text o → ⊥
+no_node text long none o w = both text o.network o.node long (none o.network) w
+
+-- a list of texts names what each of them names, where there are 256 at most
+pub too_many : (d : Data) (values : List Value) → as_array d ≡ Some (items_view values) → 256 < length values
+    → (os : Vec Origin Global) → AreOrigins d os → ⊥
+too_many d values is many os are =
+    let same : are.0 ≡ items_view values = same_Some are.0 (items_view values) (sym are.1 ∙ is) in
+    let all = as_many IsOrigin values os.items (subst (λ (ds : Items). AreEach IsOrigin ds os.items) same are.2) in
+    absurd (omega (arith, all, many, are.3))
+
+pub listed : {E : Type 0} (d : Data) (values : List Value) → as_array d ≡ Some (items_view values) → length values ≤ 256
+    → (r : Result (Option (Vec Origin Global)) E) → IfOk r (ReadsOrigins (items_view values)) → IfOk r (Reads AreOrigins d)
+listed d values is few (Err e) reads = tt
+listed d values is few (Ok None) reads = λ os are.
+    let same : are.0 ≡ items_view values = same_Some are.0 (items_view values) (sym are.1 ∙ is) in
+    reads os.items (subst (λ (ds : Items). AreEach IsOrigin ds os.items) same are.2)
+listed d values is few (Ok (Some v)) reads =
+    (items_view values, is, reads, omega (arith, as_many IsOrigin values v.items reads, few))

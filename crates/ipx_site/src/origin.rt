@@ -1,0 +1,121 @@
+//! Who may ask a host for a connection.
+
+ghost use Rattle.std.specs.Prelude.{◌≡◌, ◌<◌, IfOk, Some, length};
+ghost use Rattle.toml.specs.View.{items_view, view};
+ghost use Rattle.ipx_site.specs.Fields.{Reads};
+ghost use Rattle.ipx_site.specs.Origins.{AreOrigins, IsOrigin, ReadsNetwork, ReadsNode, ReadsOrigin, ReadsOrigins, is_of};
+
+use byteorder::{BigEndian, ByteOrder};
+use hex::FromHex;
+use ipx_wire::{Address, Network, Node, OutOfMemory};
+use std::alloc::Global;
+use toml::Value;
+
+/// How many digits write a network.
+const NETWORK_DIGITS: usize = 8;
+
+/// The most entries of a list.
+pub const MOST_ENTRIES: usize = 256;
+
+/// A node of a network, or each node of it.
+#[derive(Clone, Copy, Debug, PartialEq, Eq)]
+pub struct Origin {
+    pub network: Network,
+    /// None stands for each node.
+    pub node: Option<Node>,
+}
+
+impl Origin {
+    /// Whether an address is there, as a host of a network sees it: a network of 0 is its own.
+    pub fn has(&self, own: Network, address: &Address) -> bool
+        ensures { result ≡ is_of own address.now self.now }
+    {
+        let network = if address.network == Network::LOCAL {
+            own
+        } else {
+            address.network
+        };
+        let named = match self.node {
+            Some(node) => address.node == node,
+            None => true,
+        };
+        network == self.network && named
+    }
+}
+
+/// The network that eight hex digits write.
+fn network_in(text: &[u8]) -> Option<Network>
+    requires { length text.now ≡ 8 }
+    ensures { ReadsNetwork text.now result }
+{
+    let bytes = <[u8; 4] as FromHex>::from_hex(text).ok()?;
+    let network = Network(BigEndian::read_u32(&bytes));
+    if network == Network::LOCAL || network == Network::ALL {
+        return None;
+    }
+    Some(network)
+}
+
+/// The node that twelve hex digits write.
+fn node_in(text: &[u8]) -> Option<Node>
+    ensures { ReadsNode text.now result }
+{
+    let bytes = <[u8; 6] as FromHex>::from_hex(text).ok()?;
+    Some(Node(bytes))
+}
+
+/// What a text names: a network, or a network and a node of it.
+fn origin_in(text: &[u8]) -> Option<Origin>
+    ensures { ReadsOrigin text.now result }
+{
+    if text.len() == NETWORK_DIGITS {
+        let network = network_in(text)?;
+        return Some(Origin {
+            network,
+            node: None,
+        });
+    }
+    if text.len() < NETWORK_DIGITS || text[NETWORK_DIGITS] != b' ' {
+        return None;
+    }
+    let network = network_in(&text[..NETWORK_DIGITS])?;
+    let node = node_in(&text[NETWORK_DIGITS + 1..])?;
+    Some(Origin {
+        network,
+        node: Some(node),
+    })
+}
+
+/// What a value names.
+fn origin_of(value: &Value) -> Option<Origin>
+    ensures { Reads IsOrigin (view value.now) result }
+{
+    origin_in(value.as_str()?.as_bytes())
+}
+
+/// What values name, if each of them names something.
+fn origins_in(alloc: Global, values: &[Value]) -> Result<Option<Vec<Origin>>, OutOfMemory>
+    ensures { IfOk result (ReadsOrigins (items_view values.now)) }
+{
+    let mut origins = Vec::new(alloc);
+    for value in values {
+        let Some(origin) = origin_of(value) else {
+            return Ok(None);
+        };
+        origins.push(origin)?;
+    }
+    Ok(Some(origins))
+}
+
+/// What a value lists, 256 at most.
+pub fn origins_of(alloc: Global, value: &Value) -> Result<Option<Vec<Origin>>, OutOfMemory>
+    ensures { IfOk result (Reads AreOrigins (view value.now)) }
+{
+    let Some(values) = value.as_array() else {
+        return Ok(None);
+    };
+    if values.len() > MOST_ENTRIES {
+        return Ok(None);
+    }
+    origins_in(alloc, values)
+}
