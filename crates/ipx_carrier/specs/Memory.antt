@@ -41,18 +41,18 @@ pub record KeepsRest (old new : MemoryDatagrams) : Type 0 where
   pub refusals : new.refusals ≡ old.refusals
 
 -- the next call is the one that was named to fail
-abbrev pub is_named : Option ℕ → Bool
-is_named None = false
-is_named (Some k) = k == 1
+abbrev pub fails_next : Option ℕ → Bool
+fails_next None = false
+fails_next (Some k) = k == 1
 
 -- the call that is named once one more was made: none is behind the named one
 abbrev pub named_after : Option ℕ → Option ℕ
-named_after named = if is_named named then None else option_map (λ k. k - 1) named
+named_after named = if fails_next named then None else option_map (λ k. k - 1) named
 
 -- a call of `send` or `receive`, and whether it failed: the one that was named fails, and any other just
 -- where memory was refused, which is counted
 abbrev pub FailsAsNamed : MemoryDatagrams → Bool → MemoryDatagrams → Type 0
 FailsAsNamed old failed new = (new.fails_after ≡ named_after old.fails_after)
-    × MatchBool (is_named old.fails_after)
+    × MatchBool (fails_next old.fails_after)
     ((failed ≡ true) × (new.refusals ≡ old.refusals))
     (new.refusals ≡ (if failed then raised old.refusals else old.refusals))

@@ -2,7 +2,7 @@
 
 ghost use Rattle.std.specs.Prelude.{◌≡◌, ◌<◌, ◌≤◌, [], ◌∷◌, ◌++◌, OnOk, OnErr, IfOk, IfSome, Some, None, drop, length, map, option_map, replicate, slice_get, take};
 ghost use Rattle.ipx_carrier.specs.Device.{received_in};
-ghost use Rattle.ipx_carrier.specs.Memory.{KeepsRest, WaitsLast, datagram_bytes, is_named, memory_received, memory_sent, named_after, traffic_of, waiting_of};
+ghost use Rattle.ipx_carrier.specs.Memory.{KeepsRest, WaitsLast, datagram_bytes, fails_next, memory_received, memory_sent, named_after, traffic_of, waiting_of};
 
 use crate::datagrams::Datagrams;
 use crate::fault::DeviceFault;
@@ -116,7 +116,7 @@ impl MemoryDatagrams {
 
 /// Whether this is the call that is to fail, of those that are counted.
 fn fails_now(fails_after: &mut Option<u64>) -> bool
-    ensures named { result ≡ is_named fails_after.old }
+    ensures named { result ≡ fails_next fails_after.old }
     ensures after { fails_after.new ≡ named_after fails_after.old }
 {
     match *fails_after {
