@@ -50,3 +50,10 @@ abbrev pub MayWait : Bool → Option ℕ → EndCore → Option ℕ → Option �
 MayWait shows left core asked asked' = (asked' ≡ asked)
     ⊎ ((time : ℕ) × IsSleep core.endpoint.links core.moment (longest_wait shows left) time
     × (asked' ≡ Some time))
+
+-- behind a step a host that listens waits so, or not at all: as long as each connection just stays and no
+-- link has anything to do
+abbrev pub MayRest : EndCore → List Caller → Option ℕ → Option ℕ → Type 0
+MayRest core callers asked asked' = (asked' ≡ asked)
+    ⊎ ((rest time : ℕ) × AllStayFor core callers rest
+    × IsSleep core.endpoint.links core.moment rest time × (asked' ≡ Some time))

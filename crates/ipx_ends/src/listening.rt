@@ -10,6 +10,7 @@ ghost use Rattle.ipx_ends.specs.Callers.{Admits, KeepsOne, NotesHeard, caller_of
 ghost use Rattle.ipx_ends.specs.Hosting.{Hears, Moves, MovesSome, Serves, StepsTo, host};
 ghost use Rattle.ipx_ends.specs.Outlet.{Writes, left_of};
 ghost use Rattle.ipx_ends.specs.Passing.{PassesEach, PassesSome};
+ghost use Rattle.ipx_ends.specs.Sleeping.{MayRest};
 ghost use Rattle.ipx_ends.specs.Stop.{stop_in, stop_status};
 ghost use Rattle.ipx_ends.specs.declared.callers.Caller.{Caller};
 ghost use Rattle.ipx_ends.specs.declared.listening.Stop.{Stop as AStop};
@@ -147,6 +148,7 @@ impl<'a, R: Net + Log + Clock> Listening<'a, R> {
         } }
         ensures clock { self.new.station.clock ≡ self.old.station.clock }
         ensures peers { self.new.station.wire.peers ≡ self.old.station.wire.peers }
+        ensures readiness { self.new.station.readiness ≡ self.old.station.readiness }
         ensures outlet { self.new.outlet ≡ self.old.outlet }
         ensures once { self.new.once ≡ self.old.once }
     {
@@ -168,6 +170,7 @@ impl<'a, R: Net + Log + Clock> Listening<'a, R> {
             self.old.callers.items self.new.callers.items }
         ensures clock { self.new.station.clock ≡ self.old.station.clock }
         ensures peers { self.new.station.wire.peers ≡ self.old.station.wire.peers }
+        ensures readiness { self.new.station.readiness ≡ self.old.station.readiness }
         ensures outlet { self.new.outlet ≡ self.old.outlet }
         ensures once { self.new.once ≡ self.old.once }
     {
@@ -199,6 +202,7 @@ impl<'a, R: Net + Log + Clock> Listening<'a, R> {
         } }
         ensures clock { self.new.station.clock ≡ self.old.station.clock }
         ensures peers { self.new.station.wire.peers ≡ self.old.station.wire.peers }
+        ensures readiness { self.new.station.readiness ≡ self.old.station.readiness }
         ensures once { self.new.once ≡ self.old.once }
     {
         let endpoint = &mut self.station.core.endpoint;
@@ -221,6 +225,7 @@ impl<'a, R: Net + Log + Clock> Listening<'a, R> {
             (W.contents writer.old) (W.contents writer.new) bytes) }
         ensures clock { self.new.station.clock ≡ self.old.station.clock }
         ensures peers { self.new.station.wire.peers ≡ self.old.station.wire.peers }
+        ensures readiness { self.new.station.readiness ≡ self.old.station.readiness }
         ensures once { self.new.once ≡ self.old.once }
     {
         let wrote = self.outlet.write(writer)?;
@@ -236,6 +241,7 @@ impl<'a, R: Net + Log + Clock> Listening<'a, R> {
             (λ old moment new. (old.last ≤ moment) × (new.last ≡ moment))
             (peers_of self.old.station.wire.peers.items) }
         ensures peers { self.new.station.wire.peers ≡ self.old.station.wire.peers }
+        ensures readiness { self.new.station.readiness ≡ self.old.station.readiness }
         ensures outlet { self.new.outlet ≡ self.old.outlet }
         ensures once { self.new.once ≡ self.old.once }
     {
@@ -257,6 +263,7 @@ impl<'a, R: Net + Log + Clock> Listening<'a, R> {
             (λ old moment new. (old.last ≤ moment) × (new.last ≡ moment))
             (peers_of self.old.station.wire.peers.items) bytes }
         ensures peers { self.new.station.wire.peers ≡ self.old.station.wire.peers }
+        ensures readiness { self.new.station.readiness ≡ self.old.station.readiness }
         ensures written { result ≡ Err Stops.Ended
             → IsTrue self.new.once × (left_of self.new.outlet ≡ []) }
         ensures once { self.new.once ≡ self.old.once }
@@ -278,6 +285,9 @@ impl<'a, R: Net + Log + Clock> Listening<'a, R> {
             (λ old moment new. (old.last ≤ moment) × (new.last ≡ moment))
             (peers_of self.old.station.wire.peers.items) bytes }
         ensures peers { self.new.station.wire.peers ≡ self.old.station.wire.peers }
+        // It waits only as long as no link has anything to do and each connection just stays.
+        ensures rests { MayRest self.new.station.core self.new.callers.items
+            self.old.station.readiness.asked self.new.station.readiness.asked }
         ensures written { result ≡ Err Stops.Ended
             → IsTrue self.new.once × (left_of self.new.outlet ≡ []) }
         ensures once { self.new.once ≡ self.old.once }

@@ -63,6 +63,7 @@ impl<'a, R: Net + Log + Clock> Listening<'a, R> {
         } }
         ensures clock { self.new.station.clock ≡ self.old.station.clock }
         ensures peers { self.new.station.wire.peers ≡ self.old.station.wire.peers }
+        ensures readiness { self.new.station.readiness ≡ self.old.station.readiness }
         ensures outlet { self.new.outlet ≡ self.old.outlet }
         ensures once { self.new.once ≡ self.old.once }
     {
@@ -94,6 +95,7 @@ impl<'a, R: Net + Log + Clock> Listening<'a, R> {
         } }
         ensures clock { self.new.station.clock ≡ self.old.station.clock }
         ensures peers { self.new.station.wire.peers ≡ self.old.station.wire.peers }
+        ensures readiness { self.new.station.readiness ≡ self.old.station.readiness }
         ensures outlet { self.new.outlet ≡ self.old.outlet }
         ensures once { self.new.once ≡ self.old.once }
     {
@@ -124,6 +126,7 @@ impl<'a, R: Net + Log + Clock> Listening<'a, R> {
         } }
         ensures clock { self.new.station.clock ≡ self.old.station.clock }
         ensures peers { self.new.station.wire.peers ≡ self.old.station.wire.peers }
+        ensures readiness { self.new.station.readiness ≡ self.old.station.readiness }
         ensures outlet { self.new.outlet ≡ self.old.outlet }
         ensures once { self.new.once ≡ self.old.once }
     {
@@ -149,6 +152,7 @@ impl<'a, R: Net + Log + Clock> Listening<'a, R> {
         } }
         ensures clock { self.new.station.clock ≡ self.old.station.clock }
         ensures peers { self.new.station.wire.peers ≡ self.old.station.wire.peers }
+        ensures readiness { self.new.station.readiness ≡ self.old.station.readiness }
         ensures outlet { self.new.outlet ≡ self.old.outlet }
         ensures once { self.new.once ≡ self.old.once }
     {
