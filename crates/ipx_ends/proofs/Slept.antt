@@ -5,7 +5,7 @@ use Rattle.std.proofs.lemmas.List.{take_all}
 use Rattle.std.proofs.lemmas.List.Elements.{All-more}
 use Rattle.std.proofs.lemmas.Option.{slice_get-get_or}
 use Rattle.std.specs.Prelude.{All, slice_get}
-use Rattle.ipx_ends.specs.Sleeping.{AllStayFor, IsSleep, MayRest, MayWait, JustStaysAt, StaysFor, longest_wait}
+use Rattle.ipx_ends.specs.Sleeping.{AllStayFor, IsSleep, MayWait, JustStaysAt, StaysFor, longest_wait}
 use Rattle.ipx_ends.specs.declared.callers.Caller.{Caller}
 use Rattle.ipx_ends.specs.declared.end_core.EndCore.{EndCore}
 
@@ -58,17 +58,5 @@ may_wait shows left core core' asked asked' most e same (time, sleep, at) =
       time,
       subst (λ (k : EndCore). IsSleep k.endpoint.links k.moment (longest_wait shows left) time) (sym same)
           (subst (λ m. IsSleep core.endpoint.links core.moment m time) e sleep),
-      at,
-    )
-
--- and one of a host that listens
-pub may_rest : (core core' : EndCore) (callers : List Caller) (asked asked' : Option ℕ) (rest : ℕ) → core' ≡ core → AllStayFor core callers rest
-    → ((time : ℕ) × IsSleep core.endpoint.links core.moment rest time × (asked' ≡ Some time)) → MayRest core' callers asked asked'
-may_rest core core' callers asked asked' rest same stay (time, sleep, at) =
-    inr (
-      rest,
-      time,
-      subst (λ k. AllStayFor k callers rest) (sym same) stay,
-      subst (λ (k : EndCore). IsSleep k.endpoint.links k.moment rest time) (sym same) sleep,
       at,
     )

@@ -34,6 +34,7 @@ loop-tended-preserved g c =
       core = c.tend.ensures.core ∙ ap (λ (k : EndCore). record k { endpoint = new.station.core.endpoint }) i.core;
       clock = c.tend.ensures.clock ∙ i.clock;
       peers = c.tend.ensures.peers ∙ i.peers;
+      readiness = c.tend.ensures.readiness ∙ i.readiness;
       outlet = c.tend.ensures.outlet ∙ i.outlet;
       before = λ is alone.
           let same : IsTrue l.once = subst IsTrue c.tend.ensures.once is in

@@ -12,6 +12,7 @@ invariant-loop-tended g l = record {
   core : l.self.station.core ≡ record l.fn.self.station.core { endpoint = l.self.station.core.endpoint };
   clock : l.self.station.clock ≡ l.fn.self.station.clock;
   peers : l.self.station.wire.peers ≡ l.fn.self.station.wire.peers;
+  readiness : l.self.station.readiness ≡ l.fn.self.station.readiness;
   outlet : l.self.outlet ≡ l.fn.self.outlet;
   before : IsTrue l.self.once → EndedAlone l.self.callers.items → EndedAlone l.fn.self.callers.items;
   once : l.self.once ≡ l.fn.self.once;
