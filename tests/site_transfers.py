@@ -1,0 +1,58 @@
+"""Transfers on one machine with room in the sockets, for tests/sites: how many units may be out does not lose them."""
+import time
+
+from site_world import some_bytes, until
+
+NETWORK = "00000044"
+# 20 MB at these numbers of buffers, and three senders of 5 MB at 64 to one listener.
+BUFFERS = {512: ("127.0.1.150", "127.0.1.151"), 8192: ("127.0.1.152", "127.0.1.153")}
+MANY, SENDERS = "127.0.1.154", ["127.0.1.155", "127.0.1.156", "127.0.1.157"]
+TRANSFERRING = [*(address for pair in BUFFERS.values() for address in pair), MANY, *SENDERS]
+SECONDS = 20
+
+
+def check_one(sites, buffers, addresses):
+    """20 MB from one host to another, both with so many buffers."""
+    names = [f"buffers-{buffers}-{end}" for end in ("listener", "sender")]
+    for name, address, number in zip(names, addresses, ("4002", "4003")):
+        sites.host(name, NETWORK, address, "127.0.1.89", number, f"buffers = {buffers}\n")
+    data = some_bytes(sites.seed + 10, 2 * sites.size)
+    listener = sites.start_listener("--once", name=names[0])
+    start = time.monotonic()
+    sender = sites.start_sender(names[1], [data], NETWORK, addresses[0])
+    sites.check_transfer(f"{2 * sites.size / 1e6:g} MB at {buffers} buffers", listener, sender, data, SECONDS)
+    took = time.monotonic() - start
+    sites.check(f"at {buffers} buffers it takes under {SECONDS} s", took < SECONDS, f"{took:.1f} s")
+
+
+def check_three(sites):
+    """Three senders at once to one listener: each sends bytes of its own third."""
+    sites.host("many-listener", NETWORK, MANY, "127.0.1.89", "4002")
+    thirds = [bytes(byte % 85 + 85 * number for byte in some_bytes(sites.seed + 11 + number, sites.size // 2))
+              for number in range(3)]
+    listener = sites.start_listener(name="many-listener")
+    start, senders = time.monotonic(), []
+    for number, (address, data) in enumerate(zip(SENDERS, thirds)):
+        sites.host(f"many-sender{number}", NETWORK, address, "127.0.1.89", "4003")
+        senders.append(sites.start_sender(f"many-sender{number}", [data], NETWORK, MANY))
+    statuses = [sender.status(SECONDS) for sender in senders]
+    took = time.monotonic() - start
+    until(lambda: len(listener.out) >= sum(map(len, thirds)), 5)
+    listener.end()
+    got = [bytes(byte for byte in listener.out if byte // 85 == number) for number in range(3)]
+    sites.check(f"three senders at once, {sites.size / 2e6:g} MB each, end with status 0", statuses == [0, 0, 0],
+                f"{statuses} {[sender.said()[-1:] for sender in senders]}")
+    sites.check("what each of the three sent came whole and in order", got == thirds, f"{len(listener.out)} bytes")
+    sites.check(f"three at once take under {SECONDS} s", took < SECONDS, f"{took:.1f} s")
+    for sender in senders:
+        sender.end()
+
+
+def check_transfers(sites, room, wanted):
+    """All of them, where the system gives a socket the room that it asks for."""
+    if room < wanted:
+        print(f"    transfers at many buffers are left out: net.core.rmem_max is {room}, less than {wanted}")
+        return
+    for buffers, addresses in BUFFERS.items():
+        check_one(sites, buffers, addresses)
+    check_three(sites)
