@@ -82,8 +82,21 @@ def copy_crates(to):
         shutil.copy(f"{TOP}/{file}", to)
 
 
+def free():
+    """How much memory is free, in bytes."""
+    with open("/proc/meminfo", encoding="utf-8") as it:
+        return int(re.search(r"MemAvailable:\s+(\d+)", it.read())[1]) * 1024
+
+
 def room():
     """How many more checks find memory."""
-    with open("/proc/meminfo", encoding="utf-8") as it:
-        free = re.search(r"MemAvailable:\s+(\d+)", it.read())
-    return int(free[1]) * 1024 // ONE_CHECK
+    return free() // ONE_CHECK
+
+
+def held(pid):
+    """How much memory a process holds, in bytes."""
+    try:
+        with open(f"/proc/{pid}/statm", encoding="utf-8") as it:
+            return int(it.read().split()[1]) * os.sysconf("SC_PAGE_SIZE")
+    except OSError:
+        return 0
