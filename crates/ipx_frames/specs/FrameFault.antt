@@ -1,0 +1,87 @@
+-- The first fault that keeps a station from hearing a frame (IEEE 802.3, IEEE 802.2, RFC 1042), and
+-- the numbers of the faults.
+use Rattle.std.specs.Prelude.{ℕ, ◌+◌, List, [], ◌∷◌, length, take, drop, replicate, Bool, ◌||◌, Option, Some, None, nat_lt, ◌==◌, if◌then◌else◌}
+use Rattle.std.specs.Str.{bytes_eq}
+use Rattle.ipx_wire.specs.Assigned.{broadcast_node}
+use Rattle.ipx_wire.specs.Ipx.{ipx_fault, number}
+use Rattle.ipx_wire.specs.declared.address.Node.{Node}
+use Rattle.ipx_wire.specs.declared.ipx.fault.IpxFault.{IpxFault}
+use Rattle.ipx_frames.specs.declared.encapsulation.Encapsulation.{Encapsulation}
+use Rattle.ipx_frames.specs.declared.encapsulation.Encapsulation.TheVariants.{Raw, Llc, Snap, EthernetII}
+use Rattle.ipx_frames.specs.declared.fault.FrameFault.{FrameFault}
+use Rattle.ipx_frames.specs.declared.fault.FrameFault.TheVariants.{FrameShort, FrameLong, SourceGroup, SourceZero, OwnSource, OtherStation, Tagged, OtherType, FrameTruncated, OtherLlc, NoPacket, PacketLong, NoRoom}
+use Rattle.ipx_frames.specs.Frame.{frame_end, is_group, length_or_type, link_bytes, packet_place}
+
+-- the encapsulation that what a length counts begins with: the checksum that no packet of another
+-- has, or the bytes of 802.2, or those of SNAP
+abbrev pub encapsulation_in : List ℕ → Option Encapsulation
+encapsulation_in counted =
+    if number 2 0 counted == 0xffff then Some Raw
+    else if bytes_eq (link_bytes Llc) (take 3 counted) then Some Llc
+    else if bytes_eq (link_bytes Snap) (take 8 counted) then Some Snap
+    else None
+
+-- of what lies between the encapsulation and the end
+abbrev pub of_packet : Option IpxFault → Option FrameFault
+of_packet None = None
+of_packet (Some f) = Some (NoPacket f)
+
+abbrev pub packet_fault : Encapsulation → List ℕ → Option FrameFault
+packet_fault e bytes = of_packet (ipx_fault (drop (packet_place e) (take (frame_end bytes) bytes)))
+
+abbrev pub counted_fault : Option Encapsulation → List ℕ → Option FrameFault
+counted_fault None bytes = Some OtherLlc
+counted_fault (Some e) bytes = packet_fault e bytes
+
+-- the types of tags (IEEE 802.1Q and its kin)
+abbrev pub is_tag : ℕ → Bool
+is_tag n = (n == 0x8100) || (n == 0x88a8) || (n == 0x9100)
+
+-- of the length or type, and what is behind it
+abbrev pub kind_fault : List ℕ → Option FrameFault
+kind_fault bytes =
+    if is_tag (length_or_type bytes) then Some (Tagged (length_or_type bytes))
+    else if length_or_type bytes == 0x8137 then packet_fault EthernetII bytes
+    else if nat_lt 1500 (length_or_type bytes) then Some (OtherType (length_or_type bytes))
+    else if nat_lt (length bytes) (14 + length_or_type bytes)
+    then Some (FrameTruncated (length_or_type bytes) (length bytes))
+    else counted_fault (encapsulation_in (drop 14 (take (14 + length_or_type bytes) bytes))) bytes
+
+-- the station of six bytes
+abbrev pub node_of : List ℕ → Node
+node_of address = record { 0 = address }
+
+-- of the addresses, and what is behind them
+abbrev pub addressed_fault : Node → List ℕ → List ℕ → List ℕ → Option FrameFault
+addressed_fault own to from bytes =
+    if is_group from then Some (SourceGroup (node_of from))
+    else if bytes_eq from (replicate 6 0) then Some SourceZero
+    else if bytes_eq from own.0 then Some OwnSource
+    else if bytes_eq to own.0 || bytes_eq to broadcast_node then kind_fault bytes
+    else Some (OtherStation (node_of to))
+
+abbrev pub station_fault : Node → List ℕ → Option FrameFault
+station_fault own bytes = addressed_fault own (take 6 bytes) (take 6 (drop 6 bytes)) bytes
+
+-- the first condition that keeps the station from hearing the bytes as a frame
+abbrev pub frame_fault : Node → List ℕ → Option FrameFault
+frame_fault own bytes =
+    if nat_lt (length bytes) 14 then Some (FrameShort (length bytes))
+    else if nat_lt 1514 (length bytes) then Some (FrameLong (length bytes))
+    else station_fault own bytes
+
+-- the number of a fault
+abbrev pub frame_fault_number : FrameFault → ℕ
+frame_fault_number (FrameShort have) = 40
+frame_fault_number (FrameLong have) = 41
+frame_fault_number (SourceGroup address) = 42
+frame_fault_number SourceZero = 43
+frame_fault_number OwnSource = 44
+frame_fault_number (OtherStation address) = 45
+frame_fault_number (Tagged value) = 46
+frame_fault_number (OtherType value) = 47
+frame_fault_number (FrameTruncated said have) = 48
+frame_fault_number OtherLlc = 49
+frame_fault_number (NoPacket f) = 50
+frame_fault_number (PacketLong have most) = 51
+frame_fault_number (NoRoom want have) = 52
