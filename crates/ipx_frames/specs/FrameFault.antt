@@ -1,6 +1,6 @@
 -- The first fault that keeps a station from hearing a frame (IEEE 802.3, IEEE 802.2, RFC 1042), and
 -- the numbers of the faults.
-use Rattle.std.specs.Prelude.{ℕ, ◌+◌, List, [], ◌∷◌, length, take, drop, replicate, Bool, ◌||◌, Option, Some, None, nat_lt, ◌==◌, if◌then◌else◌}
+use Rattle.std.specs.Prelude.{ℕ, ◌+◌, ◌-◌, List, [], ◌∷◌, length, take, drop, replicate, Bool, ◌||◌, Option, Some, None, nat_lt, ◌==◌, if◌then◌else◌}
 use Rattle.std.specs.Str.{bytes_eq}
 use Rattle.ipx_wire.specs.Assigned.{broadcast_node}
 use Rattle.ipx_wire.specs.Ipx.{ipx_fault, number}
@@ -21,13 +21,16 @@ encapsulation_in counted =
     else if bytes_eq (link_bytes Snap) (take 8 counted) then Some Snap
     else None
 
--- of what lies between the encapsulation and the end
+-- of what lies between the encapsulation and the end of what the frame holds
 abbrev pub of_packet : Option IpxFault → Option FrameFault
 of_packet None = None
 of_packet (Some f) = Some (NoPacket f)
 
+abbrev pub held_in : Encapsulation → List ℕ → List ℕ
+held_in e bytes = take (frame_end bytes - packet_place e) (drop (packet_place e) bytes)
+
 abbrev pub packet_fault : Encapsulation → List ℕ → Option FrameFault
-packet_fault e bytes = of_packet (ipx_fault (drop (packet_place e) (take (frame_end bytes) bytes)))
+packet_fault e bytes = of_packet (ipx_fault (held_in e bytes))
 
 abbrev pub counted_fault : Option Encapsulation → List ℕ → Option FrameFault
 counted_fault None bytes = Some OtherLlc
@@ -45,7 +48,7 @@ kind_fault bytes =
     else if nat_lt 1500 (length_or_type bytes) then Some (OtherType (length_or_type bytes))
     else if nat_lt (length bytes) (14 + length_or_type bytes)
     then Some (FrameTruncated (length_or_type bytes) (length bytes))
-    else counted_fault (encapsulation_in (drop 14 (take (14 + length_or_type bytes) bytes))) bytes
+    else counted_fault (encapsulation_in (take (length_or_type bytes) (drop 14 bytes))) bytes
 
 -- the station of six bytes
 abbrev pub node_of : List ℕ → Node

@@ -1,14 +1,15 @@
 //! Frames out of bytes.
 
-ghost use Rattle.std.specs.Prelude.{◌≡◌, ◌≤◌, List, ℕ, IfOk, IfErr, IsOkAnd, Some, None, length, take, drop};
+ghost use Rattle.std.specs.Prelude.{◌≡◌, ◌≤◌, List, ℕ, IfOk, IfErr, IfSome, IsOkAnd, Some, None, length, take, drop};
 ghost use Rattle.ipx_wire.specs.Ipx.{IsPartOf};
 ghost use Rattle.ipx_frames.specs.declared.encapsulation.Encapsulation.{Encapsulation};
-ghost use Rattle.ipx_frames.specs.Frame.{FrameView, HasKind, IsFrame, IsHeardBy, frame_end, frame_view, packet_place};
+ghost use Rattle.ipx_frames.specs.Frame.{FrameView, HasKind, IsFrame, IsHeardBy, IsOfKind, frame_end, frame_view, link_bytes, packet_place};
 ghost use Rattle.ipx_frames.specs.FrameFault.{encapsulation_in, frame_fault, kind_fault, packet_fault};
 
 use crate::encapsulation::{Encapsulation, LLC, SNAP};
 use crate::fault::FrameFault;
 use crate::frame::{FRAME_MAX_SIZE, Frame, HEADER_SIZE, IPX_TYPE, MAX_LENGTH};
+use crate::laws::{bytes_are_one_frame, frame_has_no_fault};
 use crate::packet::packet_in;
 use crate::stations::stations;
 use byteorder::{BigEndian, ByteOrder};
@@ -16,7 +17,10 @@ use ipx_wire::Node;
 
 /// The encapsulation that what a length counts begins with.
 fn encapsulation_of(counted: &[u8]) -> Option<Encapsulation>
-    ensures { result ≡ encapsulation_in counted.now }
+    ensures value { result ≡ encapsulation_in counted.now }
+    ensures link { IfSome result (λ e.
+        take (length (link_bytes e)) counted.now ≡ link_bytes e) }
+    ensures kind { (n : ℕ) → n ≤ 1500 → IfSome result (λ e. IsOfKind e n) }
 {
     if counted.len() >= 2 && BigEndian::read_u16(counted) == 0xffff {
         return Some(Encapsulation::Raw);
@@ -59,22 +63,11 @@ fn kind_of(bytes: &[u8]) -> Result<(Encapsulation, usize), FrameFault>
     }
 }
 
-/// The frame that the bytes are, as the station `own` hears it, and its encapsulation (IEEE 802.3).
-/// Its packet is lent, and bytes behind that are ignored. It takes no memory.
-///
-/// One calls it with whatever came on a wire, and compares the encapsulation with that of the
-/// network. The error is the first `FrameFault` that holds.
-pub fn decode_frame(bytes: &[u8], own: Node) -> Result<(Frame<'_>, Encapsulation), FrameFault>
-    // What is read is the frame, and the station hears it.
-    ensures found { IfOk result (λ r. (tail : List ℕ)
-        × IsFrame r.1 (frame_view r.0) bytes.now tail × IsHeardBy own (frame_view r.0)) }
-    // The packet is lent: it is the frame's own bytes.
+/// The frame that the bytes are, and its encapsulation.
+fn frame_in(bytes: &[u8], own: Node) -> Result<(Frame<'_>, Encapsulation), FrameFault>
+    ensures found { IfOk result (λ r. (tail : List ℕ) × IsFrame r.1 (frame_view r.0) bytes.now tail) }
+    ensures heard { IfOk result (λ r. IsHeardBy own (frame_view r.0)) }
     ensures lent { IfOk result (λ r. IsPartOf bytes.entry (packet_place r.1) r.0.packet) }
-    // Each frame that the station hears is read.
-    ensures only { (e : Encapsulation) (d : FrameView) (tail : List ℕ)
-        → IsFrame e d bytes.now tail → IsHeardBy own d
-        → IsOkAnd result (λ r. (r.1 ≡ e) × (frame_view r.0 ≡ d)) }
-    // Which fault it is, and that there is none.
     ensures fault { IfErr result (λ f. frame_fault own bytes.now ≡ Some f) }
     ensures whole { IfOk result (λ _. frame_fault own bytes.now ≡ None) }
 {
@@ -88,4 +81,28 @@ pub fn decode_frame(bytes: &[u8], own: Node) -> Result<(Frame<'_>, Encapsulation
     let (encapsulation, end) = kind_of(bytes)?;
     let packet = packet_in(&bytes[HEADER_SIZE + encapsulation.link().len()..end])?;
     Ok((Frame { to, from, packet }, encapsulation))
+}
+
+/// The frame that the bytes are, as the station `own` hears it, and its encapsulation (IEEE 802.3).
+/// Its packet is lent, and bytes behind that are ignored. It takes no memory.
+///
+/// One calls it with whatever came on a wire, and compares the encapsulation with that of the
+/// network. The error is the first `FrameFault` that holds.
+pub fn decode_frame(bytes: &[u8], own: Node) -> Result<(Frame<'_>, Encapsulation), FrameFault>
+    // What is read is the frame, and the station hears it.
+    ensures found { IfOk result (λ r. (tail : List ℕ) × IsFrame r.1 (frame_view r.0) bytes.now tail) }
+    ensures heard { IfOk result (λ r. IsHeardBy own (frame_view r.0)) }
+    // The packet is lent: it is the frame's own bytes.
+    ensures lent { IfOk result (λ r. IsPartOf bytes.entry (packet_place r.1) r.0.packet) }
+    // Each frame that the station hears is read.
+    ensures only { (e : Encapsulation) (d : FrameView) (tail : List ℕ)
+        → IsFrame e d bytes.now tail → IsHeardBy own d
+        → IsOkAnd result (λ r. (r.1 ≡ e) × (frame_view r.0 ≡ d)) }
+    // Which fault it is, and that there is none.
+    ensures fault { IfErr result (λ f. frame_fault own bytes.now ≡ Some f) }
+    ensures whole { IfOk result (λ _. frame_fault own bytes.now ≡ None) }
+{
+    frame_has_no_fault();
+    bytes_are_one_frame();
+    frame_in(bytes, own)
 }

@@ -1,6 +1,6 @@
 //! Whom a frame is for, and from whom.
 
-ghost use Rattle.std.specs.Prelude.{◌≡◌, ◌≤◌, IfOk, IfErr, Some, length, take, drop};
+ghost use Rattle.std.specs.Prelude.{◌≡◌, ◌≤◌, List, ℕ, IfOk, IfErr, Some, length, take, drop};
 ghost use Rattle.ipx_frames.specs.Frame.{IsHeardBy, frame_of};
 ghost use Rattle.ipx_frames.specs.FrameFault.{kind_fault, station_fault};
 

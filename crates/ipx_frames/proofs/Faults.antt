@@ -1,0 +1,112 @@
+-- A frame that a station hears has no fault for it.
+use Rattle.std.proofs.Common.{◌≡◌, ◌≤◌, ℕ, ◌+◌, ◌-◌, List, ◌++◌, ◌∷◌, [], Bool, true, false, Option, Some, None, length, take, drop, arith, sym, ap, ◌∙◌, refl, subst, eq-eqb}
+use Rattle.std.specs.Prelude.{nat_lt, ◌==◌, ◌||◌, if◌then◌else◌, replicate}
+use Rattle.std.specs.Str.{bytes_eq}
+use Rattle.std.proofs.lemmas.Bool.{le-ltb, ne_eqb}
+use Rattle.std.proofs.lemmas.List.{length-append, length-drop, length-take, take-take}
+use Rattle.byteorder.specs.Numbers.{big_from-take}
+use Rattle.ipx_wire.specs.Assigned.{broadcast_node}
+use Rattle.ipx_wire.specs.declared.address.Node.{Node}
+use Rattle.ipx_wire.specs.declared.ipx.fault.IpxFault.{IpxFault}
+use Rattle.ipx_wire.specs.Ipx.{PacketView, IsIpx, ipx_fault, number}
+use Rattle.ipx_frames.specs.declared.encapsulation.Encapsulation.{Encapsulation}
+use Rattle.ipx_frames.specs.declared.encapsulation.Encapsulation.TheVariants.{Raw, Llc, Snap, EthernetII}
+use Rattle.ipx_frames.specs.declared.fault.FrameFault.{FrameFault}
+use Rattle.ipx_frames.specs.Frame.{FrameView, HasKind, IsFrame, IsHeardBy, IsOfKind, frame_end, is_group, length_or_type, link_bytes, packet_place}
+use Rattle.ipx_frames.specs.FrameFault.{addressed_fault, counted_fault, encapsulation_in, frame_fault, held_in, is_tag, kind_fault, of_packet, packet_fault, station_fault}
+use Rattle.ipx_frames.proofs.Packets.{checksum_more}
+use Rattle.ipx_frames.proofs.Parts.{fronted, take-both}
+
+-- tests that fall through
+pub falls_through : (a b c d : Bool) (f g h i j : Option FrameFault) → a ≡ false → b ≡ false → c ≡ false → d ≡ false
+    → (if a then f else if b then g else if c then h else if d then i else j) ≡ j
+falls_through a b c d f g h i j p q r s = rw (p, q, r, s) refl
+
+falls_to_second : (a b : Bool) (f g j : Option FrameFault) → a ≡ false → b ≡ true → (if a then f else if b then g else j) ≡ g
+falls_to_second a b f g j p q = rw (p, q) refl
+
+falls_past : (a b : Bool) (f g j : Option FrameFault) → a ≡ false → b ≡ false → (if a then f else if b then g else j) ≡ j
+falls_past a b f g j p q = rw (p, q) refl
+
+hears : (a b c d : Bool) (f g h i j : Option FrameFault) → a ≡ false → b ≡ false → c ≡ false → d ≡ true
+    → (if a then f else if b then g else if c then h else if d then i else j) ≡ i
+hears a b c d f g h i j p q r s = rw (p, q, r, s) refl
+
+none_of : (a b c : Bool) → a ≡ false → b ≡ false → c ≡ false → (a || b || c) ≡ false
+none_of a b c p q r = rw (p, q, r) refl
+
+no_tag : (n : ℕ) → n ≤ 0x80ff → is_tag n ≡ false
+no_tag n le = none_of (n == 0x8100) (n == 0x88a8) (n == 0x9100) (ne_eqb n 0x8100 (λ e. omega (arith, e))) (ne_eqb n 0x88a8 (λ e. omega (arith, e))) (ne_eqb n 0x9100 (λ e. omega (arith, e)))
+
+no_tag_of_ipx : (n : ℕ) → n ≡ 0x8137 → is_tag n ≡ false
+no_tag_of_ipx n is = none_of (n == 0x8100) (n == 0x88a8) (n == 0x9100) (ne_eqb n 0x8100 (λ e. omega (arith, e, is))) (ne_eqb n 0x88a8 (λ e. omega (arith, e, is))) (ne_eqb n 0x9100 (λ e. omega (arith, e, is)))
+
+-- ---- the encapsulation, by what is counted
+
+raw_in : (counted : List ℕ) → number 2 0 counted ≡ 0xffff → encapsulation_in counted ≡ Some Raw
+raw_in counted e = rw (eq-eqb (number 2 0 counted) 0xffff e) refl
+
+llc_in : (rest : List ℕ) → encapsulation_in (link_bytes Llc ++ rest) ≡ Some Llc
+llc_in rest = refl
+
+snap_in : (rest : List ℕ) → encapsulation_in (link_bytes Snap ++ rest) ≡ Some Snap
+snap_in rest = refl
+
+-- a frame with a length, whose encapsulation is known
+counted_kind : (e : Encapsulation) (bytes : List ℕ) → length_or_type bytes ≤ 1500 → 14 + length_or_type bytes ≤ length bytes
+    → encapsulation_in (take (length_or_type bytes) (drop 14 bytes)) ≡ Some e → kind_fault bytes ≡ packet_fault e bytes
+counted_kind e bytes few there is =
+    let n = length_or_type bytes in
+    falls_through (is_tag n) (n == 0x8137) (nat_lt 1500 n) (nat_lt (length bytes) (14 + n)) _ _ _ _ _
+    (no_tag n (omega (arith, few))) (ne_eqb n 0x8137 (λ q. omega (arith, q, few))) (le-ltb 1500 n few) (le-ltb (length bytes) (14 + n) there)
+    ∙ ap (λ (k : Option Encapsulation). counted_fault k bytes) is
+
+end_of_length : (bytes : List ℕ) → length_or_type bytes ≤ 1500 → frame_end bytes ≡ 14 + length_or_type bytes
+end_of_length bytes few = rw (le-ltb 1500 (length_or_type bytes) few) refl
+
+-- a frame that says what it is, with room for a packet of 30 bytes
+kind_known : (e : Encapsulation) (f : FrameView) (bytes tail : List ℕ) → 30 ≤ length f.packet → IsFrame e f bytes tail → kind_fault bytes ≡ packet_fault e bytes
+kind_known Raw f bytes tail big x =
+    let few : length_or_type bytes ≤ 1500 = x.kind.kind in
+    let end = end_of_length bytes few in
+    let mark : number 2 0 (drop 14 bytes) ≡ 0xffff = ap (number 2 0) x.held ∙ checksum_more x.packet.0 f.packet tail x.packet.1 in
+    let counted : number 2 0 (take (length_or_type bytes) (drop 14 bytes)) ≡ 0xffff = big_from-take 0 2 (length_or_type bytes) (drop 14 bytes) (omega (arith, x.counted, end, big)) ∙ mark in
+    counted_kind Raw bytes few (omega (arith, x.kind.there, end)) (raw_in (take (length_or_type bytes) (drop 14 bytes)) counted)
+kind_known Llc f bytes tail big x =
+    let few : length_or_type bytes ≤ 1500 = x.kind.kind in
+    let end = end_of_length bytes few in
+    let xs = take (length_or_type bytes) (drop 14 bytes) in
+    let front : xs ≡ link_bytes Llc ++ drop 3 xs = fronted 3 xs (link_bytes Llc) (take-take 3 (length_or_type bytes) (drop 14 bytes) (omega (arith, x.counted, end, big)) ∙ x.kind.link) in
+    counted_kind Llc bytes few (omega (arith, x.kind.there, end)) (ap encapsulation_in front ∙ llc_in (drop 3 xs))
+kind_known Snap f bytes tail big x =
+    let few : length_or_type bytes ≤ 1500 = x.kind.kind in
+    let end = end_of_length bytes few in
+    let xs = take (length_or_type bytes) (drop 14 bytes) in
+    let front : xs ≡ link_bytes Snap ++ drop 8 xs = fronted 8 xs (link_bytes Snap) (take-take 8 (length_or_type bytes) (drop 14 bytes) (omega (arith, x.counted, end, big)) ∙ x.kind.link) in
+    counted_kind Snap bytes few (omega (arith, x.kind.there, end)) (ap encapsulation_in front ∙ snap_in (drop 8 xs))
+kind_known EthernetII f bytes tail big x =
+    let n = length_or_type bytes in
+    falls_to_second (is_tag n) (n == 0x8137) _ _ _ (no_tag_of_ipx n x.kind.kind) (eq-eqb n 0x8137 x.kind.kind)
+
+-- ---- the addresses
+
+heard : (own : Node) (f : FrameView) (bytes : List ℕ) → IsHeardBy own f → addressed_fault own f.to.0 f.from.0 bytes ≡ kind_fault bytes
+heard own f bytes h =
+    hears (is_group f.from.0) (bytes_eq f.from.0 (replicate 6 0)) (bytes_eq f.from.0 own.0) (bytes_eq f.to.0 own.0 || bytes_eq f.to.0 broadcast_node) _ _ _ _ _ h.single h.named h.other h.for_it
+
+module _
+    (before : (p : PacketView) (bytes tail : List ℕ) → IsIpx p bytes [] → IsIpx p (bytes ++ tail) tail)
+    (fine : (p : PacketView) (bytes tail : List ℕ) → IsIpx p bytes tail → ipx_fault bytes ≡ None)
+  where
+  packet_fine : (e : Encapsulation) (f : FrameView) (bytes tail : List ℕ) → IsFrame e f bytes tail → packet_fault e bytes ≡ None
+  packet_fine e f bytes tail x =
+      let room = frame_end bytes - packet_place e in
+      let held : held_in e bytes ≡ f.packet ++ take (room - length f.packet) tail = ap (take room) x.held ∙ take-both room f.packet tail (omega (arith, x.counted)) in
+      ap of_packet (ap ipx_fault held ∙ fine x.packet.0 (f.packet ++ take (room - length f.packet) tail) (take (room - length f.packet) tail) (before x.packet.0 f.packet (take (room - length f.packet) tail) x.packet.1))
+
+  pub no_fault : (own : Node) (e : Encapsulation) (f : FrameView) (bytes tail : List ℕ) → IsFrame e f bytes tail → IsHeardBy own f → frame_fault own bytes ≡ None
+  no_fault own e f bytes tail x h =
+      let big : 30 ≤ length f.packet = omega (arith, x.packet.1.size) in
+      let sized = falls_past (nat_lt (length bytes) 14) (nat_lt 1514 (length bytes)) _ _ (station_fault own bytes) (le-ltb (length bytes) 14 (omega (arith, x.counted, x.kind.there))) (le-ltb 1514 (length bytes) x.most) in
+      let told : station_fault own bytes ≡ addressed_fault own f.to.0 f.from.0 bytes = rw (x.to, x.from) refl in
+      sized ∙ told ∙ heard own f bytes h ∙ kind_known e f bytes tail big x ∙ packet_fine e f bytes tail x
