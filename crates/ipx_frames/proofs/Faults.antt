@@ -13,7 +13,7 @@ use Rattle.ipx_frames.specs.declared.encapsulation.Encapsulation.{Encapsulation}
 use Rattle.ipx_frames.specs.declared.encapsulation.Encapsulation.TheVariants.{Raw, Llc, Snap, EthernetII}
 use Rattle.ipx_frames.specs.declared.fault.FrameFault.{FrameFault}
 use Rattle.ipx_frames.specs.Frame.{FrameView, HasKind, IsFrame, IsHeardBy, IsOfKind, frame_end, is_group, length_or_type, link_bytes, packet_place}
-use Rattle.ipx_frames.specs.FrameFault.{addressed_fault, counted_fault, encapsulation_in, frame_fault, held_in, is_tag, kind_fault, of_packet, packet_fault, station_fault}
+use Rattle.ipx_frames.specs.FrameFault.{addressed_fault, counted_fault, encapsulation_in, first_fault, frame_fault, held_in, is_tag, kind_fault, node_of, of_packet, packet_fault, size_fault}
 use Rattle.ipx_frames.proofs.Packets.{checksum_more}
 use Rattle.ipx_frames.proofs.Parts.{fronted, take-both}
 
@@ -52,16 +52,16 @@ llc_in rest = refl
 snap_in : (rest : List ℕ) → encapsulation_in (link_bytes Snap ++ rest) ≡ Some Snap
 snap_in rest = refl
 
--- a frame with a length, whose encapsulation is known
-counted_kind : (e : Encapsulation) (bytes : List ℕ) → length_or_type bytes ≤ 1500 → 14 + length_or_type bytes ≤ length bytes
-    → encapsulation_in (take (length_or_type bytes) (drop 14 bytes)) ≡ Some e → kind_fault bytes ≡ packet_fault e bytes
-counted_kind e bytes few there is =
+-- a frame with a length, whose encapsulation is known, or is none
+pub counted_kind : (k : Option Encapsulation) (bytes : List ℕ) → length_or_type bytes ≤ 1500 → 14 + length_or_type bytes ≤ length bytes
+    → encapsulation_in (take (length_or_type bytes) (drop 14 bytes)) ≡ k → kind_fault bytes ≡ counted_fault k bytes
+counted_kind k bytes few there is =
     let n = length_or_type bytes in
     falls_through (is_tag n) (n == 0x8137) (nat_lt 1500 n) (nat_lt (length bytes) (14 + n)) _ _ _ _ _
     (no_tag n (omega (arith, few))) (ne_eqb n 0x8137 (λ q. omega (arith, q, few))) (le-ltb 1500 n few) (le-ltb (length bytes) (14 + n) there)
     ∙ ap (λ (k : Option Encapsulation). counted_fault k bytes) is
 
-end_of_length : (bytes : List ℕ) → length_or_type bytes ≤ 1500 → frame_end bytes ≡ 14 + length_or_type bytes
+pub end_of_length : (bytes : List ℕ) → length_or_type bytes ≤ 1500 → frame_end bytes ≡ 14 + length_or_type bytes
 end_of_length bytes few = rw (le-ltb 1500 (length_or_type bytes) few) refl
 
 -- a frame that says what it is, with room for a packet of 30 bytes
@@ -71,28 +71,45 @@ kind_known Raw f bytes tail big x =
     let end = end_of_length bytes few in
     let mark : number 2 0 (drop 14 bytes) ≡ 0xffff = ap (number 2 0) x.held ∙ checksum_more x.packet.0 f.packet tail x.packet.1 in
     let counted : number 2 0 (take (length_or_type bytes) (drop 14 bytes)) ≡ 0xffff = big_from-take 0 2 (length_or_type bytes) (drop 14 bytes) (omega (arith, x.counted, end, big)) ∙ mark in
-    counted_kind Raw bytes few (omega (arith, x.kind.there, end)) (raw_in (take (length_or_type bytes) (drop 14 bytes)) counted)
+    counted_kind (Some Raw) bytes few (omega (arith, x.kind.there, end)) (raw_in (take (length_or_type bytes) (drop 14 bytes)) counted)
 kind_known Llc f bytes tail big x =
     let few : length_or_type bytes ≤ 1500 = x.kind.kind in
     let end = end_of_length bytes few in
     let xs = take (length_or_type bytes) (drop 14 bytes) in
     let front : xs ≡ link_bytes Llc ++ drop 3 xs = fronted 3 xs (link_bytes Llc) (take-take 3 (length_or_type bytes) (drop 14 bytes) (omega (arith, x.counted, end, big)) ∙ x.kind.link) in
-    counted_kind Llc bytes few (omega (arith, x.kind.there, end)) (ap encapsulation_in front ∙ llc_in (drop 3 xs))
+    counted_kind (Some Llc) bytes few (omega (arith, x.kind.there, end)) (ap encapsulation_in front ∙ llc_in (drop 3 xs))
 kind_known Snap f bytes tail big x =
     let few : length_or_type bytes ≤ 1500 = x.kind.kind in
     let end = end_of_length bytes few in
     let xs = take (length_or_type bytes) (drop 14 bytes) in
     let front : xs ≡ link_bytes Snap ++ drop 8 xs = fronted 8 xs (link_bytes Snap) (take-take 8 (length_or_type bytes) (drop 14 bytes) (omega (arith, x.counted, end, big)) ∙ x.kind.link) in
-    counted_kind Snap bytes few (omega (arith, x.kind.there, end)) (ap encapsulation_in front ∙ snap_in (drop 8 xs))
+    counted_kind (Some Snap) bytes few (omega (arith, x.kind.there, end)) (ap encapsulation_in front ∙ snap_in (drop 8 xs))
 kind_known EthernetII f bytes tail big x =
     let n = length_or_type bytes in
     falls_to_second (is_tag n) (n == 0x8137) _ _ _ (no_tag_of_ipx n x.kind.kind) (eq-eqb n 0x8137 x.kind.kind)
 
 -- ---- the addresses
 
-heard : (own : Node) (f : FrameView) (bytes : List ℕ) → IsHeardBy own f → addressed_fault own f.to.0 f.from.0 bytes ≡ kind_fault bytes
-heard own f bytes h =
+heard : (own : Node) (f : FrameView) → IsHeardBy own f → addressed_fault own f.to f.from ≡ None
+heard own f h =
     hears (is_group f.from.0) (bytes_eq f.from.0 (replicate 6 0)) (bytes_eq f.from.0 own.0) (bytes_eq f.to.0 own.0 || bytes_eq f.to.0 broadcast_node) _ _ _ _ _ h.single h.named h.other h.for_it
+
+sized : (n : ℕ) → 14 ≤ n → n ≤ 1514 → size_fault n ≡ None
+sized n least most = falls_past (nat_lt n 14) (nat_lt 1514 n) _ _ None (le-ltb n 14 least) (le-ltb 1514 n most)
+
+-- bytes of a size, for stations that hear them
+pub comes_to_kind : (own to from : Node) (bytes : List ℕ) → 14 ≤ length bytes → length bytes ≤ 1514 → take 6 bytes ≡ to.0 → take 6 (drop 6 bytes) ≡ from.0
+    → frame_fault own bytes ≡ first_fault (addressed_fault own to from) (kind_fault bytes)
+comes_to_kind own to from bytes least most at_to at_from =
+    ap (λ (f : Option FrameFault). first_fault f (first_fault (addressed_fault own (node_of (take 6 bytes)) (node_of (take 6 (drop 6 bytes)))) (kind_fault bytes))) (sized (length bytes) least most)
+    ∙ ap (λ (t : List ℕ). first_fault (addressed_fault own (node_of t) (node_of (take 6 (drop 6 bytes)))) (kind_fault bytes)) at_to
+    ∙ ap (λ (t : List ℕ). first_fault (addressed_fault own to (node_of t)) (kind_fault bytes)) at_from
+
+pub first_none : (f g : Option FrameFault) → f ≡ None → first_fault f g ≡ g
+first_none f g e = rw e refl
+
+pub first_some : (f g : Option FrameFault) (x : FrameFault) → f ≡ Some x → first_fault f g ≡ Some x
+first_some f g x e = rw e refl
 
 module _
     (before : (p : PacketView) (bytes tail : List ℕ) → IsIpx p bytes [] → IsIpx p (bytes ++ tail) tail)
@@ -107,6 +124,5 @@ module _
   pub no_fault : (own : Node) (e : Encapsulation) (f : FrameView) (bytes tail : List ℕ) → IsFrame e f bytes tail → IsHeardBy own f → frame_fault own bytes ≡ None
   no_fault own e f bytes tail x h =
       let big : 30 ≤ length f.packet = omega (arith, x.packet.1.size) in
-      let sized = falls_past (nat_lt (length bytes) 14) (nat_lt 1514 (length bytes)) _ _ (station_fault own bytes) (le-ltb (length bytes) 14 (omega (arith, x.counted, x.kind.there))) (le-ltb 1514 (length bytes) x.most) in
-      let told : station_fault own bytes ≡ addressed_fault own f.to.0 f.from.0 bytes = rw (x.to, x.from) refl in
-      sized ∙ told ∙ heard own f bytes h ∙ kind_known e f bytes tail big x ∙ packet_fine e f bytes tail x
+      comes_to_kind own f.to f.from bytes (omega (arith, x.counted, x.kind.there)) x.most x.to x.from
+      ∙ first_none _ (kind_fault bytes) (heard own f h) ∙ kind_known e f bytes tail big x ∙ packet_fine e f bytes tail x

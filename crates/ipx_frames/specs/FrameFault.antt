@@ -54,24 +54,33 @@ kind_fault bytes =
 abbrev pub node_of : List ℕ → Node
 node_of address = record { 0 = address }
 
--- of the addresses, and what is behind them
-abbrev pub addressed_fault : Node → List ℕ → List ℕ → List ℕ → Option FrameFault
-addressed_fault own to from bytes =
-    if is_group from then Some (SourceGroup (node_of from))
-    else if bytes_eq from (replicate 6 0) then Some SourceZero
-    else if bytes_eq from own.0 then Some OwnSource
-    else if bytes_eq to own.0 || bytes_eq to broadcast_node then kind_fault bytes
-    else Some (OtherStation (node_of to))
+-- of whom it is for and from, where a station hears it
+abbrev pub addressed_fault : Node → Node → Node → Option FrameFault
+addressed_fault own to from =
+    if is_group from.0 then Some (SourceGroup from)
+    else if bytes_eq from.0 (replicate 6 0) then Some SourceZero
+    else if bytes_eq from.0 own.0 then Some OwnSource
+    else if bytes_eq to.0 own.0 || bytes_eq to.0 broadcast_node then None
+    else Some (OtherStation to)
 
-abbrev pub station_fault : Node → List ℕ → Option FrameFault
-station_fault own bytes = addressed_fault own (take 6 bytes) (take 6 (drop 6 bytes)) bytes
+-- of how many bytes there are
+abbrev pub size_fault : ℕ → Option FrameFault
+size_fault n =
+    if nat_lt n 14 then Some (FrameShort n)
+    else if nat_lt 1514 n then Some (FrameLong n)
+    else None
+
+-- the first of two faults
+abbrev pub first_fault : Option FrameFault → Option FrameFault → Option FrameFault
+first_fault (Some f) next = Some f
+first_fault None next = next
 
 -- the first condition that keeps the station from hearing the bytes as a frame
 abbrev pub frame_fault : Node → List ℕ → Option FrameFault
 frame_fault own bytes =
-    if nat_lt (length bytes) 14 then Some (FrameShort (length bytes))
-    else if nat_lt 1514 (length bytes) then Some (FrameLong (length bytes))
-    else station_fault own bytes
+    first_fault (size_fault (length bytes)) (first_fault
+    (addressed_fault own (node_of (take 6 bytes)) (node_of (take 6 (drop 6 bytes))))
+    (kind_fault bytes))
 
 -- the number of a fault
 abbrev pub frame_fault_number : FrameFault → ℕ

@@ -11,7 +11,7 @@ use crate::fault::FrameFault;
 use crate::frame::{FRAME_MAX_SIZE, Frame, HEADER_SIZE, IPX_TYPE, MAX_LENGTH};
 use crate::laws::{bytes_are_one_frame, frame_has_no_fault};
 use crate::packet::packet_in;
-use crate::stations::stations;
+use crate::stations::{hears, station_at};
 use byteorder::{BigEndian, ByteOrder};
 use ipx_wire::Node;
 
@@ -77,7 +77,9 @@ fn frame_in(bytes: &[u8], own: Node) -> Result<(Frame<'_>, Encapsulation), Frame
     if bytes.len() > FRAME_MAX_SIZE {
         return Err(FrameFault::FrameLong(bytes.len()));
     }
-    let (to, from) = stations(bytes, own)?;
+    let to = station_at(bytes, 0);
+    let from = station_at(bytes, 6);
+    hears(own, to, from)?;
     let (encapsulation, end) = kind_of(bytes)?;
     let packet = packet_in(&bytes[HEADER_SIZE + encapsulation.link().len()..end])?;
     Ok((Frame { to, from, packet }, encapsulation))

@@ -1,8 +1,8 @@
 //! Frames into bytes.
 
-ghost use Rattle.std.specs.Prelude.{◌≡◌, ◌≤◌, ◌+◌, ◌-◌, ◌++◌, ◌<◌, IfOk, IfErr, OnErr, Some, None, length, take, drop, replicate};
+ghost use Rattle.std.specs.Prelude.{◌≡◌, ◌≤◌, ◌+◌, ◌-◌, ◌++◌, ◌<◌, IfOk, IfErr, OnErr, Some, None, [], length, take, drop, replicate};
 ghost use Rattle.byteorder.specs.Endian.{big_bytes};
-ghost use Rattle.ipx_wire.specs.Ipx.{number};
+ghost use Rattle.ipx_wire.specs.Ipx.{IsIpx, PacketView, number};
 ghost use Rattle.ipx_frames.specs.Frame.{frame_of, link_bytes, most_of, own_bytes, packet_place};
 ghost use Rattle.ipx_frames.specs.SentFrame.{IsSent, held_size, sending_fault, sent_kind, sent_size};
 
@@ -34,9 +34,19 @@ fn kind_with(encapsulation: Encapsulation, length: usize) -> u16
     }
 }
 
+fn size_with(encapsulation: Encapsulation, count: usize) -> usize
+    requires { count ≤ most_of encapsulation }
+    ensures value { result ≡ sent_size encapsulation count }
+    ensures holds { packet_place encapsulation + count ≤ result }
+{
+    FRAME_MIN_SIZE.max(HEADER_SIZE + held_with(encapsulation, count))
+}
+
 fn put_stations(out: &mut [u8], to: Node, from: Node, kind: u16)
     requires { 14 ≤ length out.old }
-    ensures { out.new ≡ to.0 ++ from.0 ++ big_bytes 2 kind ++ drop 14 out.old }
+    ensures written { out.new ≡ to.0 ++ from.0 ++ big_bytes 2 kind ++ drop 14 out.old }
+    ensures to { length to.0 ≡ 6 }
+    ensures from { length from.0 ≡ 6 }
 {
     out[..6].copy_from_slice(&to.0);
     out[6..12].copy_from_slice(&from.0);
@@ -52,6 +62,26 @@ fn put_packet(out: &mut [u8], link: &[u8], packet: &[u8])
     out[..link.len()].copy_from_slice(link);
     out[link.len()..end].copy_from_slice(packet);
     out[end..].fill(0);
+}
+
+fn put_frame(
+    encapsulation: Encapsulation,
+    to: Node,
+    from: Node,
+    packet: &[u8],
+    out: &mut [u8],
+) -> usize
+    requires packet { (p : PacketView) × IsIpx p packet.now [] }
+    requires limit { length packet.now ≤ most_of encapsulation }
+    requires room { sent_size encapsulation (length packet.now) ≤ length out.old }
+    ensures count { result ≡ sent_size encapsulation (length packet.now) }
+    ensures written { IsSent encapsulation (frame_of to from packet.now) (take result out.new) }
+    ensures rest { drop result out.new ≡ drop result out.old }
+{
+    let size = size_with(encapsulation, packet.len());
+    put_stations(out, to, from, kind_with(encapsulation, packet.len()));
+    put_packet(&mut out[HEADER_SIZE..size], encapsulation.link(), packet);
+    size
 }
 
 /// Writes a frame to the front of the buffer, and answers how many bytes it takes: 60 to 1,514.
@@ -83,11 +113,9 @@ pub fn encode_frame_into(
     if packet.len() > most {
         return Err(FrameFault::PacketLong(packet.len(), most));
     }
-    let size = FRAME_MIN_SIZE.max(HEADER_SIZE + held_with(encapsulation, packet.len()));
+    let size = size_with(encapsulation, packet.len());
     if out.len() < size {
         return Err(FrameFault::NoRoom(size, out.len()));
     }
-    put_stations(out, to, from, kind_with(encapsulation, packet.len()));
-    put_packet(&mut out[HEADER_SIZE..size], encapsulation.link(), packet);
-    Ok(size)
+    Ok(put_frame(encapsulation, to, from, packet, out))
 }
