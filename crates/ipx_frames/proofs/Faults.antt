@@ -1,18 +1,17 @@
 -- A frame that a station hears has no fault for it.
-use Rattle.std.proofs.Common.{◌≡◌, ◌≤◌, ℕ, ◌+◌, ◌-◌, List, ◌++◌, ◌∷◌, [], Bool, true, false, Option, Some, None, length, take, drop, arith, sym, ap, ◌∙◌, refl, subst, eq-eqb}
+use Rattle.std.proofs.Common.{◌≡◌, ◌≤◌, ℕ, ◌+◌, ◌-◌, List, ◌++◌, [], Bool, true, false, Option, Some, None, length, take, drop, arith, ap, ◌∙◌, refl, eq-eqb}
 use Rattle.std.specs.Prelude.{nat_lt, ◌==◌, ◌||◌, if◌then◌else◌, replicate}
 use Rattle.std.specs.Str.{bytes_eq}
 use Rattle.std.proofs.lemmas.Bool.{le-ltb, ne_eqb}
-use Rattle.std.proofs.lemmas.List.{length-append, length-drop, length-take, take-take}
+use Rattle.std.proofs.lemmas.List.{take-take}
 use Rattle.byteorder.specs.Numbers.{big_from-take}
 use Rattle.ipx_wire.specs.Assigned.{broadcast_node}
 use Rattle.ipx_wire.specs.declared.address.Node.{Node}
-use Rattle.ipx_wire.specs.declared.ipx.fault.IpxFault.{IpxFault}
 use Rattle.ipx_wire.specs.Ipx.{PacketView, IsIpx, ipx_fault, number}
 use Rattle.ipx_frames.specs.declared.encapsulation.Encapsulation.{Encapsulation}
 use Rattle.ipx_frames.specs.declared.encapsulation.Encapsulation.TheVariants.{Raw, Llc, Snap, EthernetII}
 use Rattle.ipx_frames.specs.declared.fault.FrameFault.{FrameFault}
-use Rattle.ipx_frames.specs.Frame.{FrameView, HasKind, IsFrame, IsHeardBy, IsOfKind, frame_end, is_group, length_or_type, link_bytes, packet_place}
+use Rattle.ipx_frames.specs.Frame.{FrameView, IsFrame, IsHeardBy, frame_end, is_group, length_or_type, link_bytes, packet_place}
 use Rattle.ipx_frames.specs.FrameFault.{addressed_fault, counted_fault, encapsulation_in, first_fault, frame_fault, held_in, is_tag, kind_fault, node_of, of_packet, packet_fault, size_fault}
 use Rattle.ipx_frames.proofs.Packets.{checksum_more}
 use Rattle.ipx_frames.proofs.Parts.{fronted, take-both}

@@ -1,7 +1,7 @@
 -- What was read, against what the bytes are.
-use Rattle.std.proofs.Common.{◌≡◌, ◌≤◌, ℕ, ◌+◌, ◌-◌, List, ◌++◌, [], Some, None, length, take, drop, arith, sym, ap, ◌∙◌, refl, take-append-drop, subst}
+use Rattle.std.proofs.Common.{◌≡◌, ◌≤◌, ℕ, ◌+◌, ◌-◌, List, ◌++◌, [], Some, None, length, take, drop, arith, sym, ap, ◌∙◌, take-append-drop, subst}
 use Rattle.std.specs.Prelude.{Result, Ok, Err, IfOk, IfErr, IsOkAnd}
-use Rattle.std.proofs.lemmas.List.{drop-drop, length-drop, length-take, take-take}
+use Rattle.std.proofs.lemmas.List.{length-take, take-take}
 use Rattle.ipx_wire.specs.declared.address.Node.{Node}
 use Rattle.ipx_wire.specs.Ipx.{PacketView, IsIpx}
 use Rattle.ipx_frames.specs.declared.encapsulation.Encapsulation.{Encapsulation}

@@ -1,6 +1,6 @@
 -- An IPX packet without what is behind it.
 use Rattle.std.proofs.Common.{◌≡◌, ◌≤◌, ℕ, ◌+◌, List, ◌++◌, [], length, take, drop, arith, sym, ap, ◌∙◌, refl, subst, take-append-drop}
-use Rattle.std.proofs.lemmas.List.{append-nil, drop-append-le, drop-drop, get_or_append_left, length-append, length-drop, length-take, take-append-le, take_at, drop_at}
+use Rattle.std.proofs.lemmas.List.{append-nil, drop-append-le, drop-drop, get_or_append_left, length-drop, length-take, take-append-le, take_at, drop_at}
 use Rattle.byteorder.specs.Endian.{big_number}
 use Rattle.byteorder.specs.Numbers.{big_from-append}
 use Rattle.ipx_wire.specs.declared.address.Address.{Address}

@@ -1,7 +1,7 @@
 -- How a list is cut, and what a write to a part of it leaves.
 use Rattle.std.proofs.Common.{◌≡◌, ◌≤◌, ℕ, ◌+◌, ◌-◌, List, ◌++◌, [], length, take, drop, arith, take-append-drop, sym, ap, ◌∙◌, refl, append_assoc}
 use Rattle.std.proofs.Math.Seq.{take-append-add}
-use Rattle.std.proofs.lemmas.List.{drop-drop, length-drop, length-take, length-append, take_at, drop_at, take_rest, drop_all, append-nil}
+use Rattle.std.proofs.lemmas.List.{drop-drop, length-drop, length-append, take_at, drop_at, take_rest, drop_all, append-nil}
 use Rattle.ipx_wire.specs.Ipx.{IsWritten}
 use borrow.Rule.Slice.PartMut.{put_mid}
 

@@ -1,6 +1,6 @@
 -- The bytes that are written are a frame that is sent.
-use Rattle.std.proofs.Common.{◌≡◌, ◌≤◌, ◌<◌, ℕ, ◌+◌, ◌-◌, ◌%◌, List, ◌++◌, [], Option, None, length, take, drop, arith, sym, ap, ◌∙◌, refl, append_assoc, subst}
-use Rattle.std.specs.Prelude.{max, replicate, nat_lt}
+use Rattle.std.proofs.Common.{◌≡◌, ◌≤◌, ◌<◌, ℕ, ◌+◌, ◌-◌, List, ◌++◌, [], Option, None, length, take, drop, arith, sym, ap, ◌∙◌, refl, append_assoc, subst}
+use Rattle.std.specs.Prelude.{replicate}
 use Rattle.std.proofs.lemmas.Bool.{le-ltb}
 use Rattle.std.proofs.lemmas.List.{drop-drop, length-append, length-replicate, take_at, drop_at}
 use Rattle.byteorder.specs.Endian.{big_bytes, big_number}
@@ -10,7 +10,7 @@ use Rattle.ipx_wire.specs.Ipx.{PacketView, IsIpx, IsWritten, ipx_fault, number}
 use Rattle.ipx_wire.specs.declared.ipx.fault.IpxFault.{IpxFault}
 use Rattle.ipx_frames.specs.declared.encapsulation.Encapsulation.{Encapsulation}
 use Rattle.ipx_frames.specs.declared.encapsulation.Encapsulation.TheVariants.{Raw, Llc, Snap, EthernetII}
-use Rattle.ipx_frames.specs.Frame.{FrameView, IsFrame, IsOfKind, frame_end, frame_of, length_or_type, link_bytes, most_of, packet_place}
+use Rattle.ipx_frames.specs.Frame.{IsFrame, IsOfKind, frame_end, frame_of, length_or_type, link_bytes, most_of, packet_place}
 use Rattle.ipx_frames.specs.SentFrame.{IsSent, held_size, sending_fault, sending_fault_of, sent_kind, sent_size}
 use Rattle.ipx_frames.proofs.Faults.{end_of_length}
 use Rattle.ipx_frames.proofs.Parts.{write-part}

@@ -1,12 +1,11 @@
 -- No bytes are two frames.
-use Rattle.std.proofs.Common.{◌≡◌, ◌≤◌, ℕ, ◌+◌, List, ◌++◌, [], length, take, drop, arith, sym, ap, ◌∙◌, refl, subst}
-use Rattle.std.proofs.lemmas.List.{take_at, length-append}
+use Rattle.std.proofs.Common.{◌≡◌, ◌≤◌, ℕ, List, ◌++◌, [], length, take, drop, arith, sym, ap, ◌∙◌, refl, subst}
+use Rattle.std.proofs.lemmas.List.{take_at}
 use Rattle.byteorder.specs.Numbers.{big_from-take}
-use Rattle.ipx_wire.specs.declared.address.Node.{Node}
 use Rattle.ipx_wire.specs.Ipx.{PacketView, IsIpx, number}
 use Rattle.ipx_frames.specs.declared.encapsulation.Encapsulation.{Encapsulation}
 use Rattle.ipx_frames.specs.declared.encapsulation.Encapsulation.TheVariants.{Raw, Llc, Snap, EthernetII}
-use Rattle.ipx_frames.specs.Frame.{FrameView, HasKind, IsFrame, length_or_type}
+use Rattle.ipx_frames.specs.Frame.{FrameView, IsFrame, length_or_type}
 use Rattle.ipx_frames.proofs.Packets.{checksum_more}
 
 -- what an encapsulation says: the length or type, and the two bytes behind it

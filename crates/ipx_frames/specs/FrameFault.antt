@@ -1,6 +1,6 @@
 -- The first fault that keeps a station from hearing a frame (IEEE 802.3, IEEE 802.2, RFC 1042), and
 -- the numbers of the faults.
-use Rattle.std.specs.Prelude.{ℕ, ◌+◌, ◌-◌, List, [], ◌∷◌, length, take, drop, replicate, Bool, ◌||◌, Option, Some, None, nat_lt, ◌==◌, if◌then◌else◌}
+use Rattle.std.specs.Prelude.{ℕ, ◌+◌, ◌-◌, List, length, take, drop, replicate, Bool, ◌||◌, Option, Some, None, nat_lt, ◌==◌, if◌then◌else◌}
 use Rattle.std.specs.Str.{bytes_eq}
 use Rattle.ipx_wire.specs.Assigned.{broadcast_node}
 use Rattle.ipx_wire.specs.Ipx.{ipx_fault, number}

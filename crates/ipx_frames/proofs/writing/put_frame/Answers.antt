@@ -1,5 +1,5 @@
-use Rattle.std.proofs.Common.{◌≡◌, ◌+◌, ◌-◌, List, ℕ, arith, drop, take, length, sym, ap, ◌∙◌, subst}
-use Rattle.std.proofs.lemmas.List.{length-append, length-drop, length-take}
+use Rattle.std.proofs.Common.{◌≡◌, ◌-◌, List, ℕ, arith, drop, take, length, sym, subst}
+use Rattle.std.proofs.lemmas.List.{length-drop, length-take}
 use Rattle.ipx_frames.specs.Frame.{frame_of}
 use Rattle.ipx_frames.specs.SentFrame.{IsSent}
 use Rattle.ipx_frames.proofs.Parts.{written-behind, written-front}
