@@ -87,8 +87,8 @@ fn an_odd_raw_packet_is_made_even(rt: HostRuntime) -> Result<(), Fail> {
     let mut out = [0x5a; 61];
     let count = encode_frame_into(Encapsulation::Raw, OTHER, STATION, &PACKET, &mut out)?;
     assert_eq!(rt; count, 60);
-    assert_eq!(rt; &out[12..18], &[0, 32, 0xff, 0xff, 0, 0x1f]);
-    assert_eq!(rt; &out[43..47], &[2, 0x6f, 0, 0]);
+    assert_eq!(rt; &out[12..18], [0, 32, 0xff, 0xff, 0, 0x1f].as_slice());
+    assert_eq!(rt; &out[43..47], [2, 0x6f, 0, 0].as_slice());
     assert_eq!(rt; out[60], 0x5a);
     Ok(())
 }

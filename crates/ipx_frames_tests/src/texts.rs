@@ -12,7 +12,7 @@ fn names_of_encapsulations(rt: HostRuntime) -> Result<(), Fail> {
         (Encapsulation::Snap, "snap"),
         (Encapsulation::EthernetII, "ethernet-ii"),
     ] {
-        assert_eq!(rt; format!(in rt.alloc(); "{encapsulation}")?, text);
+        assert_eq!(rt; format!(in rt.alloc(); "{encapsulation}")?.as_str(), text);
     }
     Ok(())
 }
@@ -37,7 +37,7 @@ fn texts_of_faults(rt: HostRuntime) -> Result<(), Fail> {
         (FrameFault::NoRoom(60, 59), 52, "a frame of 60 bytes, there is room for 59"),
     ] {
         assert_eq!(rt; fault.number(), number);
-        assert_eq!(rt; format!(in rt.alloc(); "{fault}")?, text);
+        assert_eq!(rt; format!(in rt.alloc(); "{fault}")?.as_str(), text);
     }
     Ok(())
 }
