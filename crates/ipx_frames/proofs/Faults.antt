@@ -12,7 +12,7 @@ use Rattle.ipx_frames.specs.declared.encapsulation.Encapsulation.{Encapsulation}
 use Rattle.ipx_frames.specs.declared.encapsulation.Encapsulation.TheVariants.{Raw, Llc, Snap, EthernetII}
 use Rattle.ipx_frames.specs.declared.fault.FrameFault.{FrameFault}
 use Rattle.ipx_frames.specs.Frame.{FrameView, IsFrame, IsHeardBy, frame_end, is_group, length_or_type, link_bytes, packet_place}
-use Rattle.ipx_frames.specs.FrameFault.{addressed_fault, counted_fault, encapsulation_in, first_fault, frame_fault, held_in, is_tag, kind_fault, node_of, of_packet, packet_fault, size_fault}
+use Rattle.ipx_frames.specs.FrameFault.{addressed_fault, counted_fault, encapsulation_in, fault_or_next, frame_fault, payload_of, is_tag, kind_fault, node_of, of_packet, packet_fault, size_fault}
 use Rattle.ipx_frames.proofs.Packets.{checksum_more}
 use Rattle.ipx_frames.proofs.Parts.{fronted, take-both}
 
@@ -98,30 +98,30 @@ sized n least most = falls_past (nat_lt n 14) (nat_lt 1514 n) _ _ None (le-ltb n
 
 -- bytes of a size, for stations that hear them
 pub comes_to_kind : (own to from : Node) (bytes : List ℕ) → 14 ≤ length bytes → length bytes ≤ 1514 → take 6 bytes ≡ to.0 → take 6 (drop 6 bytes) ≡ from.0
-    → frame_fault own bytes ≡ first_fault (addressed_fault own to from) (kind_fault bytes)
+    → frame_fault own bytes ≡ fault_or_next (addressed_fault own to from) (kind_fault bytes)
 comes_to_kind own to from bytes least most at_to at_from =
-    ap (λ (f : Option FrameFault). first_fault f (first_fault (addressed_fault own (node_of (take 6 bytes)) (node_of (take 6 (drop 6 bytes)))) (kind_fault bytes))) (sized (length bytes) least most)
-    ∙ ap (λ (t : List ℕ). first_fault (addressed_fault own (node_of t) (node_of (take 6 (drop 6 bytes)))) (kind_fault bytes)) at_to
-    ∙ ap (λ (t : List ℕ). first_fault (addressed_fault own to (node_of t)) (kind_fault bytes)) at_from
+    ap (λ (f : Option FrameFault). fault_or_next f (fault_or_next (addressed_fault own (node_of (take 6 bytes)) (node_of (take 6 (drop 6 bytes)))) (kind_fault bytes))) (sized (length bytes) least most)
+    ∙ ap (λ (t : List ℕ). fault_or_next (addressed_fault own (node_of t) (node_of (take 6 (drop 6 bytes)))) (kind_fault bytes)) at_to
+    ∙ ap (λ (t : List ℕ). fault_or_next (addressed_fault own to (node_of t)) (kind_fault bytes)) at_from
 
-pub first_none : (f g : Option FrameFault) → f ≡ None → first_fault f g ≡ g
+pub first_none : (f g : Option FrameFault) → f ≡ None → fault_or_next f g ≡ g
 first_none f g e = rw e refl
 
-pub first_some : (f g : Option FrameFault) (x : FrameFault) → f ≡ Some x → first_fault f g ≡ Some x
+pub first_some : (f g : Option FrameFault) (x : FrameFault) → f ≡ Some x → fault_or_next f g ≡ Some x
 first_some f g x e = rw e refl
 
 module _
     (before : (p : PacketView) (bytes tail : List ℕ) → IsIpx p bytes [] → IsIpx p (bytes ++ tail) tail)
     (fine : (p : PacketView) (bytes tail : List ℕ) → IsIpx p bytes tail → ipx_fault bytes ≡ None)
   where
-  packet_fine : (e : Encapsulation) (f : FrameView) (bytes tail : List ℕ) → IsFrame e f bytes tail → packet_fault e bytes ≡ None
-  packet_fine e f bytes tail x =
-      let room = frame_end bytes - packet_place e in
-      let held : held_in e bytes ≡ f.packet ++ take (room - length f.packet) tail = ap (take room) x.held ∙ take-both room f.packet tail (omega (arith, x.counted)) in
-      ap of_packet (ap ipx_fault held ∙ fine x.packet.0 (f.packet ++ take (room - length f.packet) tail) (take (room - length f.packet) tail) (before x.packet.0 f.packet (take (room - length f.packet) tail) x.packet.1))
+    packet_fine : (e : Encapsulation) (f : FrameView) (bytes tail : List ℕ) → IsFrame e f bytes tail → packet_fault e bytes ≡ None
+    packet_fine e f bytes tail x =
+        let room = frame_end bytes - packet_place e in
+        let held : payload_of e bytes ≡ f.packet ++ take (room - length f.packet) tail = ap (take room) x.held ∙ take-both room f.packet tail (omega (arith, x.counted)) in
+        ap of_packet (ap ipx_fault held ∙ fine x.packet.0 (f.packet ++ take (room - length f.packet) tail) (take (room - length f.packet) tail) (before x.packet.0 f.packet (take (room - length f.packet) tail) x.packet.1))
 
-  pub no_fault : (own : Node) (e : Encapsulation) (f : FrameView) (bytes tail : List ℕ) → IsFrame e f bytes tail → IsHeardBy own f → frame_fault own bytes ≡ None
-  no_fault own e f bytes tail x h =
-      let big : 30 ≤ length f.packet = omega (arith, x.packet.1.size) in
-      comes_to_kind own f.to f.from bytes (omega (arith, x.counted, x.kind.there)) x.most x.to x.from
-      ∙ first_none _ (kind_fault bytes) (heard own f h) ∙ kind_known e f bytes tail big x ∙ packet_fine e f bytes tail x
+    pub no_fault : (own : Node) (e : Encapsulation) (f : FrameView) (bytes tail : List ℕ) → IsFrame e f bytes tail → IsHeardBy own f → frame_fault own bytes ≡ None
+    no_fault own e f bytes tail x h =
+        let big : 30 ≤ length f.packet = omega (arith, x.packet.1.size) in
+        comes_to_kind own f.to f.from bytes (omega (arith, x.counted, x.kind.there)) x.most x.to x.from
+        ∙ first_none _ (kind_fault bytes) (heard own f h) ∙ kind_known e f bytes tail big x ∙ packet_fine e f bytes tail x

@@ -7,7 +7,7 @@ use Rattle.ipx_wire.specs.Ipx.{PacketView, IsIpx}
 use Rattle.ipx_frames.specs.declared.encapsulation.Encapsulation.{Encapsulation}
 use Rattle.ipx_frames.specs.declared.fault.FrameFault.{FrameFault}
 use Rattle.ipx_frames.specs.Frame.{FrameView, HasKind, IsFrame, frame_end, frame_of, link_bytes, packet_place}
-use Rattle.ipx_frames.specs.FrameFault.{frame_fault, held_in}
+use Rattle.ipx_frames.specs.FrameFault.{frame_fault, payload_of}
 
 module _ (T : Type 0) (kind : T → Encapsulation) (read : T → FrameView) where
   pub only_frame : (own : Node) (e : Encapsulation) (d : FrameView) (bytes tail : List ℕ) (r : Result T FrameFault)
@@ -48,6 +48,6 @@ frame_read e to from packet bytes link end at_to at_from kind is_link is_end beg
 
 -- what lies between the encapsulation and the end, as the code cuts it
 pub held_alike : (e : Encapsulation) (bytes link : List ℕ) (end : ℕ) → link ≡ link_bytes e → end ≡ frame_end bytes
-    → take (end - (14 + length link)) (drop (14 + length link) bytes) ≡ held_in e bytes
+    → take (end - (14 + length link)) (drop (14 + length link) bytes) ≡ payload_of e bytes
 held_alike e bytes link end is_link is_end =
     ap (λ (l : List ℕ). take (end - (14 + length l)) (drop (14 + length l) bytes)) is_link ∙ ap (λ (i : ℕ). take (i - packet_place e) (drop (packet_place e) bytes)) is_end

@@ -10,8 +10,8 @@ use Rattle.ipx_wire.specs.Ipx.{PacketView, IsIpx, IsWritten, ipx_fault, number}
 use Rattle.ipx_wire.specs.declared.ipx.fault.IpxFault.{IpxFault}
 use Rattle.ipx_frames.specs.declared.encapsulation.Encapsulation.{Encapsulation}
 use Rattle.ipx_frames.specs.declared.encapsulation.Encapsulation.TheVariants.{Raw, Llc, Snap, EthernetII}
-use Rattle.ipx_frames.specs.Frame.{IsFrame, IsOfKind, frame_end, frame_of, length_or_type, link_bytes, most_of, packet_place}
-use Rattle.ipx_frames.specs.SentFrame.{IsSent, held_size, sending_fault, sending_fault_of, sent_kind, sent_size}
+use Rattle.ipx_frames.specs.Frame.{IsFrame, IsTypeOrLength, frame_end, frame_of, length_or_type, link_bytes, most_of, packet_place}
+use Rattle.ipx_frames.specs.SentFrame.{IsSentFrame, held_size, sending_fault, sending_fault_of, sent_kind, sent_size}
 use Rattle.ipx_frames.proofs.Faults.{end_of_length}
 use Rattle.ipx_frames.proofs.Parts.{write-part}
 use borrow.Rule.Slice.PartMut.{put_mid}
@@ -19,7 +19,7 @@ use borrow.Rule.Slice.PartMut.{put_mid}
 pub record Fits (e : Encapsulation) (n : ℕ) : Type 0 where
   pub low : length (link_bytes e) + n ≤ held_size e n
   pub high : held_size e n ≤ 1500
-  pub kind : IsOfKind e (sent_kind e n)
+  pub kind : IsTypeOrLength e (sent_kind e n)
   pub small : sent_kind e n < 65536
 
 pub fits : (e : Encapsulation) (n : ℕ) → n ≤ most_of e → Fits e n
@@ -50,7 +50,7 @@ ends EthernetII n bytes said fit there =
     record { counted = omega (arith, end, there); there = omega (arith, end) }
 
 pub sent_bytes : (e : Encapsulation) (to from : Node) (packet : List ℕ) (p : PacketView) → IsIpx p packet [] → length packet ≤ most_of e → length to.0 ≡ 6 → length from.0 ≡ 6
-    → IsSent e (frame_of to from packet)
+    → IsSentFrame e (frame_of to from packet)
     (to.0 ++ from.0 ++ big_bytes 2 (sent_kind e (length packet)) ++ (link_bytes e ++ packet ++ replicate (sent_size e (length packet) - 14 - (length (link_bytes e) + length packet)) 0))
 sent_bytes e to from packet p x le len_to len_from =
     let n = length packet in
@@ -79,7 +79,7 @@ sent_bytes e to from packet p x le len_to len_from =
       to = ap (take 6) parts ∙ take_at to.0 (from.0 ++ (said ++ body)) 6 len_to;
       from = ap (take 6) at6 ∙ take_at from.0 (said ++ body) 6 len_from;
       kind = record {
-        kind = subst (IsOfKind e) (sym kind) fit.kind;
+        kind = subst (IsTypeOrLength e) (sym kind) fit.kind;
         link = ap (take k) linked ∙ take_at link (packet ++ zeros) k refl;
         there = end.there;
       };

@@ -48,25 +48,25 @@ module _
     (one : (p q : PacketView) (bytes s t : List ℕ) → IsIpx p bytes s → IsIpx q bytes t → (p ≡ q) × (s ≡ t))
     (before : (p : PacketView) (bytes tail : List ℕ) → IsIpx p bytes [] → IsIpx p (bytes ++ tail) tail)
   where
-  -- two packets at the same place
-  same_held : (a b s t : List ℕ) (p q : PacketView) → a ++ s ≡ b ++ t → IsIpx p a [] → IsIpx q b [] → (a ≡ b) × (s ≡ t)
-  same_held a b s t p q e x y =
-      let both = one p q (a ++ s) s t (before p a s x) (subst (λ (l : List ℕ). IsIpx q l t) (sym e) (before q b t y)) in
-      let len : length a ≡ length b = omega (arith, x.size, y.size, ap (λ (v : PacketView). length v.body) both.0) in
-      let same : a ≡ b = sym (take_at a s (length a) refl) ∙ ap (take (length a)) e ∙ take_at b t (length a) (sym len) in
-      (same, both.1)
+    -- two packets at the same place
+    same_held : (a b s t : List ℕ) (p q : PacketView) → a ++ s ≡ b ++ t → IsIpx p a [] → IsIpx q b [] → (a ≡ b) × (s ≡ t)
+    same_held a b s t p q e x y =
+        let both = one p q (a ++ s) s t (before p a s x) (subst (λ (l : List ℕ). IsIpx q l t) (sym e) (before q b t y)) in
+        let len : length a ≡ length b = omega (arith, x.size, y.size, ap (λ (v : PacketView). length v.body) both.0) in
+        let same : a ≡ b = sym (take_at a s (length a) refl) ∙ ap (take (length a)) e ∙ take_at b t (length a) (sym len) in
+        (same, both.1)
 
-  same_frame : (e : Encapsulation) (f g : FrameView) (bytes s t : List ℕ) → IsFrame e f bytes s → IsFrame e g bytes t → (f ≡ g) × (s ≡ t)
-  unfolding frame_with
-  same_frame e f g bytes s t x y =
-      let held = same_held f.packet g.packet s t x.packet.0 y.packet.0 (sym x.held ∙ y.held) x.packet.1 y.packet.1 in
-      let to : f.to.0 ≡ g.to.0 = sym x.to ∙ y.to in
-      let from : f.from.0 ≡ g.from.0 = sym x.from ∙ y.from in
-      let same : frame_with f.to.0 f.from.0 f.packet ≡ frame_with g.to.0 g.from.0 g.packet = rw (to, from, held.0) refl in
-      (same, held.1)
+    same_frame : (e : Encapsulation) (f g : FrameView) (bytes s t : List ℕ) → IsFrame e f bytes s → IsFrame e g bytes t → (f ≡ g) × (s ≡ t)
+    unfolding frame_with
+    same_frame e f g bytes s t x y =
+        let held = same_held f.packet g.packet s t x.packet.0 y.packet.0 (sym x.held ∙ y.held) x.packet.1 y.packet.1 in
+        let to : f.to.0 ≡ g.to.0 = sym x.to ∙ y.to in
+        let from : f.from.0 ≡ g.from.0 = sym x.from ∙ y.from in
+        let same : frame_with f.to.0 f.from.0 f.packet ≡ frame_with g.to.0 g.from.0 g.packet = rw (to, from, held.0) refl in
+        (same, held.1)
 
-  pub one_frame : (d e : Encapsulation) (f g : FrameView) (bytes s t : List ℕ) → IsFrame d f bytes s → IsFrame e g bytes t → (d ≡ e) × (f ≡ g) × (s ≡ t)
-  one_frame d e f g bytes s t x y =
-      let kind : d ≡ e = same_said d e (length_or_type bytes) (number 2 0 (drop 14 bytes)) (says d f bytes s x) (says e g bytes t y) in
-      let rest = same_frame d f g bytes s t x (subst (λ (k : Encapsulation). IsFrame k g bytes t) (sym kind) y) in
-      (kind, rest.0, rest.1)
+    pub one_frame : (d e : Encapsulation) (f g : FrameView) (bytes s t : List ℕ) → IsFrame d f bytes s → IsFrame e g bytes t → (d ≡ e) × (f ≡ g) × (s ≡ t)
+    one_frame d e f g bytes s t x y =
+        let kind : d ≡ e = same_said d e (length_or_type bytes) (number 2 0 (drop 14 bytes)) (says d f bytes s x) (says e g bytes t y) in
+        let rest = same_frame d f g bytes s t x (subst (λ (k : Encapsulation). IsFrame k g bytes t) (sym kind) y) in
+        (kind, rest.0, rest.1)

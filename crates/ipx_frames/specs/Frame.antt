@@ -45,11 +45,11 @@ packet_place e = 14 + length (link_bytes e)
 abbrev pub length_or_type : List ℕ → ℕ
 length_or_type bytes = number 2 12 bytes
 
-abbrev pub IsOfKind : Encapsulation → ℕ → Type 0
-IsOfKind Raw n = n ≤ 1500
-IsOfKind Llc n = n ≤ 1500
-IsOfKind Snap n = n ≤ 1500
-IsOfKind EthernetII n = n ≡ 0x8137
+abbrev pub IsTypeOrLength : Encapsulation → ℕ → Type 0
+IsTypeOrLength Raw n = n ≤ 1500
+IsTypeOrLength Llc n = n ≤ 1500
+IsTypeOrLength Snap n = n ≤ 1500
+IsTypeOrLength EthernetII n = n ≡ 0x8137
 
 -- where what a frame holds ends: as the length says, and else with the frame
 abbrev pub frame_end : List ℕ → ℕ
@@ -58,7 +58,7 @@ frame_end bytes =
 
 -- the bytes say the encapsulation, and reach as far as they say
 pub record HasKind (e : Encapsulation) (bytes : List ℕ) : Type 0 where
-  pub kind : IsOfKind e (length_or_type bytes)
+  pub kind : IsTypeOrLength e (length_or_type bytes)
   pub link : take (length (link_bytes e)) (drop 14 bytes) ≡ link_bytes e
   pub there : frame_end bytes ≤ length bytes
 

@@ -26,11 +26,11 @@ abbrev pub of_packet : Option IpxFault → Option FrameFault
 of_packet None = None
 of_packet (Some f) = Some (NoPacket f)
 
-abbrev pub held_in : Encapsulation → List ℕ → List ℕ
-held_in e bytes = take (frame_end bytes - packet_place e) (drop (packet_place e) bytes)
+abbrev pub payload_of : Encapsulation → List ℕ → List ℕ
+payload_of e bytes = take (frame_end bytes - packet_place e) (drop (packet_place e) bytes)
 
 abbrev pub packet_fault : Encapsulation → List ℕ → Option FrameFault
-packet_fault e bytes = of_packet (ipx_fault (held_in e bytes))
+packet_fault e bytes = of_packet (ipx_fault (payload_of e bytes))
 
 abbrev pub counted_fault : Option Encapsulation → List ℕ → Option FrameFault
 counted_fault None bytes = Some OtherLlc
@@ -71,14 +71,14 @@ size_fault n =
     else None
 
 -- the first of two faults
-abbrev pub first_fault : Option FrameFault → Option FrameFault → Option FrameFault
-first_fault (Some f) next = Some f
-first_fault None next = next
+abbrev pub fault_or_next : Option FrameFault → Option FrameFault → Option FrameFault
+fault_or_next (Some f) next = Some f
+fault_or_next None next = next
 
 -- the first condition that keeps the station from hearing the bytes as a frame
 abbrev pub frame_fault : Node → List ℕ → Option FrameFault
 frame_fault own bytes =
-    first_fault (size_fault (length bytes)) (first_fault
+    fault_or_next (size_fault (length bytes)) (fault_or_next
     (addressed_fault own (node_of (take 6 bytes)) (node_of (take 6 (drop 6 bytes))))
     (kind_fault bytes))
 

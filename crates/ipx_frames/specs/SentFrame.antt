@@ -28,7 +28,7 @@ abbrev pub sent_size : Encapsulation → ℕ → ℕ
 sent_size e n = max 60 (14 + held_size e n)
 
 -- the bytes are the frame as it is sent: its length exact, and zeros behind the packet
-pub record IsSent (e : Encapsulation) (f : FrameView) (bytes : List ℕ) : Type 0 where
+pub record IsSentFrame (e : Encapsulation) (f : FrameView) (bytes : List ℕ) : Type 0 where
   pub frame : IsFrame e f bytes (replicate (length bytes - (packet_place e + length f.packet)) 0)
   pub kind : length_or_type bytes ≡ sent_kind e (length f.packet)
   pub size : length bytes ≡ sent_size e (length f.packet)

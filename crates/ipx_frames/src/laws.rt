@@ -6,7 +6,7 @@ ghost use Rattle.ipx_frames.specs.declared.encapsulation.Encapsulation.{Encapsul
 ghost use Rattle.ipx_frames.specs.declared.encapsulation.Encapsulation.TheVariants.{Raw};
 ghost use Rattle.ipx_frames.specs.Frame.{FrameView, IsFrame, IsHeardBy, length_or_type};
 ghost use Rattle.ipx_frames.specs.FrameFault.{frame_fault};
-ghost use Rattle.ipx_frames.specs.SentFrame.{IsSent};
+ghost use Rattle.ipx_frames.specs.SentFrame.{IsSentFrame};
 
 use ipx_wire::{bytes_are_one_packet, ipx_fault_is_of_no_packet, packet_before_any_bytes};
 
@@ -31,9 +31,9 @@ pub fn frame_has_no_fault()
 /// What is sent is read back, by each station that hears it: as that frame and no other.
 pub fn sent_frame_is_read_back()
     ensures heard { (own : Node) (e : Encapsulation) (f : FrameView) (bytes : List ℕ)
-        → IsSent e f bytes → IsHeardBy own f → frame_fault own bytes ≡ None }
+        → IsSentFrame e f bytes → IsHeardBy own f → frame_fault own bytes ≡ None }
     ensures itself { (d e : Encapsulation) (f g : FrameView) (bytes tail : List ℕ)
-        → IsSent e f bytes → IsFrame d g bytes tail → (d ≡ e) × (g ≡ f) }
+        → IsSentFrame e f bytes → IsFrame d g bytes tail → (d ≡ e) × (g ≡ f) }
 {
     frame_has_no_fault();
     bytes_are_one_frame();
@@ -41,12 +41,12 @@ pub fn sent_frame_is_read_back()
 
 /// A frame that is sent has 60 to 1,514 bytes.
 pub fn sent_frame_is_sized()
-    ensures { (e : Encapsulation) (f : FrameView) (bytes : List ℕ) → IsSent e f bytes
+    ensures { (e : Encapsulation) (f : FrameView) (bytes : List ℕ) → IsSentFrame e f bytes
         → (60 ≤ length bytes) × (length bytes ≤ 1514) }
 {}
 
 /// A raw frame that is sent says an even length.
 pub fn sent_raw_frame_is_even()
-    ensures { (f : FrameView) (bytes : List ℕ) → IsSent Raw f bytes
+    ensures { (f : FrameView) (bytes : List ℕ) → IsSentFrame Raw f bytes
         → length_or_type bytes % 2 ≡ 0 }
 {}

@@ -3,7 +3,7 @@
 ghost use Rattle.std.specs.Prelude.{◌≡◌, ◌≤◌, List, ℕ, IfOk, IfErr, IfSome, IsOkAnd, Some, None, length, take, drop};
 ghost use Rattle.ipx_wire.specs.Ipx.{IsPartOf};
 ghost use Rattle.ipx_frames.specs.declared.encapsulation.Encapsulation.{Encapsulation};
-ghost use Rattle.ipx_frames.specs.Frame.{FrameView, HasKind, IsFrame, IsHeardBy, IsOfKind, frame_end, frame_view, link_bytes, packet_place};
+ghost use Rattle.ipx_frames.specs.Frame.{FrameView, HasKind, IsFrame, IsHeardBy, IsTypeOrLength, frame_end, frame_view, link_bytes, packet_place};
 ghost use Rattle.ipx_frames.specs.FrameFault.{encapsulation_in, frame_fault, kind_fault, packet_fault};
 
 use crate::encapsulation::{Encapsulation, LLC, SNAP};
@@ -20,7 +20,7 @@ fn encapsulation_of(counted: &[u8]) -> Option<Encapsulation>
     ensures value { result ≡ encapsulation_in counted.now }
     ensures link { IfSome result (λ e.
         take (length (link_bytes e)) counted.now ≡ link_bytes e) }
-    ensures kind { (n : ℕ) → n ≤ 1500 → IfSome result (λ e. IsOfKind e n) }
+    ensures kind { (n : ℕ) → n ≤ 1500 → IfSome result (λ e. IsTypeOrLength e n) }
 {
     if counted.len() >= 2 && BigEndian::read_u16(counted) == 0xffff {
         return Some(Encapsulation::Raw);

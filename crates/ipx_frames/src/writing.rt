@@ -4,7 +4,7 @@ ghost use Rattle.std.specs.Prelude.{◌≡◌, ◌≤◌, ◌+◌, ◌-◌, ◌+
 ghost use Rattle.byteorder.specs.Endian.{big_bytes};
 ghost use Rattle.ipx_wire.specs.Ipx.{IsIpx, PacketView, number};
 ghost use Rattle.ipx_frames.specs.Frame.{frame_of, link_bytes, most_of, own_bytes, packet_place};
-ghost use Rattle.ipx_frames.specs.SentFrame.{IsSent, held_size, sending_fault, sent_kind, sent_size};
+ghost use Rattle.ipx_frames.specs.SentFrame.{IsSentFrame, held_size, sending_fault, sent_kind, sent_size};
 
 use crate::encapsulation::Encapsulation;
 use crate::fault::FrameFault;
@@ -75,7 +75,7 @@ fn put_frame(
     requires limit { length packet.now ≤ most_of encapsulation }
     requires room { sent_size encapsulation (length packet.now) ≤ length out.old }
     ensures count { result ≡ sent_size encapsulation (length packet.now) }
-    ensures written { IsSent encapsulation (frame_of to from packet.now) (take result out.new) }
+    ensures written { IsSentFrame encapsulation (frame_of to from packet.now) (take result out.new) }
     ensures rest { drop result out.new ≡ drop result out.old }
 {
     let size = size_with(encapsulation, packet.len());
@@ -98,7 +98,7 @@ pub fn encode_frame_into(
     out: &mut [u8],
 ) -> Result<usize, FrameFault>
     ensures count { IfOk result (λ n. n ≡ sent_size encapsulation (number 2 2 packet.now)) }
-    ensures written { IfOk result (λ n. IsSent encapsulation
+    ensures written { IfOk result (λ n. IsSentFrame encapsulation
         (frame_of to from (own_bytes packet.now)) (take n out.new)) }
     ensures rest { IfOk result (λ n. drop n out.new ≡ drop n out.old) }
     ensures unchanged { OnErr result (out.new ≡ out.old) }

@@ -8,6 +8,7 @@ use std::test::Fail;
 
 /// The station that hears the frames, and the one that sends them.
 pub const STATION: Node = Node([2, 0, 0, 0, 0, 1]);
+
 pub const SENDER: Node = Node([2, 0, 0, 0, 0, 0x42]);
 
 /// A third station.
@@ -15,6 +16,7 @@ pub const OTHER: Node = Node([2, 0, 0, 0, 0, 7]);
 
 /// The sender's address with the bit of a group, and the group of NLSP.
 pub const GROUP: Node = Node([3, 0, 0, 0, 0, 0x42]);
+
 pub const NLSP: Node = Node([9, 0, 0x1b, 0xff, 0xff, 0xff]);
 
 /// A frame in hex, what is read of it, and whether it is what a station sends.

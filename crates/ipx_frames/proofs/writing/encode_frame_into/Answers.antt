@@ -1,13 +1,13 @@
 use Rattle.std.proofs.Common.{◌≡◌, ◌≤◌, List, ℕ, arith, take, subst}
 use Rattle.ipx_frames.specs.declared.encapsulation.Encapsulation.{Encapsulation}
 use Rattle.ipx_frames.specs.Frame.{frame_of}
-use Rattle.ipx_frames.specs.SentFrame.{IsSent, sent_size}
+use Rattle.ipx_frames.specs.SentFrame.{IsSentFrame, sent_size}
 use Rattle.ipx_frames.proofs.Sends.{sending_fine}
 use Rattle.ipx_frames.proofs.writing.encode_frame_into.Goals as goal
 
 pub returns-clause-written : goal.returns-clause-written
 returns-clause-written c =
-    subst (λ (t : List ℕ). IsSent c.args.encapsulation (frame_of c.args.to c.args.from t) (take c.put_frame.result c.put_frame.new.out)) c.in_ok-packet.ensures.cut c.put_frame.ensures.written
+    subst (λ (t : List ℕ). IsSentFrame c.args.encapsulation (frame_of c.args.to c.args.from t) (take c.put_frame.result c.put_frame.new.out)) c.in_ok-packet.ensures.cut c.put_frame.ensures.written
 
 -- room for the frame of a packet, by what its own length says
 enough : (e : Encapsulation) (n m size room : ℕ) → n ≡ m → size ≡ sent_size e n → size ≤ room → sent_size e m ≤ room
