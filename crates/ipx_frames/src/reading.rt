@@ -65,7 +65,8 @@ fn kind_of(bytes: &[u8]) -> Result<(Encapsulation, usize), FrameFault>
 
 /// The frame that the bytes are, and its encapsulation.
 fn frame_in(bytes: &[u8], own: Node) -> Result<(Frame<'_>, Encapsulation), FrameFault>
-    ensures found { IfOk result (λ r. (tail : List ℕ) × IsFrame r.1 (frame_view r.0) bytes.now tail) }
+    ensures found { IfOk result (λ r. (tail : List ℕ)
+        × IsFrame r.1 (frame_view r.0) bytes.now tail) }
     ensures heard { IfOk result (λ r. IsHeardBy own (frame_view r.0)) }
     ensures lent { IfOk result (λ r. IsPartOf bytes.entry (packet_place r.1) r.0.packet) }
     ensures fault { IfErr result (λ f. frame_fault own bytes.now ≡ Some f) }
@@ -92,7 +93,8 @@ fn frame_in(bytes: &[u8], own: Node) -> Result<(Frame<'_>, Encapsulation), Frame
 /// network. The error is the first `FrameFault` that holds.
 pub fn decode_frame(bytes: &[u8], own: Node) -> Result<(Frame<'_>, Encapsulation), FrameFault>
     // What is read is the frame, and the station hears it.
-    ensures found { IfOk result (λ r. (tail : List ℕ) × IsFrame r.1 (frame_view r.0) bytes.now tail) }
+    ensures found { IfOk result (λ r. (tail : List ℕ)
+        × IsFrame r.1 (frame_view r.0) bytes.now tail) }
     ensures heard { IfOk result (λ r. IsHeardBy own (frame_view r.0)) }
     // The packet is lent: it is the frame's own bytes.
     ensures lent { IfOk result (λ r. IsPartOf bytes.entry (packet_place r.1) r.0.packet) }

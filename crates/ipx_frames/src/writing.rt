@@ -75,7 +75,8 @@ fn put_frame(
     requires limit { length packet.now ≤ most_of encapsulation }
     requires room { sent_size encapsulation (length packet.now) ≤ length out.old }
     ensures count { result ≡ sent_size encapsulation (length packet.now) }
-    ensures written { IsSentFrame encapsulation (frame_of to from packet.now) (take result out.new) }
+    ensures written { IsSentFrame encapsulation (frame_of to from packet.now)
+        (take result out.new) }
     ensures rest { drop result out.new ≡ drop result out.old }
 {
     let size = size_with(encapsulation, packet.len());
