@@ -7,13 +7,10 @@ ghost use Rattle.ipx_sim.specs.Script.{IsTooLong, too_long_line};
 use crate::halt::Halt;
 use crate::layout::Layout;
 use crate::simulation::Simulation;
-use ipx_commands::{InputFault, read_up_to, tell_no_memory, write_lines};
+use ipx_commands::{InputFault, MOST_INPUT, read_up_to, tell_no_memory, write_lines};
 use ipx_wire::OutOfMemory;
 use std::alloc::Global;
 use std::io::{Read, Write};
-
-/// The longest script, in bytes.
-pub const MOST_INPUT: usize = 1_000_000;
 
 /// One more than the most lines that such a script has, which count from 1.
 const LINES_END: u32 = 1_000_002;

@@ -13,11 +13,9 @@ use crate::mapped::is_mapped;
 use crate::site::Site;
 use crate::stop::Stop;
 use crate::summing::write_ends;
-use ipx_commands::{InputFault, read_up_to, tell_no_memory, write_lines};
+use ipx_commands::{InputFault, MOST_INPUT, read_up_to, tell_no_memory, write_lines};
 use ipx_net::Event;
-use ipx_sim::{
-    Layout, Line, MOST_INPUT, Map, fields_of, is_blank, read_line, refused_to_line, tell_too_long,
-};
+use ipx_sim::{Layout, Line, Map, fields_of, is_blank, read_line, refused_to_line, tell_too_long};
 use ipx_wire::OutOfMemory;
 use log::{Log, warn};
 use spx_messages::EndFault;
