@@ -32,4 +32,4 @@ pub use memory::{MemoryDatagrams, SentDatagram};
 pub use report::Report;
 pub use router_core::RouterCore;
 pub use running::run;
-pub use udp::UdpDatagrams;
+pub use udp::{UDP_PORT, UdpDatagrams};

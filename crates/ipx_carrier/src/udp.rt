@@ -8,6 +8,9 @@ use std::alloc::Global;
 use std::io::ErrorKind;
 use std::net::{Ipv4Addr, Net, SocketAddrV4, UdpSocket};
 
+/// The UDP port of IPX (RFC 1234).
+pub const UDP_PORT: u16 = 213;
+
 /// A device that has a socket of UDP for each port.
 ///
 /// It tells its count of failures alone: which datagrams come and which arrive is the network's.

@@ -8,6 +8,7 @@ use Rattle.ipx_control.specs.Fault.{control_fault_number}
 use Rattle.ipx_commands.specs.declared.check.Verdict as code
 use Rattle.ipx_commands.specs.declared.check.Verdict.TheVariants as verdicts
 use Rattle.ipx_commands.specs.Reading.{ReadingView, NoPacket, NoSpx, NoControl, Holds, IsReading}
+use Rattle.ipx_commands.specs.Text.{most_input}
 use Rattle.ipx_commands.specs.CheckLine.{LineView, Skipped, Vector, Malformed, input_lines, line_form}
 
 -- the number of the fault that refuses a datagram, 0 where none does
@@ -82,6 +83,6 @@ ChecksLines lines text status =
 -- what is written for an input: a bad line 0 where it is over 1,000,000 bytes
 abbrev pub CheckWrites : List ℕ → List ℕ → ℕ → Type 0
 CheckWrites input text status =
-    MatchBool (nat_lt 1000000 (length input))
+    MatchBool (nat_lt most_input (length input))
     ((text ≡ codes "line 0 bad\n") × (status ≡ 2))
     (ChecksLines (map line_form (input_lines input)) text status)

@@ -10,15 +10,12 @@ ghost use Rattle.ipx_commands.specs.Check.{CheckWrites, ChecksLines, Failed as t
 ghost use Rattle.ipx_commands.specs.Tally.{IsTally};
 
 use crate::check_line::{Line, read_line};
-use crate::input::{InputFault, read_up_to};
+use crate::input::{InputFault, MOST_INPUT, read_up_to};
 use crate::output::{tell_no_memory, write_lines};
 use crate::reading::{Reading, read_datagram};
 use ipx_wire::OutOfMemory;
 use std::alloc::{AllocError, Global};
 use std::io::{Read, Write};
-
-/// The longest input, in bytes.
-const MOST: usize = 1_000_000;
 
 /// Whether the datagram of a line has the outcome that the line wants.
 #[derive(Clone, Copy)]
@@ -163,7 +160,7 @@ fn check_lines(alloc: Global, input: &[u8]) -> Result<(String, u8), OutOfMemory>
 fn lines_for_input(alloc: Global, input: &[u8]) -> Result<(String, u8), OutOfMemory>
     ensures { IfOk result (λ r. CheckWrites input.now (string_bytes r.0) r.1) }
 {
-    if input.len() > MOST {
+    if input.len() > MOST_INPUT {
         return Ok((String::from_str(alloc, "line 0 bad\n")?, 2));
     }
     check_lines(alloc, input)
@@ -187,7 +184,7 @@ pub fn do_check<R: Read, W: Write>(alloc: Global, reader: &mut R, writer: &mut W
         (input : List ℕ) × IsInput (R.remaining reader.old) input
         × (status : ℕ) × CheckWrites input lines status)) }
 {
-    let input = match read_up_to(alloc, reader, MOST + 1) {
+    let input = match read_up_to(alloc, reader, MOST_INPUT + 1) {
         Ok(input) => input,
         Err(InputFault::Read) => return Err(1),
         Err(InputFault::Memory) => return Err(tell_no_memory(writer)),

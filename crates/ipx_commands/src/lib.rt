@@ -16,7 +16,7 @@ mod show_line;
 
 pub use check::do_check;
 pub use hop::do_hop;
-pub use input::{InputFault, read_up_to};
+pub use input::{InputFault, MOST_INPUT, read_up_to};
 pub use laws::{check_is_one, hop_is_one, reading_is_one, show_is_one};
 pub use line::{fault_to_text, numbered_text, reason_to_text, spx_fault_to_text};
 pub use output::{tell_no_memory, write_lines};

@@ -2,14 +2,14 @@
 use Rattle.std.specs.Prelude.{◌≡◌, ◌<◌, ℕ, ◌+◌, ◌-◌, ◌*◌, List, [], ◌∷◌, ◌++◌, max, min, sum}
 use Rattle.std.specs.Int.{div_ceil}
 use Rattle.std.specs.List.{sum_by}
+use Rattle.ipx_wire.specs.Assigned.{spx_max_data_size}
 use Rattle.spx_link.specs.Marks.{distance}
 use Rattle.spx_link.specs.declared.numbers.Numbers.{Numbers}
-use Rattle.spx_units.specs.Message.{most_unit}
 use Rattle.ipx_site.specs.Bursts.{counted}
 
 -- how many units a message of so many bytes is cut into: one where it has none
 abbrev pub units_in : ℕ → ℕ
-units_in bytes = max 1 (div_ceil bytes most_unit)
+units_in bytes = max 1 (div_ceil bytes spx_max_data_size)
 
 -- the sequence number before which all is acknowledged
 abbrev pub base_of : Numbers → ℕ
@@ -20,7 +20,7 @@ base_of n = distance n.next n.out
 abbrev pub bytes_acknowledged : List ℕ → ℕ → ℕ
 bytes_acknowledged [] units = 0
 bytes_acknowledged (bytes ∷ more) units =
-    min bytes (most_unit * units) + bytes_acknowledged more (units - units_in bytes)
+    min bytes (spx_max_data_size * units) + bytes_acknowledged more (units - units_in bytes)
 
 -- all units of messages of these lengths
 abbrev pub all_units : List ℕ → ℕ

@@ -6,12 +6,13 @@ ghost use Rattle.spx_units.specs.Cut.{cut_of};
 ghost use Rattle.ipx_site.specs.Bursts.{counted};
 ghost use Rattle.ipx_ends.specs.Ledger.{Counts, IsFirstOpen, all_units, base_of, bytes_acknowledged, units_in};
 
+use ipx_wire::SPX_MAX_DATA_SIZE;
 use spx_link::Numbers;
 use std::alloc::{AllocError, Global};
 use std::collections::VecDeque;
 
 /// The bytes of a unit that ends no message.
-const UNIT: u64 = 534;
+const UNIT: u64 = SPX_MAX_DATA_SIZE as u64;
 
 /// The units of a message of so many bytes.
 fn units_of(bytes: u64) -> u64

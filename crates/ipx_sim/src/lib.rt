@@ -28,6 +28,6 @@ pub use line::Line;
 pub use lines::refused_to_line;
 pub use map::{Map, Spot};
 pub use reading::read_line;
-pub use sim::do_sim;
-pub use summing::summary;
+pub use sim::{do_sim, tell_too_long};
+pub use summing::{summary, write_counts, write_standing};
 pub use words::state_word;

@@ -7,13 +7,10 @@ ghost use Rattle.ipx_sim.specs.Script.{IsTooLong, too_long_line};
 use crate::halt::Halt;
 use crate::layout::Layout;
 use crate::simulation::Simulation;
-use ipx_commands::{InputFault, read_up_to, tell_no_memory, write_lines};
+use ipx_commands::{InputFault, MOST_INPUT, read_up_to, tell_no_memory, write_lines};
 use ipx_wire::OutOfMemory;
 use std::alloc::Global;
 use std::io::{Read, Write};
-
-/// The longest script, in bytes.
-const MOST: usize = 1_000_000;
 
 /// One more than the most lines that such a script has, which count from 1.
 const LINES_END: u32 = 1_000_002;
@@ -110,7 +107,9 @@ fn too_long(alloc: Global) -> Result<(String, u8), OutOfMemory>
     Ok((String::from_str(alloc, "line 0 bad\n")?, 2))
 }
 
-fn tell_too_long<W: Write>(alloc: Global, writer: &mut W) -> Result<u8, u8>
+/// Writes the line of a script that is too long, and answers its status. `Err` is the status 1 of a
+/// write fault or of want of memory.
+pub fn tell_too_long<W: Write>(alloc: Global, writer: &mut W) -> Result<u8, u8>
     ensures written { IfOk result (λ status. (status ≡ 2)
         × Appends (W.contents writer.old) (W.contents writer.new) too_long_line) }
     ensures fault { IfErr result (λ status. status ≡ 1) }
@@ -131,12 +130,12 @@ pub fn do_sim<R: Read, W: Write>(alloc: Global, reader: &mut R, writer: &mut W) 
         → (status ≡ 2) × Appends (W.contents writer.old) (W.contents writer.new) too_long_line)) }
     ensures fault { IfErr result (λ status. status ≡ 1) }
 {
-    let input = match read_up_to(alloc, reader, MOST + 1) {
+    let input = match read_up_to(alloc, reader, MOST_INPUT + 1) {
         Ok(input) => input,
         Err(InputFault::Read) => return Err(1),
         Err(InputFault::Memory) => return Err(tell_no_memory(writer)),
     };
-    if input.len() > MOST {
+    if input.len() > MOST_INPUT {
         return tell_too_long(alloc, writer);
     }
     run_script(alloc, &input, writer)

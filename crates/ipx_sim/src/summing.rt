@@ -23,8 +23,9 @@ fn name_of(names: &[String], host: usize) -> &str
     }
 }
 
-/// An end, its host and its state.
-fn write_standing<W: Write>(
+/// Writes an end, its host and its state, as the line of an end begins. The names are those of the
+/// hosts, in order.
+pub fn write_standing<W: Write>(
     writer: &mut W,
     names: &[String],
     who: usize,
@@ -47,8 +48,8 @@ fn digits_of(number: u16) -> [u8; 4]
     digits
 }
 
-/// How many messages went in and out of an end, and its next number.
-fn write_counts<W: Write>(writer: &mut W, info: EndInfo) -> Written<()>
+/// Writes how many messages went in and out of an end, and its next number, as its line goes on.
+pub fn write_counts<W: Write>(writer: &mut W, info: EndInfo) -> Written<()>
     ensures { OnOk result (Appends (W.contents writer.old) (W.contents writer.new)
         (counts_text info)) }
 {

@@ -2,6 +2,7 @@
 use Rattle.std.specs.Prelude.{◌≡◌, ◌⊎◌, ℕ, List, None, Some}
 use Rattle.toml.specs.Data.{Members}
 use Rattle.toml.specs.Parse.{parse_document}
+use Rattle.ipx_carrier.specs.Mapping.{usual_port}
 use Rattle.ipx_site.specs.declared.fault.FileFault.{FileFault}
 use Rattle.ipx_site.specs.declared.key.Key.TheVariants as Key
 use Rattle.ipx_site.specs.declared.host.HostFile.{HostFile}
@@ -16,7 +17,7 @@ pub record IsHost (ms : Members) (h : HostFile) : Type 0 where
   pub network : Holds IsNetwork Key.Network ms h.network
   pub address : Holds IsAddress Key.Address ms h.address
   pub router : Holds IsAddress Key.Router ms h.router
-  pub udp_port : HoldsOr (IsCount 65535) Key.UdpPort ms 213 h.udp_port
+  pub udp_port : HoldsOr (IsCount 65535) Key.UdpPort ms usual_port h.udp_port
   pub socket : Holds IsSocket Key.Socket ms h.socket
   pub buffers : HoldsOr (IsCount 8192) Key.Buffers ms 64 h.buffers
   pub from : HoldsIf AreOrigins Key.From ms h.from

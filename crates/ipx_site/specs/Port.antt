@@ -1,6 +1,7 @@
 -- A port of a router in its file: a table `[[port]]`. All of it is own.
 use Rattle.std.specs.Prelude.{◌≡◌, ◌⊎◌, ℕ, None}
 use Rattle.toml.specs.Data.{Members}
+use Rattle.ipx_carrier.specs.Mapping.{usual_port}
 use Rattle.ipx_site.specs.declared.fault.FileFault.{FileFault}
 use Rattle.ipx_site.specs.declared.key.Key.TheVariants as Key
 use Rattle.ipx_site.specs.declared.site.Accept.TheVariants as Accept
@@ -14,7 +15,7 @@ pub record IsPort (ms : Members) (p : SitePort) : Type 0 where
   pub known : first_unknown port_keys ms ≡ None
   pub network : Holds IsNetwork Key.Network ms p.network
   pub address : Holds IsAddress Key.Address ms p.address
-  pub udp_port : HoldsOr (IsCount 65535) Key.UdpPort ms 213 p.udp_port
+  pub udp_port : HoldsOr (IsCount 65535) Key.UdpPort ms usual_port p.udp_port
   pub cost : HoldsOr (IsCount 65535) Key.Cost ms 1 p.cost
   pub peers : Holds ArePeers Key.Peers ms p.peers
   pub accept : HoldsOr IsAccept Key.Accept ms Accept.Peers p.accept

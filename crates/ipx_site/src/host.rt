@@ -9,6 +9,7 @@ use crate::fields::{address_in, count_in, network_in, origins_in, refuse_unknown
 use crate::key::Key;
 use crate::origin::Origin;
 use crate::toml_text::table_of;
+use ipx_carrier::UDP_PORT;
 use ipx_wire::{Network, Socket};
 use std::alloc::Global;
 use toml::Table;
@@ -52,7 +53,7 @@ fn host_of(alloc: Global, table: &Table) -> Result<HostFile, FileFault>
     let network = network_in(table, 0)?;
     let address = address_in(table, 0, Key::Address)?;
     let router = address_in(table, 0, Key::Router)?;
-    let udp_port = count_in(table, 0, Key::UdpPort, 65535, 213)?;
+    let udp_port = count_in(table, 0, Key::UdpPort, 65535, UDP_PORT)?;
     let socket = socket_in(table, 0)?;
     let buffers = count_in(table, 0, Key::Buffers, 8192, 64)?;
     let from = origins_in(alloc, table, 0, Key::From)?;

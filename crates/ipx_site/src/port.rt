@@ -8,6 +8,7 @@ use crate::fault::FileFault;
 use crate::fields::{accept_in, address_in, count_in, network_in, peers_in, refuse_unknown};
 use crate::key::Key;
 use crate::site::SitePort;
+use ipx_carrier::UDP_PORT;
 use std::alloc::Global;
 use toml::Table;
 
@@ -30,7 +31,7 @@ pub fn port_of(alloc: Global, table: &Table, number: usize) -> Result<SitePort, 
     refuse_unknown(alloc, table, number, &KEYS)?;
     let network = network_in(table, number)?;
     let address = address_in(table, number, Key::Address)?;
-    let udp_port = count_in(table, number, Key::UdpPort, 65535, 213)?;
+    let udp_port = count_in(table, number, Key::UdpPort, 65535, UDP_PORT)?;
     let cost = count_in(table, number, Key::Cost, 65535, 1)?;
     let peers = peers_in(alloc, table, number)?;
     let accept = accept_in(table, number)?;

@@ -26,37 +26,13 @@ use thiserror::Error;
 #[derive(Clone, Copy, Debug, PartialEq, Eq, Error)]
 enum RouteFault {
     #[error("out of memory")]
-    OutOfMemory,
+    OutOfMemory(#[from] AllocError),
     #[error("{0}")]
-    Bind(BindFault),
+    Bind(#[from] BindFault),
     #[error("{0}")]
-    Wait(WaitFault),
+    Wait(#[from] WaitFault),
     #[error("{0}")]
-    New(NewFault),
-}
-
-impl From<AllocError> for RouteFault {
-    fn from(_error: AllocError) -> RouteFault {
-        RouteFault::OutOfMemory
-    }
-}
-
-impl From<BindFault> for RouteFault {
-    fn from(fault: BindFault) -> RouteFault {
-        RouteFault::Bind(fault)
-    }
-}
-
-impl From<WaitFault> for RouteFault {
-    fn from(fault: WaitFault) -> RouteFault {
-        RouteFault::Wait(fault)
-    }
-}
-
-impl From<NewFault> for RouteFault {
-    fn from(fault: NewFault) -> RouteFault {
-        RouteFault::New(fault)
-    }
+    New(#[from] NewFault),
 }
 
 /// The router's port of a port of the file.

@@ -2,6 +2,7 @@
 use Rattle.std.specs.Prelude.{◌≡◌, ◌≤◌, ℕ, false, true, ◌⊎◌, List, [], ◌∷◌, ◌++◌, Option, MatchOption, codes, nat_eq}
 use Rattle.std.specs.List.{starts_with}
 use Rattle.std.specs.Str.Parse.{IsNumeral, digits_value, without_leading_plus}
+use Rattle.ipx_carrier.specs.Mapping.{usual_port}
 use Rattle.ipx_tool.specs.declared.words.Task.{Task}
 use Rattle.ipx_tool.specs.declared.words.Task.TheVariants.{Hop, Show, Check, Sim, Udp, Route, Listen, Send}
 
@@ -15,7 +16,7 @@ IsPort text port = IsNumeral 10 (without_leading_plus text)
     × (digits_value 10 (without_leading_plus text) ≡ port) × (1 ≤ port) × (port ≤ 65535)
 
 -- the words behind the program's own name ask for this command. `udp` stands alone, and the port is
--- 213 then, or before `--port` and a text that writes the port, in two words or joined by `=`. `listen`
+-- the usual one then, or before `--port` and a text that writes the port, in two words or joined by `=`. `listen`
 -- has `--once` before or behind its file, or not at all. A packet, a file and the three words of a
 -- target are no options
 abbrev pub AsksFor : List (List ℕ) → Task → Type 0
@@ -23,7 +24,7 @@ AsksFor words Hop = words ≡ codes "hop" ∷ []
 AsksFor words (Show packet) = (words ≡ codes "show" ∷ packet.now ∷ []) × IsPlain packet.now
 AsksFor words Check = words ≡ codes "check" ∷ []
 AsksFor words Sim = words ≡ codes "sim" ∷ []
-AsksFor words (Udp port) = ((words ≡ codes "udp" ∷ []) × (port ≡ 213))
+AsksFor words (Udp port) = ((words ≡ codes "udp" ∷ []) × (port ≡ usual_port))
     ⊎ ((text : List ℕ) × IsPort text port
     × ((words ≡ codes "udp" ∷ codes "--port" ∷ text ∷ []) ⊎ (words ≡ codes "udp" ∷ (codes "--port=" ++ text) ∷ [])))
 AsksFor words (Route file) = (words ≡ codes "route" ∷ file.now ∷ []) × IsPlain file.now

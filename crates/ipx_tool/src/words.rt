@@ -7,6 +7,7 @@ ghost use Rattle.ipx_tool.specs.Words.{AskForOne, AsksFor, Finds, IsPlain, IsPor
 use crate::help::whole_command;
 use clap::Error;
 use clap::error::ErrorKind;
+use ipx_carrier::UDP_PORT;
 use ipx_ends::Target;
 use std::alloc::Global;
 
@@ -25,9 +26,6 @@ pub enum Task<'a> {
     /// The file of the host, and whom it dials.
     Send(&'a str, Target<'a>),
 }
-
-/// The UDP port of IPX (RFC 1234).
-const IPX_PORT: u16 = 213;
 
 /// The command that the words ask for, the program's own name first: just `hop`, `check`, `sim` or
 /// `udp`; `show`, `route` or `listen` and one word that is no option; `listen` and such a word with
@@ -61,7 +59,7 @@ fn plain_task(command: &str) -> Option<Task<'_>>
         "hop" => Some(Task::Hop),
         "check" => Some(Task::Check),
         "sim" => Some(Task::Sim),
-        "udp" => Some(Task::Udp(IPX_PORT)),
+        "udp" => Some(Task::Udp(UDP_PORT)),
         _ => None,
     }
 }

@@ -13,18 +13,15 @@ use crate::mapped::is_mapped;
 use crate::site::Site;
 use crate::stop::Stop;
 use crate::summing::write_ends;
-use ipx_commands::{InputFault, read_up_to, tell_no_memory, write_lines};
+use ipx_commands::{InputFault, MOST_INPUT, read_up_to, tell_no_memory, write_lines};
 use ipx_net::Event;
-use ipx_sim::{Layout, Line, Map, fields_of, is_blank, read_line, refused_to_line};
+use ipx_sim::{Layout, Line, Map, fields_of, is_blank, read_line, refused_to_line, tell_too_long};
 use ipx_wire::OutOfMemory;
 use log::{Log, warn};
 use spx_messages::EndFault;
 use std::alloc::Global;
 use std::io::{Read, Write};
 use std::net::Net;
-
-/// The longest script, in bytes.
-const MOST: usize = 1_000_000;
 
 /// One more than the most lines that such a script has, which count from 1.
 const LINES_END: u32 = 1_000_002;
@@ -256,20 +253,6 @@ fn run_script<R: Net + Log, W: Write>(
     }
 }
 
-fn too_long(alloc: Global) -> Result<(String, u8), OutOfMemory>
-    ensures { IfOk result (λ l. (string_bytes l.0 ≡ too_long_line) × (l.1 ≡ 2)) }
-{
-    Ok((String::from_str(alloc, "line 0 bad\n")?, 2))
-}
-
-fn tell_too_long<W: Write>(alloc: Global, writer: &mut W) -> Result<u8, u8>
-    ensures written { IfOk result (λ status. (status ≡ 2)
-        × Appends (W.contents writer.old) (W.contents writer.new) too_long_line) }
-    ensures fault { IfErr result (λ status. status ≡ 1) }
-{
-    write_lines(writer, too_long(alloc))
-}
-
 /// The command `udp`: reads a script of at most 1,000,000 bytes, binds a socket of the loopback for
 /// each node that it lays out, and runs line by line: `dial`, `send`, `fill`, `close` and `pump`.
 /// A line for each end follows the last one.
@@ -291,12 +274,12 @@ pub fn do_udp<R: Net + Log, I: Read, W: Write>(
         → (status ≡ 2) × Appends (W.contents writer.old) (W.contents writer.new) too_long_line)) }
     ensures fault { IfErr result (λ status. status ≡ 1) }
 {
-    let input = match read_up_to(alloc, reader, MOST + 1) {
+    let input = match read_up_to(alloc, reader, MOST_INPUT + 1) {
         Ok(input) => input,
         Err(InputFault::Read) => return Err(1),
         Err(InputFault::Memory) => return Err(tell_no_memory(writer)),
     };
-    if input.len() > MOST {
+    if input.len() > MOST_INPUT {
         return tell_too_long(alloc, writer);
     }
     run_script(rt, alloc, &input, writer, port)
