@@ -18,6 +18,7 @@ use Rattle.ipx_ends.specs.Outlet.{Writes}
 use Rattle.ipx_ends.specs.Tending.{Does, IsFateOf, JustStays, Tends}
 use Rattle.ipx_ends.specs.declared.end_core.EndCore.{EndCore}
 use Rattle.ipx_ends.specs.Stop.{parted}
+use Rattle.ipx_ends.specs.declared.listening.Stop.{Stop}
 use Rattle.ipx_ends.specs.declared.listening.Stop.TheVariants as Stops
 use Rattle.ipx_ends.specs.Fate.{IsFate, ends, is_unheard, standing_asked, standing_heard}
 use Rattle.ipx_ends.specs.Passing.{PassesEach, PassesFrom, PassesOne, PassesSome, held_after, standing_after, standing_with}
@@ -442,6 +443,12 @@ tended_on true core new cs cs' left place is within keeps tends alone =
     let at = there_is cs place within in
     let here : Tends true core at.0 place new cs cs' None = subst (λ (o : Option Caller). IfSome o (λ c. Tends true core c place new cs cs' None)) at.1 tends in
     tended_in core new cs cs' place at.0 within at.1 keeps.0 here alone
+
+-- what an error was that was passed on
+pub stop_is : {T : Type 0} (r : Result T Stop) (y s stop : Stop) → r ≡ Err y → y ≡ s → r ≡ Err stop → s ≡ stop
+stop_is r y s stop at same e =
+    let all : Err y ≡ Err stop = sym at ∙ e in
+    (cc)
 
 -- and where all ends well, it was
 done_ends : (now : ℕ) (c : Caller) (place : ℕ) (fate : Fate) (old new : EndpointView) (cs cs' : List Caller) → Does true now c place fate old new cs cs' (Some Stops.Ended) → c.standing ≡ Standings.Ended
