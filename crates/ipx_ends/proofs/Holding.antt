@@ -13,7 +13,7 @@ use Rattle.spx_link.specs.declared.state.State.{State}
 use Rattle.spx_messages.specs.EndpointView.{EndpointView, Held, held_at}
 use Rattle.spx_messages.specs.Taking.{TakenView, Nothing, Part, PeerEnd, Whole, take_end}
 use Rattle.spx_messages.specs.declared.fault.EndFault.{EndFault}
-use Rattle.ipx_ends.specs.Callers.{Admits, Asks as IsAsked, EndedAlone, KeepsHeard, KeepsOne, LetsLinkGo, LetsLinksGo, MakesRoom, heard_by, is_ended, is_heard, is_overdue, once_heard}
+use Rattle.ipx_ends.specs.Callers.{Admits, Asks as IsAsked, EndedAlone, KeepsHeard, KeepsOne, LetsLinkGo, LetsLinksGo, MakesRoom, heard_by, is_ended, has_spoken, is_overdue, once_heard}
 use Rattle.ipx_ends.specs.Outlet.{Writes}
 use Rattle.ipx_ends.specs.Tending.{Does, IsFateOf, JustStays, Tends}
 use Rattle.ipx_ends.specs.declared.end_core.EndCore.{EndCore}
@@ -96,17 +96,17 @@ from_heard (Some h) after x y a b c c' heard p =
 
 -- what passes from a connection leaves whether it was heard
 one_heard : (old new : EndpointView) (x y : List ℕ) (a b : Option (List ℕ)) (c c' : Caller) → (is_unheard c.standing ≡ true) ⊎ (is_unheard c.standing ≡ false)
-    → PassesOne old new x y a b c c' → is_heard c' ≡ is_heard c
-one_heard old new x y a b c c' (inl is) p = ap is_heard (p.unheard is).1
+    → PassesOne old new x y a b c c' → has_spoken c' ≡ has_spoken c
+one_heard old new x y a b c c' (inl is) p = ap has_spoken (p.unheard is).1
 one_heard old new x y a b c c' (inr is) p =
     ap not (from_heard (held_at old c.id) (held_at new c.id) x y a b c c' is p.from ∙ sym is)
 
-each_heard : (old new : EndpointView) (x y : List ℕ) (a b : Option (List ℕ)) (cs cs' : List Caller) → PassesEach old new x y a b cs cs' → list_any is_heard cs' ≡ list_any is_heard cs
-each_heard old new x y a b [] cs' p = ap (list_any is_heard) p.0
+each_heard : (old new : EndpointView) (x y : List ℕ) (a b : Option (List ℕ)) (cs cs' : List Caller) → PassesEach old new x y a b cs cs' → list_any has_spoken cs' ≡ list_any has_spoken cs
+each_heard old new x y a b [] cs' p = ap (list_any has_spoken) p.0
 each_heard old new x y a b (c ∷ cs) cs' p =
-    ap (list_any is_heard) p.5
-    ∙ (ap (λ k. k || list_any is_heard p.4) (one_heard old p.0 x p.1 a p.2 c p.3 (either (is_unheard c.standing)) p.6)
-    ∙ ap (λ k. is_heard c || k) (each_heard p.0 new p.1 y p.2 b cs p.4 p.7))
+    ap (list_any has_spoken) p.5
+    ∙ (ap (λ k. k || list_any has_spoken p.4) (one_heard old p.0 x p.1 a p.2 c p.3 (either (is_unheard c.standing)) p.6)
+    ∙ ap (λ k. has_spoken c || k) (each_heard p.0 new p.1 y p.2 b cs p.4 p.7))
 
 each_length : (old new : EndpointView) (x y : List ℕ) (a b : Option (List ℕ)) (cs cs' : List Caller) → PassesEach old new x y a b cs cs' → length cs' ≡ length cs
 each_length old new x y a b [] cs' p = ap length p.0
@@ -138,11 +138,11 @@ or_right true y e = refl
 or_right false y e = e
 
 -- where the end of one was taken, one was heard
-any_ended : (cs : List Caller) → list_any is_ended cs ≡ true → list_any is_heard cs ≡ true
+any_ended : (cs : List Caller) → list_any is_ended cs ≡ true → list_any has_spoken cs ≡ true
 any_ended [] e = absurd (cc)
 any_ended (c ∷ cs) e = elim (or_true (is_ended c) (list_any is_ended cs) e) [
-  | inl here ↦ or_left (is_heard c) (list_any is_heard cs) (ap not (ended_is_heard c.standing here))
-  | inr there ↦ or_right (is_heard c) (list_any is_heard cs) (any_ended cs there)
+  | inl here ↦ or_left (has_spoken c) (list_any has_spoken cs) (ap not (ended_is_heard c.standing here))
+  | inr there ↦ or_right (has_spoken c) (list_any has_spoken cs) (any_ended cs there)
 ]
 
 -- of one connection alone
@@ -156,8 +156,8 @@ alone_ends old new x y a b c first' rest none before p ended =
     last.2 ∙ p.6.behind (λ e. before (ap (λ (s : Standing). ends s || false) e)) here
 
 some_ends : (old new : EndpointView) (x y : List ℕ) (a b : Option (List ℕ)) (first first' rest : List Caller)
-    → (list_any is_ended (first ++ rest) ≡ true → x ≡ []) → (list_any is_heard (first ++ rest) ≡ true → length (first ++ rest) ≡ 1)
-    → PassesEach old new x y a b first first' → list_any is_heard (first' ++ rest) ≡ list_any is_heard (first ++ rest)
+    → (list_any is_ended (first ++ rest) ≡ true → x ≡ []) → (list_any has_spoken (first ++ rest) ≡ true → length (first ++ rest) ≡ 1)
+    → PassesEach old new x y a b first first' → list_any has_spoken (first' ++ rest) ≡ list_any has_spoken (first ++ rest)
     → list_any is_ended (first' ++ rest) ≡ true → y ≡ []
 some_ends old new x y a b [] first' rest before one p same ended =
     p.2 ∙ before (subst (λ (l : List Caller). list_any is_ended (l ++ rest) ≡ true) p.0 ended)
@@ -172,8 +172,8 @@ pub keeps_some : (once : Bool) (old new : EndpointView) (x y : List ℕ) (a b : 
 keeps_some false old new x y a b first first' rest keeps p = tt
 keeps_some true old new x y a b first first' rest keeps p =
     let k = keeps in
-    let same : list_any is_heard (first' ++ rest) ≡ list_any is_heard (first ++ rest) =
-    list_any-append is_heard first' rest ∙ (ap (λ b. b || list_any is_heard rest) (each_heard old new x y a b first first' p) ∙ sym (list_any-append is_heard first rest)) in
+    let same : list_any has_spoken (first' ++ rest) ≡ list_any has_spoken (first ++ rest) =
+    list_any-append has_spoken first' rest ∙ (ap (λ b. b || list_any has_spoken rest) (each_heard old new x y a b first first' p) ∙ sym (list_any-append has_spoken first rest)) in
     let size : length (first' ++ rest) ≡ length (first ++ rest) =
     length-append first' rest ∙ (ap (λ n. n + length rest) (each_length old new x y a b first first' p) ∙ sym (length-append first rest)) in (
       λ heard. size ∙ k.0 (sym same ∙ heard),
@@ -190,7 +190,7 @@ keeps_each once old new x y a b cs cs' keeps p =
 pub keeps_none : (once : Bool) (cs : List Caller) (left : List ℕ) → cs ≡ [] → KeepsOne once cs left
 keeps_none false cs left e = tt
 keeps_none true cs left e = (
-  λ heard. let no : false ≡ true = sym (ap (list_any is_heard) e) ∙ heard in absurd (cc),
+  λ heard. let no : false ≡ true = sym (ap (list_any has_spoken) e) ∙ heard in absurd (cc),
   λ ended. let no : false ≡ true = sym (ap (list_any is_ended) e) ∙ ended in absurd (cc),
 )
 
@@ -204,13 +204,13 @@ or_false true = refl
 or_false false = refl
 
 -- one more comes, which was not heard, where none was
-pub keeps_push : (once : Bool) (cs : List Caller) (left : List ℕ) (c : Caller) → (IsTrue once → list_any is_heard cs ≡ false) → c.standing ≡ Standings.Called
+pub keeps_push : (once : Bool) (cs : List Caller) (left : List ℕ) (c : Caller) → (IsTrue once → list_any has_spoken cs ≡ false) → c.standing ≡ Standings.Called
     → KeepsOne once cs left → KeepsOne once (cs ++ c ∷ []) left
 keeps_push false cs left c only called keeps = tt
 keeps_push true cs left c only called keeps =
-    let unheard : list_any is_heard (c ∷ []) ≡ false = ap (λ (s : Standing). not (is_unheard s) || false) called in
+    let unheard : list_any has_spoken (c ∷ []) ≡ false = ap (λ (s : Standing). not (is_unheard s) || false) called in
     let unended : list_any is_ended (c ∷ []) ≡ false = ap (λ (s : Standing). ends s || false) called in (
-      λ heard. let no : false ≡ true = sym (ap (λ x. x || list_any is_heard (c ∷ [])) (only refl) ∙ unheard) ∙ (sym (list_any-append is_heard cs (c ∷ [])) ∙ heard) in absurd (cc),
+      λ heard. let no : false ≡ true = sym (ap (λ x. x || list_any has_spoken (c ∷ [])) (only refl) ∙ unheard) ∙ (sym (list_any-append has_spoken cs (c ∷ [])) ∙ heard) in absurd (cc),
       λ ended. keeps.1 (sym (or_false (list_any is_ended cs)) ∙ (sym (ap (λ y. list_any is_ended cs || y) unended) ∙ (sym (list_any-append is_ended cs (c ∷ [])) ∙ ended))),
     )
 
@@ -234,8 +234,8 @@ pub keeps_removed : (once : Bool) (cs : List Caller) (left : List ℕ) (place : 
 keeps_removed false cs left place within keeps = tt
 keeps_removed true cs left place within keeps = (
   λ heard.
-      let none = removed_none cs place within (keeps.0 (any_removed is_heard cs place heard)) in
-      let no : false ≡ true = sym (ap (list_any is_heard) none) ∙ heard in absurd (cc),
+      let none = removed_none cs place within (keeps.0 (any_removed has_spoken cs place heard)) in
+      let no : false ≡ true = sym (ap (list_any has_spoken) none) ∙ heard in absurd (cc),
   λ ended. keeps.1 (any_removed is_ended cs place ended),
 )
 
@@ -264,7 +264,7 @@ pub keeps_set : (once : Bool) (cs : List Caller) (left : List ℕ) (place : ℕ)
     → KeepsOne once cs left → KeepsOne once (set cs place c') left
 keeps_set false cs left place c' d within unheard ended keeps = tt
 keeps_set true cs left place c' d within unheard ended keeps = (
-  λ heard. length-set cs place c' ∙ keeps.0 (sym (any_set is_heard cs place c' d within (ap not unheard)) ∙ heard),
+  λ heard. length-set cs place c' ∙ keeps.0 (sym (any_set has_spoken cs place c' d within (ap not unheard)) ∙ heard),
   λ ends_now. keeps.1 (sym (any_set is_ended cs place c' d within ended) ∙ ends_now),
 )
 
@@ -303,21 +303,21 @@ any_heard_by id now (c ∷ cs) e = elim (or_true (is_ended (heard_by id now c)) 
   | inr there ↦ or_right (is_ended c) (list_any is_ended cs) (any_heard_by id now cs there)
 ]
 
-none_after : (b : Bool) (n : ℕ) (cs : List Caller) → cond b (Some n) (position_from is_heard (n + 1) cs) ≡ None
-    → (position_from is_heard (n + 1) cs ≡ None → list_any is_heard cs ≡ false) → (b || list_any is_heard cs) ≡ false
+none_after : (b : Bool) (n : ℕ) (cs : List Caller) → cond b (Some n) (position_from has_spoken (n + 1) cs) ≡ None
+    → (position_from has_spoken (n + 1) cs ≡ None → list_any has_spoken cs ≡ false) → (b || list_any has_spoken cs) ≡ false
 none_after true n cs e more = absurd (cc)
 none_after false n cs e more = more e
 
-none_heard : (cs : List Caller) (n : ℕ) → position_from is_heard n cs ≡ None → list_any is_heard cs ≡ false
+none_heard : (cs : List Caller) (n : ℕ) → position_from has_spoken n cs ≡ None → list_any has_spoken cs ≡ false
 none_heard [] n e = refl
-none_heard (c ∷ cs) n e = none_after (is_heard c) n cs e (none_heard cs (n + 1))
+none_heard (c ∷ cs) n e = none_after (has_spoken c) n cs e (none_heard cs (n + 1))
 
-kept_at : (there cs' : List Caller) (left : List ℕ) (place : ℕ) → position is_heard there ≡ Some place → (list_any is_ended there ≡ true → left ≡ [])
+kept_at : (there cs' : List Caller) (left : List ℕ) (place : ℕ) → position has_spoken there ≡ Some place → (list_any is_ended there ≡ true → left ≡ [])
     → IfSome (slice_get there place) (λ c. cs' ≡ c ∷ [])
-    → (list_any is_heard cs' ≡ true → length cs' ≡ 1) × (list_any is_ended cs' ≡ true → left ≡ [])
+    → (list_any has_spoken cs' ≡ true → length cs' ≡ 1) × (list_any is_ended cs' ≡ true → left ≡ [])
 kept_at [] cs' left place is before k = absurd (cc)
 kept_at (d ∷ ds) cs' left place is before k =
-    let within = (position-Some is_heard (d ∷ ds) place d is).0 in
+    let within = (position-Some has_spoken (d ∷ ds) place d is).0 in
     let at = slice_get-get_or (d ∷ ds) place d within in
     let only : cs' ≡ get_or (d ∷ ds) place d ∷ [] = subst (λ (o : Option Caller). IfSome o (λ c. cs' ≡ c ∷ [])) at k in (
       λ heard. ap length only,
@@ -326,11 +326,11 @@ kept_at (d ∷ ds) cs' left place is before k =
           before (any_at is_ended (d ∷ ds) place d within (sym (or_false (is_ended (get_or (d ∷ ds) place d))) ∙ some)),
     )
 
-kept : (there cs' : List Caller) (left : List ℕ) (old new : EndpointView) (found : Option ℕ) → position is_heard there ≡ found → (list_any is_ended there ≡ true → left ≡ [])
+kept : (there cs' : List Caller) (left : List ℕ) (old new : EndpointView) (found : Option ℕ) → position has_spoken there ≡ found → (list_any is_ended there ≡ true → left ≡ [])
     → MatchOption found ((cs' ≡ there) × (new ≡ old)) (λ place. IfSome (slice_get there place) (λ c. cs' ≡ c ∷ []) × LetsLinksGo (remove there place) old new)
-    → (list_any is_heard cs' ≡ true → length cs' ≡ 1) × (list_any is_ended cs' ≡ true → left ≡ [])
+    → (list_any has_spoken cs' ≡ true → length cs' ≡ 1) × (list_any is_ended cs' ≡ true → left ≡ [])
 kept there cs' left old new None is before k = (
-  λ heard. let no : false ≡ true = sym (none_heard there 0 (sym (position_from-zero is_heard there) ∙ is)) ∙ (sym (ap (list_any is_heard) k.0) ∙ heard) in absurd (cc),
+  λ heard. let no : false ≡ true = sym (none_heard there 0 (sym (position_from-zero has_spoken there) ∙ is)) ∙ (sym (ap (list_any has_spoken) k.0) ∙ heard) in absurd (cc),
   λ ended. before (sym (ap (list_any is_ended) k.0) ∙ ended),
 )
 kept there cs' left old new (Some place) is before k = kept_at there cs' left place is before k.0
@@ -339,7 +339,7 @@ kept there cs' left old new (Some place) is before k = kept_at there cs' left pl
 pub keeps_heard : (once : Bool) (cs cs' : List Caller) (left : List ℕ) (old new : EndpointView) (id now : ℕ) → KeepsOne once cs left → KeepsHeard once old new (map (heard_by id now) cs) cs' → KeepsOne once cs' left
 keeps_heard false cs cs' left old new id now keeps k = tt
 keeps_heard true cs cs' left old new id now keeps k =
-    kept (map (heard_by id now) cs) cs' left old new (position is_heard (map (heard_by id now) cs)) refl (λ ended. keeps.1 (any_heard_by id now cs ended)) k
+    kept (map (heard_by id now) cs) cs' left old new (position has_spoken (map (heard_by id now) cs)) refl (λ ended. keeps.1 (any_heard_by id now cs ended)) k
 
 -- one more was heard, or not
 pub heard_more : (f : Caller → Caller) (xs ys : List Caller) (i : ℕ) (d c' : Caller) → i < length ys → length ys ≡ length xs
@@ -409,23 +409,23 @@ done_alone now k c Asks old new cs' at does alone =
 done_alone now k c Over old new cs' at does alone = let no : [] ≡ alone.0 ∷ [] = sym does.1 ∙ alone.1 in absurd (cc)
 done_alone now k c GivenUp old new cs' at does alone = let no : [] ≡ alone.0 ∷ [] = sym does.1 ∙ alone.1 in absurd (cc)
 
-alone_is_heard : (cs' : List Caller) → EndedAlone cs' → list_any is_heard cs' ≡ true
+alone_is_heard : (cs' : List Caller) → EndedAlone cs' → list_any has_spoken cs' ≡ true
 alone_is_heard cs' alone =
     any_ended cs' (ap (list_any is_ended) alone.1 ∙ ap (λ (x : Standing). ends x || false) alone.2)
 
-done_among : (now : ℕ) (k j c : Caller) (ks : List Caller) (place : ℕ) (fate : Fate) (old new : EndpointView) (cs' : List Caller) → (list_any is_heard (k ∷ j ∷ ks) ≡ true → length (k ∷ j ∷ ks) ≡ 1)
+done_among : (now : ℕ) (k j c : Caller) (ks : List Caller) (place : ℕ) (fate : Fate) (old new : EndpointView) (cs' : List Caller) → (list_any has_spoken (k ∷ j ∷ ks) ≡ true → length (k ∷ j ∷ ks) ≡ 1)
     → Does true now c place fate old new (k ∷ j ∷ ks) cs' None → EndedAlone cs' → EndedAlone (k ∷ j ∷ ks)
 done_among now k j c ks place Stays old new cs' one does alone = subst EndedAlone does.1 alone
 done_among now k j c ks place Asks old new cs' one does alone =
     absurd (omega (arith, ap length does.2, ap length alone.1, length-set (k ∷ j ∷ ks) place does.0))
 done_among now k j c ks place Over old new cs' one does alone =
-    absurd (omega (arith, one (any_removed is_heard (k ∷ j ∷ ks) place (sym (ap (list_any is_heard) does.1) ∙ alone_is_heard cs' alone))))
+    absurd (omega (arith, one (any_removed has_spoken (k ∷ j ∷ ks) place (sym (ap (list_any has_spoken) does.1) ∙ alone_is_heard cs' alone))))
 done_among now k j c ks place GivenUp old new cs' one does alone =
-    absurd (omega (arith, one (any_removed is_heard (k ∷ j ∷ ks) place (sym (ap (list_any is_heard) does.1) ∙ alone_is_heard cs' alone))))
+    absurd (omega (arith, one (any_removed has_spoken (k ∷ j ∷ ks) place (sym (ap (list_any has_spoken) does.1) ∙ alone_is_heard cs' alone))))
 
 -- with `once`, where all goes on, the only connection is ended just where it was
 tended_in : (core : EndCore) (new : EndpointView) (cs cs' : List Caller) (place : ℕ) (c : Caller) → place < length cs → slice_get cs place ≡ Some c
-    → (list_any is_heard cs ≡ true → length cs ≡ 1) → Tends true core c place new cs cs' None → EndedAlone cs' → EndedAlone cs
+    → (list_any has_spoken cs ≡ true → length cs ≡ 1) → Tends true core c place new cs cs' None → EndedAlone cs' → EndedAlone cs
 tended_in core new [] cs' place c within at one tends alone = absurd (omega arith)
 tended_in core new (k ∷ []) cs' zero c within at one tends alone = done_alone core.moment k c tends.0 core.endpoint new cs' (same_some k c at) tends.2 alone
 tended_in core new (k ∷ []) cs' (suc n) c within at one tends alone = absurd (omega arith)
@@ -457,13 +457,13 @@ done_ends now c place Asks old new cs cs' does = let no : Some Stops.Ended ≡ N
 done_ends now c place Over old new cs cs' does = parted_ended Over c.standing does.2
 done_ends now c place GivenUp old new cs cs' does = parted_ended GivenUp c.standing does.2
 
-ends_alone : (cs : List Caller) (place : ℕ) (c : Caller) → place < length cs → slice_get cs place ≡ Some c → c.standing ≡ Standings.Ended → (list_any is_heard cs ≡ true → length cs ≡ 1) → EndedAlone cs
+ends_alone : (cs : List Caller) (place : ℕ) (c : Caller) → place < length cs → slice_get cs place ≡ Some c → c.standing ≡ Standings.Ended → (list_any has_spoken cs ≡ true → length cs ≡ 1) → EndedAlone cs
 ends_alone [] place c within at ended one = absurd (omega arith)
 ends_alone (k ∷ []) zero c within at ended one = (k, refl, ap (λ (x : Caller). x.standing) (same_some k c at) ∙ ended)
 ends_alone (k ∷ []) (suc n) c within at ended one = absurd (omega arith)
 ends_alone (k ∷ j ∷ ks) place c within at ended one =
     let here : get_or (k ∷ j ∷ ks) place k ≡ c = get_or_from_slice_get (k ∷ j ∷ ks) place c k at in
-    absurd (omega (arith, one (any_at is_heard (k ∷ j ∷ ks) place k within (ap is_heard here ∙ ap (λ (x : Standing). not (is_unheard x)) ended))))
+    absurd (omega (arith, one (any_at has_spoken (k ∷ j ∷ ks) place k within (ap has_spoken here ∙ ap (λ (x : Standing). not (is_unheard x)) ended))))
 
 pub tended_ends : (once : Bool) (core : EndCore) (new : EndpointView) (cs cs' : List Caller) (left : List ℕ) (place : ℕ) → IsTrue once → place < length cs → KeepsOne once cs left
     → IfSome (slice_get cs place) (λ c. Tends once core c place new cs cs' (Some Stops.Ended)) → EndedAlone cs
@@ -488,7 +488,7 @@ links_on items i c a b d within all one =
 pub keeps_admitted : (once : Bool) (cs cs' : List Caller) (left : List ℕ) (c : Caller) (old new : EndpointView) → c.standing ≡ Standings.Called → Admits once c old new cs cs' → KeepsOne once cs left → KeepsOne once cs' left
 keeps_admitted once cs cs' left c old new called (inl p) keeps =
     subst (λ (l : List Caller). KeepsOne once l left) (sym p.1)
-    (keeps_push once cs left c (λ is. elim (either (list_any is_heard cs)) [ inl some ↦ absurd (p.0 (inl (is, some))) | inr none ↦ none ]) called keeps)
+    (keeps_push once cs left c (λ is. elim (either (list_any has_spoken cs)) [ inl some ↦ absurd (p.0 (inl (is, some))) | inr none ↦ none ]) called keeps)
 keeps_admitted once cs cs' left c old new called (inr p) keeps = subst (λ (l : List Caller). KeepsOne once l left) (sym p.1) keeps
 
 room_kept : (once : Bool) (now : ℕ) (cs cs' : List Caller) (left : List ℕ) (old new : EndpointView) (found : Option ℕ) → position (is_overdue now) cs ≡ found → KeepsOne once cs left

@@ -40,8 +40,8 @@ pub record LetsLinkGo (old new : EndpointView) (id : ℕ) : Type 0 where
 abbrev pub is_same_node : Address → Address → Bool
 is_same_node a b = a.network.0 == b.network.0 && pointwise nat_eq a.node.0 b.node.0
 
-abbrev pub is_heard : Caller → Bool
-is_heard c = not (is_unheard c.standing)
+abbrev pub has_spoken : Caller → Bool
+has_spoken c = not (is_unheard c.standing)
 
 abbrev pub is_ended : Caller → Bool
 is_ended c = ends c.standing
@@ -53,7 +53,7 @@ is_unheard_of from c = is_unheard c.standing && is_same_node c.from from
 -- there is no place for one more from an address: with `once` one was heard; or 16 are held; or 4 of its
 -- node were not heard
 abbrev pub IsFull : Bool → Address → List Caller → Type 0
-IsFull once from callers = (IsTrue once × (list_any is_heard callers ≡ true)) ⊎ (16 ≤ length callers)
+IsFull once from callers = (IsTrue once × (list_any has_spoken callers ≡ true)) ⊎ (16 ≤ length callers)
     ⊎ (4 ≤ count_by (is_unheard_of from) callers)
 
 -- a connection comes: where there is a place it is the last one then, and else its link is let go
@@ -70,7 +70,7 @@ LetsLinksGo (c ∷ cs) old new = (mid : EndpointView) × LetsLinkGo old mid c.id
 -- with `once` the first connection that was heard, if one was, stays alone: the others go
 abbrev pub KeepsHeard : Bool → EndpointView → EndpointView → List Caller → List Caller → Type 0
 KeepsHeard false old new callers callers' = (callers' ≡ callers) × (new ≡ old)
-KeepsHeard true old new callers callers' = MatchOption (position is_heard callers)
+KeepsHeard true old new callers callers' = MatchOption (position has_spoken callers)
     ((callers' ≡ callers) × (new ≡ old))
     (λ place. IfSome (slice_get callers place) (λ c. callers' ≡ c ∷ [])
     × LetsLinksGo (remove callers place) old new)
@@ -114,7 +114,7 @@ Asks now old new c c' =
 -- write
 abbrev pub KeepsOne : Bool → List Caller → List ℕ → Type 0
 KeepsOne false callers left = Unit {0}
-KeepsOne true callers left = (list_any is_heard callers ≡ true → length callers ≡ 1)
+KeepsOne true callers left = (list_any has_spoken callers ≡ true → length callers ≡ 1)
     × (list_any is_ended callers ≡ true → left ≡ [])
 
 -- there is one connection, and its end was taken

@@ -3,7 +3,7 @@
 ghost use Rattle.std.specs.Prelude.{◌≡◌, ◌↔◌, Some, map};
 ghost use Rattle.spx_link.specs.declared.state.State.TheVariants as States;
 ghost use Rattle.ipx_ends.specs.Fate.{IsFate, IsOver, IsToAsk, is_unheard, standing_asked, standing_heard};
-ghost use Rattle.ipx_ends.specs.Callers.{heard_by, is_heard, is_overdue, is_unheard_of};
+ghost use Rattle.ipx_ends.specs.Callers.{heard_by, has_spoken, is_overdue, is_unheard_of};
 ghost use Rattle.ipx_ends.specs.declared.callers.Fate.TheVariants as Fates;
 
 use ipx_wire::Address;
@@ -82,7 +82,7 @@ impl Caller {
 
     /// Whether something was heard of it.
     pub fn is_heard(&self) -> bool
-        ensures { result ≡ is_heard self.now }
+        ensures { result ≡ has_spoken self.now }
     {
         !self.standing.is_unheard()
     }

@@ -2,7 +2,7 @@
 
 ghost use Rattle.std.specs.Prelude.{◌≡◌, ◌↔◌, ◌<◌, ◌≤◌, true, count_by, length, map, position, vec_capacity, IfSome, IsTrue};
 ghost use Rattle.std.specs.List.{list_any};
-ghost use Rattle.ipx_ends.specs.Callers.{Admits, Asks, IsFull, KeepsHeard, LetsLinkGo, LetsLinksGo, MakesRoom, heard_by, is_heard, is_overdue, is_unheard_of};
+ghost use Rattle.ipx_ends.specs.Callers.{Admits, Asks, IsFull, KeepsHeard, LetsLinkGo, LetsLinksGo, MakesRoom, heard_by, has_spoken, is_overdue, is_unheard_of};
 
 use crate::callers::{Caller, hear_one};
 use ipx_wire::Address;
@@ -33,7 +33,7 @@ fn let_links_go(endpoint: &mut Endpoint, callers: &[Caller])
 
 /// Whether a connection was heard.
 fn is_any_heard(callers: &[Caller]) -> bool
-    ensures { result ≡ list_any is_heard callers.now }
+    ensures { result ≡ list_any has_spoken callers.now }
 {
     callers.iter().any(|caller| caller.is_heard())
 }
@@ -73,7 +73,7 @@ pub fn hold(once: bool, endpoint: &mut Endpoint, callers: &mut Vec<Caller>, call
 
 /// The place of the first connection that was heard.
 fn place_of_heard(callers: &[Caller]) -> Option<usize>
-    ensures place { result ≡ position is_heard callers.now }
+    ensures place { result ≡ position has_spoken callers.now }
     ensures there { IfSome result (λ place. place < length callers.now) }
 {
     callers.iter().position(|caller| caller.is_heard())
