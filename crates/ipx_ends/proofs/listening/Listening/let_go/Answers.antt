@@ -1,9 +1,8 @@
-use Rattle.std.proofs.Common.{◌≡◌, List, Option, Some, arith, length, refl, subst, sym}
+use Rattle.std.proofs.Common.{◌≡◌, List, Some, arith, length, refl, subst, sym}
 use Rattle.std.proofs.lemmas.Option.{slice_get_read}
-use Rattle.std.specs.Prelude.{IfSome, slice_get}
-use Rattle.ipx_ends.specs.Callers.{KeepsOne, LetsLinkGo}
+use Rattle.std.specs.Prelude.{slice_get}
+use Rattle.ipx_ends.specs.Callers.{KeepsOne}
 use Rattle.ipx_ends.specs.Outlet.{left_of}
-use Rattle.ipx_ends.specs.Stop.{parted, stop_in}
 use Rattle.ipx_ends.specs.declared.callers.Caller.{Caller}
 use Rattle.ipx_ends.proofs.Holding.{keeps_removed}
 use Rattle.ipx_ends.proofs.listening.Listening.let_go.Goals as goal
