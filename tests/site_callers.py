@@ -1,7 +1,10 @@
 """Who may connect to a listener, and who keeps a place there, for tests/sites."""
 import re
+import struct
+import time
 
-from site_world import node, some_bytes
+from site_packets import ipx
+from site_world import bound, node, some_bytes, until
 
 # A listener and a sender on a network without a router; the last listener is asked by somebody who is not named.
 NETWORK = "00000044"
@@ -9,7 +12,11 @@ FROM = {"by-node": ("127.0.1.130", "127.0.1.131"), "by-network": ("127.0.1.132",
         "by-nobody": ("127.0.1.134", "127.0.1.135")}
 NAMED = {"by-node": [f"{NETWORK} {node('127.0.1.131')}", "00000045"], "by-network": ["00000045", NETWORK],
          "by-nobody": ["00000045", f"{NETWORK} {node('127.0.1.134')}"]}
-CALLING = [address for pair in FROM.values() for address in pair]
+# Listeners that are called by some who never speak: one that takes one connection, and one whose places are
+# all taken; a third one's sender joins, and writes nothing for a while.
+ONCE, CROWDED, QUIET = (("127.0.1.136", "127.0.1.137"), ("127.0.1.138", "127.0.1.139"), ("127.0.1.140", "127.0.1.141"))
+SILENT, ASKING = [f"127.0.1.{number}" for number in range(142, 146)], "127.0.1.146"
+CALLING = [address for pair in [*FROM.values(), ONCE, CROWDED, QUIET] for address in pair] + SILENT + [ASKING]
 BARRED = r"\[WARN  ipx\] \d+ requests came from nobody who may connect \(\d+ since the start\)"
 
 
@@ -37,3 +44,68 @@ def check_from(sites, ends):
     told = [line for line in barred.said() if re.fullmatch(BARRED, line)]
     sites.check("and is counted", len(told) == 1 and not barred.out, str(barred.said()[-2:]))
     barred.end()
+
+
+def call(one, ip, listener, port, number):
+    """A request for a connection, from a node that says nothing more."""
+    header = struct.pack(">BBHHHHH", 0xc0, 0, number, 0xffff, 0, 0, 7)
+    one.sendto(ipx(5, (NETWORK, node(listener), "4002"), (NETWORK, node(ip), "4003"), header), (listener, port))
+
+
+def comes(one):
+    """Whether anything came."""
+    try:
+        return bool(one.recv(2048))
+    except BlockingIOError:
+        return False
+
+
+def ask(ip, listener, port):
+    """Asks for a connection each half second, as a sender does: how many seconds it takes until it is answered.
+    How long a process takes to start is left out so."""
+    one, began = bound(ip, port), time.monotonic()
+    while time.monotonic() < began + 5:
+        call(one, ip, listener, port, 99)
+        if until(lambda: comes(one), 0.5):
+            break
+    one.close()
+    return time.monotonic() - began
+
+
+def start_silent(sites):
+    """Listeners that are called by some who never speak, and then by a true sender."""
+    for name, (listener, sender) in {"once": ONCE, "crowded": CROWDED, "quiet": QUIET}.items():
+        sites.host(f"{name}-listener", NETWORK, listener, "127.0.1.89", "4002")
+        sites.host(f"{name}-sender", NETWORK, sender, "127.0.1.89", "4003")
+    data, ends = some_bytes(sites.seed + 10, 20_000), [(bound(ip, sites.port), ip) for ip in SILENT]
+    quiet = sites.start_listener("--once", name="quiet-listener")
+    waits = sites.start_sender("quiet-sender", [10.0, data], NETWORK, QUIET[0])
+    once = sites.start_listener("--once", name="once-listener")
+    crowded = sites.start_listener(name="crowded-listener")
+    until(lambda: once.said() and crowded.said(), 5)
+    for number in range(1, 101):
+        call(*ends[number % 4], ONCE[0], sites.port, number)
+    first = sites.start_sender("once-sender", [data[:5000], 1.0, data[5000:]], NETWORK, ONCE[0])
+    for number in range(101, 201):
+        call(*ends[number % 4], ONCE[0], sites.port, number)
+        time.sleep(0.005)
+    for number in range(1, 17):
+        call(*ends[number % 4], CROWDED[0], sites.port, number)
+    took = ask(ASKING, CROWDED[0], sites.port)
+    true = sites.start_sender("crowded-sender", [data], NETWORK, CROWDED[0])
+    return data, ends, (quiet, waits), (once, first), (crowded, true, took)
+
+
+def check_silent(sites, data, ends, quiet, once, crowded):
+    """The true senders have their places."""
+    sites.check_transfer("a sender to a listener with --once that 200 called who never speak", *once, data)
+    listener, true, took = crowded
+    # Two seconds, and one for a machine that is busy.
+    sites.check("where sixteen call who never speak, one that asks again is in soon", took < 3, f"after {took:.2f} s")
+    sites.check("and all of a true sender comes", true.status(20) == 0 and until(lambda: listener.out == data, 5))
+    told = [line for line in listener.said() if "callers never spoke" in line]
+    sites.check("those who never spoke are counted", bool(told), str(listener.said()[-2:]))
+    sites.check_transfer("a sender that joins and is silent for ten seconds keeps its place", *quiet, data)
+    listener.end()
+    for one, _ in ends:
+        one.close()

@@ -66,12 +66,20 @@ IsParting (Some Unwaited) = ⊥
 
 parts : (once : Bool) (fate : Fate) (standing : Standing) → IsParting (parted once fate standing)
 parts false fate standing = tt
-parts true Fates.Stays standing = tt
-parts true Fates.Asks standing = tt
+parts true fate Standings.Called = tt
+parts true fate Standings.Probed = tt
+parts true Fates.Stays Standings.Open = tt
+parts true Fates.Asks Standings.Open = tt
 parts true Fates.Over Standings.Open = tt
+parts true Fates.GivenUp Standings.Open = tt
+parts true Fates.Stays Standings.Asked = tt
+parts true Fates.Asks Standings.Asked = tt
 parts true Fates.Over Standings.Asked = tt
+parts true Fates.GivenUp Standings.Asked = tt
+parts true Fates.Stays Standings.Ended = tt
+parts true Fates.Asks Standings.Ended = tt
 parts true Fates.Over Standings.Ended = tt
-parts true Fates.GivenUp standing = tt
+parts true Fates.GivenUp Standings.Ended = tt
 
 does_part : (once : Bool) (now : ℕ) (c : Caller) (place : ℕ) (fate : Fate) (old new : EndpointView) (cs cs' : List Caller) (stop : Option Stop)
     → Does once now c place fate old new cs cs' stop → IsParting stop

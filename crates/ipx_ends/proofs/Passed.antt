@@ -1,10 +1,11 @@
 -- What passed from a connection to an outlet, a take after another.
-use Rattle.std.proofs.Common.{◌≡◌, ◌≢◌, ℕ, suc, List, [], ◌∷◌, ◌++◌, Option, Some, None, Ok, Err, refl, sym, ap, ◌∙◌, subst, append_assoc, append-nil}
+use Rattle.std.proofs.Common.{◌≡◌, ◌≢◌, ℕ, suc, false, List, [], ◌∷◌, ◌++◌, Option, Some, None, Ok, Err, refl, sym, ap, ◌∙◌, subst, append_assoc, append-nil}
 use Rattle.std.specs.Prelude.{IfSome, Result}
 use Rattle.spx_messages.specs.Changes.{SameSelf}
 use Rattle.spx_messages.specs.EndpointView.{EndpointView, Held, held_at}
 use Rattle.spx_messages.specs.Taking.{TakenView, Nothing, Part, PeerEnd, Whole, take_end}
 use Rattle.spx_messages.specs.declared.fault.EndFault.{EndFault}
+use Rattle.ipx_ends.specs.Fate.{is_unheard}
 use Rattle.ipx_ends.specs.Outlet.{Writes, left_of}
 use Rattle.ipx_ends.specs.Passing.{Passes, PassesEach, PassesFrom, PassesOne, SameOthers, Takes, TakesNothing, bodies_after, held_after, left_with, standing_with}
 use Rattle.ipx_ends.specs.declared.callers.Caller.{Caller}
@@ -47,6 +48,7 @@ one_start e x a c = record {
     self = record { network = refl; node = refl; router = refl; buffers = λ socket. refl };
     heard = refl;
   };
+  unheard = λ is. (refl, refl);
   behind = λ none ended. none ended;
 }
 
@@ -60,6 +62,7 @@ pub one_written : (old new : EndpointView) (x y z : List ℕ) (a b d : Option (L
 one_written old new x y z a b d c c' p wrote = record {
   from = from_written (held_at old c.id) (held_at new c.id) x y z a b d c c' p.from wrote;
   others = p.others;
+  unheard = p.unheard;
   behind = λ none ended. writes_nothing y z b d wrote (p.behind none ended);
 }
 
@@ -99,27 +102,29 @@ behind_taken (Some h) old new outlet outlet' c c' none not there took ended =
     took.left ∙ ends_left (take_end h).0 c.standing (left_of outlet) not (sym (ap (λ (k : Caller). k.standing) took.noted) ∙ ended) ∙ none
 
 pub one_taken : (old mid new : EndpointView) (outlet outlet' : Outlet) (x : List ℕ) (a b : Option (List ℕ)) (c c' c'' : Caller)
-    → left_of outlet ≡ [] → c'.standing ≢ Standings.Ended → c'.id ≡ c.id → PassesOne old mid x (left_of outlet) a b c c'
+    → is_unheard c.standing ≡ false → left_of outlet ≡ [] → c'.standing ≢ Standings.Ended → c'.id ≡ c.id → PassesOne old mid x (left_of outlet) a b c c'
     → (held_at mid c'.id ≡ None → ⊥) → IfSome (held_at mid c'.id) (λ h. Takes h mid new outlet outlet' c' c'') → SameOthers mid new c'.id
     → PassesOne old new x (left_of outlet') a b c c''
-one_taken old mid new outlet outlet' x a b c c' c'' none not same p there took others = record {
+one_taken old mid new outlet outlet' x a b c c' c'' heard none not same p there took others = record {
   from = subst (λ (k : ℕ). PassesFrom (held_at old c.id) (held_at new k) x (left_of outlet') a b c c'') same
       (from_taken (held_at old c.id) mid new outlet outlet' x a b c c' c'' none
       (subst (λ (k : ℕ). PassesFrom (held_at old c.id) (held_at mid k) x (left_of outlet) a b c c') (sym same) p.from) there took);
   others = same_others_on old mid new c.id p.others (subst (λ (k : ℕ). SameOthers mid new k) same others);
+  unheard = λ is. absurd (cc);
   behind = λ before ended. behind_taken (held_at mid c'.id) mid new outlet outlet' c' c'' none not there took ended;
 }
 
 -- nothing more was taken
 pub one_idle : (old mid new : EndpointView) (outlet outlet' : Outlet) (x : List ℕ) (a b : Option (List ℕ)) (c c' c'' : Caller)
-    → c'.id ≡ c.id → PassesOne old mid x (left_of outlet) a b c c' → TakesNothing mid new outlet outlet' c' c'' → SameOthers mid new c'.id
+    → is_unheard c.standing ≡ false → c'.id ≡ c.id → PassesOne old mid x (left_of outlet) a b c c' → TakesNothing mid new outlet outlet' c' c'' → SameOthers mid new c'.id
     → PassesOne old new x (left_of outlet') a b c c''
-one_idle old mid new outlet outlet' x a b c c' c'' same p idle others =
+one_idle old mid new outlet outlet' x a b c c' c'' heard same p idle others =
     subst (λ (k : Caller). PassesOne old new x (left_of outlet') a b c k) (sym idle.same)
     (subst (λ (k : Outlet). PassesOne old new x (left_of k) a b c c') (sym idle.kept)
     (record {
       from = subst (λ (k : Option Held). PassesFrom (held_at old c.id) k x (left_of outlet) a b c c') (sym (idle.held.held c.id)) p.from;
       others = same_others_on old mid new c.id p.others (subst (λ (k : ℕ). SameOthers mid new k) same others);
+      unheard = λ is. absurd (cc);
       behind = p.behind;
     }))
 

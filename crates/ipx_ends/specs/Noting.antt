@@ -20,7 +20,7 @@ Notes (Arriveds.Bad f) heard bytes came = came ≡ None
 Notes Arriveds.NotOurs heard bytes came = came ≡ None
 Notes (Arriveds.BadSpx f) heard bytes came = came ≡ None
 Notes Arriveds.NoListener heard bytes came = came ≡ None
-Notes Arriveds.NoRoom heard bytes came = came ≡ None
+Notes Arriveds.NoRoom heard bytes came = came ≡ Some Cames.NoRoom
 Notes Arriveds.Stranger heard bytes came = came ≡ None
 Notes (Arriveds.Accepted id) heard bytes came =
     (from : Address) × IsFrom bytes from × (came ≡ Some (Cames.Accepted (record { id = id; from = from })))

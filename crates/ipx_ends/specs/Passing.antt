@@ -1,9 +1,10 @@
 -- What passes from a connection to an outlet, by takes one after another. All of it is own.
-use Rattle.std.specs.Prelude.{◌≡◌, ◌≢◌, ℕ, zero, suc, List, [], ◌∷◌, ◌++◌, Option, Some, None, Result, Ok, Err}
+use Rattle.std.specs.Prelude.{◌≡◌, ◌≢◌, ℕ, zero, suc, true, List, [], ◌∷◌, ◌++◌, Option, Some, None, Result, Ok, Err}
 use Rattle.spx_messages.specs.Changes.{ChangesEnd, SameBut, SameSelf}
 use Rattle.spx_messages.specs.EndpointView.{EndpointView, Held, held_at}
 use Rattle.spx_messages.specs.Taking.{TakenView, Nothing, Part, PeerEnd, Whole, take_end}
 use Rattle.spx_messages.specs.declared.fault.EndFault.{EndFault}
+use Rattle.ipx_ends.specs.Fate.{is_unheard}
 use Rattle.ipx_ends.specs.Outlet.{Writes, left_of}
 use Rattle.ipx_ends.specs.declared.callers.Caller.{Caller}
 use Rattle.ipx_ends.specs.declared.callers.Standing.{Standing}
@@ -82,12 +83,13 @@ pub record SameOthers (old new : EndpointView) (id : ℕ) : Type 0 where
   pub self : SameSelf old new
   pub heard : new.heard ≡ old.heard
 
--- what passes from one connection of a host. Where an end that was taken before left nothing to write,
+-- what passes from one connection of a host: nothing where it was not heard. Where an end that was taken before left nothing to write,
 -- one that is taken now leaves nothing, either
 pub record PassesOne (old new : EndpointView) (waiting left : List ℕ)
     (written writes : Option (List ℕ)) (caller caller' : Caller) : Type 0 where
   pub from : PassesFrom (held_at old caller.id) (held_at new caller.id) waiting left written writes caller caller'
   pub others : SameOthers old new caller.id
+  pub unheard : is_unheard caller.standing ≡ true → (new ≡ old) × (caller' ≡ caller)
   pub behind : (caller.standing ≡ Standings.Ended → waiting ≡ [])
       → caller'.standing ≡ Standings.Ended → left ≡ []
 

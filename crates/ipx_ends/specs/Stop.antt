@@ -19,9 +19,11 @@ abbrev pub stop_in : {T : Type 0} → Result T Stop → Option Stop
 stop_in (Ok x) = None
 stop_in (Err s) = Some s
 
--- whether a host stops once a connection went: with `once` alone, and well where it is over and its
--- end was taken
+-- whether a host stops once a connection went: with `once` alone, and where it was heard; and well where
+-- it is over and its end was taken
 abbrev pub parted : Bool → Fate → Standing → Option Stop
 parted false fate standing = None
+parted true fate Standings.Called = None
+parted true fate Standings.Probed = None
 parted true Over Standings.Ended = Some Ended
 parted true fate standing = Some Lost

@@ -2,8 +2,8 @@
 
 ghost use Rattle.std.specs.Prelude.{◌≡◌, ◌↔◌, Some, map};
 ghost use Rattle.spx_link.specs.declared.state.State.TheVariants as States;
-ghost use Rattle.ipx_ends.specs.Fate.{IsFate, IsOver, IsToAsk, standing_heard};
-ghost use Rattle.ipx_ends.specs.Callers.{heard_by};
+ghost use Rattle.ipx_ends.specs.Fate.{IsFate, IsOver, IsToAsk, is_unheard, standing_asked, standing_heard};
+ghost use Rattle.ipx_ends.specs.Callers.{heard_by, has_spoken, is_overdue, is_unheard_of};
 ghost use Rattle.ipx_ends.specs.declared.callers.Fate.TheVariants as Fates;
 
 use ipx_wire::Address;
@@ -17,14 +17,43 @@ pub const LINGER: u64 = 3000;
 /// milliseconds.
 pub const SILENCE: u64 = 60_000;
 
+/// How long a connection of which nothing was heard yet is waited for, before it is asked whether it
+/// is there, or makes room, in milliseconds.
+pub const CALL: u64 = 1000;
+
 /// How a connection that was accepted stands with this host.
 #[derive(Clone, Copy, Debug, PartialEq, Eq)]
 pub enum Standing {
+    /// Nothing was heard of it since it was accepted.
+    Called,
+    /// So it is, and it is asked whether it is there.
+    Probed,
+    /// It was heard.
     Open,
     /// It was silent, and is asked whether it is still there.
     Asked,
     /// Its end was taken: all that came before it, too.
     Ended,
+}
+
+impl Standing {
+    /// Whether nothing was heard of the connection since it was accepted.
+    pub fn is_unheard(self) -> bool
+        ensures { result ≡ is_unheard self }
+    {
+        matches!(self, Standing::Called | Standing::Probed)
+    }
+
+    /// How it stands once it is asked whether it is there.
+    pub fn asked(self) -> Standing
+        ensures { result ≡ standing_asked self }
+    {
+        match self {
+            Standing::Called => Standing::Probed,
+            Standing::Open => Standing::Asked,
+            standing => standing,
+        }
+    }
 }
 
 /// A connection that was accepted.
@@ -46,9 +75,31 @@ impl Caller {
         } }
     {
         self.heard = now;
-        if self.standing == Standing::Asked {
+        if self.standing != Standing::Ended {
             self.standing = Standing::Open;
         }
+    }
+
+    /// Whether something was heard of it.
+    pub fn is_heard(&self) -> bool
+        ensures { result ≡ has_spoken self.now }
+    {
+        !self.standing.is_unheard()
+    }
+
+    /// Whether nothing was heard of it, and it came a second ago or longer.
+    pub fn is_overdue(&self, now: u64) -> bool
+        ensures { result ≡ is_overdue now self.now }
+    {
+        self.standing.is_unheard() && now.saturating_sub(self.heard) >= CALL
+    }
+
+    /// Whether nothing was heard of it, and it is of the node of an address.
+    pub fn is_unheard_of(&self, from: &Address) -> bool
+        ensures { result ≡ is_unheard_of from.now self.now }
+    {
+        let same = self.from.network == from.network && self.from.node == from.node;
+        self.standing.is_unheard() && same
     }
 
     /// It is heard at a moment, if it is the one that was heard.
@@ -96,6 +147,7 @@ pub fn fate_of(standing: Standing, state: Option<State>, silent: u64) -> Fate
         (_, None | Some(State::Confirmed)) => Fate::Over,
         (Standing::Ended, _) if silent >= LINGER => Fate::Over,
         (Standing::Open, _) if silent >= SILENCE => Fate::Asks,
+        (Standing::Called, _) if silent >= CALL => Fate::Asks,
         _ => Fate::Stays,
     }
 }

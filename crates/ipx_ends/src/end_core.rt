@@ -30,6 +30,8 @@ pub enum Came {
     Heard(u16),
     /// It made a connection.
     Accepted(Accepted),
+    /// It asked for one, and no link was free.
+    NoRoom,
 }
 
 /// A host of one port, as `HostCore` of the carrier is, that says who may ask it for a connection.
@@ -149,6 +151,7 @@ impl EndCore {
     {
         match arrived {
             Arrived::Accepted(id) => accepted_by(id, bytes),
+            Arrived::NoRoom => Some(Came::NoRoom),
             Arrived::Link(_, _) => self.endpoint.heard().map(Came::Heard),
             _ => None,
         }

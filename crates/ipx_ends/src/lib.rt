@@ -12,6 +12,7 @@ mod feeding;
 mod gate;
 mod handing;
 mod ids;
+mod leaving;
 mod ledger;
 mod listen;
 mod listening;

@@ -87,8 +87,8 @@ fn listen_by<R: Net + Log + Clock + Eprint, W: Write>(
 
 /// The command `listen`: runs the host of a file, takes connections at its socket, and writes the
 /// bytes of each message when it is whole, with nothing between them. It goes on until it is ended,
-/// or with `once` until three seconds after the end of the first connection: later ones are let go
-/// as they come, and nothing of them is written.
+/// or with `once` until three seconds after the end of the first connection that is heard: the others
+/// are let go then, later ones as they come, and nothing of them is written.
 ///
 /// The answer is the status: 0 where the end of that connection came; 1 where that connection was
 /// lost, the writer failed, the socket can't be had or memory for the start is refused; 2 for a

@@ -1,12 +1,12 @@
 //! A host that listens: its steps, and how it comes to stop.
 
-ghost use Rattle.std.specs.Prelude.{◌≡◌, ◌≢◌, ◌<◌, ◌≤◌, ◌↔◌, ◌∷◌, ◌++◌, [], ℕ, List, false, IfOk, IsTrue, None, OnErr, OnOk, Some, Err, Ok, vec_capacity};
+ghost use Rattle.std.specs.Prelude.{◌≡◌, ◌≢◌, ◌<◌, ◌≤◌, ◌↔◌, ◌∷◌, ◌++◌, [], ℕ, List, false, IfOk, IsTrue, None, OnErr, OnOk, Some, Err, Ok, map, vec_capacity};
 ghost use Rattle.ipx_carrier.specs.Mapping.{node_at};
 ghost use Rattle.ipx_carrier.specs.Turns.{peers_of};
 ghost use Rattle.ipx_site.specs.Origins.{named_in};
 ghost use Rattle.ipx_wire.specs.declared.address.Socket.{Socket};
 ghost use Rattle.spx_messages.specs.EndpointView.{buffers_at, held_at};
-ghost use Rattle.ipx_ends.specs.Callers.{Admits, KeepsOne, NotesHeard, caller_of, keeps_one_prop};
+ghost use Rattle.ipx_ends.specs.Callers.{Admits, KeepsHeard, KeepsOne, MakesRoom, NotesHeard, caller_of, heard_by, keeps_one_prop};
 ghost use Rattle.ipx_ends.specs.Hosting.{Hears, Moves, MovesSome, Serves, StepsTo, host};
 ghost use Rattle.ipx_ends.specs.Outlet.{Writes, left_of};
 ghost use Rattle.ipx_ends.specs.Passing.{PassesEach, PassesSome};
@@ -16,16 +16,16 @@ ghost use Rattle.ipx_ends.specs.declared.callers.Caller.{Caller};
 ghost use Rattle.ipx_ends.specs.declared.listening.Stop.{Stop as AStop};
 ghost use Rattle.ipx_ends.specs.declared.listening.Stop.TheVariants as Stops;
 
-use crate::callers::{Caller, Standing, hear_one};
+use crate::callers::{Caller, Standing};
 use crate::end_core::{Accepted, Came};
 use crate::gate::Gate;
+use crate::leaving::{MOST_CALLERS, hear_caller, hold, make_room};
 use crate::outlet::{Outlet, WriteFault};
 use crate::start::StartFault;
 use crate::station::{Station, Turn};
 use crate::taking::take_each;
-use crate::tending::let_link_go;
-use ipx_site::{HostFile, WaitFault};
-use log::Log;
+use ipx_site::{Cause, HostFile, WaitFault};
+use log::{Log, warn};
 use mio::Interest;
 use std::alloc::Global;
 use std::io::Write;
@@ -33,18 +33,15 @@ use std::net::Net;
 use std::os::fd::RawFd;
 use std::rt::Clock;
 
-/// The most connections that a host holds.
-pub const MOST_CALLERS: usize = 16;
-
 /// The descriptor of standard output.
 const STDOUT: RawFd = 1;
 
 /// Why a listening host ends.
 #[derive(Clone, Copy, Debug)]
 pub enum Stop {
-    /// The end of the first connection came.
+    /// The end of the first connection that was heard came.
     Ended,
-    /// The first connection was lost.
+    /// That connection was lost.
     Lost,
     /// Standard output can't be written.
     Unwritten,
@@ -81,6 +78,9 @@ pub struct Listening<'a, R: Clock> {
     pub callers: Vec<Caller>,
     pub outlet: Outlet,
     pub once: bool,
+    /// The connections that went before anything was heard of them.
+    pub unheard: u64,
+    of_unheard: Cause,
     ghost room: { 16 ≤ vec_capacity callers },
     ghost one: { KeepsOne once callers.items (left_of outlet) } by { keeps_one_prop once callers.items (left_of outlet) },
 }
@@ -128,14 +128,9 @@ impl<'a, R: Net + Log + Clock> Listening<'a, R> {
             callers: Vec::with_capacity(alloc, MOST_CALLERS)?,
             outlet: Outlet::new(alloc, gate),
             once,
+            unheard: 0,
+            of_unheard: Cause::new(),
         })
-    }
-
-    /// Whether a connection that comes is let go at once: with `once` the first one alone counts.
-    fn is_taken(&self) -> bool
-        ensures { IsTrue result ↔ (IsTrue self.now.once × (self.now.callers.items ≢ [])) }
-    {
-        self.once && !self.callers.is_empty()
     }
 
     /// Holds a connection that was accepted at a moment, where there is a place for it.
@@ -156,15 +151,63 @@ impl<'a, R: Net + Log + Clock> Listening<'a, R> {
             id: accepted.id,
             from: accepted.from,
             heard: moment,
-            standing: Standing::Open,
+            standing: Standing::Called,
         };
-        let is_full = self.is_taken() || self.callers.len() >= MOST_CALLERS;
-        if is_full || self.callers.push(caller).is_err() {
-            let_link_go(&mut self.station.core.endpoint, accepted.id);
+        let endpoint = &mut self.station.core.endpoint;
+        hold(self.once, endpoint, &mut self.callers, caller);
+    }
+
+    /// Notes that a connection was heard. With `once` it stays alone.
+    fn hear_caller(&mut self, id: u16, moment: u64)
+        ensures heard { KeepsHeard self.old.once
+            self.old.station.core.endpoint self.new.station.core.endpoint
+            (map (heard_by id moment) self.old.callers.items) self.new.callers.items }
+        ensures core { self.new.station.core ≡ record self.old.station.core {
+          endpoint = self.new.station.core.endpoint;
+        } }
+        ensures clock { self.new.station.clock ≡ self.old.station.clock }
+        ensures peers { self.new.station.wire.peers ≡ self.old.station.wire.peers }
+        ensures readiness { self.new.station.readiness ≡ self.old.station.readiness }
+        ensures outlet { self.new.outlet ≡ self.old.outlet }
+        ensures once { self.new.once ≡ self.old.once }
+    {
+        let endpoint = &mut self.station.core.endpoint;
+        hear_caller(self.once, endpoint, &mut self.callers, id, moment);
+    }
+
+    /// Lets a connection go of which nothing was heard for long, since there was no link for another.
+    fn make_room(&mut self, moment: u64)
+        ensures room { MakesRoom moment
+            self.old.station.core.endpoint self.new.station.core.endpoint
+            self.old.callers.items self.new.callers.items }
+        ensures core { self.new.station.core ≡ record self.old.station.core {
+          endpoint = self.new.station.core.endpoint;
+        } }
+        ensures clock { self.new.station.clock ≡ self.old.station.clock }
+        ensures peers { self.new.station.wire.peers ≡ self.old.station.wire.peers }
+        ensures readiness { self.new.station.readiness ≡ self.old.station.readiness }
+        ensures outlet { self.new.outlet ≡ self.old.outlet }
+        ensures once { self.new.once ≡ self.old.once }
+    {
+        let endpoint = &mut self.station.core.endpoint;
+        let went = make_room(endpoint, &mut self.callers, moment);
+        self.unheard = self.unheard.saturating_add(u64::from(went));
+    }
+
+    /// Tells how many connections went before anything was heard of them, once a minute at most.
+    fn tell_unheard(&mut self, rt: &R)
+        ensures station { self.new.station ≡ self.old.station }
+        ensures callers { self.new.callers ≡ self.old.callers }
+        ensures outlet { self.new.outlet ≡ self.old.outlet }
+        ensures once { self.new.once ≡ self.old.once }
+    {
+        let unheard = self.unheard;
+        if let Some(more) = self.of_unheard.tell(unheard, self.station.moment()) {
+            warn!(rt; target: "ipx", "{more} callers never spoke ({unheard} since the start)");
         }
     }
 
-    /// Notes which connection the last datagram was of, or made.
+    /// Notes which connection the last datagram was of, or made, or did not find room for.
     fn note(&mut self)
         ensures notes { NotesHeard self.old.once self.old.station.core self.new.station.core
             self.old.callers.items self.new.callers.items }
@@ -176,8 +219,9 @@ impl<'a, R: Net + Log + Clock> Listening<'a, R> {
     {
         let moment = self.station.moment();
         match self.station.core.take_came() {
-            Some(Came::Heard(id)) => hear_one(&mut self.callers, id, moment),
+            Some(Came::Heard(id)) => self.hear_caller(id, moment),
             Some(Came::Accepted(accepted)) => self.admit(accepted, moment),
+            Some(Came::NoRoom) => self.make_room(moment),
             None => {}
         }
     }
@@ -246,6 +290,7 @@ impl<'a, R: Net + Log + Clock> Listening<'a, R> {
         ensures once { self.new.once ≡ self.old.once }
     {
         let turn = self.station.turn(rt, alloc);
+        self.tell_unheard(rt);
         if turn.heard {
             self.note();
         }

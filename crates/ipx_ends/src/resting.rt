@@ -2,7 +2,7 @@
 
 ghost use Rattle.ipx_ends.specs.Sleeping.{AllStayFor, StaysFor};
 
-use crate::callers::{Caller, Fate, LINGER, SILENCE, Standing};
+use crate::callers::{CALL, Caller, Fate, LINGER, SILENCE, Standing};
 use crate::listening::Listening;
 use log::Log;
 use std::net::Net;
@@ -21,7 +21,8 @@ impl<'a, R: Net + Log + Clock> Listening<'a, R> {
         }
         let end = match caller.standing {
             Standing::Open => caller.heard.checked_add(SILENCE),
-            Standing::Asked => None,
+            Standing::Called => caller.heard.checked_add(CALL),
+            Standing::Asked | Standing::Probed => None,
             Standing::Ended => caller.heard.checked_add(LINGER),
         };
         match end {

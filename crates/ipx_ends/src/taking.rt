@@ -48,7 +48,7 @@ fn take_next(
     }
 }
 
-/// Takes what a connection holds, and writes each message. It stops where one can't be written
+/// Takes what a connection that was heard holds, and writes each message. It stops where one can't be written
 /// without waiting. It answers whether it took anything.
 fn take_some<W: Write>(
     alloc: Global,
@@ -69,6 +69,9 @@ fn take_some<W: Write>(
     ensures still { result ≡ Ok false
         → (id : ℕ) → held_at endpoint.new id ≡ held_at endpoint.old id }
 {
+    if !caller.is_heard() {
+        return Ok(false);
+    }
     let mut took = false;
     for _ in 0..MOST_TAKES {
         outlet.write(writer)?;

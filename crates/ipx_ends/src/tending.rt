@@ -6,21 +6,39 @@ ghost use Rattle.ipx_ends.specs.Outlet.{left_of};
 ghost use Rattle.ipx_ends.specs.Stop.{parted, stop_in};
 ghost use Rattle.ipx_ends.specs.Tending.{IsFateOf, JustStays, Tends, Tidies};
 ghost use Rattle.ipx_ends.specs.declared.callers.Caller.{Caller};
+ghost use Rattle.ipx_ends.specs.declared.callers.Standing.TheVariants as Standings;
 ghost use Rattle.ipx_ends.specs.declared.listening.Stop.TheVariants as Stops;
 
 use crate::callers::{Caller, Fate, Standing, fate_of};
-use crate::listening::{Listening, MOST_CALLERS, Stop};
+use crate::leaving::{MOST_CALLERS, ask, let_link_go};
+use crate::listening::{Listening, Stop};
 use log::{Log, warn};
-use spx_messages::{Endpoint, Message};
 use std::alloc::Global;
 use std::net::Net;
 use std::rt::Clock;
 
-/// Forgets the link of an id.
-pub fn let_link_go(endpoint: &mut Endpoint, id: u16)
-    ensures { LetsLinkGo endpoint.old endpoint.new id }
+/// Logs that a connection is lost, where it was heard and its end did not come.
+fn tell_parted<R: Log>(rt: &R, caller: &Caller, fate: Fate) {
+    let ended = fate == Fate::Over && caller.standing == Standing::Ended;
+    if caller.is_heard() && !ended {
+        let from = caller.from;
+        warn!(rt; target: "ipx", "{from}: the connection is lost");
+    }
+}
+
+/// Whether a host stops once a connection of this standing went by this fate.
+fn stop_of(once: bool, fate: Fate, standing: Standing) -> Result<(), Stop>
+    ensures stops { stop_in result ≡ parted once fate standing }
+    ensures only { OnErr result (IsTrue once) }
+    ensures ended { result ≡ Err Stops.Ended → standing ≡ Standings.Ended }
 {
-    let _ = endpoint.release(id);
+    if !once || standing.is_unheard() {
+        return Ok(());
+    }
+    match (fate, standing) {
+        (Fate::Over, Standing::Ended) => Err(Stop::Ended),
+        _ => Err(Stop::Lost),
+    }
 }
 
 impl<'a, R: Net + Log + Clock> Listening<'a, R> {
@@ -49,9 +67,7 @@ impl<'a, R: Net + Log + Clock> Listening<'a, R> {
         None
     }
 
-    /// Asks whether a connection is still there, by a message of no bytes: a peer that is there
-    /// acknowledges it, and without one the link is Lost some five seconds later. Where the message
-    /// is refused, nothing goes out: the silence counts anew, and it is asked again after it.
+    /// Asks whether the connection at a place is still there.
     fn ask(&mut self, alloc: Global, place: usize)
         requires { place < length self.old.callers.items }
         ensures asks { IfSome (slice_get self.old.callers.items place) (λ c. (c' : Caller)
@@ -68,18 +84,11 @@ impl<'a, R: Net + Log + Clock> Listening<'a, R> {
         ensures once { self.new.once ≡ self.old.once }
     {
         let moment = self.station.moment();
-        let caller = &mut self.callers[place];
-        let nothing = Message {
-            stream: 0,
-            body: Vec::new(alloc),
-        };
-        match self.station.core.endpoint.send(alloc, caller.id, &nothing) {
-            Ok(()) => caller.standing = Standing::Asked,
-            Err(_) => caller.heard = moment,
-        }
+        let endpoint = &mut self.station.core.endpoint;
+        ask(alloc, endpoint, &mut self.callers[place], moment);
     }
 
-    /// Lets a connection go. With `once` it is the only one, and all is over.
+    /// Lets a connection go. With `once` all is over then, where it was heard.
     fn let_go(&mut self, rt: &R, place: usize, fate: Fate) -> Result<(), Stop>
         requires { place < length self.old.callers.items }
         ensures goes { self.new.callers.items ≡ remove self.old.callers.items place }
@@ -88,7 +97,7 @@ impl<'a, R: Net + Log + Clock> Listening<'a, R> {
         ensures stops { IfSome (slice_get self.old.callers.items place) (λ c.
             stop_in result ≡ parted self.old.once fate c.standing) }
         ensures only { OnErr result (IsTrue self.old.once) }
-        // With `once` the only connection goes, and what was taken of it is written.
+        // With `once` the only connection that was heard goes, and what was taken of it is written.
         ensures written { result ≡ Err Stops.Ended → left_of self.new.outlet ≡ [] }
         ensures core { self.new.station.core ≡ record self.old.station.core {
           endpoint = self.new.station.core.endpoint;
@@ -101,16 +110,10 @@ impl<'a, R: Net + Log + Clock> Listening<'a, R> {
     {
         let caller = self.callers.remove(place);
         let_link_go(&mut self.station.core.endpoint, caller.id);
-        let ended = fate == Fate::Over && caller.standing == Standing::Ended;
-        if !ended {
-            let from = caller.from;
-            warn!(rt; target: "ipx", "{from}: the connection is lost");
-        }
-        match ended {
-            _ if !self.once => Ok(()),
-            true => Err(Stop::Ended),
-            false => Err(Stop::Lost),
-        }
+        let unheard = u64::from(!caller.is_heard());
+        self.unheard = self.unheard.saturating_add(unheard);
+        tell_parted(rt, &caller, fate);
+        stop_of(self.once, fate, caller.standing)
     }
 
     /// Does what is to be done with the connection at a place.

@@ -162,10 +162,10 @@ stay connected.";
 
 const LISTEN_STATUSES: &str = "\
 It goes on until it is ended, or with --once until three seconds after the end of the first
-connection: of later ones nothing is written. Status 0: that end came, and all before it is written.
-1: that connection was lost, standard output can't be written, the socket can't be had, or memory
-ran out at the start. 2: the file has a fault, which one line on standard error tells, and nothing
-was bound.
+connection that is heard: of others nothing is written. Status 0: that end came, and all before it
+is written. 1: that connection was lost, standard output can't be written, the socket can't be had,
+or memory ran out at the start. 2: the file has a fault, which one line on standard error tells, and
+nothing was bound.
 
 Example:
   $ ipx listen --once host.toml > copy";

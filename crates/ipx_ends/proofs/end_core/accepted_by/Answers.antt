@@ -1,7 +1,6 @@
 use Rattle.std.proofs.Common.{◌≡◌, ◌∙◌, Some, None, ap, sym, rules}
 use Rattle.std.proofs.lemmas.Option.{same_Some}
 use Rattle.ipx_wire.specs.declared.address.Address.{Address}
-use Rattle.ipx_ends.specs.declared.end_core.Accepted.{Accepted}
 use Rattle.ipx_ends.specs.declared.end_core.Came.{Came}
 use Rattle.ipx_ends.specs.declared.end_core.Came.TheVariants as Cames
 use Rattle.ipx_ends.proofs.Noted.{sent_from}

@@ -2,6 +2,7 @@ use Rattle.std.proofs.Common.{◌≡◌, ◌≢◌, ◌∙◌, true, false, rule
 use Rattle.std.specs.Prelude.{IsTrue}
 use Rattle.std.proofs.lemmas.Option.{IfSome_then}
 use Rattle.spx_messages.specs.EndpointView.{held_at}
+use Rattle.ipx_ends.specs.Fate.{is_unheard}
 use Rattle.ipx_ends.specs.Outlet.{left_of}
 use Rattle.ipx_ends.specs.declared.callers.Standing.TheVariants as Standings
 use Rattle.ipx_ends.proofs.Passed.{from_passes, one_idle, one_taken, one_written}
@@ -22,6 +23,7 @@ returns-in_err-write-clause-passes g c =
 pub loop-preserved : goal.loop-preserved
 loop-preserved g c =
     let held = g.W.Write.contents in
+    let heard : is_unheard c.args.caller.now.standing ≡ false = first_of (search rules, cc) in
     let first = c.args.endpoint.now in
     let waiting = left_of c.args.outlet.now in
     let a = held c.args.writer.now in
@@ -32,7 +34,7 @@ loop-preserved g c =
     let written = one_written first c.loop.endpoint waiting (left_of c.loop.outlet) (left_of c.write.new.self) a (held c.loop.writer) b c.args.caller.now c.loop.caller c.loop.invariant.one c.write.ensures.writes in
     let takes = IfSome_then (held_at c.loop.endpoint c.loop.caller.id) c.take_next.ensures.takes (λ h p. p took) in
     record {
-      one = one_taken first c.loop.endpoint c.take_next.new.endpoint c.write.new.self c.take_next.new.outlet waiting a b c.args.caller.now c.loop.caller c.take_next.new.caller (c.is_empty.ensures.0 empty) not c.loop.invariant.id written
+      one = one_taken first c.loop.endpoint c.take_next.new.endpoint c.write.new.self c.take_next.new.outlet waiting a b c.args.caller.now c.loop.caller c.take_next.new.caller heard (c.is_empty.ensures.0 empty) not c.loop.invariant.id written
           (λ none. let no = c.take_next.ensures.unknown none in absurd (cc)) takes c.take_next.ensures.others;
       still = λ none. absurd (cc);
       id = c.take_next.ensures.id ∙ c.loop.invariant.id;
@@ -41,6 +43,7 @@ loop-preserved g c =
 pub returns-then-ended-clause-one : goal.returns-then-ended-clause-one
 returns-then-ended-clause-one g c =
     let held = g.W.Write.contents in
+    let heard : is_unheard c.args.caller.now.standing ≡ false = first_of (search rules, cc) in
     let first = c.args.endpoint.now in
     let waiting = left_of c.args.outlet.now in
     let a = held c.args.writer.now in
@@ -52,12 +55,13 @@ returns-then-ended-clause-one g c =
       | then-ended-via-else-ended+else-not-is_empty+then-not-take_next w ↦
           let none : w.take_next.result ≡ false = first_of (search rules, cc) in
           rw (w.endpoint-is, w.outlet-is, w.caller-is)
-          (one_idle first c.loop.endpoint w.take_next.new.endpoint c.write.new.self w.take_next.new.outlet waiting a b c.args.caller.now c.loop.caller w.take_next.new.caller c.loop.invariant.id written (w.take_next.ensures.nothing none) w.take_next.ensures.others)
+          (one_idle first c.loop.endpoint w.take_next.new.endpoint c.write.new.self w.take_next.new.outlet waiting a b c.args.caller.now c.loop.caller w.take_next.new.caller heard c.loop.invariant.id written (w.take_next.ensures.nothing none) w.take_next.ensures.others)
     ]
 
 pub returns-then-ended-clause-passes : goal.returns-then-ended-clause-passes
 returns-then-ended-clause-passes g c =
     let held = g.W.Write.contents in
+    let heard : is_unheard c.args.caller.now.standing ≡ false = first_of (search rules, cc) in
     let first = c.args.endpoint.now in
     let waiting = left_of c.args.outlet.now in
     let a = held c.args.writer.now in
@@ -71,5 +75,5 @@ returns-then-ended-clause-passes g c =
           let none : w.take_next.result ≡ false = first_of (search rules, cc) in
           rw (w.endpoint-is, w.outlet-is)
           (from_passes o (held_at w.take_next.new.endpoint c.args.caller.now.id) waiting (left_of w.take_next.new.outlet) a b c.args.caller.now w.take_next.new.caller
-          (one_idle first c.loop.endpoint w.take_next.new.endpoint c.write.new.self w.take_next.new.outlet waiting a b c.args.caller.now c.loop.caller w.take_next.new.caller c.loop.invariant.id written (w.take_next.ensures.nothing none) w.take_next.ensures.others).from)
+          (one_idle first c.loop.endpoint w.take_next.new.endpoint c.write.new.self w.take_next.new.outlet waiting a b c.args.caller.now c.loop.caller w.take_next.new.caller heard c.loop.invariant.id written (w.take_next.ensures.nothing none) w.take_next.ensures.others).from)
     ]

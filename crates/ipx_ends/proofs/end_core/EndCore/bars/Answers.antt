@@ -1,5 +1,4 @@
 use Rattle.std.proofs.Common.{◌≡◌, None, Some}
-use Rattle.ipx_wire.specs.declared.address.Address.{Address}
 use Rattle.ipx_ends.proofs.end_core.EndCore.bars.Goals as goal
 
 pub returns-in-None : goal.returns-in-None

@@ -1,9 +1,12 @@
-use Rattle.std.proofs.Common.{◌∙◌, None, Some, ap, arith, subst}
+use Rattle.std.proofs.Common.{◌≡◌, ◌∙◌, None, Some, ap, arith, subst}
 use Rattle.std.proofs.lemmas.Result.{err_from_is_err_and}
-use Rattle.std.specs.Prelude.{IsTrue}
+use Rattle.std.specs.Prelude.{IfSome, IsTrue, slice_get}
 use Rattle.ipx_ends.specs.Outlet.{left_of}
+use Rattle.ipx_ends.specs.Tending.{Tends}
 use Rattle.ipx_ends.specs.declared.end_core.EndCore.{EndCore}
-use Rattle.ipx_ends.proofs.Holding.{tended_on}
+use Rattle.ipx_ends.specs.declared.listening.Stop.{Stop}
+use Rattle.ipx_ends.specs.declared.listening.Stop.TheVariants as Stops
+use Rattle.ipx_ends.proofs.Holding.{stop_is, tended_ends, tended_on}
 use Rattle.ipx_ends.proofs.Hosted.{tended_first, tends_more}
 use Rattle.ipx_ends.proofs.listening.Listening.tidy.Goals as goal
 
@@ -21,6 +24,19 @@ returns-in_err-tend-clause-tidies g c =
       i.tends,
       tended_first c.args.self.now.once l.once l.station.core new.station.core l.callers.items new.callers.items (Some c.in_err-tend.field-0.0) c.in-Some.place i.once c.in-Some.ensures.there c.in-Some.ensures.first c.in_err-tend.ensures.tends c.tend.ensures.core,
     )
+
+pub returns-in_err-tend-clause-ended : goal.returns-in_err-tend-clause-ended
+returns-in_err-tend-clause-ended g c =
+    λ ended.
+    let l = c.loop-tended.self in
+    let new = c.tend.new.self in
+    let place = c.in-Some.place in
+    let is = c.in_err-tend.ensures.only in
+    let p = err_from_is_err_and c.from_residual.result c.from_residual.ensures.1 in
+    let stop : c.in_err-tend.field-0.0 ≡ Stops.Ended = stop_is c.from_residual.result p.0 c.in_err-tend.field-0.0 Stops.Ended p.1 p.2 ended in
+    let tends = subst (λ (s : Stop). IfSome (slice_get l.callers.items place) (λ k. Tends l.once l.station.core k place new.station.core.endpoint l.callers.items new.callers.items (Some s))) stop c.in_err-tend.ensures.tends in
+    c.loop-tended.invariant.before is
+    (tended_ends l.once l.station.core new.station.core.endpoint l.callers.items new.callers.items (left_of l.outlet) place is c.in-Some.ensures.there l.one tends)
 
 pub loop-tended-preserved : goal.loop-tended-preserved
 loop-tended-preserved g c =
