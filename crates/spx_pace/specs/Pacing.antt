@@ -1,0 +1,77 @@
+-- What a pacer holds, as its contracts see it, and what it lets a link do (own).
+use Rattle.std.specs.Prelude.{ℕ, ◌+◌, ◌-◌, ◌/◌, ◌&&◌, ◌||◌, if◌then◌else◌, Bool, min, nat_lt, is_some}
+use Rattle.std.specs.Prelude.{Option, None, Some}
+use Rattle.spx_link.specs.Limits.{most_units}
+use Rattle.spx_pace.specs.declared.plan.Plan.{Plan}
+use Rattle.spx_pace.specs.declared.gave.Gave.{Gave}
+use Rattle.spx_pace.specs.declared.gave.Gave.TheVariants as Gaves
+
+-- positions count units from 0. `out` units from `base` on are outstanding; `left` of them came, or
+-- are given up, and `flying` went again; those from `from` up to `to` are to go again. The window
+-- and the credit are in 256ths of a unit
+pub record PacerView : Type 0 where
+  pub base : ℕ
+  pub out : ℕ
+  pub left : ℕ
+  pub flying : ℕ
+  pub from : ℕ
+  pub to : ℕ
+  pub window : ℕ
+  pub credit : ℕ
+
+-- a pacer as it is made: a window of 27 units, and credit of 10
+abbrev pub made_pacer : PacerView
+made_pacer =
+    record {
+      base = 0;
+      out = 0;
+      left = 0;
+      flying = 0;
+      from = 0;
+      to = 0;
+      window = 6912;
+      credit = 2560;
+    }
+
+-- how many units are on their way
+abbrev pub flight : PacerView → ℕ
+flight p = (p.out - p.left) + p.flying
+
+-- how many more the window allows
+abbrev pub spare : PacerView → ℕ
+spare p = p.window / 256 - flight p
+
+-- whether there is credit for a unit
+abbrev pub has_credit : PacerView → Bool
+has_credit p = nat_lt 255 p.credit
+
+-- the place of the first outstanding unit that is to go again
+abbrev pub place_again : PacerView → Option ℕ
+place_again p =
+    if nat_lt p.from p.to && nat_lt p.base p.to && nat_lt (p.from - p.base) p.out
+    then Some (p.from - p.base) else None
+
+-- how many units may be outstanding, where none goes again
+abbrev pub open_to : PacerView → ℕ
+open_to p = min (p.out + min (spare p) (p.credit / 256)) most_units
+
+-- without credit nothing goes; a unit that goes again goes alone
+abbrev pub plan_of : PacerView → Plan
+plan_of p =
+    if has_credit p
+    then (if is_some (place_again p)
+    then record { window = 0; again = place_again p }
+    else record { window = open_to p; again = None })
+    else record { window = min p.out most_units; again = None }
+
+-- something would go now, but for its credit or for another that goes first
+abbrev pub holds_back : PacerView → Bool
+holds_back p = is_some (place_again p) || (nat_lt p.credit 256 && nat_lt 0 (spare p))
+
+-- the credit once a packet was given: a unit costs one
+abbrev pub credit_after : ℕ → Gave → ℕ
+credit_after credit Gaves.Request = credit
+credit_after credit Gaves.Unit = credit - 256
+credit_after credit Gaves.End = credit - 256
+credit_after credit Gaves.Again = credit - 256
+credit_after credit Gaves.Other = credit

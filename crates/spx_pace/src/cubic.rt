@@ -1,0 +1,38 @@
+//! Cubes, and their roots (RFC 9438, CUBIC).
+
+/// What a cube of milliseconds is in units, in which a window grows: one a second cubed.
+const SCALE: u64 = 1_000_000_000;
+
+/// The third power.
+fn cube(n: u64) -> u64 {
+    n.saturating_mul(n).saturating_mul(n)
+}
+
+/// The greatest number under 32,768 whose cube is at most `n`.
+fn cube_root(n: u64) -> u64 {
+    let mut root: u64 = 0;
+    let mut step: u64 = 16384;
+    for _ in 0..15 {
+        let next = root.saturating_add(step);
+        if cube(next) <= n {
+            root = next;
+        }
+        step /= 2;
+    }
+    root
+}
+
+/// In how many milliseconds a window has grown by so much of a unit, in 256ths.
+pub fn grows_in(by: u64) -> u64 {
+    cube_root(by.saturating_mul(SCALE) / 256)
+}
+
+/// The window at a moment, where it was `top` at the moment `at`.
+pub fn window_at(top: u64, at: u64, now: u64) -> u64 {
+    let away = cube(now.abs_diff(at)).saturating_mul(256);
+    if now >= at {
+        top.saturating_add(away / SCALE)
+    } else {
+        top.saturating_sub(away.div_ceil(SCALE))
+    }
+}

@@ -1,0 +1,68 @@
+//! When something is due by itself.
+
+ghost use Rattle.std.specs.Prelude.{◌≡◌, ◌+◌, ◌≤◌, IfSome, IsNone, IsTrue, false};
+ghost use Rattle.spx_pace.specs.Pacing.{holds_back};
+
+use crate::pacer::Pacer;
+
+impl Pacer {
+    /// The moment at which a plan may differ from the last one, where nothing is heard before.
+    ///
+    /// None only where nothing is outstanding and nothing is held back.
+    pub fn next_due(&self, now: u64) -> Option<u64>
+        ensures rests { IsNone result → (self.now.out ≡ 0) × (holds_back self.now ≡ false) }
+        ensures none { self.now.out ≡ 0 → holds_back self.now ≡ false → IsNone result }
+        ensures soon { IsTrue (holds_back self.now) → IfSome result (λ at. at ≤ now + 1) }
+    {
+        if self.holds_back() {
+            let soon = now.saturating_add(1);
+            return Some(earlier(soon, self.waits_till()));
+        }
+        if self.out == 0 {
+            return None;
+        }
+        let till = self.waits_till().unwrap_or(now);
+        Some(earlier(till, self.repair_due()))
+    }
+
+    /// Whether something would go now, but for its credit or for another that goes first.
+    fn holds_back(&self) -> bool
+        ensures { result ≡ holds_back self.now }
+    {
+        self.place_again().is_some() || (!self.credit.is_enough() && self.spare() > 0)
+    }
+
+    /// Till when an acknowledgement is waited for.
+    pub(crate) fn waits_till(&self) -> Option<u64> {
+        let wait = if self.ended && self.out == 1 {
+            self.trip.end_wait()
+        } else {
+            self.trip.wait()
+        };
+        Some(self.timer?.saturating_add(wait))
+    }
+
+    /// When the first outstanding unit goes again, which went again before.
+    pub(crate) fn repair_due(&self) -> Option<u64> {
+        self.repair.missing_at(self.base, self.trip.with_slack())
+    }
+
+    /// When a window that was not used lessens.
+    pub(crate) fn rests_at(&self) -> Option<u64> {
+        let spoke = self.spoke?;
+        if self.out > 0 {
+            return None;
+        }
+        Some(spoke.saturating_add(self.trip.plain_wait()))
+    }
+}
+
+/// The earlier of two moments, where there is another.
+fn earlier(due: u64, other: Option<u64>) -> u64
+    ensures { result ≤ due }
+{
+    match other {
+        Some(other) => due.min(other),
+        None => due,
+    }
+}

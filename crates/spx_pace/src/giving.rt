@@ -1,0 +1,63 @@
+//! What a packet that the link gave puts on the line.
+
+ghost use Rattle.std.specs.Prelude.{◌≡◌, ◌-◌};
+ghost use Rattle.spx_pace.specs.Pacing.{credit_after};
+
+use crate::gave::Gave;
+use crate::pacer::Pacer;
+use spx_link::Numbers;
+
+impl Pacer {
+    /// The link gave a packet, and has these numbers since.
+    pub fn gave(&mut self, what: Gave, after: Numbers, now: u64)
+        ensures counts { self.new.out ≡ after.out }
+        ensures credit { self.new.credit ≡ credit_after self.old.credit what }
+    {
+        self.count(after.out, now);
+        match what {
+            Gave::Request => self.asks(now),
+            Gave::Unit => self.sends(now),
+            Gave::End => {
+                self.ended = true;
+                self.sends(now);
+            }
+            Gave::Again => self.sends_again(now),
+            Gave::Other => {}
+        }
+    }
+
+    /// The request was sent. One that was sent before measures nothing.
+    fn asks(&mut self, now: u64)
+        ensures { self.new ≡ self.old }
+    {
+        self.asked_at = if self.asked { None } else { Some(now) };
+        self.asked = true;
+    }
+
+    /// A unit was sent for the first time.
+    fn sends(&mut self, now: u64)
+        ensures { self.new ≡ record self.old { credit = self.old.credit - 256 } }
+    {
+        let position = self.next().saturating_sub(1);
+        self.sent.put(position, Some(now));
+        self.spoke = Some(now);
+        self.credit.spend();
+    }
+
+    /// The first unit that was to go again went.
+    fn sends_again(&mut self, now: u64)
+        ensures counts { self.new.out ≡ self.old.out }
+        ensures credit { self.new.credit ≡ self.old.credit - 256 }
+    {
+        let position = self.repair.from.max(self.base);
+        self.sent.put(position, None);
+        self.repairs.put(self.repaired, Some(now));
+        self.repaired = self.repaired.saturating_add(1);
+        self.repair.from = position.saturating_add(1);
+        if position == self.base {
+            self.repair.fixed_at = now;
+        }
+        self.flying = self.flying.saturating_add(1);
+        self.credit.spend();
+    }
+}

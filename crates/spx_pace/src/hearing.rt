@@ -1,0 +1,160 @@
+//! What a packet that the link read says of the line.
+
+ghost use Rattle.std.specs.Prelude.{◌≡◌};
+ghost use Rattle.spx_pace.specs.Pacing.{PacerView};
+
+use crate::pacer::Pacer;
+use crate::repair::Repair;
+use crate::window::UNIT;
+use spx_link::Numbers;
+
+/// How many duplicates say that a unit is missing (RFC 5681).
+const MISSING: u16 = 3;
+
+impl Pacer {
+    /// The link read a packet, which made of its numbers others. `joined` is whether it is the
+    /// answer to the request.
+    ///
+    /// A packet that takes no unit from the queue, brings none, and allows no more than was allowed
+    /// is a duplicate: one of those behind a missing unit came. Three of them say that it is
+    /// missing, fewer where fewer are outstanding (RFC 5681, RFC 5827).
+    pub fn heard(&mut self, before: Numbers, after: Numbers, joined: bool, now: u64)
+        ensures { self.new.out ≡ after.out }
+    {
+        if joined {
+            self.answered(now);
+        }
+        let flight = self.flight();
+        let units = before.out.saturating_sub(after.out);
+        if units > 0 {
+            self.acknowledged(units, after.out, flight, now);
+        } else if after.out > 0 && before.room >= after.room && before.expected == after.expected {
+            self.count(after.out, now);
+            self.doubled(now);
+        } else {
+            self.count(after.out, now);
+        }
+    }
+
+    /// The request was answered.
+    fn answered(&mut self, now: u64)
+        ensures { self.new ≡ self.old }
+    {
+        if let Some(asked_at) = self.asked_at {
+            self.trip.answer_request(now.saturating_sub(asked_at));
+        }
+        self.asked_at = None;
+    }
+
+    /// So many units were acknowledged, and `flight` were on their way before.
+    fn acknowledged(&mut self, units: u16, out: u16, flight: u64, now: u64)
+        ensures { self.new.out ≡ out }
+    {
+        if self.doubles == 0 && !self.repair.is_on() {
+            self.measure(units, now);
+        }
+        self.trip.come_back();
+        self.doubles = 0;
+        self.base = self.base.saturating_add(u64::from(units));
+        self.left = self.left.saturating_sub(units.saturating_sub(1));
+        self.timer = None;
+        self.count(out, now);
+        if self.base > self.past {
+            self.ignore = 0;
+        }
+        match self.repair.recover {
+            Some(recover) => self.mend(units, recover, now),
+            None => self.grow(units, flight, now),
+        }
+    }
+
+    /// The last unit that an acknowledgement takes tells the round trip, where it was sent once
+    /// (RFC 6298, Karn's rule).
+    fn measure(&mut self, units: u16, now: u64)
+        ensures { self.new ≡ self.old }
+    {
+        let last = self.base.saturating_add(u64::from(units.saturating_sub(1)));
+        if let Some(sent) = self.sent.at(last) {
+            self.trip.sample(now.saturating_sub(sent));
+        }
+    }
+
+    /// The window grows, where it was the limit.
+    fn grow(&mut self, units: u16, flight: u64, now: u64)
+        ensures { self.new.out ≡ self.old.out }
+    {
+        if flight.saturating_add(3).saturating_mul(UNIT) >= self.window.size() {
+            self.window.grow(u64::from(units), now, &self.trip);
+        }
+    }
+
+    /// Units were acknowledged while something is repaired.
+    fn mend(&mut self, units: u16, recover: u64, now: u64)
+        ensures { self.new.out ≡ self.old.out }
+    {
+        self.flying = self.flying.saturating_sub(1);
+        if self.base >= recover {
+            self.leave(now);
+            return;
+        }
+        self.repair
+            .go_on(self.base, u64::from(self.left), recover, now);
+        if self.repair.timed {
+            self.window
+                .widen_to_threshold(u64::from(units.min(2)) * UNIT);
+        }
+    }
+
+    /// A duplicate came.
+    fn doubled(&mut self, now: u64)
+        ensures { self.new.out ≡ self.old.out }
+    {
+        if self.ignore > 0 {
+            self.ignore -= 1;
+            return;
+        }
+        self.doubles = self.doubles.saturating_add(1);
+        if self.repair.counts_repairs() && self.flying > 0 {
+            self.flying -= 1;
+        } else if self.left < self.out {
+            self.left += 1;
+        }
+        if self.repair.is_on() {
+            self.timer = Some(now);
+            self.widen();
+        } else if self.says_missing() {
+            self.enter(now);
+        }
+    }
+
+    /// Whether the duplicates say that the first outstanding unit is missing (RFC 6582: and not
+    /// that one went again which had come).
+    fn says_missing(&self) -> bool {
+        let wanted = self.out.saturating_sub(1).max(1).min(MISSING);
+        self.doubles >= wanted && self.base >= self.safe
+    }
+
+    /// A packet left the line while something is repaired.
+    fn widen(&mut self)
+        ensures { self.new.out ≡ self.old.out }
+    {
+        if self.repair.timed {
+            self.window.widen_to_threshold(UNIT / 2);
+        } else if !self.repair.crowded {
+            self.window.widen_in_repair();
+        }
+    }
+
+    /// A repair begins with the first outstanding unit.
+    pub(crate) fn enter(&mut self, now: u64)
+        ensures { self.new.out ≡ self.old.out }
+    {
+        let next = self.next();
+        let queued = self.trip.is_queued();
+        self.safe = next;
+        self.window.lessen(queued);
+        self.repair = Repair::begin(self.base, next, now);
+        self.repair.crowded = queued;
+        self.flying = 0;
+    }
+}

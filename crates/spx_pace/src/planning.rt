@@ -1,0 +1,98 @@
+//! What the link may do at its next poll.
+
+ghost use Rattle.std.specs.Prelude.{◌≡◌, ◌+◌, ◌<◌, ◌≤◌, IfSome, IsTrue};
+ghost use Rattle.spx_pace.specs.Pacing.{holds_back, plan_of, spare};
+
+use crate::pacer::Pacer;
+use crate::plan::Plan;
+use crate::repair::Repair;
+use spx_link::{MOST_UNITS, Numbers};
+
+impl Pacer {
+    /// What the link of these numbers may do at its next poll, at this moment.
+    ///
+    /// A unit goes again where it is missing, one where the wait for an acknowledgement was over;
+    /// with it no new one goes. What the window allows is spread over the round trip.
+    pub fn plan(&mut self, numbers: Numbers, now: u64) -> Plan
+        ensures value { result ≡ plan_of self.new }
+        ensures counts { self.new.out ≡ numbers.out }
+        ensures most { result.window ≤ 8192 }
+        ensures place { IfSome result.again (λ place. place < numbers.out) }
+        ensures alone { IfSome result.again (λ _. result.window ≤ numbers.out) }
+        ensures within { result.window ≤ numbers.out + spare self.new }
+        ensures held { result.window ≤ numbers.out → 0 < spare self.new → numbers.out < 8192
+            → IsTrue (holds_back self.new) }
+    {
+        self.count(numbers.out, now);
+        self.tend(now);
+        let rate = self.window.rate(self.trip.smoothed());
+        self.credit.grow(rate, now);
+        self.choose()
+    }
+
+    /// Does what is due by itself.
+    fn tend(&mut self, now: u64)
+        ensures { self.new.out ≡ self.old.out }
+    {
+        if self.waits_till().is_some_and(|at| at <= now) {
+            self.time_out(now);
+        } else if self.repair_due().is_some_and(|at| at <= now) {
+            self.repair.repeat(self.base);
+        }
+        if self.rests_at().is_some_and(|at| at <= now) {
+            self.window.rest();
+        }
+    }
+
+    /// The wait for an acknowledgement was over: the first outstanding unit goes again, and the
+    /// others in order as it is acknowledged.
+    fn time_out(&mut self, now: u64)
+        ensures { self.new.out ≡ self.old.out }
+    {
+        let next = self.next();
+        self.window.collapse(self.trip.is_first_wait());
+        self.trip.back_off();
+        self.safe = next;
+        self.left = self.out;
+        self.flying = 0;
+        self.timer = Some(now);
+        self.repair = Repair::begin(self.base, next, now);
+        self.repair.timed = true;
+    }
+
+    /// The plan.
+    fn choose(&self) -> Plan
+        ensures value { result ≡ plan_of self.now }
+        ensures most { result.window ≤ 8192 }
+        ensures place { IfSome result.again (λ place. place < self.now.out) }
+        ensures alone { IfSome result.again (λ _. result.window ≤ self.now.out) }
+        ensures within { result.window ≤ self.now.out + spare self.now }
+        ensures held { result.window ≤ self.now.out → 0 < spare self.now → self.now.out < 8192
+            → IsTrue (holds_back self.now) }
+    {
+        if !self.credit.is_enough() {
+            return Plan {
+                window: self.out.min(MOST_UNITS),
+                again: None,
+            };
+        }
+        if let Some(place) = self.place_again() {
+            return Plan {
+                window: 0,
+                again: Some(place),
+            };
+        }
+        Plan {
+            window: self.open_to(),
+            again: None,
+        }
+    }
+
+    /// How many units may be outstanding, where none goes again.
+    fn open_to(&self) -> u16
+        ensures { result ≡ Rattle.spx_pace.specs.Pacing.open_to self.now }
+    {
+        let more = self.spare().min(self.credit.units());
+        (u64::from(self.out).saturating_add(more)).min(u64::from(MOST_UNITS)) as u16
+    }
+}

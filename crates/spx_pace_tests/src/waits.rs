@@ -1,0 +1,112 @@
+//! How long an acknowledgement is waited for, and what comes of a wait that is over.
+
+use crate::numbers::{Paced, again, window};
+use std::test::Fail;
+
+/// 500 ms before anything is measured; of a request 3 times its round trip, and 200 at least.
+#[test]
+fn the_first_wait(rt: HostRuntime) -> Result<(), Fail> {
+    for (trip, wait) in [(10, 200), (66, 200), (67, 201), (100, 300), (2000, 6000)] {
+        let mut paced = Paced::joined(rt.alloc(), trip)?;
+        paced.plan(trip);
+        paced.send(1, trip);
+        assert_eq!(rt;
+            paced.pacer.next_due(trip),
+            Some(trip + wait),
+            "after {trip}"
+        );
+    }
+    Ok(())
+}
+
+/// RFC 6298: of 100 the variation is 50 and the wait 100 + 4 x 50; of 60 behind it 760 / 8 = 95 is
+/// the round trip, and 4 x 50 - 50 + 40 = 190 beside it.
+#[test]
+fn the_measured_wait(rt: HostRuntime) -> Result<(), Fail> {
+    let mut paced = Paced::joined(rt.alloc(), 1)?;
+    paced.plan(1000);
+    paced.send(1, 1000);
+    paced.acknowledge(1, 1100);
+    paced.plan(1200);
+    paced.send(1, 1200);
+    assert_eq!(rt; paced.pacer.next_due(1200), Some(1500));
+    paced.acknowledge(1, 1260);
+    paced.plan(1300);
+    paced.send(1, 1300);
+    assert_eq!(rt; paced.pacer.next_due(1300), Some(1585));
+    Ok(())
+}
+
+/// One unit goes again, then four are on their way; the wait doubles up to four seconds.
+#[test]
+fn a_wait_that_is_over(rt: HostRuntime) -> Result<(), Fail> {
+    let mut paced = Paced::joined(rt.alloc(), 100)?;
+    paced.plan(100);
+    paced.send(10, 100);
+    assert_eq!(rt; paced.plan(399), window(20));
+    let mut now = 400;
+    for wait in [600, 1200, 2400, 4000, 4000] {
+        assert_eq!(rt; paced.pacer.next_due(now - 1), Some(now));
+        assert_eq!(rt; paced.plan(now), again(0));
+        paced.send_again(now);
+        assert_eq!(rt; paced.plan(now), window(13));
+        now += wait;
+        assert_eq!(rt; paced.plan(now - 1), window(13));
+    }
+    Ok(())
+}
+
+/// After it what is outstanding goes again in order: 1, then 2, 4 more at each acknowledgement.
+#[test]
+fn all_goes_again_in_order(rt: HostRuntime) -> Result<(), Fail> {
+    let mut paced = Paced::joined(rt.alloc(), 100)?;
+    paced.plan(100);
+    paced.send(10, 100);
+    paced.plan(400);
+    paced.send_again(400);
+    paced.acknowledge(1, 500);
+    for place in [0, 1] {
+        assert_eq!(rt; paced.plan(500), again(place));
+        paced.send_again(500);
+    }
+    assert_eq!(rt; paced.plan(500).again, None);
+    paced.acknowledge(1, 600);
+    for place in [1, 2, 3] {
+        assert_eq!(rt; paced.plan(600), again(place));
+        paced.send_again(600);
+    }
+    assert_eq!(rt; paced.plan(600).again, None);
+    Ok(())
+}
+
+/// The end alone is waited for a second at most, and never longer.
+#[test]
+fn the_end_alone(rt: HostRuntime) -> Result<(), Fail> {
+    for (trip, wait) in [(100, 300), (2000, 1000)] {
+        let mut paced = Paced::joined(rt.alloc(), trip)?;
+        let mut now = 5000;
+        paced.plan(now);
+        paced.send_end(now);
+        for _ in 0..5 {
+            assert_eq!(rt; paced.pacer.next_due(now), Some(now + wait));
+            now += wait;
+            assert_eq!(rt; paced.plan(now), again(0));
+            paced.send_again(now);
+        }
+    }
+    Ok(())
+}
+
+/// With a unit before it the end is waited for as any unit is.
+#[test]
+fn the_end_behind_a_unit(rt: HostRuntime) -> Result<(), Fail> {
+    let mut paced = Paced::joined(rt.alloc(), 2000)?;
+    paced.plan(5000);
+    paced.send(1, 5000);
+    paced.send_end(5000);
+    assert_eq!(rt; paced.pacer.next_due(5000), Some(11_000));
+    paced.acknowledge(1, 5100);
+    // Its round trip was 100 ms, and the wait is 300.
+    assert_eq!(rt; paced.pacer.next_due(5100), Some(5400));
+    Ok(())
+}
