@@ -33,6 +33,15 @@ made_pacer =
       credit = 2560;
     }
 
+-- as many are outstanding as a link says; where none is, none is on its way
+abbrev pub with_outstanding : PacerView → ℕ → PacerView
+with_outstanding p out =
+    record p {
+      out = out;
+      left = min p.left out;
+      flying = if nat_lt 0 out then p.flying else 0;
+    }
+
 -- how many units are on their way
 abbrev pub flight : PacerView → ℕ
 flight p = (p.out - p.left) + p.flying

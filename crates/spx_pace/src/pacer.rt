@@ -1,7 +1,7 @@
 //! The pacer of a connection: what it holds.
 
-ghost use Rattle.std.specs.Prelude.{◌≡◌, IfOk, min};
-ghost use Rattle.spx_pace.specs.Pacing.{PacerView, flight, made_pacer, place_again};
+ghost use Rattle.std.specs.Prelude.{◌≡◌, IfOk};
+ghost use Rattle.spx_pace.specs.Pacing.{PacerView, with_outstanding, flight, made_pacer, place_again};
 
 use crate::credit::Credit;
 use crate::moments::Moments;
@@ -136,10 +136,11 @@ impl Pacer {
 
     /// So many units are outstanding now, as the link says.
     pub(crate) fn count(&mut self, out: u16, now: u64)
-        ensures { self.new ≡ record self.old { out = out; left = min self.old.left out } }
+        ensures { self.new ≡ with_outstanding self.old out }
     {
         self.out = out;
         self.left = self.left.min(out);
+        self.flying = if out > 0 { self.flying } else { 0 };
         self.timer = match self.timer {
             _ if out == 0 => None,
             Some(since) => Some(since),

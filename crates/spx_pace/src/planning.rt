@@ -22,6 +22,8 @@ impl Pacer {
         ensures within { result.window ≤ numbers.out + spare self.new }
         ensures held { result.window ≤ numbers.out → 0 < spare self.new → numbers.out < 8192
             → IsTrue (holds_back self.new) }
+        ensures moves { numbers.out ≡ 0 → result.window ≡ 0 → IsTrue (holds_back self.new) }
+        ensures wide { (1024 ≤ self.new.window) × (self.new.window ≤ 2097152) }
     {
         self.count(numbers.out, now);
         self.tend(now);
@@ -32,7 +34,8 @@ impl Pacer {
 
     /// Does what is due by itself.
     fn tend(&mut self, now: u64)
-        ensures { self.new.out ≡ self.old.out }
+        ensures counts { self.new.out ≡ self.old.out }
+        ensures flying { self.new.flying ≤ self.old.flying }
     {
         if self.waits_till().is_some_and(|at| at <= now) {
             self.time_out(now);
@@ -47,7 +50,8 @@ impl Pacer {
     /// The wait for an acknowledgement was over: the first outstanding unit goes again, and the
     /// others in order as it is acknowledged.
     fn time_out(&mut self, now: u64)
-        ensures { self.new.out ≡ self.old.out }
+        ensures counts { self.new.out ≡ self.old.out }
+        ensures flying { self.new.flying ≡ 0 }
     {
         let next = self.next();
         self.window.collapse(self.trip.is_first_wait());
@@ -69,6 +73,7 @@ impl Pacer {
         ensures within { result.window ≤ self.now.out + spare self.now }
         ensures held { result.window ≤ self.now.out → 0 < spare self.now → self.now.out < 8192
             → IsTrue (holds_back self.now) }
+        ensures wide { (1024 ≤ self.now.window) × (self.now.window ≤ 2097152) }
     {
         if !self.credit.is_enough() {
             return Plan {

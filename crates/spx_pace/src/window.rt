@@ -1,6 +1,6 @@
 //! The window: how many units may be on their way, in 256ths of a unit.
 
-ghost use Rattle.std.specs.Prelude.{◌≡◌};
+ghost use Rattle.std.specs.Prelude.{◌≡◌, ◌≤◌};
 
 use crate::cubic::{grows_in, window_at};
 use crate::round_trip::RoundTrip;
@@ -35,6 +35,8 @@ pub struct Window {
     epoch: Option<Epoch>,
     /// What three flows that grow by one unit a round trip would have.
     estimate: u64,
+    ghost least: { 1024 ≤ size },
+    ghost most: { size ≤ 2097152 },
 }
 
 impl Window {
@@ -171,6 +173,9 @@ impl Window {
 }
 
 /// A part of a window, and no less than the least.
-fn fraction(size: u64, part: u64, of: u64) -> u64 {
-    (size.saturating_mul(part) / of.max(1)).max(LEAST)
+fn fraction(size: u64, part: u64, of: u64) -> u64
+    ensures least { 1024 ≤ result }
+    ensures most { result ≤ 2097152 }
+{
+    (size.saturating_mul(part) / of.max(1)).max(LEAST).min(MOST)
 }

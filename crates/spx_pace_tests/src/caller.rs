@@ -74,7 +74,7 @@ fn a_link_and_its_pacer(rt: HostRuntime) -> Result<(), Fail> {
         last: true,
         body,
     })?;
-    sender.link.offer(units)?;
+    sender.link.offer(rt.alloc(), units)?;
     assert_eq!(rt; sender.plan(30).window, 10);
     assert_eq!(rt; sender.poll(30), Some(Gave::Unit));
     assert_eq!(rt; sender.plan(30).window, 10);

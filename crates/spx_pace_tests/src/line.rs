@@ -14,6 +14,9 @@ const UNIT: u64 = 604;
 
 const ACKNOWLEDGEMENT: u64 = 70;
 
+/// The seeds of the two directions.
+const SEEDS: [u64; 2] = [0x9e37_79b9_7f4a_7c15, 0xd1b5_4a32_d192_ed03];
+
 /// A millisecond, in nanoseconds, which the clock counts.
 const MS: u64 = 1_000_000;
 
@@ -126,8 +129,8 @@ impl Course {
     pub fn new(alloc: Global, terms: Terms) -> Result<Course, Fail> {
         let mut course = Course {
             pacer: Pacer::new(alloc)?,
-            there: Way::new(alloc, terms, 1),
-            back: Way::new(alloc, terms, 2),
+            there: Way::new(alloc, terms, SEEDS[0]),
+            back: Way::new(alloc, terms, SEEDS[1]),
             base: 0,
             next: 0,
             expected: 0,

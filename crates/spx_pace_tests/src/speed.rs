@@ -38,16 +38,17 @@ fn keeps(rt: &impl Abort, alloc: std::alloc::Global, row: Row) -> Result<(), Fai
     Ok(())
 }
 
-/// Without loss: 0.95 of 0.0071, 0.028, 0.22, 2.19, 2.21 and 2.00 MB/s.
+/// Without loss: 0.95 of 0.0071, 0.028, 0.22, 2.19 and 2.21 MB/s; 0.9 of 2.00 at 200 ms, where a
+/// sender takes seconds to begin.
 #[test]
 fn lines_without_loss(rt: HostRuntime) -> Result<(), Fail> {
     for row in [
         (line(64, 50, 0, 0), 60, 6745, 108),
         (line(250, 50, 0, 0), 60, 26_600, 104),
-        (line(2000, 50, 0, 0), 60, 209_000, 102),
-        (line(20_000, 50, 0, 0), 30, 2_080_500, 101),
-        (line(20_000, 1, 0, 0), 10, 2_099_500, 101),
-        (line(20_000, 200, 0, 0), 30, 1_900_000, 102),
+        (line(2000, 50, 0, 0), 20, 209_000, 102),
+        (line(20_000, 50, 0, 0), 10, 2_080_500, 101),
+        (line(20_000, 1, 0, 0), 4, 2_099_500, 101),
+        (line(20_000, 200, 0, 0), 20, 1_800_000, 102),
     ] {
         keeps(&rt, rt.alloc(), row)?;
     }
@@ -60,10 +61,10 @@ fn lines_without_loss(rt: HostRuntime) -> Result<(), Fail> {
 fn every_hundredth_lost(rt: HostRuntime) -> Result<(), Fail> {
     for row in [
         (line(250, 50, 100, 0), 60, 25_650, 104),
-        (line(1000, 50, 100, 0), 60, 104_500, 102),
-        (line(2000, 50, 100, 0), 60, 209_000, 102),
-        (line(20_000, 1, 100, 0), 10, 2_099_500, 102),
-        (line(20_000, 50, 100, 0), 30, 370_000, 102),
+        (line(1000, 50, 100, 0), 30, 104_500, 102),
+        (line(2000, 50, 100, 0), 20, 209_000, 102),
+        (line(20_000, 1, 100, 0), 4, 2_099_500, 102),
+        (line(20_000, 50, 100, 0), 20, 370_000, 102),
     ] {
         keeps(&rt, rt.alloc(), row)?;
     }
@@ -74,33 +75,34 @@ fn every_hundredth_lost(rt: HostRuntime) -> Result<(), Fail> {
 #[test]
 fn one_of_a_hundred_lost(rt: HostRuntime) -> Result<(), Fail> {
     for row in [
-        (line(2000, 50, 0, 10), 60, 198_000, 102),
-        (line(20_000, 50, 0, 10), 30, 500_000, 102),
+        (line(2000, 50, 0, 10), 20, 198_000, 102),
+        (line(20_000, 50, 0, 10), 20, 500_000, 102),
     ] {
         keeps(&rt, rt.alloc(), row)?;
     }
     Ok(())
 }
 
-/// Where one of ten is lost by chance, each way, a connection is not lost.
+/// Where one of ten is lost by chance, each way, a connection is not lost: 0.7 of 0.024, 0.053 and
+/// 0.048 MB/s.
 #[test]
 fn one_of_ten_lost(rt: HostRuntime) -> Result<(), Fail> {
     for row in [
-        (line(250, 50, 0, 100), 60, 1000, 150),
-        (line(2000, 50, 0, 100), 60, 1000, 150),
-        (line(20_000, 50, 0, 100), 60, 1000, 150),
+        (line(250, 50, 0, 100), 60, 16_800, 150),
+        (line(2000, 50, 0, 100), 60, 37_100, 150),
+        (line(20_000, 50, 0, 100), 60, 33_600, 150),
     ] {
         keeps(&rt, rt.alloc(), row)?;
     }
     Ok(())
 }
 
-/// A queue of ten: 0.95 of 2.12 MB/s at 20 Mbit/s and 50 ms.
+/// A queue of ten: 0.9 of 2.12 MB/s at 20 Mbit/s and 50 ms.
 #[test]
 fn a_short_queue(rt: HostRuntime) -> Result<(), Fail> {
     let terms = Terms {
         queue: 10,
         ..line(20_000, 50, 0, 0)
     };
-    keeps(&rt, rt.alloc(), (terms, 30, 2_014_000, 102))
+    keeps(&rt, rt.alloc(), (terms, 10, 1_908_000, 102))
 }
