@@ -1,6 +1,6 @@
 -- What a pacer holds, as its contracts see it, and what it lets a link do (own).
-use Rattle.std.specs.Prelude.{ℕ, ◌+◌, ◌-◌, ◌/◌, ◌&&◌, ◌||◌, if◌then◌else◌, Bool, min, nat_lt, is_some}
-use Rattle.std.specs.Prelude.{Option, None, Some}
+use Rattle.std.specs.Prelude.{ℕ, ◌+◌, ◌-◌, ◌/◌, ◌&&◌, ◌||◌, if◌then◌else◌, Bool, min, nat_lt}
+use Rattle.std.specs.Prelude.{Option, None, Some, is_some}
 use Rattle.spx_link.specs.Limits.{most_units}
 use Rattle.spx_pace.specs.declared.plan.Plan.{Plan}
 use Rattle.spx_pace.specs.declared.gave.Gave.{Gave}

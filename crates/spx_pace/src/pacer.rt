@@ -1,7 +1,8 @@
 //! The pacer of a connection: what it holds.
 
 ghost use Rattle.std.specs.Prelude.{◌≡◌, IfOk};
-ghost use Rattle.spx_pace.specs.Pacing.{PacerView, with_outstanding, flight, made_pacer, place_again};
+ghost use Rattle.spx_pace.specs.Pacing.{PacerView, flight, made_pacer, place_again};
+ghost use Rattle.spx_pace.specs.Pacing.{with_outstanding};
 
 use crate::credit::Credit;
 use crate::moments::Moments;

@@ -5,8 +5,8 @@ use ipx_wire::OutOfMemory;
 use spx_pace::{Gave, Pacer};
 use std::test::Fail;
 
-/// The two requests for memory of a pacer: where one is refused, no pacer is made, and the same call
-/// again succeeds. No other call asks for any.
+/// The two requests for memory of a pacer: where one is refused, no pacer is made, and the same
+/// call again succeeds. No other call asks for any.
 #[test]
 fn refused_pacer(rt: HostRuntime) -> Result<(), Fail> {
     let mut pacer = match Pacer::new(rt.alloc()) {
