@@ -12,8 +12,9 @@ FROM = {"by-node": ("127.0.1.130", "127.0.1.131"), "by-network": ("127.0.1.132",
         "by-nobody": ("127.0.1.134", "127.0.1.135")}
 NAMED = {"by-node": [f"{NETWORK} {node('127.0.1.131')}", "00000045"], "by-network": ["00000045", NETWORK],
          "by-nobody": ["00000045", f"{NETWORK} {node('127.0.1.134')}"]}
-# Listeners that are called by some who never speak: one that takes one connection, and one whose places are
-# all taken; a third one's sender joins, and writes nothing for a while.
+# Listeners that are called by some who never speak: one that takes one connection, called by two of SILENT whom
+# it names and by two who are strangers to it, and one whose places are all taken; a third one's sender joins, and
+# writes nothing for a while.
 ONCE, CROWDED, QUIET = (("127.0.1.136", "127.0.1.137"), ("127.0.1.138", "127.0.1.139"), ("127.0.1.140", "127.0.1.141"))
 SILENT, ASKING = [f"127.0.1.{number}" for number in range(142, 146)], "127.0.1.146"
 CALLING = [address for pair in [*FROM.values(), ONCE, CROWDED, QUIET] for address in pair] + SILENT + [ASKING]
@@ -74,12 +75,16 @@ def ask(ip, listener, port):
 
 def start_silent(sites):
     """Listeners that are called by some who never speak, and then by a true sender."""
+    named = ", ".join(f'"{NETWORK} {node(ip)}"' for ip in [ONCE[1], *SILENT[:2]])
     for name, (listener, sender) in {"once": ONCE, "crowded": CROWDED, "quiet": QUIET}.items():
         sites.host(f"{name}-listener", NETWORK, listener, "127.0.1.89", "4002",
-                   listed("peers", [sender, *SILENT, ASKING]))
+                   listed("peers", [sender, *SILENT, ASKING])
+                   + (f"from = [{named}]\n" if name == "once" else ""))
         sites.host(f"{name}-sender", NETWORK, sender, "127.0.1.89", "4003")
     data, ends = some_bytes(sites.seed + 10, 20_000), [(bound(ip, sites.port), ip) for ip in SILENT]
     quiet = sites.start_listener("--once", name="quiet-listener")
+    # One that joined is asked as one that calls, after a second, and would be lost five seconds later: ten show
+    # that what it is asked keeps its place, and a longer silence is asked in the same way.
     waits = sites.start_sender("quiet-sender", [10.0, data], NETWORK, QUIET[0])
     once = sites.start_listener("--once", name="once-listener")
     crowded = sites.start_listener(name="crowded-listener")
@@ -99,7 +104,10 @@ def start_silent(sites):
 
 def check_silent(sites, data, ends, quiet, once, crowded):
     """The true senders have their places."""
-    sites.check_transfer("a sender to a listener with --once that 200 called who never speak", *once, data)
+    sites.check_transfer("a sender to a listener with --once that never speaking ones and strangers called, 100 times each",
+                         *once, data)
+    told = [line for line in once[0].said() if re.fullmatch(BARRED, line)]
+    sites.check("of which the strangers are counted", bool(told), str(once[0].said()[-3:]))
     listener, true, took = crowded
     # Two seconds, and one for a machine that is busy.
     sites.check("where sixteen call who never speak, one that asks again is in soon", took < 3, f"after {took:.2f} s")
