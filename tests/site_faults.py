@@ -1,5 +1,6 @@
 """One file for each fault, with the line that the program prints of it, for tests/sites."""
 import os
+import re
 import subprocess
 
 from site_world import bound, die_with_the_parent
@@ -179,13 +180,14 @@ def check_faults(sites):
 
     send = ["send", "bad.toml", "00000022", "00007f00011e", "4002"]
     # The addresses are in use: a program that binds before it has read all says so, and not this.
-    for text, line in ROUTER_FILES:
-        write(text)
-        check_told(sites, f"a router's file: {line}", ["route", "bad.toml"], 2, f"bad.toml: {line}")
-    for words in (["listen", "bad.toml"], send):
+    for words in (["route", "bad.toml"], ["route", "--check", "bad.toml"]):
+        for text, line in ROUTER_FILES:
+            write(text)
+            check_told(sites, f"a router's file, {words}: {line}", words, 2, f"bad.toml: {line}")
+    for words in (["listen", "bad.toml"], ["listen", "--check", "bad.toml"], send):
         for text, line in HOST_FILES:
             write(text)
-            check_told(sites, f"a host's file, {words[0]}: {line}", words, 2, f"bad.toml: {line}")
+            check_told(sites, f"a host's file, {words[:2]}: {line}", words, 2, f"bad.toml: {line}")
     for text, words in ((PORT, ["route", "bad.toml"]), (HOST, ["listen", "bad.toml"]), (HOST, send)):
         write(text)
         check_told(sites, f"an address in use, {words[0]}", words, 1, f"bad.toml: {IN_USE[words[0]]}")
@@ -194,6 +196,8 @@ def check_faults(sites):
         write(text)
         check_told(sites, f"no address of this machine, {words[0]}", words, 1, f"bad.toml: {NOT_HERE[words[0]]}")
     check_unread(sites, send)
+    check_checked(sites)
+    check_running(sites)
     here["127.0.1.1"], here["127.0.1.20"] = FREE
     write(HOST)
     for words, closed in ((send, 0), (["listen", "bad.toml"], 1)):
@@ -203,6 +207,69 @@ def check_faults(sites):
     print(f"    {sites.passed - passed} faults of files and sockets were told in their line")
 
 
+# Files without a fault, and what --check says of them: two ports with a status file; one port of which
+# all is to be remarked; two ports that are reached at one place; a host, and one that is its own router.
+OWN = """status = "/run/ipx/h q\\u001b.prom"
+
+[[port]]
+network = "00000001"
+address = "192.0.2.10"
+cost = 6
+peers = ["198.51.100.7", "203.0.113.9"]
+
+[[port]]
+network = "000000aB"
+address = "10.1.0.1"
+udp_port = 2130
+peers = []
+accept = "any"
+"""
+ODD = """[[port]]
+network = "00000011"
+address = "10.1.0.1"
+peers = ["10.1.0.20", "10.1.0.1", "10.1.0.20", "10.1.0.21"]
+"""
+SHARED = ODD + ODD.replace("00000011", "00000022").replace('"10.1.0.20", "10.1.0.1", ', "")
+PORT_11 = "port 1 network 00000011 node 00000a010001 udp 10.1.0.1:213 cost 1 peers 4"
+REMARKS = ["port 1: peer 10.1.0.1 is its own address", "port 1: peer 10.1.0.20 stands twice"]
+CHECKED = [
+    ("route", OWN, ["port 1 network 00000001 node 0000c000020a udp 192.0.2.10:213 cost 6 peers 2",
+                    "port 2 network 000000ab node 00000a010001 udp 10.1.0.1:2130 cost 1 peers 0 accept any",
+                    "it.toml: 2 ports, status /run/ipx/h q..prom"]),
+    ("route", ODD, [PORT_11, *REMARKS, "it.toml: 1 port, no status file"]),
+    ("route", SHARED, [PORT_11, *REMARKS, "port 2 network 00000022 node 00000a010001 udp 10.1.0.1:213 cost 1 peers 2",
+                       "port 2: address and udp_port are those of port 1", "it.toml: 2 ports, no status file"]),
+    ("listen", HOST, ["socket 4002 network 00000011 node 00007f000114 udp 127.0.1.20:20999",
+                      "it.toml: router 127.0.1.1, buffers 64"]),
+    ("listen", changed(HOST, "router", '"127.0.1.20"') + "buffers = 512\n",
+     ["socket 4002 network 00000011 node 00007f000114 udp 127.0.1.20:20999", "the router is its own address",
+      "it.toml: router 127.0.1.20, buffers 512"]),
+]
+
+
+def check_checked(sites):
+    """What --check says of files without a fault."""
+    for command, text, lines in CHECKED:
+        sites.world.write("it.toml", text)
+        wanted = (0, "".join(f"{line}\n" for line in lines).encode(), [])
+        for words in ([command, "--check", "it.toml"], [command, "it.toml", "--check"]):
+            got = told(sites, words)
+            sites.check(f"{words} of a file without a fault", got == wanted, f"{got} is to be {wanted}", quiet=True)
+
+
+def check_running(sites):
+    """--check of the files of those that run: their ports are bound, so it binds none, and it says of each what was
+    said as they started, but for the room of its socket."""
+    running = {**{name: ("route", one) for name, one in sites.routers.items()},
+               **{one.name: ("listen", one) for one in sites.world.processes if one.name == "near"}}
+    for name, (command, one) in running.items():
+        status, out, told_so = told(sites, [command, "--check", f"{name}.toml"])
+        ports = [line for line in out.decode().splitlines() if line.startswith(("port ", "socket "))]
+        started = [re.sub(r" room \d+$", "", line.split("] ", 1)[-1]) for line in one.said()]
+        good = status == 0 and not told_so and ports and all(line in started for line in ports)
+        sites.check(f"{command} --check of the file of {name}, which runs", good, f"{status}, {told_so}, {ports}", quiet=True)
+
+
 def check_unread(sites, send):
     """Files that are not there, no text, or too long."""
     os.mkdir(sites.world.path("folder"))
@@ -210,5 +277,6 @@ def check_unread(sites, send):
         with open(sites.world.path(name), "wb") as file:
             file.write(content)
     for name, line in UNREAD:
-        for words in (["route", name], ["listen", name], ["send", name, *send[2:]]):
-            check_told(sites, f"{words[0]} {name}: {line}", words, 2, f"{name}: {line}")
+        for words in (["route", name], ["listen", name], ["send", name, *send[2:]],
+                      ["route", "--check", name], ["listen", "--check", name]):
+            check_told(sites, f"{words[:2]} {name}: {line}", words, 2, f"{name}: {line}")

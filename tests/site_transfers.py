@@ -49,10 +49,25 @@ def check_three(sites):
         sender.end()
 
 
+def check_room_told(sites, room, wanted):
+    """Where sockets get less than they ask for, a host says so just where its buffers want over twice that: a unit
+    takes 1,280 bytes."""
+    line = f"its socket holds {room} bytes: net.core.rmem_max = {wanted} gives it what it asks for"
+    for number, buffers in enumerate((64, 8192)):
+        name = f"room-{buffers}"
+        sites.host(name, NETWORK, SENDERS[number], "127.0.1.89", "4002", f"buffers = {buffers}\n")
+        host = sites.start_listener(name=name)
+        until(lambda: any("socket 4002" in one for one in host.said()), 5)  # pylint: disable=cell-var-from-loop
+        says = any(one.endswith(line) for one in host.said())
+        sites.check(f"a host with {buffers} buffers and its room", says == (buffers * 1280 > 2 * room), str(host.said()))
+        host.end()
+
+
 def check_transfers(sites, room, wanted):
     """All of them, where the system gives a socket the room that it asks for."""
     if room < wanted:
         print(f"    transfers at many buffers are left out: net.core.rmem_max is {room}, less than {wanted}")
+        check_room_told(sites, room, wanted)
         return
     for buffers, addresses in BUFFERS.items():
         check_one(sites, buffers, addresses)

@@ -1,3 +1,4 @@
+pub mod Checked
 pub mod Counting
 pub mod Holding
 pub mod Noted

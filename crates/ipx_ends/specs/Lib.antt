@@ -10,6 +10,7 @@ pub mod Noting
 pub mod Outlet
 pub mod Passing
 pub mod Rounds
+pub mod Saying
 pub mod Sent
 pub mod Sleeping
 pub mod Steps

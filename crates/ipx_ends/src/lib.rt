@@ -2,11 +2,13 @@
 //! send`.
 //!
 //! [`do_listen`] takes connections and writes the messages that come. [`do_send`] asks for one, and
-//! sends what it reads. Each runs by the file of a host until it is over.
+//! sends what it reads. Each runs by the file of a host until it is over. [`check_host`] says what
+//! stands in such a file.
 #![tactic(auto)]
 
 mod asking;
 mod callers;
+mod checking;
 mod company;
 mod end_core;
 mod feeding;
@@ -19,6 +21,7 @@ mod listen;
 mod listening;
 mod outlet;
 mod resting;
+mod room;
 mod send;
 mod sending;
 mod start;
@@ -29,6 +32,7 @@ mod telling;
 mod tending;
 mod verdict;
 
+pub use checking::check_host;
 pub use listen::do_listen;
 pub use send::do_send;
 pub use target::Target;

@@ -9,10 +9,10 @@ ghost use Rattle.ipx_site.specs.declared.clock.SteadyClock.{SteadyClock};
 ghost use Rattle.ipx_ends.specs.Hosting.{ListensWell, ServesWell, host};
 ghost use Rattle.ipx_ends.specs.Outlet.{left_of};
 
+use crate::checking::listener_to_text;
 use crate::listening::Listening;
 use crate::start::{StartFault, tell_start};
-use ipx_carrier::node_of;
-use ipx_site::{Accept, HostFile, load_host};
+use ipx_site::{HostFile, load_host};
 use log::{Log, info};
 use std::alloc::Global;
 use std::io::Write;
@@ -20,18 +20,10 @@ use std::net::Net;
 use std::rt::{Clock, Files};
 
 /// Logs where a host listens.
-fn tell_place<R: Log>(rt: &R, file: &HostFile) {
-    let network = file.network;
-    let node = node_of(file.address);
-    let socket = file.socket;
-    let [a, b, c, d] = file.address;
-    let udp = file.udp_port;
-    let any = match file.accept {
-        Accept::Any => " accept any",
-        Accept::Peers => "",
-    };
-    info!(rt; target: "ipx",
-        "socket {socket} network {network} node {node} udp {a}.{b}.{c}.{d}:{udp}{any}");
+fn tell_place<R: Log>(rt: &R, alloc: Global, file: &HostFile) -> Result<(), StartFault> {
+    let place = listener_to_text(alloc, file)?;
+    info!(rt; target: "ipx", "{place}");
+    Ok(())
 }
 
 /// Runs a host that was started, and answers its status. Why one was not is told, and is 1.
@@ -58,8 +50,10 @@ fn run_listening<R: Net + Log + Clock + Eprint, W: Write>(
         Ok(listening) => listening,
         Err(fault) => return tell_start(rt, path, fault),
     };
-    tell_place(rt, file);
-    listening.finish(rt, alloc, writer)
+    match tell_place(rt, alloc, file) {
+        Ok(()) => listening.finish(rt, alloc, writer),
+        Err(fault) => tell_start(rt, path, fault),
+    }
 }
 
 /// Runs the host of a file that was loaded. The status of one that was not is passed on.

@@ -17,6 +17,7 @@ ghost use Rattle.ipx_ends.specs.Turning.{TakesTurn, gives, hears, misses, withho
 
 use crate::company::guard_of;
 use crate::end_core::{EndCore, copy_origins};
+use crate::room::tell_room;
 use crate::start::{StartFault, check_streams};
 use crate::telling::{Counts, Telling};
 use ipx_carrier::{Report, node_of, run};
@@ -142,6 +143,7 @@ impl<'a, R: Net + Log + Clock> Station<'a, R> {
         let peers = vec![in alloc; router]?;
         let guards = vec![in alloc; guard_of(alloc, file, dials)?]?;
         let sockets = SiteSockets::bind_one(rt, alloc, file.address, file.udp_port)?;
+        tell_room(rt, &sockets, file.buffers);
         let readiness = Readiness::new(rt, alloc, &sockets)?;
         Ok(Station {
             core: EndCore::new(endpoint, file.network, copy_origins(alloc, &file.from)?),

@@ -11,3 +11,5 @@ pub mod Rounds
 pub mod Parts
 pub mod Addresses
 pub mod Access
+pub mod Printed
+pub mod Written

@@ -13,3 +13,4 @@ pub mod Moments
 pub mod Bursts
 pub mod Leisure
 pub mod Rounds
+pub mod Checked

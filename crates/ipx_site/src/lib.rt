@@ -1,15 +1,17 @@
 //! What one installs at a site: a router or a host, by a short file.
 //!
-//! [`do_route`] is the command of a router. [`read_site`] reads the file of a router, [`read_host`]
-//! that of a host, and [`load_site`] and [`load_host`] where they lie. [`PeersOnly`] is a device
-//! that hears and sends to its peers alone, over any device that knows its [`Senders`], as
-//! [`SiteSockets`] are; [`Readiness`] waits for those, [`SteadyClock`] is the system's clock, and
-//! [`run_burst`] takes turns as long as there is something to do.
+//! [`do_route`] is the command of a router, and [`check_site`] says what it would of its file.
+//! [`read_site`] reads the file of a router, [`read_host`] that of a host, and [`load_site`] and
+//! [`load_host`] where they lie. [`PeersOnly`] is a device that hears and sends to its peers alone,
+//! over any device that knows its [`Senders`], as [`SiteSockets`] are; [`Readiness`] waits for those,
+//! [`SteadyClock`] is the system's clock, and [`run_burst`] takes turns as long as there is something
+//! to do.
 #![tactic(auto)]
 
 mod asking;
 mod bind_fault;
 mod causes;
+mod checking;
 mod clock;
 mod fault;
 mod fields;
@@ -31,6 +33,7 @@ mod senders;
 mod shown;
 mod site;
 mod sockets;
+mod start_lines;
 mod station;
 mod status;
 mod tally;
@@ -44,6 +47,7 @@ mod watch;
 pub use asking::asking_moment;
 pub use bind_fault::{BindFault, Obstacle};
 pub use causes::Cause;
+pub use checking::{check_site, write_checked};
 pub use clock::SteadyClock;
 pub use fault::FileFault;
 pub use figures::Figures;
@@ -59,5 +63,6 @@ pub use routing::do_route;
 pub use senders::Senders;
 pub use site::{Accept, SiteFile, SitePort};
 pub use sockets::SiteSockets;
+pub use start_lines::{dotted, others, reached_to_text};
 pub use troubles::tell_kept;
 pub use turns::{Burst, run_burst, take_turn};

@@ -11,8 +11,9 @@ use crate::files::load_site;
 use crate::peers::{Guard, PeersOnly};
 use crate::readiness::{Readiness, WaitFault};
 use crate::room::SOCKET_ROOM;
-use crate::site::{Accept, SiteFile, SitePort};
+use crate::site::{SiteFile, SitePort};
 use crate::sockets::SiteSockets;
+use crate::start_lines::port_to_text;
 use crate::station::{Parts, Station};
 use ipx_carrier::{RouterCore, node_of};
 use ipx_router::{NewFault, Port, Router};
@@ -128,31 +129,34 @@ fn guards_of(alloc: Global, ports: &[SitePort]) -> Result<Vec<Guard>, AllocError
 }
 
 /// Tells a port, as the router starts.
-fn tell_port<R: Log>(rt: &R, number: usize, port: &SitePort, room: u32) {
-    let network = port.network;
-    let node = node_of(port.address);
-    let [a, b, c, d] = port.address;
-    let udp = port.udp_port;
-    let peers = port.peers.len();
-    let any = match port.accept {
-        Accept::Any => " accept any",
-        Accept::Peers => "",
-    };
-    info!(rt; target: "ipx",
-        "port {number} network {network} node {node} udp {a}.{b}.{c}.{d}:{udp} \
-             peers {peers}{any} room {room}");
+fn tell_port<R: Log>(
+    rt: &R,
+    alloc: Global,
+    number: usize,
+    port: &SitePort,
+    room: u32,
+) -> Result<(), AllocError> {
+    let line = port_to_text(alloc, number, port)?;
+    info!(rt; target: "ipx", "{line} room {room}");
     if room < SOCKET_ROOM {
         warn!(rt; target: "ipx",
             "port {number}: its socket holds {room} bytes: \
              net.core.rmem_max = {SOCKET_ROOM} gives it what it asks for");
     }
+    Ok(())
 }
 
-fn tell_ports<R: Log>(rt: &R, ports: &[SitePort], sockets: &SiteSockets) {
+fn tell_ports<R: Log>(
+    rt: &R,
+    alloc: Global,
+    ports: &[SitePort],
+    sockets: &SiteSockets,
+) -> Result<(), AllocError> {
     for (place, port) in ports.iter().enumerate() {
         let room = sockets.room(place).unwrap_or(0);
-        tell_port(rt, place + 1, port, room);
+        tell_port(rt, alloc, place + 1, port, room)?;
     }
+    Ok(())
 }
 
 /// A router of a file, with its sockets bound.
@@ -177,7 +181,7 @@ fn start<'a, R: Net + Log + SystemClock>(
     let guards = guards_of(alloc, &site.ports)?;
     let sockets = SiteSockets::bind(rt, alloc, &site.ports)?;
     let ready = Readiness::new(rt, alloc, &sockets)?;
-    tell_ports(rt, &site.ports, &sockets);
+    tell_ports(rt, alloc, &site.ports, &sockets)?;
     let parts = Parts {
         core: RouterCore::new(alloc, router),
         device: PeersOnly::new(sockets, guards),

@@ -4,7 +4,7 @@ use Rattle.std.proofs.lemmas.List.{length-map}
 use Rattle.std.specs.Str.Parse.{digits_value, without_leading_plus}
 use Rattle.std.specs.Str.Pattern.{FindsTextPrefix, StripsPrefix}
 use Rattle.ipx_tool.specs.declared.words.Task.{Task}
-use Rattle.ipx_tool.specs.declared.words.Task.TheVariants.{Hop, Show, Check, Sim, Udp, Route, Listen, Send}
+use Rattle.ipx_tool.specs.declared.words.Task.TheVariants.{Hop, Show, Check, Sim, Udp, Route, CheckSite, Listen, CheckHost, Send}
 use Rattle.ipx_tool.specs.Words.{AskForOne, AsksFor, Finds, IsPlain, IsPort, IsSame}
 
 -- what begins with `-` is an option
@@ -14,6 +14,19 @@ not_plain word rest e plain = let of_dash : IsPlain (45 ∷ rest) = subst IsPlai
 port_or_once : codes "--port" ≡ codes "--once" → ⊥
 port_or_once e = omega (arith, ap (λ (word : List ℕ). get_or word 2 0) e)
 
+port_or_check : codes "--port" ≡ codes "--check" → ⊥
+port_or_check e = omega (arith, ap (λ (word : List ℕ). get_or word 2 0) e)
+
+once_or_check : codes "--once" ≡ codes "--check" → ⊥
+once_or_check e = omega (arith, ap (λ (word : List ℕ). get_or word 2 0) e)
+
+-- the second and the third of some words
+second : {words same : List (List ℕ)} → words ≡ same → get_or words 1 [] ≡ get_or same 1 []
+second e = ap (λ (ws : List (List ℕ)). get_or ws 1 []) e
+
+third : {words same : List (List ℕ)} → words ≡ same → get_or words 2 [] ≡ get_or same 2 []
+third e = ap (λ (ws : List (List ℕ)). get_or ws 2 []) e
+
 -- `--port` and a text ask for the same in one word and in two
 pub joined : (command text : List ℕ) (task : Task) → AsksFor (command ∷ codes "--port" ∷ text ∷ []) task
     → AsksFor (command ∷ (codes "--port=" ++ text) ∷ []) task
@@ -22,6 +35,12 @@ joined command text (Udp port) (inr (other, is, inl e)) = inr (other, is, inr (c
 joined command text (Udp port) (inr (other, is, inr e)) = absurd (cc)
 joined command text (Listen file true) (inl e, plain) = absurd (port_or_once (ap (λ (ws : List (List ℕ)). get_or ws 1 []) e))
 joined command text (Listen file true) (inr e, plain) =
+    let option : file.now ≡ codes "--port" = cc in absurd (not_plain file.now _ option plain)
+joined command text (CheckSite file) (inl e, plain) = absurd (port_or_check (second e))
+joined command text (CheckSite file) (inr e, plain) =
+    let option : file.now ≡ codes "--port" = cc in absurd (not_plain file.now _ option plain)
+joined command text (CheckHost file) (inl e, plain) = absurd (port_or_check (second e))
+joined command text (CheckHost file) (inr e, plain) =
     let option : file.now ≡ codes "--port" = cc in absurd (not_plain file.now _ option plain)
 joined command text _ asks = absurd (cc)
 
@@ -38,6 +57,10 @@ parted command text (Listen file false) (e, plain) =
     let option : file.now ≡ codes "--port=" ++ text = cc in absurd (not_plain file.now _ option plain)
 parted command text (Listen file true) (inl e, plain) = absurd (cc)
 parted command text (Listen file true) (inr e, plain) = absurd (cc)
+parted command text (CheckSite file) (inl e, plain) = absurd (cc)
+parted command text (CheckSite file) (inr e, plain) = absurd (cc)
+parted command text (CheckHost file) (inl e, plain) = absurd (cc)
+parted command text (CheckHost file) (inr e, plain) = absurd (cc)
 parted command text _ asks = absurd (cc)
 
 -- what is left of a word without its front
@@ -56,6 +79,9 @@ found_joined command text word (Some task) is asks =
 not_once : (port : ℕ) → IsPort (codes "--once") port → ⊥
 not_once port is = let digit = is.0.1.0 in omega arith
 
+not_check : (port : ℕ) → IsPort (codes "--check") port → ⊥
+not_check port is = let digit = is.0.1.0 in omega arith
+
 -- before the word or behind it `--once` asks for the same
 pub behind : (command file : List ℕ) (task : Task) → AsksFor (command ∷ codes "--once" ∷ file ∷ []) task
     → AsksFor (command ∷ file ∷ codes "--once" ∷ []) task
@@ -64,6 +90,12 @@ behind command file (Udp port) (inr (text, is, inl e)) = absurd (port_or_once (s
 behind command file (Udp port) (inr (text, is, inr e)) = absurd (cc)
 behind command file (Listen other true) (inl e, plain) = (inr (cc), plain)
 behind command file (Listen other true) (inr e, plain) =
+    let option : other.now ≡ codes "--once" = cc in absurd (not_plain other.now _ option plain)
+behind command file (CheckSite other) (inl e, plain) = absurd (once_or_check (second e))
+behind command file (CheckSite other) (inr e, plain) =
+    let option : other.now ≡ codes "--once" = cc in absurd (not_plain other.now _ option plain)
+behind command file (CheckHost other) (inl e, plain) = absurd (once_or_check (second e))
+behind command file (CheckHost other) (inr e, plain) =
     let option : other.now ≡ codes "--once" = cc in absurd (not_plain other.now _ option plain)
 behind command file _ asks = absurd (cc)
 
@@ -76,12 +108,57 @@ before command file (Udp port) (inr (text, is, inr e)) = absurd (cc)
 before command file (Listen other true) (inl e, plain) =
     let option : other.now ≡ codes "--once" = cc in absurd (not_plain other.now _ option plain)
 before command file (Listen other true) (inr e, plain) = (inl (cc), plain)
+before command file (CheckSite other) (inl e, plain) =
+    let option : other.now ≡ codes "--once" = cc in absurd (not_plain other.now _ option plain)
+before command file (CheckSite other) (inr e, plain) = absurd (once_or_check (third e))
+before command file (CheckHost other) (inl e, plain) =
+    let option : other.now ≡ codes "--once" = cc in absurd (not_plain other.now _ option plain)
+before command file (CheckHost other) (inr e, plain) = absurd (once_or_check (third e))
 before command file _ asks = absurd (cc)
 
 pub found_behind : (command file : List ℕ) (found : Option Task) → Finds (AsksFor (command ∷ codes "--once" ∷ file ∷ [])) found
     → Finds (AsksFor (command ∷ file ∷ codes "--once" ∷ [])) found
 found_behind command file None none = λ task asks. none task (before command file task asks)
 found_behind command file (Some task) asks = behind command file task asks
+
+-- likewise `--check`
+check_behind : (command file : List ℕ) (task : Task) → AsksFor (command ∷ codes "--check" ∷ file ∷ []) task
+    → AsksFor (command ∷ file ∷ codes "--check" ∷ []) task
+check_behind command file (Udp port) (inl asks) = absurd (cc)
+check_behind command file (Udp port) (inr (text, is, inl e)) = absurd (port_or_check (sym (second e)))
+check_behind command file (Udp port) (inr (text, is, inr e)) = absurd (cc)
+check_behind command file (Listen other true) (inl e, plain) = absurd (once_or_check (sym (second e)))
+check_behind command file (Listen other true) (inr e, plain) =
+    let option : other.now ≡ codes "--check" = cc in absurd (not_plain other.now _ option plain)
+check_behind command file (CheckSite other) (inl e, plain) = (inr (cc), plain)
+check_behind command file (CheckSite other) (inr e, plain) =
+    let option : other.now ≡ codes "--check" = cc in absurd (not_plain other.now _ option plain)
+check_behind command file (CheckHost other) (inl e, plain) = (inr (cc), plain)
+check_behind command file (CheckHost other) (inr e, plain) =
+    let option : other.now ≡ codes "--check" = cc in absurd (not_plain other.now _ option plain)
+check_behind command file _ asks = absurd (cc)
+
+check_before : (command file : List ℕ) (task : Task) → AsksFor (command ∷ file ∷ codes "--check" ∷ []) task
+    → AsksFor (command ∷ codes "--check" ∷ file ∷ []) task
+check_before command file (Udp port) (inl asks) = absurd (cc)
+check_before command file (Udp port) (inr (text, is, inl e)) =
+    let check : text ≡ codes "--check" = cc in absurd (not_check port (subst (λ t. IsPort t port) check is))
+check_before command file (Udp port) (inr (text, is, inr e)) = absurd (cc)
+check_before command file (Listen other true) (inl e, plain) =
+    let option : other.now ≡ codes "--check" = cc in absurd (not_plain other.now _ option plain)
+check_before command file (Listen other true) (inr e, plain) = absurd (once_or_check (sym (third e)))
+check_before command file (CheckSite other) (inl e, plain) =
+    let option : other.now ≡ codes "--check" = cc in absurd (not_plain other.now _ option plain)
+check_before command file (CheckSite other) (inr e, plain) = (inl (cc), plain)
+check_before command file (CheckHost other) (inl e, plain) =
+    let option : other.now ≡ codes "--check" = cc in absurd (not_plain other.now _ option plain)
+check_before command file (CheckHost other) (inr e, plain) = (inl (cc), plain)
+check_before command file _ asks = absurd (cc)
+
+pub found_check : (command file : List ℕ) (found : Option Task) → Finds (AsksFor (command ∷ codes "--check" ∷ file ∷ [])) found
+    → Finds (AsksFor (command ∷ file ∷ codes "--check" ∷ [])) found
+found_check command file None none = λ task asks. none task (check_before command file task asks)
+found_check command file (Some task) asks = check_behind command file task asks
 
 -- the number of words
 none_so_many : (words : List (List ℕ)) → length words ≢ 2 → length words ≢ 3 → length words ≢ 4 → length words ≢ 6
@@ -97,6 +174,10 @@ none_so_many words two three four six (Route file) (e, plain) = omega (arith, le
 none_so_many words two three four six (Listen file false) (e, plain) = omega (arith, length-drop 1 words, ap length e)
 none_so_many words two three four six (Listen file true) (inl e, plain) = omega (arith, length-drop 1 words, ap length e)
 none_so_many words two three four six (Listen file true) (inr e, plain) = omega (arith, length-drop 1 words, ap length e)
+none_so_many words two three four six (CheckSite file) (inl e, plain) = omega (arith, length-drop 1 words, ap length e)
+none_so_many words two three four six (CheckSite file) (inr e, plain) = omega (arith, length-drop 1 words, ap length e)
+none_so_many words two three four six (CheckHost file) (inl e, plain) = omega (arith, length-drop 1 words, ap length e)
+none_so_many words two three four six (CheckHost file) (inr e, plain) = omega (arith, length-drop 1 words, ap length e)
 none_so_many words two three four six (Send file target) asks = omega (arith, length-drop 1 words, ap length asks.0)
 
 -- ---- the words of a list, behind its first
@@ -143,7 +224,9 @@ name Check = codes "check"
 name Sim = codes "sim"
 name (Udp port) = codes "udp"
 name (Route file) = codes "route"
+name (CheckSite file) = codes "route"
 name (Listen file once) = codes "listen"
+name (CheckHost file) = codes "listen"
 name (Send file target) = codes "send"
 
 -- the first two letters tell the names apart
@@ -162,6 +245,10 @@ named words (Route file) (e, plain) = ap (λ ws. get_or ws 0 []) e
 named words (Listen file false) (e, plain) = ap (λ ws. get_or ws 0 []) e
 named words (Listen file true) (inl e, plain) = ap (λ ws. get_or ws 0 []) e
 named words (Listen file true) (inr e, plain) = ap (λ ws. get_or ws 0 []) e
+named words (CheckSite file) (inl e, plain) = ap (λ ws. get_or ws 0 []) e
+named words (CheckSite file) (inr e, plain) = ap (λ ws. get_or ws 0 []) e
+named words (CheckHost file) (inl e, plain) = ap (λ ws. get_or ws 0 []) e
+named words (CheckHost file) (inr e, plain) = ap (λ ws. get_or ws 0 []) e
 named words (Send file target) asks = ap (λ ws. get_or ws 0 []) asks.0
 
 one_value : (text next : List ℕ) (port other : ℕ) → text ≡ next → IsPort text port → IsPort next other → port ≡ other
@@ -197,6 +284,38 @@ one_of_a_name words (Listen file true) (Listen other true) same (inl e, plain) (
 one_of_a_name words (Listen file true) (Listen other true) same (inr e, plain) (inl f, also) =
     let option : file.now ≡ codes "--once" = cc in absurd (not_plain file.now _ option plain)
 one_of_a_name words (Listen file true) (Listen other true) same (inr e, plain) (inr f, also) = (cc, refl)
+one_of_a_name words (CheckSite file) (CheckSite other) same (inl e, plain) (inl f, also) = cc
+one_of_a_name words (CheckSite file) (CheckSite other) same (inl e, plain) (inr f, also) =
+    let option : other.now ≡ codes "--check" = cc in absurd (not_plain other.now _ option also)
+one_of_a_name words (CheckSite file) (CheckSite other) same (inr e, plain) (inl f, also) =
+    let option : file.now ≡ codes "--check" = cc in absurd (not_plain file.now _ option plain)
+one_of_a_name words (CheckSite file) (CheckSite other) same (inr e, plain) (inr f, also) = cc
+one_of_a_name words (CheckHost file) (CheckHost other) same (inl e, plain) (inl f, also) = cc
+one_of_a_name words (CheckHost file) (CheckHost other) same (inl e, plain) (inr f, also) =
+    let option : other.now ≡ codes "--check" = cc in absurd (not_plain other.now _ option also)
+one_of_a_name words (CheckHost file) (CheckHost other) same (inr e, plain) (inl f, also) =
+    let option : file.now ≡ codes "--check" = cc in absurd (not_plain file.now _ option plain)
+one_of_a_name words (CheckHost file) (CheckHost other) same (inr e, plain) (inr f, also) = cc
+one_of_a_name words (Route file) (CheckSite other) same (e, plain) (inl f, also) = absurd (cc)
+one_of_a_name words (Route file) (CheckSite other) same (e, plain) (inr f, also) = absurd (cc)
+one_of_a_name words (Listen file false) (CheckHost other) same (e, plain) (inl f, also) = absurd (cc)
+one_of_a_name words (Listen file false) (CheckHost other) same (e, plain) (inr f, also) = absurd (cc)
+one_of_a_name words (CheckSite file) (Route other) same (inl e, plain) (f, also) = absurd (cc)
+one_of_a_name words (CheckSite file) (Route other) same (inr e, plain) (f, also) = absurd (cc)
+one_of_a_name words (CheckHost file) (Listen other false) same (inl e, plain) (f, also) = absurd (cc)
+one_of_a_name words (CheckHost file) (Listen other false) same (inr e, plain) (f, also) = absurd (cc)
+one_of_a_name words (Listen file true) (CheckHost other) same (inl e, plain) (inl f, also) = absurd (once_or_check (second (sym e ∙ f)))
+one_of_a_name words (Listen file true) (CheckHost other) same (inl e, plain) (inr f, also) =
+    let option : other.now ≡ codes "--once" = cc in absurd (not_plain other.now _ option also)
+one_of_a_name words (Listen file true) (CheckHost other) same (inr e, plain) (inl f, also) =
+    let option : file.now ≡ codes "--check" = cc in absurd (not_plain file.now _ option plain)
+one_of_a_name words (Listen file true) (CheckHost other) same (inr e, plain) (inr f, also) = absurd (once_or_check (third (sym e ∙ f)))
+one_of_a_name words (CheckHost file) (Listen other true) same (inl e, plain) (inl f, also) = absurd (once_or_check (second (sym f ∙ e)))
+one_of_a_name words (CheckHost file) (Listen other true) same (inl e, plain) (inr f, also) =
+    let option : other.now ≡ codes "--check" = cc in absurd (not_plain other.now _ option also)
+one_of_a_name words (CheckHost file) (Listen other true) same (inr e, plain) (inl f, also) =
+    let option : file.now ≡ codes "--once" = cc in absurd (not_plain file.now _ option plain)
+one_of_a_name words (CheckHost file) (Listen other true) same (inr e, plain) (inr f, also) = absurd (once_or_check (third (sym f ∙ e)))
 one_of_a_name words (Send file target) (Send other another) same asks too =
     let e = asks.0 in
     let f = too.0 in (cc, cc, cc, cc)

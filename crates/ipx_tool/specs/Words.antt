@@ -4,7 +4,7 @@ use Rattle.std.specs.List.{starts_with}
 use Rattle.std.specs.Str.Parse.{IsNumeral, digits_value, without_leading_plus}
 use Rattle.ipx_carrier.specs.Mapping.{usual_port}
 use Rattle.ipx_tool.specs.declared.words.Task.{Task}
-use Rattle.ipx_tool.specs.declared.words.Task.TheVariants.{Hop, Show, Check, Sim, Udp, Route, Listen, Send}
+use Rattle.ipx_tool.specs.declared.words.Task.TheVariants.{Hop, Show, Check, Sim, Udp, Route, CheckSite, Listen, CheckHost, Send}
 
 -- a word that is no option: it does not begin with `-`
 abbrev pub IsPlain : List ℕ → Type 0
@@ -17,8 +17,8 @@ IsPort text port = IsNumeral 10 (without_leading_plus text)
 
 -- the words behind the program's own name ask for this command. `udp` stands alone, and the port is
 -- the usual one then, or before `--port` and a text that writes the port, in two words or joined by `=`. `listen`
--- has `--once` before or behind its file, or not at all. A packet, a file and the three words of a
--- target are no options
+-- has `--once` before or behind its file, or not at all; `route` and `listen` with `--check` there
+-- only check the file. A packet, a file and the three words of a target are no options
 abbrev pub AsksFor : List (List ℕ) → Task → Type 0
 AsksFor words Hop = words ≡ codes "hop" ∷ []
 AsksFor words (Show packet) = (words ≡ codes "show" ∷ packet.now ∷ []) × IsPlain packet.now
@@ -28,9 +28,13 @@ AsksFor words (Udp port) = ((words ≡ codes "udp" ∷ []) × (port ≡ usual_po
     ⊎ ((text : List ℕ) × IsPort text port
     × ((words ≡ codes "udp" ∷ codes "--port" ∷ text ∷ []) ⊎ (words ≡ codes "udp" ∷ (codes "--port=" ++ text) ∷ [])))
 AsksFor words (Route file) = (words ≡ codes "route" ∷ file.now ∷ []) × IsPlain file.now
+AsksFor words (CheckSite file) = ((words ≡ codes "route" ∷ codes "--check" ∷ file.now ∷ [])
+    ⊎ (words ≡ codes "route" ∷ file.now ∷ codes "--check" ∷ [])) × IsPlain file.now
 AsksFor words (Listen file false) = (words ≡ codes "listen" ∷ file.now ∷ []) × IsPlain file.now
 AsksFor words (Listen file true) = ((words ≡ codes "listen" ∷ codes "--once" ∷ file.now ∷ [])
     ⊎ (words ≡ codes "listen" ∷ file.now ∷ codes "--once" ∷ [])) × IsPlain file.now
+AsksFor words (CheckHost file) = ((words ≡ codes "listen" ∷ codes "--check" ∷ file.now ∷ [])
+    ⊎ (words ≡ codes "listen" ∷ file.now ∷ codes "--check" ∷ [])) × IsPlain file.now
 AsksFor words (Send file target) =
     (words ≡ codes "send" ∷ file.now ∷ target.network.now ∷ target.node.now ∷ target.socket.now ∷ [])
     × IsPlain file.now × IsPlain target.network.now × IsPlain target.node.now × IsPlain target.socket.now
@@ -49,7 +53,9 @@ IsSame Check Check = Unit {0}
 IsSame Sim Sim = Unit {0}
 IsSame (Udp port) (Udp other) = port ≡ other
 IsSame (Route file) (Route other) = file.now ≡ other.now
+IsSame (CheckSite file) (CheckSite other) = file.now ≡ other.now
 IsSame (Listen file once) (Listen other again) = (file.now ≡ other.now) × (once ≡ again)
+IsSame (CheckHost file) (CheckHost other) = file.now ≡ other.now
 IsSame (Send file target) (Send other another) = (file.now ≡ other.now)
     × (target.network.now ≡ another.network.now) × (target.node.now ≡ another.node.now)
     × (target.socket.now ≡ another.socket.now)

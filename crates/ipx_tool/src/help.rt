@@ -144,6 +144,10 @@ It ends by itself only at the start. Status 2: the file has a fault, which one l
 nothing was bound. 1: a socket can't be had, or memory ran out.
 Port 213 wants the right to bind it.
 
+With --check it binds nothing: the line of each port as it starts, but for the room of its socket,
+and one of the file go to standard output, and remarks on what is allowed and odd. Status 0: the
+file has no fault. 2: it has one, which the same line tells. 1: memory ran out, or writing failed.
+
 Example:
   $ ipx route /etc/ipx/site.toml";
 
@@ -171,6 +175,9 @@ connection that is heard: of others nothing is written. Status 0: that end came,
 is written. 1: that connection was lost, standard output can't be written, the socket can't be had,
 or memory ran out at the start. 2: the file has a fault, which one line on standard error tells, and
 nothing was bound.
+
+With --check, and without --once, it binds nothing, and says what stands in the file as ipx route
+--check does.
 
 Example:
   $ ipx listen --once host.toml > copy";
@@ -249,12 +256,21 @@ fn file_arg<'a>(alloc: Global, name: &'a str, help: &'a str) -> Arg<'a> {
     Arg::new(alloc, name).required(true).help(help)
 }
 
+/// The option to check a file alone.
+fn check_arg<'a>(alloc: Global) -> Arg<'a> {
+    Arg::new(alloc, "check")
+        .long("check")
+        .action(ArgAction::SetTrue)
+        .help("Says what stands in the file, and binds nothing")
+}
+
 fn route_command<'a>(alloc: Global) -> Result<Command<'a>, Error> {
     let command = Command::new(alloc, "route")
         .about("A router of one site, over UDP")
         .long_about(ROUTE)
         .after_help(ROUTE_STATUSES)
-        .arg(file_arg(alloc, "SITE", "The file of the site"))?;
+        .arg(file_arg(alloc, "SITE", "The file of the site"))?
+        .arg(check_arg(alloc))?;
     Ok(command)
 }
 
@@ -268,7 +284,8 @@ fn listen_command<'a>(alloc: Global) -> Result<Command<'a>, Error> {
         .long_about(LISTEN)
         .after_help(LISTEN_STATUSES)
         .arg(file_arg(alloc, "HOST", "The file of the host"))?
-        .arg(once)?;
+        .arg(once)?
+        .arg(check_arg(alloc).conflicts_with("once")?)?;
     Ok(command)
 }
 

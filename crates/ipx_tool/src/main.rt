@@ -6,9 +6,9 @@ mod words;
 
 use clap::error::ErrorKind;
 use ipx_commands::{do_check, do_hop, do_show, tell_no_memory};
-use ipx_ends::{do_listen, do_send};
+use ipx_ends::{check_host, do_listen, do_send};
 use ipx_sim::do_sim;
-use ipx_site::do_route;
+use ipx_site::{check_site, do_route};
 use ipx_udp::do_udp;
 use std::io::IsTerminal;
 use std::process::ExitCode;
@@ -39,6 +39,8 @@ fn do_task(rt: &HostRuntime, task: Task<'_>) -> Result<u8, u8> {
         Task::Sim => do_sim(rt.alloc(), &mut rt.stdin(), &mut io::writer(rt)),
         Task::Udp(port) => do_udp(rt, rt.alloc(), &mut rt.stdin(), &mut io::writer(rt), port),
         Task::Route(file) => Ok(do_route(rt, rt.alloc(), file)),
+        Task::CheckSite(file) => Ok(check_site(rt, rt.alloc(), file, &mut io::writer(rt))),
+        Task::CheckHost(file) => Ok(check_host(rt, rt.alloc(), file, &mut io::writer(rt))),
         Task::Listen(file, once) => {
             Ok(do_listen(rt, rt.alloc(), file, once, &mut io::writer(rt)))
         }

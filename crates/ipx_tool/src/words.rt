@@ -21,16 +21,21 @@ pub enum Task<'a> {
     Udp(u16),
     /// The file of the site.
     Route(&'a str),
+    /// The file of a site, which is only checked.
+    CheckSite(&'a str),
     /// The file of the host, and whether it ends behind the first connection that is heard.
     Listen(&'a str, bool),
+    /// The file of a host, which is only checked.
+    CheckHost(&'a str),
     /// The file of the host, and whom it dials.
     Send(&'a str, Target<'a>),
 }
 
 /// The command that the words ask for, the program's own name first: just `hop`, `check`, `sim` or
 /// `udp`; `show`, `route` or `listen` and one word that is no option; `listen` and such a word with
-/// `--once` before or behind it; `send` and four words that are no options; or `udp` and a port, as
-/// `--port P` or `--port=P`. No other words ask for one.
+/// `--once` before or behind it; `route` or `listen` and such a word with `--check` there; `send` and
+/// four words that are no options; or `udp` and a port, as `--port P` or `--port=P`. No other words
+/// ask for one.
 pub fn task_of(words: &[String]) -> Option<Task<'_>>
     ensures { Finds (AsksFor (drop 1 (map string_bytes words.now))) result }
 {
@@ -96,6 +101,20 @@ fn once_task<'a>(command: &str, file: &'a str) -> Option<Task<'a>>
     Some(Task::Listen(file, true))
 }
 
+/// A file that is only checked.
+fn check_task<'a>(command: &str, file: &'a str) -> Option<Task<'a>>
+    ensures { Finds (AsksFor (command.now ∷ codes "--check" ∷ file.now ∷ [])) result }
+{
+    if is_option(file) {
+        return None;
+    }
+    match command {
+        "route" => Some(Task::CheckSite(file)),
+        "listen" => Some(Task::CheckHost(file)),
+        _ => None,
+    }
+}
+
 /// A host that sends.
 fn send_task<'a>(command: &str, file: &'a str, target: Target<'a>) -> Option<Task<'a>>
     ensures { let to = target.entry in
@@ -139,7 +158,7 @@ fn one_word_task<'a>(command: &str, word: &'a str) -> Option<Task<'a>>
     }
 }
 
-/// A command with two words more: the port of `udp`, or the file of `listen` and `--once`.
+/// A command with two words more: the port of `udp`, or a file and `--once` or `--check`.
 fn option_task<'a>(command: &str, first: &'a str, second: &'a str) -> Option<Task<'a>>
     ensures { Finds (AsksFor (command.now ∷ first.now ∷ second.now ∷ [])) result }
 {
@@ -149,8 +168,14 @@ fn option_task<'a>(command: &str, first: &'a str, second: &'a str) -> Option<Tas
     if first == "--once" {
         return once_task(command, second);
     }
+    if first == "--check" {
+        return check_task(command, second);
+    }
     if second == "--once" {
         return once_task(command, first);
+    }
+    if second == "--check" {
+        return check_task(command, first);
     }
     None
 }

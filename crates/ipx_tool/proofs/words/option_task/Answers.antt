@@ -1,6 +1,6 @@
 use Rattle.std.proofs.Common.{◌≡◌, ℕ, List, [], ◌∷◌, codes, rules, subst, sym}
 use Rattle.ipx_tool.specs.Words.{AsksFor, Finds}
-use Rattle.ipx_tool.proofs.AskedWords.{found_behind}
+use Rattle.ipx_tool.proofs.AskedWords.{found_behind, found_check}
 use Rattle.ipx_tool.proofs.words.option_task.Goals as goal
 
 pub returns-then-eq : goal.returns-then-eq
@@ -15,7 +15,19 @@ returns-then-eq-2 c =
 
 pub returns-then-eq-3 : goal.returns-then-eq-3
 returns-then-eq-3 c =
+    let check : c.args.first.now ≡ codes "--check" = search rules in
+    subst (λ (w : List ℕ). Finds (AsksFor (c.args.command.now ∷ w ∷ c.args.second.now ∷ [])) c.check_task.result) (sym check) c.check_task.ensures
+
+pub returns-then-eq-4 : goal.returns-then-eq-4
+returns-then-eq-4 c =
     let once : c.args.second.now ≡ codes "--once" = search rules in
-    let r = c.once_task-then-eq-3.result in
+    let r = c.once_task-then-eq-4.result in
     subst (λ (w : List ℕ). Finds (AsksFor (c.args.command.now ∷ c.args.first.now ∷ w ∷ [])) r) (sym once)
-    (found_behind c.args.command.now c.args.first.now r c.once_task-then-eq-3.ensures)
+    (found_behind c.args.command.now c.args.first.now r c.once_task-then-eq-4.ensures)
+
+pub returns-then-eq-5 : goal.returns-then-eq-5
+returns-then-eq-5 c =
+    let check : c.args.second.now ≡ codes "--check" = search rules in
+    let r = c.check_task-then-eq-5.result in
+    subst (λ (w : List ℕ). Finds (AsksFor (c.args.command.now ∷ c.args.first.now ∷ w ∷ [])) r) (sym check)
+    (found_check c.args.command.now c.args.first.now r c.check_task-then-eq-5.ensures)

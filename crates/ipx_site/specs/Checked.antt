@@ -1,0 +1,120 @@
+-- What the program prints of a port as a router starts, and of a file that it checks. All of it is own.
+use Rattle.std.specs.Prelude.{Vec, ℕ, ◌+◌, List, [], ◌∷◌, ◌++◌, Bool, ◌&&◌, ◌==◌, Option, Some, None, codes, if◌then◌else◌, length, nat_eq, nat_le, position, slice_index, string_bytes, String}
+use Rattle.std.specs.Global.{Global}
+use Rattle.std.specs.Cmp.Lexicographic.{pointwise}
+use Rattle.std.specs.Fmt.{decimal}
+use Rattle.std.specs.Int.{w32, to_be_bytes}
+use Rattle.std.specs.List.{before_first, flat_map}
+use Rattle.hex.specs.Hex.{encode_lower}
+use Rattle.ipx_carrier.specs.Mapping.{node_at}
+use Rattle.ipx_site.specs.declared.site.Accept.{Accept}
+use Rattle.ipx_site.specs.declared.site.Accept.TheVariants.{Any, Peers}
+use Rattle.ipx_site.specs.declared.site.SiteFile.{SiteFile}
+use Rattle.ipx_site.specs.declared.site.SitePort.{SitePort}
+use Rattle.ipx_site.specs.Peers.{is_peer}
+
+-- a byte of a text from elsewhere: itself where it is printable ASCII, else a dot
+abbrev pub shown_byte : ℕ → List ℕ
+shown_byte b = if nat_le 32 b && nat_le b 126 then b ∷ [] else 46 ∷ []
+
+-- such a text: what stands before its first zero byte
+abbrev pub shown_text : List ℕ → List ℕ
+shown_text text = flat_map shown_byte (before_first (λ b. b == 0) text)
+
+-- an IP address: four decimal numbers with dots between them
+abbrev pub dotted_text : List ℕ → List ℕ
+dotted_text ip =
+    decimal (slice_index ip 0) ++ (codes "." ++ (decimal (slice_index ip 1)
+    ++ (codes "." ++ (decimal (slice_index ip 2) ++ (codes "." ++ decimal (slice_index ip 3))))))
+
+-- where a port is on its network: in 8 and 12 hex digits
+abbrev pub place_text : SitePort → List ℕ
+place_text p =
+    codes "network " ++ (encode_lower (to_be_bytes w32 p.network.0)
+    ++ (codes " node " ++ encode_lower (node_at p.address).0))
+
+-- where it is reached by UDP
+abbrev pub reached_text : List ℕ → ℕ → List ℕ
+reached_text ip udp_port = dotted_text ip ++ (codes ":" ++ decimal udp_port)
+
+-- who is heard beside its peers
+abbrev pub others_text : Accept → List ℕ
+others_text Any = codes " accept any"
+others_text Peers = []
+
+-- how many of its peers are routers, where the file says
+abbrev pub routers_text : Option (Vec (List ℕ) Global) → List ℕ
+routers_text None = []
+routers_text (Some routers) = codes " routers " ++ decimal (length routers.items)
+
+-- what it costs, to how many it sends, how many of them are routers, and who is heard
+abbrev pub dealings_text : SitePort → List ℕ
+dealings_text p =
+    codes "cost " ++ (decimal p.cost ++ (codes " peers " ++ (decimal (length p.peers.items)
+    ++ (routers_text p.routers ++ others_text p.accept))))
+
+-- a port with its number, as a router says it when it starts
+abbrev pub port_text : ℕ → SitePort → List ℕ
+port_text number p =
+    codes "port " ++ (decimal number ++ (codes " " ++ (place_text p
+    ++ (codes " udp " ++ (reached_text p.address p.udp_port ++ (codes " " ++ dealings_text p))))))
+
+-- ---- remarks: what a router starts with, or can't, and is no fault of the file
+
+-- what is said of the port with this number
+abbrev pub remark : ℕ → List ℕ → List ℕ
+remark number text = codes "port " ++ (decimal number ++ (codes ": " ++ (text ++ 10 ∷ [])))
+
+-- the port's own address is none of its peers, and none of these stands twice
+abbrev pub peer_remark : ℕ → List ℕ → List (List ℕ) → List ℕ → List ℕ
+peer_remark number address earlier peer =
+    if pointwise nat_eq peer address
+    then remark number (codes "peer " ++ (dotted_text peer ++ codes " is its own address"))
+    else (if is_peer earlier peer
+    then remark number (codes "peer " ++ (dotted_text peer ++ codes " stands twice"))
+    else [])
+
+-- two ports are reached at one place
+abbrev pub is_one_place : SitePort → SitePort → Bool
+is_one_place p other = pointwise nat_eq other.address p.address && (other.udp_port == p.udp_port)
+
+-- no earlier port is reached where this one is
+abbrev pub sharing_text : ℕ → Option ℕ → List ℕ
+sharing_text number None = []
+sharing_text number (Some k) =
+    remark number (codes "address and udp_port are those of port " ++ decimal (k + 1))
+
+abbrev pub place_remark : ℕ → List SitePort → SitePort → List ℕ
+place_remark number earlier p = sharing_text number (position (is_one_place p) earlier)
+
+-- ---- all that is printed
+
+-- of each item what is printed of it, which may depend on those before it
+abbrev pub each_behind : {A : Type 0} → (List A → A → List ℕ) → List A → List A → List ℕ
+each_behind printed earlier [] = []
+each_behind printed earlier (x ∷ xs) =
+    printed earlier x ++ each_behind printed (earlier ++ x ∷ []) xs
+
+-- the line of a port behind earlier ones, and what is to be remarked
+abbrev pub port_lines : List SitePort → SitePort → List ℕ
+port_lines earlier p =
+    let number = length earlier + 1 in
+    port_text number p ++ (10 ∷ (place_remark number earlier p
+    ++ each_behind (peer_remark number p.address) [] p.peers.items))
+
+abbrev pub count_text : ℕ → List ℕ
+count_text count = if count == 1 then codes "1 port" else (decimal count ++ codes " ports")
+
+abbrev pub status_text : Option (String Global) → List ℕ
+status_text None = codes "no status file"
+status_text (Some text) = codes "status " ++ shown_text (string_bytes text)
+
+-- the line of the file itself
+abbrev pub file_line : List ℕ → SiteFile → List ℕ
+file_line path s =
+    path ++ (codes ": " ++ (count_text (length s.ports.items)
+    ++ (codes ", " ++ (status_text s.status ++ 10 ∷ []))))
+
+-- all that is printed of a router's file
+abbrev pub site_lines : List ℕ → SiteFile → List ℕ
+site_lines path s = each_behind port_lines [] s.ports.items ++ file_line path s

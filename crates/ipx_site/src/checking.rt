@@ -1,0 +1,215 @@
+//! What a router says of its file, without a socket: `ipx route --check`.
+
+ghost use Rattle.std.specs.Prelude.{◌≡◌, ◌<◌, ◌≤◌, ℕ, List, [], IfErr, IfOk, IfSome, IsOkAnd, OnOk, length, position, string_bytes};
+ghost use Rattle.std.specs.Io.KnownBytes.{Appends};
+ghost use Rattle.ipx_site.specs.Checked.{count_text, each_behind, file_line, is_one_place, peer_remark, place_remark, port_lines, remark, site_lines, status_text};
+ghost use Rattle.ipx_site.specs.Loading.{IsFileText};
+ghost use Rattle.ipx_site.specs.Site.{IsSiteText};
+ghost use Rattle.ipx_site.specs.declared.site.SiteFile.{SiteFile as ASiteFile};
+
+use crate::files::load_site;
+use crate::shown::Shown;
+use crate::site::{SiteFile, SitePort};
+use crate::start_lines::{dotted, port_to_text};
+use std::alloc::{AllocError, Global};
+use std::io::Write;
+use std::rt::Files;
+
+/// What is remarked on a port.
+fn remark_on(alloc: Global, number: usize, text: &str) -> Result<String, AllocError>
+    ensures { IfOk result (λ t. string_bytes t ≡ remark number text.now) }
+{
+    format!(in alloc; "port {number}: {text}\n")
+}
+
+/// What is remarked on a peer of a port, behind the earlier ones.
+fn peer_to_remark(
+    alloc: Global,
+    number: usize,
+    address: [u8; 4],
+    earlier: &[[u8; 4]],
+    peer: [u8; 4],
+) -> Result<String, AllocError>
+    ensures { IfOk result (λ t. string_bytes t ≡ peer_remark number address earlier.now peer) }
+{
+    let ip = dotted(alloc, peer)?;
+    if peer == address {
+        let text = format!(in alloc; "peer {ip} is its own address")?;
+        return remark_on(alloc, number, &text);
+    }
+    if earlier.contains(&peer) {
+        let text = format!(in alloc; "peer {ip} stands twice")?;
+        return remark_on(alloc, number, &text);
+    }
+    Ok(String::new(alloc))
+}
+
+/// What is remarked on the peers of a port.
+fn peers_to_remarks(alloc: Global, number: usize, port: &SitePort) -> Result<String, AllocError>
+    ensures { IfOk result (λ t. string_bytes t
+        ≡ each_behind (peer_remark number port.now.address) [] port.now.peers.items) }
+{
+    let address = port.address;
+    let peers = port.peers.as_slice();
+    let mut remarks = String::new(alloc);
+    for (place, peer) in peers.iter().enumerate() {
+        let line = peer_to_remark(alloc, number, address, &peers[..place], *peer)?;
+        remarks.push_str(&line)?;
+    }
+    Ok(remarks)
+}
+
+/// The place of the first of these ports that is reached where another one is.
+fn place_of_same(earlier: &[SitePort], port: &SitePort) -> Option<usize>
+    ensures place { result ≡ position (is_one_place port.now) earlier.now }
+    ensures within { IfSome result (λ k. k < length earlier.now) }
+{
+    let (address, udp_port) = (port.address, port.udp_port);
+    earlier.iter().position(|other| other.address == address && other.udp_port == udp_port)
+}
+
+/// What is remarked on the place of a port, behind the earlier ones.
+fn place_to_remark(
+    alloc: Global,
+    number: usize,
+    earlier: &[SitePort],
+    port: &SitePort,
+) -> Result<String, AllocError>
+    ensures { IfOk result (λ t. string_bytes t ≡ place_remark number earlier.now port.now) }
+{
+    match place_of_same(earlier, port) {
+        Some(place) => {
+            let other = place + 1;
+            let text = format!(in alloc; "address and udp_port are those of port {other}")?;
+            remark_on(alloc, number, &text)
+        }
+        None => Ok(String::new(alloc)),
+    }
+}
+
+/// The line of a port behind earlier ones, and what is remarked on it.
+fn port_to_lines(alloc: Global, earlier: &[SitePort], port: &SitePort) -> Result<String, AllocError>
+    ensures { IfOk result (λ t. string_bytes t ≡ port_lines earlier.now port.now) }
+{
+    let number = earlier.len() + 1;
+    let line = port_to_text(alloc, number, port)?;
+    let place = place_to_remark(alloc, number, earlier, port)?;
+    let peers = peers_to_remarks(alloc, number, port)?;
+    format!(in alloc; "{line}\n{place}{peers}")
+}
+
+fn ports_to_lines(alloc: Global, ports: &[SitePort]) -> Result<String, AllocError>
+    ensures { IfOk result (λ t. string_bytes t ≡ each_behind port_lines [] ports.now) }
+{
+    let mut lines = String::new(alloc);
+    for (place, port) in ports.iter().enumerate() {
+        let of_port = port_to_lines(alloc, &ports[..place], port)?;
+        lines.push_str(&of_port)?;
+    }
+    Ok(lines)
+}
+
+fn count_to_text(alloc: Global, count: usize) -> Result<String, AllocError>
+    ensures { IfOk result (λ t. string_bytes t ≡ count_text count) }
+{
+    if count == 1 {
+        return String::from_str(alloc, "1 port");
+    }
+    format!(in alloc; "{count} ports")
+}
+
+fn status_to_text(alloc: Global, status: &Option<String>) -> Result<String, AllocError>
+    ensures { IfOk result (λ t. string_bytes t ≡ status_text status.now) }
+{
+    match status {
+        Some(path) => {
+            let path = Shown(path.as_bytes());
+            format!(in alloc; "status {path}")
+        }
+        None => String::from_str(alloc, "no status file"),
+    }
+}
+
+/// The line of the file itself.
+fn file_to_line(alloc: Global, path: &str, site: &SiteFile) -> Result<String, AllocError>
+    ensures { IfOk result (λ t. string_bytes t ≡ file_line path.now site.now) }
+{
+    let count = count_to_text(alloc, site.ports.len())?;
+    let status = status_to_text(alloc, &site.status)?;
+    format!(in alloc; "{path}: {count}, {status}\n")
+}
+
+fn site_to_lines(alloc: Global, path: &str, site: &SiteFile) -> Result<String, AllocError>
+    ensures { IfOk result (λ t. string_bytes t ≡ site_lines path.now site.now) }
+{
+    let ports = ports_to_lines(alloc, &site.ports)?;
+    let file = file_to_line(alloc, path, site)?;
+    format!(in alloc; "{ports}{file}")
+}
+
+/// Writes what is said of a file that is checked, and answers the status: 0 where all is written.
+/// Else it is 1, and a line on standard error says why.
+pub fn write_checked<R: Eprint, W: Write>(
+    rt: &R,
+    path: &str,
+    lines: Result<String, AllocError>,
+    writer: &mut W,
+) -> u8
+    ensures written { result ≡ 0 → IsOkAnd lines (λ l.
+        Appends (W.contents writer.old) (W.contents writer.new) (string_bytes l)) }
+    ensures few { result ≤ 1 }
+{
+    let Ok(lines) = lines else {
+        let _ = eprintln!(rt; "{path}: out of memory");
+        return 1;
+    };
+    match writer.write_all(lines.as_bytes()) {
+        Ok(()) => 0,
+        Err(_) => {
+            let _ = eprintln!(rt; "standard output can't be written");
+            1
+        }
+    }
+}
+
+/// Says what a file that was loaded has, or answers the status where it wasn't.
+fn check_loaded<R: Eprint, W: Write>(
+    rt: &R,
+    alloc: Global,
+    path: &str,
+    loaded: Result<SiteFile, u8>,
+    writer: &mut W,
+) -> u8
+    ensures unread { IfErr loaded (λ status. (result ≡ status) × (writer.new ≡ writer.old)) }
+    ensures few { OnOk loaded (result ≤ 1) }
+    ensures lines { IfOk loaded (λ site. result ≡ 0 →
+        Appends (W.contents writer.old) (W.contents writer.new) (site_lines path.now site)) }
+{
+    match loaded {
+        Ok(site) => write_checked(rt, path, site_to_lines(alloc, path, &site), writer),
+        Err(status) => status,
+    }
+}
+
+/// The command `route --check`: reads the file of a router, and writes the line that each port has as
+/// a router starts, with what is to be remarked on it, and a line of the file. It opens no socket: no
+/// `Net` comes in.
+///
+/// The answer is the status: 0 where that is written; 1 where memory is refused or the writer fails;
+/// 2 for a fault of the file, which is told as `route` does, and nothing is written.
+pub fn check_site<R: Files + Eprint, W: Write>(
+    rt: &R,
+    alloc: Global,
+    path: &str,
+    writer: &mut W,
+) -> u8
+    ensures few { result ≤ 2 }
+    // What it writes is of the ports that some text describes.
+    ensures lines { result ≡ 0 → (text : List ℕ) × (site : ASiteFile)
+        × IsFileText text × IsSiteText text site
+        × Appends (W.contents writer.old) (W.contents writer.new) (site_lines path.now site) }
+    ensures untouched { result ≡ 2 → writer.new ≡ writer.old }
+{
+    let loaded = load_site(rt, alloc, path);
+    check_loaded(rt, alloc, path, loaded, writer)
+}
