@@ -11,7 +11,7 @@ use crate::files::load_site;
 use crate::peers::{Guard, PeersOnly};
 use crate::readiness::{Readiness, WaitFault};
 use crate::room::SOCKET_ROOM;
-use crate::site::{SiteFile, SitePort};
+use crate::site::{Accept, SiteFile, SitePort};
 use crate::sockets::SiteSockets;
 use crate::start_lines::port_to_text;
 use crate::station::{Parts, Station};
