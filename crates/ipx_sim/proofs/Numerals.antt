@@ -7,7 +7,7 @@ use Rattle.std.proofs.lemmas.Bool.{and_from, and_right, cases_Bool, cases_lt, lt
 use Rattle.std.proofs.lemmas.List.Folds.{list_all_at, list_all_more}
 use Rattle.std.proofs.lemmas.Int.Digits.{digits_value_more}
 use Rattle.std.proofs.lemmas.Str.Parse.{digits_value-take-le}
-use Rattle.ipx_sim.specs.Fields.{numeral_up_to}
+use Rattle.ipx_sim.specs.ScriptFields.{numeral_up_to}
 
 -- what is no digit stands for nothing
 pub no_digit : (most radix : ℕ) (ds : List ℕ) (i : ℕ) → i < length ds → is_digit (get_or ds i 0) radix ≡ false → None ≡ numeral_up_to most radix ds

@@ -15,7 +15,7 @@ use Rattle.ipx_net.specs.Faults.{net_fault_number}
 use Rattle.ipx_net.specs.declared.event.Event.{Event}
 use Rattle.ipx_net.specs.declared.event.Event.TheVariants as Events
 use Rattle.ipx_net.specs.declared.fault.NetFault.{NetFault}
-use Rattle.ipx_sim.specs.Words.{end_fault_name, net_fault_name, received_word}
+use Rattle.ipx_sim.specs.ScriptWords.{end_fault_name, net_fault_name, received_word}
 
 -- a call on an end that the end refused
 abbrev pub refused_line : EndFault → List ℕ

@@ -12,11 +12,11 @@ use Rattle.ipx_net.specs.declared.event.Event.TheVariants as Events
 use Rattle.ipx_net.specs.declared.place.Place.{Place}
 use Rattle.ipx_net.specs.declared.place.Place.TheVariants as Places
 use Rattle.ipx_net.specs.declared.fault.NetFault.{NetFault}
-use Rattle.ipx_sim.specs.Doing.{Each, Stays, Steps}
+use Rattle.ipx_sim.specs.ScriptDoing.{DoesEach, DoesNothing, TakesEvent}
 use Rattle.ipx_sim.specs.declared.map.Spot.{Spot}
 use Rattle.ipx_sim.specs.declared.delivering.Delivered.{Delivered}
-use Rattle.ipx_sim.specs.declared.stop.Stop.{Stop}
-use Rattle.ipx_sim.specs.declared.stop.Stop.TheVariants as Stops
+use Rattle.ipx_sim.specs.declared.stop.LineFault.{LineFault}
+use Rattle.ipx_sim.specs.declared.stop.LineFault.TheVariants as Stops
 
 abbrev pub is_sender : Option Worlds.Place → Place → Bool
 is_sender None place = false
@@ -38,19 +38,19 @@ comes_from None spot = false
 comes_from (Some p) spot = comes_to p spot
 
 -- whether the parcel of this number comes there
-abbrev pub is_due : NetView → ℕ → Spot → Bool
-is_due n parcel spot = comes_from (slice_get n.now.world.parcels parcel) spot
+abbrev pub is_due_parcel : NetView → ℕ → Spot → Bool
+is_due_parcel n parcel spot = comes_from (slice_get n.now.world.parcels parcel) spot
 
-abbrev pub reached_of : Result AnswerView NetFault → Result Bool Stop
+abbrev pub reached_of : Result AnswerView NetFault → Result Bool LineFault
 reached_of (Ok a) = Ok true
 reached_of (Err f) = Err (Stops.Fault f)
 
 -- where it comes there
-abbrev pub DeliversTo : ℕ → Spot → NetView → Result Bool Stop → NetView → Type 0
-DeliversTo parcel spot old result new =
-    MatchBool (is_due old parcel spot)
-    (Steps reached_of (Events.Deliver parcel spot.place) old result new)
-    (Stays old result new)
+abbrev pub DeliversParcelTo : ℕ → Spot → NetView → Result Bool LineFault → NetView → Type 0
+DeliversParcelTo parcel spot old result new =
+    MatchBool (is_due_parcel old parcel spot)
+    (TakesEvent reached_of (Events.Deliver parcel spot.place) old result new)
+    (DoesNothing old result new)
 
 -- which parcels count as delivered: all below a number, and those that are marked
 pub record DeliveredView : Type 0 where
@@ -60,11 +60,11 @@ pub record DeliveredView : Type 0 where
 abbrev pub delivered_view : Delivered → DeliveredView
 delivered_view d = record { below = d.below; marks = d.marks.items }
 
-abbrev pub is_marked : DeliveredView → ℕ → Bool
-is_marked d parcel = slice_index_or d.marks parcel false
+abbrev pub is_delivered : DeliveredView → ℕ → Bool
+is_delivered d parcel = slice_index_or d.marks parcel false
 
 abbrev pub was_delivered : DeliveredView → ℕ → Bool
-was_delivered d parcel = nat_lt parcel d.below || is_marked d parcel
+was_delivered d parcel = nat_lt parcel d.below || is_delivered d parcel
 
 -- this parcel too, and no other one
 pub record Marks (parcel : ℕ) (old new : DeliveredView) : Type 0 where
@@ -73,10 +73,10 @@ pub record Marks (parcel : ℕ) (old new : DeliveredView) : Type 0 where
 
 -- to each place to which it comes, where it was never delivered
 abbrev pub DeliversNew : DeliveredView → List Spot → ℕ
-    → NetView → Result Bool Stop → NetView → Type 0
+    → NetView → Result Bool LineFault → NetView → Type 0
 DeliversNew d spots parcel old result new =
-    MatchBool (is_marked d parcel) (Stays old result new)
-    (Each (DeliversTo parcel) spots old result new)
+    MatchBool (is_delivered d parcel) (DoesNothing old result new)
+    (DoesEach (DeliversParcelTo parcel) spots old result new)
 
 -- a network, and which of its parcels were delivered
 pub record Stage : Type 0 where
@@ -85,10 +85,10 @@ pub record Stage : Type 0 where
 
 -- all parcels from that number on, in their order, also those that arise meanwhile: none is left,
 -- and all count as delivered
-abbrev pub DeliversAll : List Spot → Stage → Result Bool Stop → Stage → Type 0
+abbrev pub DeliversAll : List Spot → Stage → Result Bool LineFault → Stage → Type 0
 DeliversAll spots old result new =
     (count : ℕ)
-    × Each (DeliversNew old.delivered spots) (range_with_len old.delivered.below count)
+    × DoesEach (DeliversNew old.delivered spots) (range_with_len old.delivered.below count)
     old.net result new.net
     × (new.delivered.marks ≡ old.delivered.marks)
     × IfOk result (λ any. (new.delivered.below ≡ old.delivered.below + count)

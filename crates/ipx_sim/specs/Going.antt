@@ -13,10 +13,10 @@ use Rattle.ipx_net.specs.declared.event.Event.TheVariants as Events
 use Rattle.ipx_net.specs.declared.event.Member.{Member}
 use Rattle.ipx_net.specs.declared.fault.NetFault.{NetFault}
 use Rattle.ipx_sim.specs.Delivering.{DeliversAll, Stage}
-use Rattle.ipx_sim.specs.Doing.{Each, Repeats, Stays, Steps, Then}
+use Rattle.ipx_sim.specs.ScriptDoing.{DoesEach, Repeats, DoesNothing, TakesEvent, Then}
 use Rattle.ipx_sim.specs.declared.map.Spot.{Spot}
-use Rattle.ipx_sim.specs.declared.stop.Stop.{Stop}
-use Rattle.ipx_sim.specs.declared.stop.Stop.TheVariants as Stops
+use Rattle.ipx_sim.specs.declared.stop.LineFault.{LineFault}
+use Rattle.ipx_sim.specs.declared.stop.LineFault.TheVariants as Stops
 
 -- as often as a loop goes round at most
 abbrev pub most_times : ℕ
@@ -25,18 +25,18 @@ most_times = 18446744073709551615
 -- ---- taking
 
 -- what was taken, or why nothing could be
-abbrev pub taken_of : Result AnswerView NetFault → Result TakenView Stop
-taken_of (Ok (Taken t)) = Ok t
-taken_of (Ok (Refused f)) = Err (Stops.Refused f)
-taken_of (Ok (End who)) = Ok Nothing
-taken_of (Ok Done) = Ok Nothing
-taken_of (Ok (Parcels numbers)) = Ok Nothing
-taken_of (Ok (ArrivedAt who a)) = Ok Nothing
-taken_of (Ok (Heard n)) = Ok Nothing
-taken_of (Ok (Dropped reason)) = Ok Nothing
-taken_of (Err f) = Err (Stops.Fault f)
+abbrev pub take_result : Result AnswerView NetFault → Result TakenView LineFault
+take_result (Ok (Taken t)) = Ok t
+take_result (Ok (Refused f)) = Err (Stops.Refused f)
+take_result (Ok (End who)) = Ok Nothing
+take_result (Ok Done) = Ok Nothing
+take_result (Ok (Parcels numbers)) = Ok Nothing
+take_result (Ok (ArrivedAt who a)) = Ok Nothing
+take_result (Ok (Heard n)) = Ok Nothing
+take_result (Ok (Dropped reason)) = Ok Nothing
+take_result (Err f) = Err (Stops.Fault f)
 
-abbrev pub taken_result : Result code.Taken Stop → Result TakenView Stop
+abbrev pub taken_result : Result code.Taken LineFault → Result TakenView LineFault
 taken_result (Ok t) = Ok (taken_view t)
 taken_result (Err stop) = Err stop
 
@@ -47,64 +47,64 @@ is_unit Part = true
 is_unit (Whole message) = true
 is_unit PeerEnd = true
 
-abbrev pub unit_of : Result TakenView Stop → Result Bool Stop
-unit_of (Ok t) = Ok (is_unit t)
-unit_of (Err stop) = Err stop
+abbrev pub is_unit_taken : Result TakenView LineFault → Result Bool LineFault
+is_unit_taken (Ok t) = Ok (is_unit t)
+is_unit_taken (Err stop) = Err stop
 
-abbrev pub TakesOnce : ℕ → NetView → Result Bool Stop → NetView → Type 0
-TakesOnce end = Steps (λ outcome. unit_of (taken_of outcome)) (Events.Take end)
+abbrev pub TakesOnce : ℕ → NetView → Result Bool LineFault → NetView → Type 0
+TakesOnce end = TakesEvent (λ outcome. is_unit_taken (take_result outcome)) (Events.Take end)
 
 -- until nothing is held there
-abbrev pub Drains : ℕ → NetView → Result Bool Stop → NetView → Type 0
+abbrev pub Drains : ℕ → NetView → Result Bool LineFault → NetView → Type 0
 Drains end = Repeats most_times (TakesOnce end)
 
 -- where the end has a state, which a released one has not
-abbrev pub DrainsStanding : ℕ → NetView → Result Bool Stop → NetView → Type 0
+abbrev pub DrainsStanding : ℕ → NetView → Result Bool LineFault → NetView → Type 0
 DrainsStanding end old result new =
     (infos : List EndInfo) × TellsEnds old infos
-    × MatchOption (told_of infos end).state (Stays old result new)
+    × MatchOption (told_of infos end).state (DoesNothing old result new)
     (λ state. Drains end old result new)
 
 -- each end that there is
-abbrev pub DrainsAll : NetView → Result Bool Stop → NetView → Type 0
+abbrev pub DrainsAll : NetView → Result Bool LineFault → NetView → Type 0
 DrainsAll old result new =
     (infos : List EndInfo) × TellsEnds old infos
-    × Each DrainsStanding (range_with_len 0 (length infos)) old result new
+    × DoesEach DrainsStanding (range_with_len 0 (length infos)) old result new
 
-abbrev pub DrainsIf : Bool → NetView → Result Bool Stop → NetView → Type 0
+abbrev pub DrainsIf : Bool → NetView → Result Bool LineFault → NetView → Type 0
 DrainsIf takes old result new =
-    MatchBool takes (DrainsAll old result new) (Stays old result new)
+    MatchBool takes (DrainsAll old result new) (DoesNothing old result new)
 
 -- ---- handing in
 
-abbrev pub sent_of : Result AnswerView NetFault → Result Bool Stop
-sent_of (Ok (Refused f)) = Err (Stops.Refused f)
-sent_of (Ok (Taken t)) = Ok true
-sent_of (Ok (End who)) = Ok true
-sent_of (Ok Done) = Ok true
-sent_of (Ok (Parcels numbers)) = Ok true
-sent_of (Ok (ArrivedAt who a)) = Ok true
-sent_of (Ok (Heard n)) = Ok true
-sent_of (Ok (Dropped reason)) = Ok true
-sent_of (Err f) = Err (Stops.Fault f)
+abbrev pub hand_in_result : Result AnswerView NetFault → Result Bool LineFault
+hand_in_result (Ok (Refused f)) = Err (Stops.Refused f)
+hand_in_result (Ok (Taken t)) = Ok true
+hand_in_result (Ok (End who)) = Ok true
+hand_in_result (Ok Done) = Ok true
+hand_in_result (Ok (Parcels numbers)) = Ok true
+hand_in_result (Ok (ArrivedAt who a)) = Ok true
+hand_in_result (Ok (Heard n)) = Ok true
+hand_in_result (Ok (Dropped reason)) = Ok true
+hand_in_result (Err f) = Err (Stops.Fault f)
 
 -- the message of this number: stream 0, and one byte, the number modulo 256. Where memory for it is
 -- refused, nothing happens
-abbrev pub SendsNumber : ℕ → ℕ → NetView → Result Bool Stop → NetView → Type 0
+abbrev pub SendsNumber : ℕ → ℕ → NetView → Result Bool LineFault → NetView → Type 0
 SendsNumber end number old result new =
     ((message : Message)
     × (message_view message ≡ record { stream = 0; body = number % 256 ∷ [] })
-    × Steps sent_of (Events.Send end message) old result new)
+    × TakesEvent hand_in_result (Events.Send end message) old result new)
     ⊎ ((result ≡ Err Stops.Memory) × (new ≡ old))
 
 -- so many of them, from number 0 on
-abbrev pub Fills : ℕ → ℕ → NetView → Result Bool Stop → NetView → Type 0
-Fills end count = Each (SendsNumber end) (range_with_len 0 count)
+abbrev pub FillsEnd : ℕ → ℕ → NetView → Result Bool LineFault → NetView → Type 0
+FillsEnd end count = DoesEach (SendsNumber end) (range_with_len 0 count)
 
 -- ---- polling
 
 -- whether a parcel was made
-abbrev pub made_of : Result AnswerView NetFault → Result Bool Stop
+abbrev pub made_of : Result AnswerView NetFault → Result Bool LineFault
 made_of (Ok (Parcels numbers)) = Ok (not (length numbers == 0))
 made_of (Ok (Taken t)) = Ok false
 made_of (Ok (Refused f)) = Ok false
@@ -115,26 +115,26 @@ made_of (Ok (Heard n)) = Ok false
 made_of (Ok (Dropped reason)) = Ok false
 made_of (Err f) = Err (Stops.Fault f)
 
-abbrev pub PollsOnce : Member → NetView → Result Bool Stop → NetView → Type 0
-PollsOnce member = Steps made_of (Events.Poll member)
+abbrev pub PollsOnce : Member → NetView → Result Bool LineFault → NetView → Type 0
+PollsOnce member = TakesEvent made_of (Events.Poll member)
 
 -- until it is quiet
-abbrev pub PollsOut : Member → NetView → Result Bool Stop → NetView → Type 0
+abbrev pub PollsOut : Member → NetView → Result Bool LineFault → NetView → Type 0
 PollsOut member = Repeats most_times (PollsOnce member)
 
 -- ---- rounds
 
 -- what changes the network alone
-abbrev pub OnNet : (NetView → Result Bool Stop → NetView → Type 0)
-    → Stage → Result Bool Stop → Stage → Type 0
+abbrev pub OnNet : (NetView → Result Bool LineFault → NetView → Type 0)
+    → Stage → Result Bool LineFault → Stage → Type 0
 OnNet Does old result new = Does old.net result new.net × (new.delivered ≡ old.delivered)
 
 -- each member is polled out, all is delivered, and, where it takes, each end is taken from
-abbrev pub Round : List Member → List Spot → Bool → Stage → Result Bool Stop → Stage → Type 0
-Round members spots takes =
-    Then (Then (OnNet (Each PollsOut members)) (DeliversAll spots)) (OnNet (DrainsIf takes))
+abbrev pub RunRound : List Member → List Spot → Bool → Stage → Result Bool LineFault → Stage → Type 0
+RunRound members spots takes =
+    Then (Then (OnNet (DoesEach PollsOut members)) (DeliversAll spots)) (OnNet (DrainsIf takes))
 
 -- so many at most: one of which nothing comes is the last
-abbrev pub Rounds : ℕ → List Member → List Spot → Bool
-    → Stage → Result Bool Stop → Stage → Type 0
-Rounds count members spots takes = Repeats count (Round members spots takes)
+abbrev pub RunRounds : ℕ → List Member → List Spot → Bool
+    → Stage → Result Bool LineFault → Stage → Type 0
+RunRounds count members spots takes = Repeats count (RunRound members spots takes)

@@ -1,12 +1,12 @@
-pub mod Words
+pub mod ScriptWords
 pub mod ActLine
 pub mod Act
 pub mod Summary
 pub mod Script
-pub mod Fields
-pub mod Places
-pub mod Reading
-pub mod Doing
+pub mod ScriptFields
+pub mod ScriptPlaces
+pub mod ScriptReading
+pub mod ScriptDoing
 pub mod Delivering
 pub mod Going
 pub mod Sim

@@ -2,11 +2,11 @@
 use Rattle.std.specs.Prelude.{ℕ, ◌<◌, List, length, codes}
 use Rattle.ipx_commands.specs.Text.{most_input}
 use Rattle.ipx_sim.specs.Act.{IsActOwed}
-use Rattle.ipx_sim.specs.declared.line.Line.{Line}
-use Rattle.ipx_sim.specs.declared.line.Line.TheVariants as Lines
+use Rattle.ipx_sim.specs.declared.line.ScriptLine.{ScriptLine}
+use Rattle.ipx_sim.specs.declared.line.ScriptLine.TheVariants as Lines
 
 -- a line that is an event meets what `act` wants of it
-abbrev pub IsLineOwed : Line → Type 0
+abbrev pub IsLineOwed : ScriptLine → Type 0
 IsLineOwed (Lines.Act event) = IsActOwed event
 IsLineOwed (Lines.Tick milliseconds) = Unit {0}
 IsLineOwed (Lines.Fill end count) = Unit {0}

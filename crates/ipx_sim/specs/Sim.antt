@@ -11,12 +11,12 @@ use Rattle.ipx_net.specs.declared.fault.NetFault.{NetFault}
 use Rattle.ipx_sim.specs.Act.{Stepped}
 use Rattle.ipx_sim.specs.ActLine.{bytes_text, fault_line, refused_line}
 use Rattle.ipx_sim.specs.Delivering.{DeliveredView, Marks, delivered_view}
-use Rattle.ipx_sim.specs.Going.{taken_of, unit_of}
-use Rattle.ipx_sim.specs.Places.{MapView, map_view}
-use Rattle.ipx_sim.specs.Reading.{EventView, Close, Deliver, Dial, Inject, Now, Poll, Release, Send, TakeOne}
+use Rattle.ipx_sim.specs.Going.{take_result, is_unit_taken}
+use Rattle.ipx_sim.specs.ScriptPlaces.{MapView, map_view}
+use Rattle.ipx_sim.specs.ScriptReading.{EventView, Close, Deliver, Dial, Inject, Now, Poll, Release, Send, TakeOne}
 use Rattle.ipx_sim.specs.declared.simulation.Simulation.{Simulation}
-use Rattle.ipx_sim.specs.declared.stop.Stop.{Stop}
-use Rattle.ipx_sim.specs.declared.stop.Stop.TheVariants as Stops
+use Rattle.ipx_sim.specs.declared.stop.LineFault.{LineFault}
+use Rattle.ipx_sim.specs.declared.stop.LineFault.TheVariants as Stops
 
 -- a network, the names in it, the moment in milliseconds, and which parcels were delivered
 pub record SimView : Type 0 where
@@ -57,18 +57,18 @@ MarksWhere (Some parcel) status old new =
 -- ---- several steps
 
 -- what ends a line before it is done; want of memory ends the script, and has no line
-abbrev pub stop_line : Stop → List ℕ
+abbrev pub stop_line : LineFault → List ℕ
 stop_line (Stops.Fault f) = fault_line f
 stop_line (Stops.Refused f) = refused_line f
 stop_line Stops.Memory = []
 
-abbrev pub stop_text : Result Bool Stop → List ℕ
+abbrev pub stop_text : Result Bool LineFault → List ℕ
 stop_text (Ok any) = []
 stop_text (Err stop) = stop_line stop
 
-abbrev pub stop_status : Result Bool Stop → ℕ
-stop_status (Ok any) = 0
-stop_status (Err stop) = 1
+abbrev pub line_fault_status : Result Bool LineFault → ℕ
+line_fault_status (Ok any) = 0
+line_fault_status (Err stop) = 1
 
 -- ---- `take`
 
@@ -80,7 +80,7 @@ taken_line end (Whole m) =
     ++ (codes " " ++ (bytes_text m.body ++ 10 ∷ [])))))
 taken_line end PeerEnd = codes "end " ++ (decimal end ++ codes " peer-end\n")
 
-abbrev pub taken_text : ℕ → Result TakenView Stop → List ℕ
+abbrev pub taken_text : ℕ → Result TakenView LineFault → List ℕ
 taken_text end (Ok t) = taken_line end t
 taken_text end (Err stop) = []
 
@@ -90,14 +90,14 @@ pub record Told : Type 0 where
   pub text : List ℕ
 
 -- one is taken and told
-abbrev pub TellsTake : ℕ → Told → Result Bool Stop → Told → Type 0
+abbrev pub TellsTake : ℕ → Told → Result Bool LineFault → Told → Type 0
 TellsTake end old result new =
     (outcome : Result AnswerView NetFault) × Stepped old.net (Events.Take end) outcome new.net
-    × (result ≡ unit_of (taken_of outcome))
-    × (new.text ≡ old.text ++ taken_text end (taken_of outcome))
+    × (result ≡ is_unit_taken (take_result outcome))
+    × (new.text ≡ old.text ++ taken_text end (take_result outcome))
 
 -- and at the end that nothing was held at first, or what ended it
-abbrev pub last_text : Result Bool Stop → List ℕ
+abbrev pub last_text : Result Bool LineFault → List ℕ
 last_text (Ok true) = []
 last_text (Ok false) = codes "nothing\n"
 last_text (Err stop) = stop_line stop

@@ -9,7 +9,7 @@ use Rattle.ipx_net.specs.Begins.{Begins}
 use Rattle.ipx_net.specs.Ends.{TellsEnds}
 use Rattle.ipx_net.specs.NetView.{NetView}
 use Rattle.ipx_net.specs.declared.endinfo.EndInfo.{EndInfo}
-use Rattle.ipx_sim.specs.Words.{state_word}
+use Rattle.ipx_sim.specs.ScriptWords.{state_word}
 
 abbrev pub yes_no : Bool → List ℕ
 yes_no b = if b then codes "yes" else codes "no"
@@ -29,15 +29,15 @@ standing_text names who info =
     ++ (codes " " ++ state_word info.state))))
 
 -- how many messages went in and out of it, and its next number in 4 hex digits
-abbrev pub counts_text : EndInfo → List ℕ
-counts_text info =
+abbrev pub end_counts_text : EndInfo → List ℕ
+end_counts_text info =
     codes " in " ++ (decimal info.given ++ (codes " out " ++ (decimal info.out
     ++ (codes " next " ++ encode_lower (to_be_bytes w16 info.next)))))
 
 -- and whether what it handed out begins what its peer handed in
-abbrev pub end_line : List (List ℕ) → ℕ → EndInfo → Bool → List ℕ
-end_line names who info begins =
-    standing_text names who info ++ (counts_text info
+abbrev pub end_summary_line : List (List ℕ) → ℕ → EndInfo → Bool → List ℕ
+end_summary_line names who info begins =
+    standing_text names who info ++ (end_counts_text info
     ++ (codes " begins " ++ (yes_no begins ++ 10 ∷ [])))
 
 -- the lines of ends, of which the first has this number
@@ -45,7 +45,7 @@ abbrev pub AreEndLines : NetView → List (List ℕ) → ℕ → List EndInfo �
 AreEndLines n names who [] text = text ≡ []
 AreEndLines n names who (info ∷ infos) text =
     (begins : Bool) × (IsTrue begins ↔ Begins n.now.world.log who)
-    × (rest : List ℕ) × (text ≡ end_line names who info begins ++ rest)
+    × (rest : List ℕ) × (text ≡ end_summary_line names who info begins ++ rest)
     × AreEndLines n names (who + 1) infos rest
 
 abbrev pub fresh_line : Bool → List ℕ

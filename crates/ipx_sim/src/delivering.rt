@@ -3,12 +3,12 @@
 ghost use Rattle.std.specs.Prelude.{◌≡◌, ◌==◌, ◌||◌, [], OnOk, false, option_map, slice_index_or, ℕ};
 ghost use Rattle.ipx_net.specs.Parcels.{parcel_view, place_view};
 ghost use Rattle.ipx_sim.specs.Act.{outcome_view};
-ghost use Rattle.ipx_sim.specs.Doing.{Each};
-ghost use Rattle.ipx_sim.specs.Delivering.{DeliversAll, DeliversNew, DeliversTo, Marks, comes_to, delivered_view, is_due, is_marked, is_sender, reached_of};
+ghost use Rattle.ipx_sim.specs.ScriptDoing.{DoesEach};
+ghost use Rattle.ipx_sim.specs.Delivering.{DeliversAll, DeliversNew, DeliversParcelTo, Marks, comes_to, delivered_view, is_due_parcel, is_delivered, is_sender, reached_of};
 
 use crate::acting::step;
 use crate::map::Spot;
-use crate::stop::Stop;
+use crate::stop::LineFault;
 use ipx_net::{Answer, Event, Net, NetFault, Parcel, Place};
 use ipx_wire::Node;
 use std::alloc::{AllocError, Global};
@@ -59,8 +59,8 @@ impl Delivered {
     }
 
     /// Whether a parcel was delivered by a line of its own.
-    fn is_marked(&self, parcel: usize) -> bool
-        ensures { result ≡ is_marked (delivered_view self.now) parcel }
+    fn is_delivered(&self, parcel: usize) -> bool
+        ensures { result ≡ is_delivered (delivered_view self.now) parcel }
     {
         self.marks.get(parcel).copied() == Some(true)
     }
@@ -91,8 +91,8 @@ fn comes_to(parcel: &Parcel, spot: &Spot) -> bool
 }
 
 /// Whether the parcel of a number comes to a place.
-fn is_due(net: &Net, parcel: usize, spot: &Spot) -> bool
-    ensures { result ≡ is_due net.now parcel spot.now }
+fn is_due_parcel(net: &Net, parcel: usize, spot: &Spot) -> bool
+    ensures { result ≡ is_due_parcel net.now parcel spot.now }
 {
     match net.parcels().get(parcel) {
         Some(parcel) => comes_to(parcel, spot),
@@ -101,7 +101,7 @@ fn is_due(net: &Net, parcel: usize, spot: &Spot) -> bool
 }
 
 /// Whether a delivery took place.
-fn reached(outcome: Result<Answer, NetFault>) -> Result<bool, Stop>
+fn reached(outcome: Result<Answer, NetFault>) -> Result<bool, LineFault>
     ensures { result ≡ reached_of (outcome_view outcome) }
 {
     let _answer = outcome?;
@@ -109,10 +109,10 @@ fn reached(outcome: Result<Answer, NetFault>) -> Result<bool, Stop>
 }
 
 /// Delivers a parcel to a place where it comes there, and answers whether it does.
-fn deliver_to(alloc: Global, net: &mut Net, spot: &Spot, parcel: usize) -> Result<bool, Stop>
-    ensures { DeliversTo parcel spot.now net.old result net.new }
+fn deliver_to(alloc: Global, net: &mut Net, spot: &Spot, parcel: usize) -> Result<bool, LineFault>
+    ensures { DeliversParcelTo parcel spot.now net.old result net.new }
 {
-    if !is_due(net, parcel, spot) {
+    if !is_due_parcel(net, parcel, spot) {
         return Ok(false);
     }
     let place = spot.place;
@@ -120,8 +120,13 @@ fn deliver_to(alloc: Global, net: &mut Net, spot: &Spot, parcel: usize) -> Resul
 }
 
 /// Delivers a parcel to each place to which it comes, and answers whether there was one.
-fn deliver_one(alloc: Global, net: &mut Net, spots: &[Spot], parcel: usize) -> Result<bool, Stop>
-    ensures { Each (DeliversTo parcel) spots.now net.old result net.new }
+fn deliver_one(
+    alloc: Global,
+    net: &mut Net,
+    spots: &[Spot],
+    parcel: usize,
+) -> Result<bool, LineFault>
+    ensures { DoesEach (DeliversParcelTo parcel) spots.now net.old result net.new }
 {
     let mut any = false;
     for spot in spots {
@@ -137,10 +142,10 @@ fn deliver_unless(
     spots: &[Spot],
     parcel: usize,
     delivered: &Delivered,
-) -> Result<bool, Stop>
+) -> Result<bool, LineFault>
     ensures { DeliversNew (delivered_view delivered.now) spots.now parcel net.old result net.new }
 {
-    if delivered.is_marked(parcel) {
+    if delivered.is_delivered(parcel) {
         return Ok(false);
     }
     deliver_one(alloc, net, spots, parcel)
@@ -153,7 +158,7 @@ pub fn deliver_all(
     net: &mut Net,
     spots: &[Spot],
     delivered: &mut Delivered,
-) -> Result<bool, Stop>
+) -> Result<bool, LineFault>
     ensures { DeliversAll spots.now
         (record { net = net.old; delivered = delivered_view delivered.old }) result
         (record { net = net.new; delivered = delivered_view delivered.new }) }

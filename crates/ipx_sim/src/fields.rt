@@ -8,7 +8,7 @@ ghost use Rattle.std.specs.Result.{result_ok};
 ghost use Rattle.hex.specs.Hex.{decode_of};
 ghost use Rattle.ipx_wire.specs.Assigned.{all_networks, local_network};
 ghost use Rattle.spx_link.specs.Limits.{most_units};
-ghost use Rattle.ipx_sim.specs.Fields.{address_in, buffers_in, bytes_in, fields_view, is_blank_line, is_name_byte, is_name_text, line_fields, network_in, node_in, number_in, numeral_up_to, own_network_in, short_in, socket_in, stream_in, within};
+ghost use Rattle.ipx_sim.specs.ScriptFields.{address_in, buffers_field, bytes_in, fields_view, is_blank_line, is_name_byte, is_name_text, line_fields, network_in, node_in, number_in, numeral_up_to, own_network_in, short_in, socket_in, stream_in, within};
 
 use hex::FromHexError;
 use ipx_wire::{Address, Network, Node, OutOfMemory, Socket};
@@ -108,8 +108,8 @@ pub fn short_of(field: &[u8]) -> Option<u16>
 }
 
 /// Buffers of a link: 1 to 8,192.
-pub fn buffers_of(field: &[u8]) -> Option<u16>
-    ensures value { result ≡ buffers_in field.now }
+pub fn parse_buffers(field: &[u8]) -> Option<u16>
+    ensures value { result ≡ buffers_field field.now }
     ensures owed { IfSome result (λ b. (0 < b) × (b ≤ most_units)) }
 {
     let buffers = short_of(field)?;
@@ -120,7 +120,7 @@ pub fn buffers_of(field: &[u8]) -> Option<u16>
 }
 
 /// A network, in 1 to 8 hex digits.
-pub fn network_of(field: &[u8]) -> Option<Network>
+pub fn parse_network(field: &[u8]) -> Option<Network>
     ensures { result ≡ network_in field.now }
 {
     if field.is_empty() || field.len() > 8 {
@@ -134,7 +134,7 @@ pub fn own_network_of(field: &[u8]) -> Option<Network>
     ensures value { result ≡ own_network_in field.now }
     ensures owed { IfSome result (λ n. (n.0 ≢ local_network) × (n.0 ≢ all_networks)) }
 {
-    let network = network_of(field)?;
+    let network = parse_network(field)?;
     if network.0 == Network::LOCAL.0 || network.0 == Network::ALL.0 {
         return None;
     }
@@ -142,7 +142,7 @@ pub fn own_network_of(field: &[u8]) -> Option<Network>
 }
 
 /// A node, in 12 hex digits.
-pub fn node_of(field: &[u8]) -> Option<Node>
+pub fn parse_node(field: &[u8]) -> Option<Node>
     ensures { result ≡ node_in field.now }
 {
     let mut bytes = [0; 6];
@@ -153,7 +153,7 @@ pub fn node_of(field: &[u8]) -> Option<Node>
 }
 
 /// A socket, in 4 hex digits.
-pub fn socket_of(field: &[u8]) -> Option<Socket>
+pub fn parse_socket(field: &[u8]) -> Option<Socket>
     ensures { result ≡ socket_in field.now }
 {
     if field.len() != 4 {
@@ -173,13 +173,13 @@ pub fn stream_of(field: &[u8]) -> Option<u8>
 }
 
 /// A network, a node and a socket.
-pub fn address_of(network: &[u8], node: &[u8], socket: &[u8]) -> Option<Address>
+pub fn parse_address(network: &[u8], node: &[u8], socket: &[u8]) -> Option<Address>
     ensures { result ≡ address_in network.now node.now socket.now }
 {
     Some(Address {
-        network: network_of(network)?,
-        node: node_of(node)?,
-        socket: socket_of(socket)?,
+        network: parse_network(network)?,
+        node: parse_node(node)?,
+        socket: parse_socket(socket)?,
     })
 }
 

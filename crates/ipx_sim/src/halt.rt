@@ -1,14 +1,14 @@
 //! Why a script goes no further.
 
 ghost use Rattle.std.specs.Prelude.{◌≡◌};
-ghost use Rattle.ipx_sim.specs.declared.halt.Halt.TheVariants as Halts;
+ghost use Rattle.ipx_sim.specs.declared.halt.ScriptFault.TheVariants as Halts;
 
 use ipx_wire::OutOfMemory;
 use std::alloc::{AllocError, AllocFailed};
 
 /// Why a script goes no further.
 #[derive(Clone, Copy, Debug, PartialEq, Eq)]
-pub enum Halt {
+pub enum ScriptFault {
     /// The line at hand is of no known form, or names what is not there.
     Bad,
     /// Memory was refused.
@@ -17,26 +17,26 @@ pub enum Halt {
     Ended,
 }
 
-impl From<OutOfMemory> for Halt {
+impl From<OutOfMemory> for ScriptFault {
     ghost from_gives = { λ _ e. e ≡ Halts.Memory };
 
-    fn from(_error: OutOfMemory) -> Halt {
-        Halt::Memory
+    fn from(_error: OutOfMemory) -> ScriptFault {
+        ScriptFault::Memory
     }
 }
 
-impl From<AllocError> for Halt {
+impl From<AllocError> for ScriptFault {
     ghost from_gives = { λ _ e. e ≡ Halts.Memory };
 
-    fn from(_error: AllocError) -> Halt {
-        Halt::Memory
+    fn from(_error: AllocError) -> ScriptFault {
+        ScriptFault::Memory
     }
 }
 
-impl<T: Drop> From<AllocFailed<T>> for Halt {
+impl<T: Drop> From<AllocFailed<T>> for ScriptFault {
     ghost from_gives = { λ _ e. e ≡ Halts.Memory };
 
-    fn from(_error: AllocFailed<T>) -> Halt {
-        Halt::Memory
+    fn from(_error: AllocFailed<T>) -> ScriptFault {
+        ScriptFault::Memory
     }
 }

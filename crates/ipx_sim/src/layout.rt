@@ -6,9 +6,9 @@ ghost use Rattle.ipx_net.specs.Beginnings.{ArePortsOwed, IsHostOwed};
 ghost use Rattle.ipx_router.specs.NewRouter.{IsOwnNetwork};
 
 use crate::fields::{
-    buffers_of, fields_of, is_blank, is_name, node_of, own_network_of, short_of, socket_of,
+    fields_of, is_blank, is_name, own_network_of, parse_buffers, parse_node, parse_socket, short_of,
 };
-use crate::halt::Halt;
+use crate::halt::ScriptFault;
 use crate::map::{Map, Spot};
 use crate::simulation::Simulation;
 use ipx_net::{Host, Member, Net, Place};
@@ -47,7 +47,7 @@ fn listen_of(args: &[&[u8]]) -> Option<Option<(Socket, u16)>>
         return if args.is_empty() { Some(None) } else { None };
     };
     match *word {
-        b"listen" => Some(Some((socket_of(socket)?, buffers_of(buffers)?))),
+        b"listen" => Some(Some((parse_socket(socket)?, parse_buffers(buffers)?))),
         _ => None,
     }
 }
@@ -61,8 +61,8 @@ fn host_of(args: &[&[u8]]) -> Option<Host>
     };
     Some(Host {
         network: own_network_of(network)?,
-        node: node_of(node)?,
-        router: node_of(router)?,
+        node: parse_node(node)?,
+        router: parse_node(router)?,
         listen: listen_of(listen)?,
     })
 }
@@ -76,49 +76,49 @@ fn port_of(args: &[&[u8]]) -> Option<Port>
     };
     Some(Port {
         network: own_network_of(network)?,
-        node: node_of(node)?,
+        node: parse_node(node)?,
         cost: short_of(cost)?,
     })
 }
 
 /// Three fields a port.
-fn ports_of(alloc: Global, args: &[&[u8]]) -> Result<Vec<Port>, Halt>
+fn ports_of(alloc: Global, args: &[&[u8]]) -> Result<Vec<Port>, ScriptFault>
     ensures { IfOk result ArePortsOwed }
 {
     let mut ports = Vec::new(alloc);
     for part in args.chunks(3) {
         match port_of(part) {
             Some(port) => ports.push(port)?,
-            None => return Err(Halt::Bad),
+            None => return Err(ScriptFault::Bad),
         }
     }
     Ok(ports)
 }
 
 /// Whether these ports make a router: the line is bad where they do not.
-fn try_router(alloc: Global, ports: &[Port]) -> Result<(), Halt>
+fn try_router(alloc: Global, ports: &[Port]) -> Result<(), ScriptFault>
     requires { All IsOwnNetwork ports.now }
 {
     let ports = Vec::from_slice(alloc, ports)?;
     match Router::new(alloc, ports) {
         Ok(_) => Ok(()),
-        Err(_) => Err(Halt::Bad),
+        Err(_) => Err(ScriptFault::Bad),
     }
 }
 
 /// A name that no member has yet.
-fn new_name(alloc: Global, map: &Map, name: &[u8]) -> Result<String, Halt> {
+fn new_name(alloc: Global, map: &Map, name: &[u8]) -> Result<String, ScriptFault> {
     if !is_name(name) || map.member(name).is_some() {
-        return Err(Halt::Bad);
+        return Err(ScriptFault::Bad);
     }
     match std::str::from_utf8(name) {
         Ok(text) => Ok(String::from_str(alloc, text)?),
-        Err(_) => Err(Halt::Bad),
+        Err(_) => Err(ScriptFault::Bad),
     }
 }
 
 /// A host comes into the map.
-fn map_host(map: &mut Map, name: String, host: Host) -> Result<(), Halt> {
+fn map_host(map: &mut Map, name: String, host: Host) -> Result<(), ScriptFault> {
     let number = map.hosts.len();
     map.hosts.push(name)?;
     map.members.push(Member::Host(number))?;
@@ -131,7 +131,7 @@ fn map_host(map: &mut Map, name: String, host: Host) -> Result<(), Halt> {
 }
 
 /// The ports of a router come into the map.
-fn map_ports(map: &mut Map, router: usize, ports: &[Port]) -> Result<(), Halt> {
+fn map_ports(map: &mut Map, router: usize, ports: &[Port]) -> Result<(), ScriptFault> {
     for (port, number) in ports.iter().zip(1..17) {
         map.spots.push(Spot {
             place: Place::Port(router, number),
@@ -143,7 +143,7 @@ fn map_ports(map: &mut Map, router: usize, ports: &[Port]) -> Result<(), Halt> {
 }
 
 /// A router comes into the map.
-fn map_router(map: &mut Map, name: String, ports: &[Port]) -> Result<(), Halt> {
+fn map_router(map: &mut Map, name: String, ports: &[Port]) -> Result<(), ScriptFault> {
     let number = map.routers.len();
     map.routers.push(name)?;
     map.members.push(Member::Router(number))?;
@@ -161,15 +161,15 @@ impl Layout {
     }
 
     /// `host NAME NET NODE ROUTERNODE [listen SOCKET BUFFERS]`, without its first word.
-    fn read_host(&mut self, alloc: Global, args: &[&[u8]]) -> Result<(), Halt> {
+    fn read_host(&mut self, alloc: Global, args: &[&[u8]]) -> Result<(), ScriptFault> {
         let Some((name, rest)) = args.split_first() else {
-            return Err(Halt::Bad);
+            return Err(ScriptFault::Bad);
         };
         let Some(host) = host_of(rest) else {
-            return Err(Halt::Bad);
+            return Err(ScriptFault::Bad);
         };
         if self.hosts.len() >= MOST_MEMBERS {
-            return Err(Halt::Bad);
+            return Err(ScriptFault::Bad);
         }
         let name = new_name(alloc, &self.map, name)?;
         self.hosts.push(host)?;
@@ -177,12 +177,12 @@ impl Layout {
     }
 
     /// `router NAME NET NODE COST ..`, without its first word.
-    fn read_router(&mut self, alloc: Global, args: &[&[u8]]) -> Result<(), Halt> {
+    fn read_router(&mut self, alloc: Global, args: &[&[u8]]) -> Result<(), ScriptFault> {
         let Some((name, rest)) = args.split_first() else {
-            return Err(Halt::Bad);
+            return Err(ScriptFault::Bad);
         };
         if self.routers.len() >= MOST_MEMBERS {
-            return Err(Halt::Bad);
+            return Err(ScriptFault::Bad);
         }
         let name = new_name(alloc, &self.map, name)?;
         let ports = ports_of(alloc, rest)?;
@@ -194,7 +194,7 @@ impl Layout {
 
     /// Reads one line of a script. It is false, and nothing was read, where the line is neither
     /// blank nor one of a layout.
-    pub fn read(&mut self, alloc: Global, line: &[u8]) -> Result<bool, Halt> {
+    pub fn read(&mut self, alloc: Global, line: &[u8]) -> Result<bool, ScriptFault> {
         if is_blank(line) {
             return Ok(true);
         }
@@ -231,7 +231,7 @@ impl Layout {
 
     /// The network that was laid out, in which nothing happened yet. Each router was tried at its
     /// own line, so memory alone can be wanting.
-    pub fn finish(self, alloc: Global) -> Result<Simulation, Halt> {
+    pub fn finish(self, alloc: Global) -> Result<Simulation, ScriptFault> {
         let Layout {
             hosts,
             routers,
@@ -239,7 +239,7 @@ impl Layout {
         } = self;
         match Net::new(alloc, hosts, routers) {
             Ok(net) => Ok(Simulation::new(alloc, net, map)),
-            Err(_) => Err(Halt::Memory),
+            Err(_) => Err(ScriptFault::Memory),
         }
     }
 }

@@ -22,9 +22,9 @@ mod words;
 
 pub use acting::act;
 pub use fields::{fields_of, is_blank};
-pub use halt::Halt;
+pub use halt::ScriptFault;
 pub use layout::Layout;
-pub use line::Line;
+pub use line::ScriptLine;
 pub use lines::refused_to_line;
 pub use map::{Map, Spot};
 pub use reading::read_line;

@@ -4,7 +4,7 @@ use ipx_net::Event;
 
 /// A line behind the layout. Ends and parcels go by their numbers from 0.
 #[derive(Drop)]
-pub enum Line {
+pub enum ScriptLine {
     /// `dial`, `send`, `close`, `release`, `poll`, `deliver` or `inject`: one event.
     Act(Event),
     /// The moment rises by so many milliseconds.

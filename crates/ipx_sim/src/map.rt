@@ -3,8 +3,8 @@
 ghost use Rattle.std.specs.Prelude.{◌≡◌, ◌==◌, ◌<◌, [], IfSome, length, map, position, string_bytes};
 ghost use Rattle.std.specs.List.{list_any};
 ghost use Rattle.std.specs.Str.{bytes_eq};
-ghost use Rattle.ipx_sim.specs.Fields.{number_in, within};
-ghost use Rattle.ipx_sim.specs.Places.{host_in, map_view, member_in, place_among, place_in, port_in, router_in, same_place};
+ghost use Rattle.ipx_sim.specs.ScriptFields.{number_in, within};
+ghost use Rattle.ipx_sim.specs.ScriptPlaces.{host_in, map_view, member_in, place_among, place_in, port_in, router_in, same_place};
 
 use crate::fields::number_of;
 use ipx_net::{Member, Place};

@@ -3,18 +3,18 @@
 ghost use Rattle.std.specs.Prelude.{◌≡◌, IfOk, IfSome, option_copied, option_map, true};
 ghost use Rattle.std.specs.Str.{bytes_eq};
 ghost use Rattle.ipx_sim.specs.Act.{IsActOwed};
-ghost use Rattle.ipx_sim.specs.Fields.{fields_view};
-ghost use Rattle.ipx_sim.specs.Places.{map_view};
-ghost use Rattle.ipx_sim.specs.Reading.{Act, Close, Reads, ReadsLine, Release, counted_in, deliver_in, dial_in, end_in, event_in, event_view, fill_in, inject_in, line_view, only_in, plain_in, poll_in, send_in};
-ghost use Rattle.ipx_sim.specs.Reading.{Pump, Run, Take, Tick};
+ghost use Rattle.ipx_sim.specs.ScriptFields.{fields_view};
+ghost use Rattle.ipx_sim.specs.ScriptPlaces.{map_view};
+ghost use Rattle.ipx_sim.specs.ScriptReading.{Act, Close, ReadsScriptLine, ReadsLine, Release, counted_in, deliver_in, dial_in, end_in, event_in, event_view, fill_in, inject_in, script_line_view, only_in, plain_in, poll_in, send_in};
+ghost use Rattle.ipx_sim.specs.ScriptReading.{Pump, Run, Take, Tick};
 ghost use Rattle.ipx_sim.specs.Script.{IsLineOwed};
 
 use crate::fields::{
-    address_of, buffers_of, bytes_of, index_of, network_of, node_of, number_of, socket_of,
-    stream_of,
+    bytes_of, index_of, number_of, parse_address, parse_buffers, parse_network, parse_node,
+    parse_socket, stream_of,
 };
-use crate::halt::Halt;
-use crate::line::Line;
+use crate::halt::ScriptFault;
+use crate::line::ScriptLine;
 use crate::map::Map;
 use ipx_net::Event;
 use spx_units::Message;
@@ -48,9 +48,9 @@ fn dial_of(map: &Map, args: &[&[u8]]) -> Option<Event>
     };
     Some(Event::Dial {
         host: map.host(host)?,
-        socket: socket_of(socket)?,
-        to: address_of(network, node, far)?,
-        buffers: buffers_of(buffers)?,
+        socket: parse_socket(socket)?,
+        to: parse_address(network, node, far)?,
+        buffers: parse_buffers(buffers)?,
     })
 }
 
@@ -121,62 +121,62 @@ fn event_of(map: &Map, command: &[u8], args: &[&[u8]]) -> Option<Event>
 }
 
 /// `E N`.
-fn fill_of(args: &[&[u8]]) -> Option<Line>
-    ensures value { option_map line_view result ≡ fill_in (fields_view args.now) }
+fn fill_of(args: &[&[u8]]) -> Option<ScriptLine>
+    ensures value { option_map script_line_view result ≡ fill_in (fields_view args.now) }
     ensures owed { IfSome result IsLineOwed }
 {
     let [end, count] = args else {
         return None;
     };
-    Some(Line::Fill {
+    Some(ScriptLine::Fill {
         end: index_of(end)?,
         count: number_of(count)?,
     })
 }
 
-fn take_of(args: &[&[u8]]) -> Option<Line>
-    ensures value { option_map line_view result ≡ counted_in Take (fields_view args.now) }
+fn take_of(args: &[&[u8]]) -> Option<ScriptLine>
+    ensures value { option_map script_line_view result ≡ counted_in Take (fields_view args.now) }
     ensures owed { IfSome result IsLineOwed }
 {
     let end = index_of(only(args)?)?;
-    Some(Line::Take(end))
+    Some(ScriptLine::Take(end))
 }
 
-fn tick_of(args: &[&[u8]]) -> Option<Line>
-    ensures value { option_map line_view result ≡ counted_in Tick (fields_view args.now) }
+fn tick_of(args: &[&[u8]]) -> Option<ScriptLine>
+    ensures value { option_map script_line_view result ≡ counted_in Tick (fields_view args.now) }
     ensures owed { IfSome result IsLineOwed }
 {
     let milliseconds = number_of(only(args)?)?;
-    Some(Line::Tick(milliseconds))
+    Some(ScriptLine::Tick(milliseconds))
 }
 
-fn run_of(args: &[&[u8]]) -> Option<Line>
-    ensures value { option_map line_view result ≡ counted_in Run (fields_view args.now) }
+fn run_of(args: &[&[u8]]) -> Option<ScriptLine>
+    ensures value { option_map script_line_view result ≡ counted_in Run (fields_view args.now) }
     ensures owed { IfSome result IsLineOwed }
 {
     let rounds = number_of(only(args)?)?;
-    Some(Line::Run(rounds))
+    Some(ScriptLine::Run(rounds))
 }
 
-fn pump_of(args: &[&[u8]]) -> Option<Line>
-    ensures value { option_map line_view result ≡ counted_in Pump (fields_view args.now) }
+fn pump_of(args: &[&[u8]]) -> Option<ScriptLine>
+    ensures value { option_map script_line_view result ≡ counted_in Pump (fields_view args.now) }
     ensures owed { IfSome result IsLineOwed }
 {
     let rounds = number_of(only(args)?)?;
-    Some(Line::Pump(rounds))
+    Some(ScriptLine::Pump(rounds))
 }
 
-fn act_of(event: Option<Event>) -> Option<Line>
+fn act_of(event: Option<Event>) -> Option<ScriptLine>
     requires { IfSome event IsActOwed }
-    ensures value { option_map line_view result ≡ option_map Act (option_map event_view event) }
+    ensures value { option_map script_line_view result ≡ option_map Act (option_map event_view event) }
     ensures owed { IfSome result IsLineOwed }
 {
-    Some(Line::Act(event?))
+    Some(ScriptLine::Act(event?))
 }
 
 /// A line that takes no memory to be read.
-fn plain_of(map: &Map, command: &[u8], args: &[&[u8]]) -> Option<Line>
-    ensures value { option_map line_view result
+fn plain_of(map: &Map, command: &[u8], args: &[&[u8]]) -> Option<ScriptLine>
+    ensures value { option_map script_line_view result
         ≡ plain_in (map_view map.now) command.now (fields_view args.now) }
     ensures owed { IfSome result IsLineOwed }
 {
@@ -199,47 +199,51 @@ fn plain_of(map: &Map, command: &[u8], args: &[&[u8]]) -> Option<Line>
 }
 
 /// `E SS HEX`.
-fn send_of(alloc: Global, args: &[&[u8]]) -> Result<Line, Halt>
-    ensures read { Reads (send_in (fields_view args.now)) true result }
+fn send_of(alloc: Global, args: &[&[u8]]) -> Result<ScriptLine, ScriptFault>
+    ensures read { ReadsScriptLine (send_in (fields_view args.now)) true result }
     ensures owed { IfOk result IsLineOwed }
 {
     let [end, stream, body] = args else {
-        return Err(Halt::Bad);
+        return Err(ScriptFault::Bad);
     };
     match (index_of(end), stream_of(stream), bytes_of(alloc, body)?) {
-        (Some(who), Some(stream), Some(body)) => Ok(Line::Act(Event::Send {
+        (Some(who), Some(stream), Some(body)) => Ok(ScriptLine::Act(Event::Send {
             who,
             message: Message { stream, body },
         })),
-        _ => Err(Halt::Bad),
+        _ => Err(ScriptFault::Bad),
     }
 }
 
 /// `NET NODE HEX`.
-fn inject_of(alloc: Global, args: &[&[u8]]) -> Result<Line, Halt>
-    ensures read { Reads (inject_in (fields_view args.now)) true result }
+fn inject_of(alloc: Global, args: &[&[u8]]) -> Result<ScriptLine, ScriptFault>
+    ensures read { ReadsScriptLine (inject_in (fields_view args.now)) true result }
     ensures owed { IfOk result IsLineOwed }
 {
     let [network, node, bytes] = args else {
-        return Err(Halt::Bad);
+        return Err(ScriptFault::Bad);
     };
-    match (network_of(network), node_of(node), bytes_of(alloc, bytes)?) {
-        (Some(segment), Some(next), Some(bytes)) => Ok(Line::Act(Event::Inject {
+    match (
+        parse_network(network),
+        parse_node(node),
+        bytes_of(alloc, bytes)?,
+    ) {
+        (Some(segment), Some(next), Some(bytes)) => Ok(ScriptLine::Act(Event::Inject {
             segment,
             next,
             bytes,
         })),
-        _ => Err(Halt::Bad),
+        _ => Err(ScriptFault::Bad),
     }
 }
 
 /// Reads the fields of a line that is not blank, behind the layout. What it names is there.
-pub fn read_line(alloc: Global, map: &Map, fields: &[&[u8]]) -> Result<Line, Halt>
+pub fn read_line(alloc: Global, map: &Map, fields: &[&[u8]]) -> Result<ScriptLine, ScriptFault>
     ensures read { ReadsLine (map_view map.now) (fields_view fields.now) result }
     ensures owed { IfOk result IsLineOwed }
 {
     let Some((command, args)) = fields.split_first() else {
-        return Err(Halt::Bad);
+        return Err(ScriptFault::Bad);
     };
     if is_word(command, b"send") {
         return send_of(alloc, args);
@@ -249,6 +253,6 @@ pub fn read_line(alloc: Global, map: &Map, fields: &[&[u8]]) -> Result<Line, Hal
     }
     match plain_of(map, command, args) {
         Some(line) => Ok(line),
-        None => Err(Halt::Bad),
+        None => Err(ScriptFault::Bad),
     }
 }

@@ -3,31 +3,31 @@
 
 ghost use Rattle.std.specs.Prelude.{◌≡◌};
 ghost use Rattle.ipx_sim.specs.Act.{outcome_view};
-ghost use Rattle.ipx_sim.specs.Doing.{Each};
+ghost use Rattle.ipx_sim.specs.ScriptDoing.{DoesEach};
 ghost use Rattle.ipx_sim.specs.Delivering.{delivered_view};
-ghost use Rattle.ipx_sim.specs.Going.{Fills, PollsOnce, PollsOut, Round, Rounds, SendsNumber, made_of, sent_of};
+ghost use Rattle.ipx_sim.specs.Going.{FillsEnd, PollsOnce, PollsOut, RunRound, RunRounds, SendsNumber, made_of, hand_in_result};
 
 use crate::acting::step;
 use crate::delivering::{Delivered, deliver_all};
 use crate::map::Map;
-use crate::stop::Stop;
+use crate::stop::LineFault;
 use crate::taking::drain_if;
 use ipx_net::{Answer, Event, Member, Net, NetFault};
 use spx_units::Message;
 use std::alloc::Global;
 
 /// Whether a message was handed in.
-fn sent(outcome: Result<Answer, NetFault>) -> Result<bool, Stop>
-    ensures { result ≡ sent_of (outcome_view outcome) }
+fn sent(outcome: Result<Answer, NetFault>) -> Result<bool, LineFault>
+    ensures { result ≡ hand_in_result (outcome_view outcome) }
 {
     match outcome? {
-        Answer::Refused(fault) => Err(Stop::Refused(fault)),
+        Answer::Refused(fault) => Err(LineFault::Refused(fault)),
         _ => Ok(true),
     }
 }
 
 /// Hands in a message of one byte: its number, modulo 256.
-fn send_number(alloc: Global, net: &mut Net, end: usize, number: u32) -> Result<bool, Stop>
+fn send_number(alloc: Global, net: &mut Net, end: usize, number: u32) -> Result<bool, LineFault>
     ensures { SendsNumber end number net.old result net.new }
 {
     let body = vec![in alloc; (number % 256) as u8]?;
@@ -37,8 +37,8 @@ fn send_number(alloc: Global, net: &mut Net, end: usize, number: u32) -> Result<
 
 /// Hands in messages of one byte, which counts them from 0, modulo 256. It answers whether one was
 /// handed in.
-pub fn fill(alloc: Global, net: &mut Net, end: usize, count: u32) -> Result<bool, Stop>
-    ensures { Fills end count net.old result net.new }
+pub fn fill(alloc: Global, net: &mut Net, end: usize, count: u32) -> Result<bool, LineFault>
+    ensures { FillsEnd end count net.old result net.new }
 {
     let mut any = false;
     for number in 0..count {
@@ -48,7 +48,7 @@ pub fn fill(alloc: Global, net: &mut Net, end: usize, count: u32) -> Result<bool
 }
 
 /// Whether a parcel was made.
-fn made_some(outcome: Result<Answer, NetFault>) -> Result<bool, Stop>
+fn made_some(outcome: Result<Answer, NetFault>) -> Result<bool, LineFault>
     ensures { result ≡ made_of (outcome_view outcome) }
 {
     match outcome? {
@@ -58,14 +58,14 @@ fn made_some(outcome: Result<Answer, NetFault>) -> Result<bool, Stop>
 }
 
 /// Polls a member once, and answers whether it sent something.
-fn poll_once(alloc: Global, net: &mut Net, member: Member) -> Result<bool, Stop>
+fn poll_once(alloc: Global, net: &mut Net, member: Member) -> Result<bool, LineFault>
     ensures { PollsOnce member net.old result net.new }
 {
     made_some(step(alloc, net, Event::Poll { member }))
 }
 
 /// Polls a member until it is quiet, and answers whether it sent something.
-fn poll_out(alloc: Global, net: &mut Net, member: Member) -> Result<bool, Stop>
+fn poll_out(alloc: Global, net: &mut Net, member: Member) -> Result<bool, LineFault>
     ensures { PollsOut member net.old result net.new }
 {
     let mut any = false;
@@ -80,8 +80,8 @@ fn poll_out(alloc: Global, net: &mut Net, member: Member) -> Result<bool, Stop>
 }
 
 /// Polls all members, each until it is quiet, and answers whether one sent something.
-fn poll_all(alloc: Global, net: &mut Net, members: &[Member]) -> Result<bool, Stop>
-    ensures { Each PollsOut members.now net.old result net.new }
+fn poll_all(alloc: Global, net: &mut Net, members: &[Member]) -> Result<bool, LineFault>
+    ensures { DoesEach PollsOut members.now net.old result net.new }
 {
     let mut any = false;
     for member in members {
@@ -97,8 +97,8 @@ fn run_round(
     map: &Map,
     delivered: &mut Delivered,
     takes: bool,
-) -> Result<bool, Stop>
-    ensures { Round map.now.members.items map.now.spots.items takes
+) -> Result<bool, LineFault>
+    ensures { RunRound map.now.members.items map.now.spots.items takes
         (record { net = net.old; delivered = delivered_view delivered.old }) result
         (record { net = net.new; delivered = delivered_view delivered.new }) }
 {
@@ -117,8 +117,8 @@ pub fn run_rounds(
     delivered: &mut Delivered,
     rounds: u32,
     takes: bool,
-) -> Result<bool, Stop>
-    ensures { Rounds rounds map.now.members.items map.now.spots.items takes
+) -> Result<bool, LineFault>
+    ensures { RunRounds rounds map.now.members.items map.now.spots.items takes
         (record { net = net.old; delivered = delivered_view delivered.old }) result
         (record { net = net.new; delivered = delivered_view delivered.new }) }
 {

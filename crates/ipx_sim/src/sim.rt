@@ -4,7 +4,7 @@ ghost use Rattle.std.specs.Prelude.{◌≡◌, IfErr, IfOk, IfSome, string_bytes
 ghost use Rattle.std.specs.Io.KnownBytes.{Appends};
 ghost use Rattle.ipx_sim.specs.Script.{IsTooLong, too_long_line};
 
-use crate::halt::Halt;
+use crate::halt::ScriptFault;
 use crate::layout::Layout;
 use crate::simulation::Simulation;
 use ipx_commands::{InputFault, MOST_INPUT, read_up_to, tell_no_memory, write_lines};
@@ -19,7 +19,7 @@ const LINES_END: u32 = 1_000_002;
 #[derive(Clone, Copy)]
 struct Halted {
     line: u32,
-    halt: Halt,
+    halt: ScriptFault,
 }
 
 fn bad_line(alloc: Global, line: u32) -> Result<(String, u8), OutOfMemory> {
@@ -31,9 +31,9 @@ fn tell_halted<W: Write>(alloc: Global, halted: Halted, writer: &mut W) -> Resul
     ensures { IfErr result (λ status. status ≡ 1) }
 {
     match halted.halt {
-        Halt::Bad => write_lines(writer, bad_line(alloc, halted.line)),
-        Halt::Memory => Err(tell_no_memory(writer)),
-        Halt::Ended => Err(1),
+        ScriptFault::Bad => write_lines(writer, bad_line(alloc, halted.line)),
+        ScriptFault::Memory => Err(tell_no_memory(writer)),
+        ScriptFault::Ended => Err(1),
     }
 }
 

@@ -5,23 +5,23 @@ ghost use Rattle.std.specs.Io.KnownBytes.{Appends};
 ghost use Rattle.spx_messages.specs.Taking.{Whole, taken_view};
 ghost use Rattle.ipx_sim.specs.Act.{IsActOwed};
 ghost use Rattle.ipx_sim.specs.Delivering.{delivered_view};
-ghost use Rattle.ipx_sim.specs.Places.{map_view};
-ghost use Rattle.ipx_sim.specs.Reading.{event_view};
+ghost use Rattle.ipx_sim.specs.ScriptPlaces.{map_view};
+ghost use Rattle.ipx_sim.specs.ScriptReading.{event_view};
 ghost use Rattle.ipx_sim.specs.Script.{IsLineOwed};
-ghost use Rattle.ipx_sim.specs.Sim.{MarksWhere, TellsTake, last_text, parcel_of, sim_view, stop_status, stop_text, taken_line};
+ghost use Rattle.ipx_sim.specs.Sim.{MarksWhere, TellsTake, last_text, parcel_of, sim_view, line_fault_status, stop_text, taken_line};
 ghost use Rattle.ipx_sim.specs.Summary.{Summarizes};
-ghost use Rattle.ipx_sim.specs.declared.halt.Halt.TheVariants as Halts;
+ghost use Rattle.ipx_sim.specs.declared.halt.ScriptFault.TheVariants as Halts;
 
 use crate::acting::act;
 use crate::delivering::Delivered;
 use crate::fields::{fields_of, is_blank};
-use crate::halt::Halt;
-use crate::line::Line;
+use crate::halt::ScriptFault;
+use crate::line::ScriptLine;
 use crate::lines::{bytes_to_text, fault_to_line, refused_to_line};
 use crate::map::Map;
 use crate::reading::read_line;
 use crate::rounds::{fill, run_rounds};
-use crate::stop::Stop;
+use crate::stop::LineFault;
 use crate::summing::summary;
 use crate::taking::{is_unit, take_one};
 use ipx_net::{Event, Net};
@@ -39,26 +39,32 @@ pub struct Simulation {
     delivered: Delivered,
 }
 
-fn say<W: Write>(writer: &mut W, line: Result<String, AllocError>) -> Result<(), Halt>
+fn say<W: Write>(writer: &mut W, line: Result<String, AllocError>) -> Result<(), ScriptFault>
     ensures said { OnOk result (IsOkAnd line (λ l.
         Appends (W.contents writer.old) (W.contents writer.new) (string_bytes l))) }
     ensures halted { IfErr result (λ halt. halt ≢ Halts.Bad) }
 {
     let line = line?;
-    writer.write_all(line.as_bytes()).map_err(|_| Halt::Ended)
+    writer
+        .write_all(line.as_bytes())
+        .map_err(|_| ScriptFault::Ended)
 }
 
 /// The line of what stopped a line of the script, and the line's status.
-fn tell<W: Write>(alloc: Global, done: Result<bool, Stop>, writer: &mut W) -> Result<u8, Halt>
-    ensures told { IfOk result (λ status. (status ≡ stop_status done)
+fn tell<W: Write>(
+    alloc: Global,
+    done: Result<bool, LineFault>,
+    writer: &mut W,
+) -> Result<u8, ScriptFault>
+    ensures told { IfOk result (λ status. (status ≡ line_fault_status done)
         × Appends (W.contents writer.old) (W.contents writer.new) (stop_text done)) }
     ensures halted { IfErr result (λ halt. halt ≢ Halts.Bad) }
 {
     match done {
         Ok(_) => return Ok(0),
-        Err(Stop::Fault(fault)) => say(writer, fault_to_line(alloc, fault))?,
-        Err(Stop::Refused(fault)) => say(writer, refused_to_line(alloc, fault))?,
-        Err(Stop::Memory) => return Err(Halt::Memory),
+        Err(LineFault::Fault(fault)) => say(writer, fault_to_line(alloc, fault))?,
+        Err(LineFault::Refused(fault)) => say(writer, refused_to_line(alloc, fault))?,
+        Err(LineFault::Memory) => return Err(ScriptFault::Memory),
     }
     Ok(1)
 }
@@ -90,7 +96,7 @@ fn take_told_once<W: Write>(
     net: &mut Net,
     end: usize,
     writer: &mut W,
-) -> Result<Result<bool, Stop>, Halt>
+) -> Result<Result<bool, LineFault>, ScriptFault>
     ensures took { IfOk result (λ done. (text : List ℕ)
         × TellsTake end (record { net = net.old; text = [] }) done
         (record { net = net.new; text = text })
@@ -113,7 +119,7 @@ fn take_told<W: Write>(
     net: &mut Net,
     end: usize,
     writer: &mut W,
-) -> Result<Result<bool, Stop>, Halt> {
+) -> Result<Result<bool, LineFault>, ScriptFault> {
     let mut any = false;
     for _ in 0..u64::MAX {
         match take_told_once(alloc, net, end, writer)? {
@@ -126,8 +132,12 @@ fn take_told<W: Write>(
 }
 
 /// Tells that nothing was held, or what stopped a take.
-fn tell_taken<W: Write>(alloc: Global, done: Result<bool, Stop>, writer: &mut W) -> Result<u8, Halt>
-    ensures told { IfOk result (λ status. (status ≡ stop_status done)
+fn tell_taken<W: Write>(
+    alloc: Global,
+    done: Result<bool, LineFault>,
+    writer: &mut W,
+) -> Result<u8, ScriptFault>
+    ensures told { IfOk result (λ status. (status ≡ line_fault_status done)
         × Appends (W.contents writer.old) (W.contents writer.new) (last_text done)) }
     ensures halted { IfErr result (λ halt. halt ≢ Halts.Bad) }
 {
@@ -168,7 +178,7 @@ impl Simulation {
 
     /// A parcel counts as delivered where it was, which status 0 says: a delivery is never refused
     /// by an end, so that another status is a fault.
-    fn mark(&mut self, parcel: Option<usize>, status: u8) -> Result<(), Halt>
+    fn mark(&mut self, parcel: Option<usize>, status: u8) -> Result<(), ScriptFault>
         ensures marks { OnOk result (MarksWhere parcel status
             (delivered_view self.old.delivered) (delivered_view self.new.delivered)) }
         ensures net { self.new.net ≡ self.old.net }
@@ -189,17 +199,22 @@ impl Simulation {
         alloc: Global,
         event: Event,
         writer: &mut W,
-    ) -> Result<u8, Halt>
+    ) -> Result<u8, ScriptFault>
         requires { IsActOwed event }
     {
         let parcel = parcel_of(&event);
-        let status = act(alloc, &mut self.net, event, writer).map_err(|_| Halt::Ended)?;
+        let status = act(alloc, &mut self.net, event, writer).map_err(|_| ScriptFault::Ended)?;
         self.mark(parcel, status)?;
         Ok(status)
     }
 
     /// The moment rises.
-    fn tick<W: Write>(&mut self, alloc: Global, by: u32, writer: &mut W) -> Result<u8, Halt> {
+    fn tick<W: Write>(
+        &mut self,
+        alloc: Global,
+        by: u32,
+        writer: &mut W,
+    ) -> Result<u8, ScriptFault> {
         self.moment = self.moment.saturating_add(u64::from(by));
         let now = self.moment;
         self.do_event(alloc, Event::Tick { now }, writer)
@@ -212,13 +227,18 @@ impl Simulation {
         end: usize,
         count: u32,
         writer: &mut W,
-    ) -> Result<u8, Halt> {
+    ) -> Result<u8, ScriptFault> {
         let done = fill(alloc, &mut self.net, end, count);
         tell(alloc, done, writer)
     }
 
     /// Takes from an end until nothing is held.
-    fn take<W: Write>(&mut self, alloc: Global, end: usize, writer: &mut W) -> Result<u8, Halt> {
+    fn take<W: Write>(
+        &mut self,
+        alloc: Global,
+        end: usize,
+        writer: &mut W,
+    ) -> Result<u8, ScriptFault> {
         let done = take_told(alloc, &mut self.net, end, writer)?;
         tell_taken(alloc, done, writer)
     }
@@ -230,7 +250,7 @@ impl Simulation {
         rounds: u32,
         takes: bool,
         writer: &mut W,
-    ) -> Result<u8, Halt> {
+    ) -> Result<u8, ScriptFault> {
         let done = run_rounds(
             alloc,
             &mut self.net,
@@ -243,16 +263,21 @@ impl Simulation {
     }
 
     /// Runs a line and answers its status.
-    fn run_line<W: Write>(&mut self, alloc: Global, line: Line, writer: &mut W) -> Result<u8, Halt>
+    fn run_line<W: Write>(
+        &mut self,
+        alloc: Global,
+        line: ScriptLine,
+        writer: &mut W,
+    ) -> Result<u8, ScriptFault>
         requires { IsLineOwed line }
     {
         match line {
-            Line::Act(event) => self.do_event(alloc, event, writer),
-            Line::Tick(by) => self.tick(alloc, by, writer),
-            Line::Fill { end, count } => self.fill(alloc, end, count, writer),
-            Line::Take(end) => self.take(alloc, end, writer),
-            Line::Run(rounds) => self.run(alloc, rounds, false, writer),
-            Line::Pump(rounds) => self.run(alloc, rounds, true, writer),
+            ScriptLine::Act(event) => self.do_event(alloc, event, writer),
+            ScriptLine::Tick(by) => self.tick(alloc, by, writer),
+            ScriptLine::Fill { end, count } => self.fill(alloc, end, count, writer),
+            ScriptLine::Take(end) => self.take(alloc, end, writer),
+            ScriptLine::Run(rounds) => self.run(alloc, rounds, false, writer),
+            ScriptLine::Pump(rounds) => self.run(alloc, rounds, true, writer),
         }
     }
 
@@ -263,7 +288,7 @@ impl Simulation {
         alloc: Global,
         line: &[u8],
         writer: &mut W,
-    ) -> Result<u8, Halt> {
+    ) -> Result<u8, ScriptFault> {
         if is_blank(line) {
             return Ok(0);
         }
@@ -273,12 +298,12 @@ impl Simulation {
     }
 
     /// Writes the last lines.
-    pub fn finish<W: Write>(&self, writer: &mut W) -> Result<(), Halt>
+    pub fn finish<W: Write>(&self, writer: &mut W) -> Result<(), ScriptFault>
         ensures written { OnOk result ((text : List ℕ)
             × Summarizes self.now.net (map_view self.now.map).hosts text
             × Appends (W.contents writer.old) (W.contents writer.new) text) }
         ensures fault { IfErr result (λ halt. halt ≡ Halts.Ended) }
     {
-        summary(&self.net, &self.map.hosts, writer).map_err(|_| Halt::Ended)
+        summary(&self.net, &self.map.hosts, writer).map_err(|_| ScriptFault::Ended)
     }
 }

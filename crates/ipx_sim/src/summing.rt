@@ -7,7 +7,7 @@ ghost use Rattle.std.specs.Int.{w16, to_be_bytes};
 ghost use Rattle.hex.specs.Hex.{encode_lower};
 ghost use Rattle.ipx_net.specs.Ends.{TellsEnds};
 ghost use Rattle.ipx_net.specs.declared.endinfo.EndInfo.{EndInfo};
-ghost use Rattle.ipx_sim.specs.Summary.{AreEndLines, Summarizes, counts_text, end_line, fresh_line, name_at, standing_text};
+ghost use Rattle.ipx_sim.specs.Summary.{AreEndLines, Summarizes, end_counts_text, end_summary_line, fresh_line, name_at, standing_text};
 
 use crate::words::{state_word, yes_no};
 use ipx_net::{EndInfo, Net};
@@ -51,7 +51,7 @@ fn digits_of(number: u16) -> [u8; 4]
 /// Writes how many messages went in and out of an end, and its next number, as its line goes on.
 pub fn write_counts<W: Write>(writer: &mut W, info: EndInfo) -> Written<()>
     ensures { OnOk result (Appends (W.contents writer.old) (W.contents writer.new)
-        (counts_text info)) }
+        (end_counts_text info)) }
 {
     let given = info.given;
     let out = info.out;
@@ -67,7 +67,7 @@ fn write_end<W: Write>(
     begins: bool,
 ) -> Written<()>
     ensures { OnOk result (Appends (W.contents writer.old) (W.contents writer.new)
-        (end_line (map string_bytes names.now) who info begins)) }
+        (end_summary_line (map string_bytes names.now) who info begins)) }
 {
     write_standing(writer, names, who, info)?;
     write_counts(writer, info)?;

@@ -9,32 +9,32 @@ ghost use Rattle.ipx_net.specs.declared.endinfo.EndInfo.{EndInfo};
 ghost use Rattle.ipx_net.specs.declared.event.Event.TheVariants as Events;
 ghost use Rattle.ipx_net.specs.declared.fault.NetFault.{NetFault};
 ghost use Rattle.ipx_sim.specs.Act.{Stepped, outcome_view};
-ghost use Rattle.ipx_sim.specs.Doing.{Each};
-ghost use Rattle.ipx_sim.specs.Going.{Drains, DrainsAll, DrainsIf, DrainsStanding, TakesOnce, is_unit, taken_of, taken_result};
+ghost use Rattle.ipx_sim.specs.ScriptDoing.{DoesEach};
+ghost use Rattle.ipx_sim.specs.Going.{Drains, DrainsAll, DrainsIf, DrainsStanding, TakesOnce, is_unit, take_result, taken_result};
 
 use crate::acting::step;
-use crate::stop::Stop;
+use crate::stop::LineFault;
 use ipx_net::{Answer, Event, Net, NetFault};
 use spx_link::State;
 use spx_messages::Taken;
 use std::alloc::Global;
 
 /// What was taken, or why nothing could be.
-fn taken_from(outcome: Result<Answer, NetFault>) -> Result<Taken, Stop>
-    ensures { taken_result result ≡ taken_of (outcome_view outcome) }
+fn taken_from(outcome: Result<Answer, NetFault>) -> Result<Taken, LineFault>
+    ensures { taken_result result ≡ take_result (outcome_view outcome) }
 {
     match outcome? {
         Answer::Taken(taken) => Ok(taken),
-        Answer::Refused(fault) => Err(Stop::Refused(fault)),
+        Answer::Refused(fault) => Err(LineFault::Refused(fault)),
         _ => Ok(Taken::Nothing),
     }
 }
 
 /// Takes from an end once.
-pub fn take_one(net: &mut Net, alloc: Global, end: usize) -> Result<Taken, Stop>
+pub fn take_one(net: &mut Net, alloc: Global, end: usize) -> Result<Taken, LineFault>
     ensures { (outcome : Result AnswerView NetFault)
         × Stepped net.old (Events.Take end) outcome net.new
-        × (taken_result result ≡ taken_of outcome) }
+        × (taken_result result ≡ take_result outcome) }
 {
     taken_from(step(alloc, net, Event::Take { who: end }))
 }
@@ -50,7 +50,7 @@ pub fn is_unit(taken: &Taken) -> bool
 }
 
 /// Takes from an end once, and answers whether a unit was held.
-fn take_some(alloc: Global, net: &mut Net, end: usize) -> Result<bool, Stop>
+fn take_some(alloc: Global, net: &mut Net, end: usize) -> Result<bool, LineFault>
     ensures { TakesOnce end net.old result net.new }
 {
     let taken = take_one(net, alloc, end)?;
@@ -58,7 +58,7 @@ fn take_some(alloc: Global, net: &mut Net, end: usize) -> Result<bool, Stop>
 }
 
 /// Takes from an end until nothing is held, and answers whether a unit was taken.
-fn drain(alloc: Global, net: &mut Net, end: usize) -> Result<bool, Stop>
+fn drain(alloc: Global, net: &mut Net, end: usize) -> Result<bool, LineFault>
     ensures { Drains end net.old result net.new }
 {
     let mut any = false;
@@ -81,7 +81,7 @@ fn state_of(net: &Net, end: usize) -> Option<State>
 }
 
 /// Takes from an end as `drain` does, unless it was released.
-fn drain_standing(alloc: Global, net: &mut Net, end: usize) -> Result<bool, Stop>
+fn drain_standing(alloc: Global, net: &mut Net, end: usize) -> Result<bool, LineFault>
     ensures { DrainsStanding end net.old result net.new }
 {
     match state_of(net, end) {
@@ -98,8 +98,8 @@ fn count_of(net: &Net) -> usize
 }
 
 /// Takes from so many ends, from end 0 on, each until nothing is held there.
-fn drain_each(alloc: Global, net: &mut Net, count: usize) -> Result<bool, Stop>
-    ensures { Each DrainsStanding (range_with_len 0 count) net.old result net.new }
+fn drain_each(alloc: Global, net: &mut Net, count: usize) -> Result<bool, LineFault>
+    ensures { DoesEach DrainsStanding (range_with_len 0 count) net.old result net.new }
 {
     let mut any = false;
     for end in 0..count {
@@ -109,7 +109,7 @@ fn drain_each(alloc: Global, net: &mut Net, count: usize) -> Result<bool, Stop>
 }
 
 /// Takes from each end that was not released until nothing is held there.
-fn drain_all(alloc: Global, net: &mut Net) -> Result<bool, Stop>
+fn drain_all(alloc: Global, net: &mut Net) -> Result<bool, LineFault>
     ensures { DrainsAll net.old result net.new }
 {
     let count = count_of(net);
@@ -117,7 +117,7 @@ fn drain_all(alloc: Global, net: &mut Net) -> Result<bool, Stop>
 }
 
 /// Takes from each end, where the round takes.
-pub fn drain_if(alloc: Global, net: &mut Net, takes: bool) -> Result<bool, Stop>
+pub fn drain_if(alloc: Global, net: &mut Net, takes: bool) -> Result<bool, LineFault>
     ensures { DrainsIf takes net.old result net.new }
 {
     if takes {

@@ -2,7 +2,7 @@
 
 ghost use Rattle.std.specs.Prelude.{◌≡◌, IfOk, string_bytes};
 ghost use Rattle.ipx_sim.specs.Summary.{yes_no};
-ghost use Rattle.ipx_sim.specs.Words.{end_fault_name, links_fault_name, message_fault_name, net_fault_name, offer_fault_name, received_word, state_word};
+ghost use Rattle.ipx_sim.specs.ScriptWords.{end_fault_name, links_fault_name, message_fault_name, net_fault_name, offer_fault_name, received_word, state_word};
 
 use ipx_net::NetFault;
 use spx_link::{LinksFault, OfferFault, Received, State};

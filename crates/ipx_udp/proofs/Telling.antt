@@ -10,26 +10,26 @@ use Rattle.spx_link.specs.declared.numbers.Numbers.{Numbers}
 use Rattle.spx_messages.specs.EndpointView.{EndpointView, Held, held_at}
 use Rattle.ipx_carrier.specs.declared.host_core.HostCore.{HostCore}
 use Rattle.ipx_net.specs.declared.endinfo.EndInfo.{EndInfo}
-use Rattle.ipx_udp.specs.Calls.{held_by, next_of}
-use Rattle.ipx_udp.specs.Ending.{end_line, end_lines, info_of}
+use Rattle.ipx_udp.specs.UdpCalls.{held_by_runner, next_of}
+use Rattle.ipx_udp.specs.Ending.{udp_end_line, end_lines, info_of}
 use Rattle.ipx_udp.specs.declared.runner.Runner.{Runner}
 use Rattle.ipx_udp.specs.declared.site.End.{End}
-use Rattle.ipx_udp.specs.declared.site.Site.{Site}
+use Rattle.ipx_udp.specs.declared.site.UdpNet.{UdpNet}
 
 -- ---- lines
 
-lines_more : (s : Site) (names : List (List ℕ)) (who : ℕ) (ends : List End) (e : End) (at : ℕ) → at ≡ who + length ends
-    → end_lines s names who ends ++ end_line names at (info_of s e) ≡ end_lines s names who (ends ++ e ∷ [])
+lines_more : (s : UdpNet) (names : List (List ℕ)) (who : ℕ) (ends : List End) (e : End) (at : ℕ) → at ≡ who + length ends
+    → end_lines s names who ends ++ udp_end_line names at (info_of s e) ≡ end_lines s names who (ends ++ e ∷ [])
 lines_more s names who [] e at is =
     let here : at ≡ who = omega (arith, is) in
-    ap (λ (k : ℕ). end_line names k (info_of s e)) here ∙ sym (append-nil (end_line names who (info_of s e)))
+    ap (λ (k : ℕ). udp_end_line names k (info_of s e)) here ∙ sym (append-nil (udp_end_line names who (info_of s e)))
 lines_more s names who (x ∷ xs) e at is =
-    append_assoc (end_line names who (info_of s x)) (end_lines s names (who + 1) xs) (end_line names at (info_of s e))
-    ∙ ap (λ (t : List ℕ). end_line names who (info_of s x) ++ t) (lines_more s names (who + 1) xs e at (omega (arith, is)))
+    append_assoc (udp_end_line names who (info_of s x)) (end_lines s names (who + 1) xs) (udp_end_line names at (info_of s e))
+    ∙ ap (λ (t : List ℕ). udp_end_line names who (info_of s x) ++ t) (lines_more s names (who + 1) xs e at (omega (arith, is)))
 
 -- the line of one more end was written behind those before it
-pub written_more : (s : Site) (names : List (List ℕ)) (ends : List End) (who : ℕ) (d : End) (info : EndInfo) (old before now : Option (List ℕ)) → who < length ends
-    → info ≡ info_of s (get_or ends who d) → Appends old before (end_lines s names 0 (take who ends)) → Appends before now (end_line names who info)
+pub written_more : (s : UdpNet) (names : List (List ℕ)) (ends : List End) (who : ℕ) (d : End) (info : EndInfo) (old before now : Option (List ℕ)) → who < length ends
+    → info ≡ info_of s (get_or ends who d) → Appends old before (end_lines s names 0 (take who ends)) → Appends before now (udp_end_line names who info)
     → Appends old now (end_lines s names 0 (take (who + 1) ends))
 written_more s names ends who d info old before now lt is wrote more =
     let e = get_or ends who d in
@@ -37,8 +37,8 @@ written_more s names ends who d info old before now lt is wrote more =
     let longer : take who ends ++ e ∷ [] ≡ take (who + 1) ends = sym (take_more ends who d lt) in
     subst (λ (xs : List End). Appends old now (end_lines s names 0 xs)) longer
     (subst (λ (t : List ℕ). Appends old now t) (lines_more s names 0 (take who ends) e who at)
-    (Appends-trans old before now (end_lines s names 0 (take who ends)) (end_line names who (info_of s e)) wrote
-    (subst (λ (i : EndInfo). Appends before now (end_line names who i)) is more)))
+    (Appends-trans old before now (end_lines s names 0 (take who ends)) (udp_end_line names who (info_of s e)) wrote
+    (subst (λ (i : EndInfo). Appends before now (udp_end_line names who i)) is more)))
 
 -- ---- ends
 
@@ -59,6 +59,6 @@ next_told e (Some h) r unknown known = ap next_in known
 
 -- what is so of an endpoint that was read at its host is so of that host
 pub at_host : {T : Type 0} (f : Option Held → T) (hosts : List (Runner HostCore)) (host id : ℕ) (r : Runner HostCore) (e : EndpointView) (x : T)
-    → slice_get hosts host ≡ Some r → e ≡ r.core.endpoint → x ≡ f (held_at e id) → x ≡ f (held_by (slice_get hosts host) id)
+    → slice_get hosts host ≡ Some r → e ≡ r.core.endpoint → x ≡ f (held_at e id) → x ≡ f (held_by_runner (slice_get hosts host) id)
 at_host f hosts host id r e x there same is =
-    is ∙ ap (λ (y : EndpointView). f (held_at y id)) same ∙ ap (λ (o : Option (Runner HostCore)). f (held_by o id)) (sym there)
+    is ∙ ap (λ (y : EndpointView). f (held_at y id)) same ∙ ap (λ (o : Option (Runner HostCore)). f (held_by_runner o id)) (sym there)

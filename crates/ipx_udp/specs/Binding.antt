@@ -8,7 +8,7 @@ use Rattle.ipx_carrier.specs.declared.clock.SteppedClock.{SteppedClock}
 use Rattle.ipx_net.specs.declared.host.Host.{Host}
 use Rattle.ipx_net.specs.declared.place.Place.TheVariants as Places
 use Rattle.ipx_sim.specs.declared.map.Spot.{Spot}
-use Rattle.ipx_udp.specs.Mapped.{ArePeers}
+use Rattle.ipx_udp.specs.Mapped.{ArePeersAt}
 use Rattle.ipx_udp.specs.declared.runner.Runner.{Runner}
 
 -- a clock that goes on by 10 milliseconds a turn
@@ -28,5 +28,5 @@ pub record IsHostOf (spots : List Spot) (number : ℕ) (h : Host) (r : Runner Ho
       → buffers_at r.core.endpoint s ≡ None
   pub socket : length r.device.sockets.items ≡ 1
   pub peers : (peers : List (List ℕ)) × (peers_of r.peers.items ≡ peers ∷ [])
-      × ArePeers spots (Places.Host number) h.network peers
+      × ArePeersAt spots (Places.Host number) h.network peers
   pub clock : IsAtStart r.clock

@@ -1,7 +1,7 @@
 pub mod Mapped
 pub mod Stops
-pub mod Turning
+pub mod RunnerTurns
 pub mod Binding
-pub mod Calls
-pub mod Doing
+pub mod UdpCalls
+pub mod UdpDoing
 pub mod Ending

@@ -7,7 +7,7 @@ use Rattle.ipx_router.specs.declared.port.Port.{Port}
 use Rattle.ipx_carrier.specs.Mapping.{ip_at}
 use Rattle.ipx_net.specs.declared.host.Host.{Host}
 use Rattle.ipx_net.specs.declared.place.Place.{Place}
-use Rattle.ipx_sim.specs.Places.{same_place}
+use Rattle.ipx_sim.specs.ScriptPlaces.{same_place}
 use Rattle.ipx_sim.specs.declared.map.Spot.{Spot}
 
 -- a node has an IP address
@@ -30,5 +30,5 @@ abbrev pub beside : Place → Network → List Spot → List (Option (List ℕ))
 beside place network spots = map (λ s. ip_at s.node) (filter (is_beside place network) spots)
 
 -- they are the peers of the place
-abbrev pub ArePeers : List Spot → Place → Network → List (List ℕ) → Type 0
-ArePeers spots place network peers = map Some peers ≡ beside place network spots
+abbrev pub ArePeersAt : List Spot → Place → Network → List (List ℕ) → Type 0
+ArePeersAt spots place network peers = map Some peers ≡ beside place network spots

@@ -4,18 +4,18 @@ use Rattle.std.specs.Fmt.{decimal}
 use Rattle.ipx_carrier.specs.declared.fault.RunFault.{RunFault}
 use Rattle.ipx_carrier.specs.declared.fault.RunFault.TheVariants as Faults
 use Rattle.ipx_sim.specs.ActLine.{refused_line}
-use Rattle.ipx_sim.specs.declared.halt.Halt.{Halt}
-use Rattle.ipx_sim.specs.declared.halt.Halt.TheVariants as Halts
-use Rattle.ipx_udp.specs.declared.stop.Stop.{Stop}
-use Rattle.ipx_udp.specs.declared.stop.Stop.TheVariants as Stops
+use Rattle.ipx_sim.specs.declared.halt.ScriptFault.{ScriptFault}
+use Rattle.ipx_sim.specs.declared.halt.ScriptFault.TheVariants as Halts
+use Rattle.ipx_udp.specs.declared.stop.UdpScriptFault.{UdpScriptFault}
+use Rattle.ipx_udp.specs.declared.stop.UdpScriptFault.TheVariants as Stops
 
 -- by the fault of a turn
-abbrev pub turn_stop : RunFault → Stop
+abbrev pub turn_stop : RunFault → UdpScriptFault
 turn_stop Faults.OutOfMemory = Stops.Memory
 turn_stop Faults.Device = Stops.Device
 
 -- by what the reading of a line met
-abbrev pub halt_stop : Halt → Stop
+abbrev pub halt_stop : ScriptFault → UdpScriptFault
 halt_stop Halts.Bad = Stops.Bad
 halt_stop Halts.Memory = Stops.Memory
 halt_stop Halts.Ended = Stops.Write
@@ -27,18 +27,18 @@ abbrev pub ok_line : List ℕ
 ok_line = codes "ok\n"
 
 -- a line that is bad, by its number
-abbrev pub bad_line : ℕ → List ℕ
-bad_line number = codes "line " ++ (decimal number ++ codes " bad\n")
+abbrev pub bad_script_line : ℕ → List ℕ
+bad_script_line number = codes "line " ++ (decimal number ++ codes " bad\n")
 
 -- what a line behind the layout prints, and its status: `ok` where it is done and says so, and what
 -- refused it where an end did or there is none. At any other stop the script goes no further, and
 -- what ends it says why
-abbrev pub told_of : Result Bool Stop → Option (List ℕ × ℕ)
-told_of (Ok true) = Some (ok_line, 0)
-told_of (Ok false) = Some (codes "", 0)
-told_of (Err (Stops.Refused f)) = Some (refused_line f, 1)
-told_of (Err Stops.NoSuchEnd) = Some (no_such_end_line, 1)
-told_of (Err Stops.Bad) = None
-told_of (Err Stops.Memory) = None
-told_of (Err Stops.Device) = None
-told_of (Err Stops.Write) = None
+abbrev pub told_of_line : Result Bool UdpScriptFault → Option (List ℕ × ℕ)
+told_of_line (Ok true) = Some (ok_line, 0)
+told_of_line (Ok false) = Some (codes "", 0)
+told_of_line (Err (Stops.Refused f)) = Some (refused_line f, 1)
+told_of_line (Err Stops.NoSuchEnd) = Some (no_such_end_line, 1)
+told_of_line (Err Stops.Bad) = None
+told_of_line (Err Stops.Memory) = None
+told_of_line (Err Stops.Device) = None
+told_of_line (Err Stops.Write) = None

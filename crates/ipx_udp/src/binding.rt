@@ -9,7 +9,7 @@ ghost use Rattle.ipx_udp.specs.Binding.{IsHostOf};
 
 use crate::mapped::{address_of, peers_of};
 use crate::runner::Runner;
-use crate::stop::Stop;
+use crate::stop::UdpScriptFault;
 use ipx_carrier::{HostCore, RouterCore, UdpDatagrams};
 use ipx_net::{Host, Place};
 use ipx_router::{Port, Router};
@@ -26,7 +26,7 @@ pub struct Ground<'a> {
 }
 
 /// The endpoint of a host, which listens where its line says.
-fn endpoint_of(alloc: Global, host: &Host) -> Result<Endpoint, Stop>
+fn endpoint_of(alloc: Global, host: &Host) -> Result<Endpoint, UdpScriptFault>
     ensures network { IfOk result (λ e. e.network ≡ host.now.network) }
     ensures node { IfOk result (λ e. e.node ≡ host.now.node) }
     ensures router { IfOk result (λ e. e.router ≡ host.now.router) }
@@ -51,7 +51,7 @@ fn bound_host<R: Net>(
     ground: Ground<'_>,
     number: usize,
     host: &Host,
-) -> Result<Runner<HostCore>, Stop>
+) -> Result<Runner<HostCore>, UdpScriptFault>
     ensures { IfOk result (IsHostOf ground.entry.map.now.spots.items number host.now) }
 {
     let endpoint = endpoint_of(alloc, host)?;
@@ -62,7 +62,7 @@ fn bound_host<R: Net>(
 }
 
 /// The IP addresses of the ports of a router.
-fn addresses_of(alloc: Global, ports: &[Port]) -> Result<Vec<[u8; 4]>, Stop> {
+fn addresses_of(alloc: Global, ports: &[Port]) -> Result<Vec<[u8; 4]>, UdpScriptFault> {
     let mut addresses = Vec::new(alloc);
     for port in ports {
         addresses.push(address_of(port.node)?)?;
@@ -76,11 +76,11 @@ fn peers_of_ports(
     map: &Map,
     router: usize,
     ports: &[Port],
-) -> Result<Vec<Vec<[u8; 4]>>, Stop> {
+) -> Result<Vec<Vec<[u8; 4]>>, UdpScriptFault> {
     let mut peers = Vec::new(alloc);
     for (place, port) in ports.iter().enumerate() {
         let Ok(number) = u8::try_from(place + 1) else {
-            return Err(Stop::Bad);
+            return Err(UdpScriptFault::Bad);
         };
         peers.push(peers_of(alloc, map, Place::Port(router, number), port.network)?)?;
     }
@@ -94,11 +94,11 @@ fn bound_router<R: Net>(
     ground: Ground<'_>,
     number: usize,
     ports: &[Port],
-) -> Result<Runner<RouterCore>, Stop>
+) -> Result<Runner<RouterCore>, UdpScriptFault>
     requires { All IsOwnNetwork ports.now }
 {
     let Ok(router) = Router::new(alloc, Vec::from_slice(alloc, ports)?) else {
-        return Err(Stop::Memory);
+        return Err(UdpScriptFault::Memory);
     };
     let peers = peers_of_ports(alloc, ground.map, number, ports)?;
     let addresses = addresses_of(alloc, ports)?;
@@ -112,7 +112,7 @@ pub fn bound_hosts<R: Net>(
     alloc: Global,
     ground: Ground<'_>,
     hosts: &[Host],
-) -> Result<Vec<Runner<HostCore>>, Stop> {
+) -> Result<Vec<Runner<HostCore>>, UdpScriptFault> {
     let mut runners = Vec::new(alloc);
     for (number, host) in hosts.iter().enumerate() {
         runners.push(bound_host(rt, alloc, ground, number, host)?)?;
@@ -126,7 +126,7 @@ pub fn bound_routers<R: Net>(
     alloc: Global,
     ground: Ground<'_>,
     routers: &[Vec<Port>],
-) -> Result<Vec<Runner<RouterCore>>, Stop>
+) -> Result<Vec<Runner<RouterCore>>, UdpScriptFault>
     requires { All ArePortsOwed routers.now }
 {
     let mut runners = Vec::new(alloc);

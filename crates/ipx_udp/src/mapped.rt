@@ -2,9 +2,9 @@
 
 ghost use Rattle.std.specs.Prelude.{◌≡◌, ◌++◌, ◌∷◌, [], IfErr, IfOk, None, OnOk, Some, map};
 ghost use Rattle.ipx_carrier.specs.Mapping.{ip_at};
-ghost use Rattle.ipx_udp.specs.Mapped.{ArePeers, are_ports_mapped, beside, has_ip, is_beside, is_host_mapped};
+ghost use Rattle.ipx_udp.specs.Mapped.{ArePeersAt, are_ports_mapped, beside, has_ip, is_beside, is_host_mapped};
 
-use crate::stop::Stop;
+use crate::stop::UdpScriptFault;
 use ipx_carrier::ip_of;
 use ipx_net::{Host, Place};
 use ipx_router::Port;
@@ -13,13 +13,13 @@ use ipx_wire::{Network, Node};
 use std::alloc::Global;
 
 /// The IP address of a node. A line with a node that has none is bad.
-pub fn address_of(node: Node) -> Result<[u8; 4], Stop>
+pub fn address_of(node: Node) -> Result<[u8; 4], UdpScriptFault>
     ensures found { IfOk result (λ ip. ip_at node ≡ Some ip) }
-    ensures fault { IfErr result (λ stop. (stop ≡ Stop.Bad) × (ip_at node ≡ None)) }
+    ensures fault { IfErr result (λ stop. (stop ≡ UdpScriptFault.Bad) × (ip_at node ≡ None)) }
 {
     match ip_of(node) {
         Ok(ip) => Ok(ip),
-        Err(_) => Err(Stop::Bad),
+        Err(_) => Err(UdpScriptFault::Bad),
     }
 }
 
@@ -65,7 +65,7 @@ fn add_peer(
     spot: &Spot,
     place: Place,
     network: Network,
-) -> Result<(), Stop>
+) -> Result<(), UdpScriptFault>
     ensures { OnOk result (map Some peers.new.items
         ≡ map Some peers.old.items ++ beside place network (spot.now ∷ [])) }
 {
@@ -82,8 +82,8 @@ pub fn peers_of(
     map: &Map,
     place: Place,
     network: Network,
-) -> Result<Vec<[u8; 4]>, Stop>
-    ensures { IfOk result (λ peers. ArePeers map.now.spots.items place network peers.items) }
+) -> Result<Vec<[u8; 4]>, UdpScriptFault>
+    ensures { IfOk result (λ peers. ArePeersAt map.now.spots.items place network peers.items) }
 {
     let mut peers = Vec::new(alloc);
     for spot in &map.spots {

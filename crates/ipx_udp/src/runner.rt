@@ -3,7 +3,7 @@
 ghost use Rattle.std.specs.Prelude.{◌≡◌, IfOk, OnOk, Err, length};
 ghost use Rattle.ipx_carrier.specs.Fault.{failures_after};
 ghost use Rattle.ipx_carrier.specs.Turns.{peers_of};
-ghost use Rattle.ipx_udp.specs.Turning.{CanTurn, TakesTurn};
+ghost use Rattle.ipx_udp.specs.RunnerTurns.{CanTurn, TakesRunnerTurn};
 
 use ipx_carrier::{Core, Datagrams, RunFault, SteppedClock, UdpDatagrams, run};
 use std::alloc::Global;
@@ -42,7 +42,7 @@ impl<C: Core + Drop> Runner<C> {
         ensures turn { CanTurn (C.port_count self.old.core)
             (length self.old.device.sockets.items) (length self.old.peers.items)
             self.old.device.failures
-            → TakesTurn C.hears C.misses C.gives C.withholds (C.port_count self.old.core)
+            → TakesRunnerTurn C.hears C.misses C.gives C.withholds (C.port_count self.old.core)
             (peers_of self.old.peers.items) self.old.clock self.new.clock
             self.old.core self.new.core result }
         ensures refused { (CanTurn (C.port_count self.old.core)

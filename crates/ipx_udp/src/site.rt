@@ -2,11 +2,11 @@
 
 ghost use Rattle.std.specs.Prelude.{◌≡◌, ◌%◌};
 ghost use Rattle.spx_units.specs.Message.{message_view};
-ghost use Rattle.ipx_udp.specs.Calls.{ClosesAt, DialsAt, FillsAt, KeepsRest, SendsAt, SendsByte, new_end, next_at, state_at};
+ghost use Rattle.ipx_udp.specs.UdpCalls.{ClosesAt, DialsFromHost, FillsAt, KeepsOtherParts, SendsAt, SendsByte, new_udp_end, next_at, link_state_of};
 
 use crate::binding::{Ground, bound_hosts, bound_routers};
 use crate::runner::{Runner, STEP};
-use crate::stop::Stop;
+use crate::stop::UdpScriptFault;
 use ipx_carrier::{HostCore, RouterCore};
 use ipx_net::Member;
 use ipx_sim::Layout;
@@ -28,7 +28,7 @@ pub struct End {
 impl End {
     /// An end that nothing went in or out of yet.
     fn new(host: usize, id: u16) -> End
-        ensures { result ≡ new_end host id }
+        ensures { result ≡ new_udp_end host id }
     {
         End {
             host,
@@ -41,7 +41,7 @@ impl End {
 
 /// All that a script runs. Ends are numbered from 0 in the order in which they were made.
 #[derive(Drop)]
-pub struct Site {
+pub struct UdpNet {
     hosts: Vec<Runner<HostCore>>,
     routers: Vec<Runner<RouterCore>>,
     order: Vec<Member>,
@@ -64,7 +64,7 @@ fn next_id(ends: &[End], host: usize) -> u16 {
 }
 
 /// Takes from an end until nothing is held, and answers how many messages came.
-fn take_all(alloc: Global, core: &mut HostCore, id: u16) -> Result<usize, Stop> {
+fn take_all(alloc: Global, core: &mut HostCore, id: u16) -> Result<usize, UdpScriptFault> {
     let mut count: usize = 0;
     for _ in 0..u64::MAX {
         match core.endpoint().take(alloc, id)? {
@@ -76,12 +76,17 @@ fn take_all(alloc: Global, core: &mut HostCore, id: u16) -> Result<usize, Stop> 
     Ok(count)
 }
 
-impl Site {
+impl UdpNet {
     /// Binds a socket for each node that was laid out, at this port of UDP.
-    pub fn bind<R: Net>(rt: &R, alloc: Global, layout: &Layout, port: u16) -> Result<Site, Stop> {
+    pub fn bind<R: Net>(
+        rt: &R,
+        alloc: Global,
+        layout: &Layout,
+        port: u16,
+    ) -> Result<UdpNet, UdpScriptFault> {
         let map = layout.map();
         let ground = Ground { map, port };
-        Ok(Site {
+        Ok(UdpNet {
             hosts: bound_hosts(rt, alloc, ground, layout.hosts())?,
             routers: bound_routers(rt, alloc, ground, layout.routers())?,
             order: Vec::from_slice(alloc, &map.members)?,
@@ -100,7 +105,7 @@ impl Site {
 
     /// The state of the link of an end, while it has one.
     pub fn state(&self, end: End) -> Option<State>
-        ensures { result ≡ state_at self.now end }
+        ensures { result ≡ link_state_of self.now end }
     {
         let Some(runner) = self.hosts.get(end.host) else {
             return None;
@@ -136,60 +141,65 @@ impl Site {
         socket: Socket,
         to: Address,
         buffers: u16,
-    ) -> Result<(), Stop>
-        ensures dials { DialsAt host socket to buffers self.old self.new result }
-        ensures rest { KeepsRest self.old self.new }
+    ) -> Result<(), UdpScriptFault>
+        ensures dials { DialsFromHost host socket to buffers self.old self.new result }
+        ensures rest { KeepsOtherParts self.old self.new }
     {
         let Some(runner) = self.hosts.get_mut(host) else {
-            return Err(Stop::Bad);
+            return Err(UdpScriptFault::Bad);
         };
         let moment = self.moment;
         let endpoint = runner.core.endpoint();
         let id = match endpoint.dial(alloc, socket, to, buffers, moment) {
             Ok(id) => id,
-            Err(fault) => return Err(Stop::Refused(fault)),
+            Err(fault) => return Err(UdpScriptFault::Refused(fault)),
         };
         match self.ends.push(End::new(host, id)) {
             Ok(()) => Ok(()),
-            Err(_) => Err(Stop::Memory),
+            Err(_) => Err(UdpScriptFault::Memory),
         }
     }
 
     /// A message is handed in at an end.
-    pub fn send(&mut self, alloc: Global, who: usize, message: &Message) -> Result<(), Stop>
+    pub fn send(
+        &mut self,
+        alloc: Global,
+        who: usize,
+        message: &Message,
+    ) -> Result<(), UdpScriptFault>
         ensures sends { SendsAt who (message_view message.now) self.old self.new result }
-        ensures rest { KeepsRest self.old self.new }
+        ensures rest { KeepsOtherParts self.old self.new }
     {
         let Some(end) = self.ends.get_mut(who) else {
-            return Err(Stop::NoSuchEnd);
+            return Err(UdpScriptFault::NoSuchEnd);
         };
         let Some(runner) = self.hosts.get_mut(end.host) else {
-            return Err(Stop::NoSuchEnd);
+            return Err(UdpScriptFault::NoSuchEnd);
         };
         match runner.core.endpoint().send(alloc, end.id, message) {
             Ok(()) => {
                 end.given = end.given.saturating_add(1);
                 Ok(())
             }
-            Err(fault) => Err(Stop::Refused(fault)),
+            Err(fault) => Err(UdpScriptFault::Refused(fault)),
         }
     }
 
     /// A message of one byte is handed in at an end.
-    fn send_byte(&mut self, alloc: Global, who: usize, byte: u8) -> Result<(), Stop>
+    fn send_byte(&mut self, alloc: Global, who: usize, byte: u8) -> Result<(), UdpScriptFault>
         ensures sends { SendsByte who byte self.old self.new result }
-        ensures rest { KeepsRest self.old self.new }
+        ensures rest { KeepsOtherParts self.old self.new }
     {
         let Ok(body) = vec![in alloc; byte] else {
-            return Err(Stop::Memory);
+            return Err(UdpScriptFault::Memory);
         };
         self.send(alloc, who, &Message { stream: 0, body })
     }
 
     /// So many messages of one byte are handed in at an end. The k-th from 0 is k modulo 256.
-    pub fn fill(&mut self, alloc: Global, who: usize, count: u32) -> Result<(), Stop>
+    pub fn fill(&mut self, alloc: Global, who: usize, count: u32) -> Result<(), UdpScriptFault>
         ensures fills { FillsAt who count self.old self.new result }
-        ensures rest { KeepsRest self.old self.new }
+        ensures rest { KeepsOtherParts self.old self.new }
     {
         for k in 0..count {
             match self.send_byte(alloc, who, byte_of(k)) {
@@ -201,24 +211,24 @@ impl Site {
     }
 
     /// An end is asked to end its connection.
-    pub fn close(&mut self, alloc: Global, who: usize) -> Result<(), Stop>
+    pub fn close(&mut self, alloc: Global, who: usize) -> Result<(), UdpScriptFault>
         ensures closes { ClosesAt who self.old self.new result }
-        ensures rest { KeepsRest self.old self.new }
+        ensures rest { KeepsOtherParts self.old self.new }
     {
         let Some(end) = self.ends.get(who) else {
-            return Err(Stop::NoSuchEnd);
+            return Err(UdpScriptFault::NoSuchEnd);
         };
         let Some(runner) = self.hosts.get_mut(end.host) else {
-            return Err(Stop::NoSuchEnd);
+            return Err(UdpScriptFault::NoSuchEnd);
         };
         match runner.core.endpoint().close(alloc, end.id) {
             Ok(()) => Ok(()),
-            Err(fault) => Err(Stop::Refused(fault)),
+            Err(fault) => Err(UdpScriptFault::Refused(fault)),
         }
     }
 
     /// A host takes a turn. An end that it accepted in it gets its number.
-    fn turn_host(&mut self, alloc: Global, host: usize) -> Result<(), Stop> {
+    fn turn_host(&mut self, alloc: Global, host: usize) -> Result<(), UdpScriptFault> {
         let Some(runner) = self.hosts.get_mut(host) else {
             return Ok(());
         };
@@ -230,7 +240,7 @@ impl Site {
         Ok(())
     }
 
-    fn turn_router(&mut self, alloc: Global, router: usize) -> Result<(), Stop> {
+    fn turn_router(&mut self, alloc: Global, router: usize) -> Result<(), UdpScriptFault> {
         let Some(runner) = self.routers.get_mut(router) else {
             return Ok(());
         };
@@ -239,7 +249,7 @@ impl Site {
     }
 
     /// Each member takes a turn, in the order of the layout.
-    fn turn_all(&mut self, alloc: Global) -> Result<(), Stop> {
+    fn turn_all(&mut self, alloc: Global) -> Result<(), UdpScriptFault> {
         for number in 0..self.order.len() {
             match self.order.get(number).copied() {
                 Some(Member::Host(host)) => self.turn_host(alloc, host)?,
@@ -252,7 +262,7 @@ impl Site {
     }
 
     /// Takes from each end until nothing is held there.
-    fn take_from_each(&mut self, alloc: Global) -> Result<(), Stop> {
+    fn take_from_each(&mut self, alloc: Global) -> Result<(), UdpScriptFault> {
         for end in self.ends.iter_mut() {
             if let Some(runner) = self.hosts.get_mut(end.host) {
                 let count = take_all(alloc, &mut runner.core, end.id)?;
@@ -263,7 +273,7 @@ impl Site {
     }
 
     /// So many times a turn of each member, and then a take of each end.
-    pub fn pump(&mut self, alloc: Global, turns: u32) -> Result<(), Stop> {
+    pub fn pump(&mut self, alloc: Global, turns: u32) -> Result<(), UdpScriptFault> {
         for _ in 0..turns {
             self.turn_all(alloc)?;
             self.take_from_each(alloc)?;

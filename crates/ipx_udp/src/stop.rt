@@ -2,17 +2,17 @@
 
 ghost use Rattle.std.specs.Prelude.{◌≡◌};
 ghost use Rattle.ipx_udp.specs.Stops.{halt_stop, turn_stop};
-ghost use Rattle.ipx_udp.specs.declared.stop.Stop.TheVariants as Stops;
+ghost use Rattle.ipx_udp.specs.declared.stop.UdpScriptFault.TheVariants as Stops;
 
 use ipx_carrier::{DeviceFault, RunFault};
-use ipx_sim::Halt;
+use ipx_sim::ScriptFault;
 use ipx_wire::OutOfMemory;
 use spx_messages::EndFault;
 use std::alloc::{AllocError, AllocFailed};
 
 /// Why a line ends before it is done. After the first two the script goes on.
 #[derive(Clone, Copy, Debug, PartialEq, Eq)]
-pub enum Stop {
+pub enum UdpScriptFault {
     /// An end refused a call.
     Refused(EndFault),
     /// There is no end of the number.
@@ -27,65 +27,65 @@ pub enum Stop {
     Write,
 }
 
-impl From<EndFault> for Stop {
+impl From<EndFault> for UdpScriptFault {
     ghost from_gives = { λ fault e. e ≡ Stops.Refused fault };
 
-    fn from(fault: EndFault) -> Stop {
-        Stop::Refused(fault)
+    fn from(fault: EndFault) -> UdpScriptFault {
+        UdpScriptFault::Refused(fault)
     }
 }
 
-impl From<Halt> for Stop {
+impl From<ScriptFault> for UdpScriptFault {
     ghost from_gives = { λ halt e. e ≡ halt_stop halt };
 
-    fn from(halt: Halt) -> Stop {
+    fn from(halt: ScriptFault) -> UdpScriptFault {
         match halt {
-            Halt::Bad => Stop::Bad,
-            Halt::Memory => Stop::Memory,
-            Halt::Ended => Stop::Write,
+            ScriptFault::Bad => UdpScriptFault::Bad,
+            ScriptFault::Memory => UdpScriptFault::Memory,
+            ScriptFault::Ended => UdpScriptFault::Write,
         }
     }
 }
 
-impl From<RunFault> for Stop {
+impl From<RunFault> for UdpScriptFault {
     ghost from_gives = { λ fault e. e ≡ turn_stop fault };
 
-    fn from(fault: RunFault) -> Stop {
+    fn from(fault: RunFault) -> UdpScriptFault {
         match fault {
-            RunFault::OutOfMemory => Stop::Memory,
-            RunFault::Device => Stop::Device,
+            RunFault::OutOfMemory => UdpScriptFault::Memory,
+            RunFault::Device => UdpScriptFault::Device,
         }
     }
 }
 
-impl From<DeviceFault> for Stop {
+impl From<DeviceFault> for UdpScriptFault {
     ghost from_gives = { λ _ e. e ≡ Stops.Device };
 
-    fn from(_error: DeviceFault) -> Stop {
-        Stop::Device
+    fn from(_error: DeviceFault) -> UdpScriptFault {
+        UdpScriptFault::Device
     }
 }
 
-impl From<OutOfMemory> for Stop {
+impl From<OutOfMemory> for UdpScriptFault {
     ghost from_gives = { λ _ e. e ≡ Stops.Memory };
 
-    fn from(_error: OutOfMemory) -> Stop {
-        Stop::Memory
+    fn from(_error: OutOfMemory) -> UdpScriptFault {
+        UdpScriptFault::Memory
     }
 }
 
-impl From<AllocError> for Stop {
+impl From<AllocError> for UdpScriptFault {
     ghost from_gives = { λ _ e. e ≡ Stops.Memory };
 
-    fn from(_error: AllocError) -> Stop {
-        Stop::Memory
+    fn from(_error: AllocError) -> UdpScriptFault {
+        UdpScriptFault::Memory
     }
 }
 
-impl<T: Drop> From<AllocFailed<T>> for Stop {
+impl<T: Drop> From<AllocFailed<T>> for UdpScriptFault {
     ghost from_gives = { λ _ e. e ≡ Stops.Memory };
 
-    fn from(_error: AllocFailed<T>) -> Stop {
-        Stop::Memory
+    fn from(_error: AllocFailed<T>) -> UdpScriptFault {
+        UdpScriptFault::Memory
     }
 }

@@ -2,15 +2,15 @@
 
 ghost use Rattle.std.specs.Prelude.{◌≡◌, OnOk, map, string_bytes};
 ghost use Rattle.std.specs.Io.KnownBytes.{Appends};
-ghost use Rattle.ipx_udp.specs.Ending.{end_line, end_lines, info_of};
+ghost use Rattle.ipx_udp.specs.Ending.{udp_end_line, end_lines, info_of};
 
-use crate::site::{End, Site};
+use crate::site::{End, UdpNet};
 use ipx_net::EndInfo;
 use ipx_sim::{write_counts, write_standing};
 use std::io::{Result as Written, Write};
 
 /// What is told of an end.
-fn info_of(site: &Site, end: End) -> EndInfo
+fn info_of(site: &UdpNet, end: End) -> EndInfo
     ensures { result ≡ info_of site.now end }
 {
     EndInfo {
@@ -25,7 +25,7 @@ fn info_of(site: &Site, end: End) -> EndInfo
 
 fn write_end<W: Write>(writer: &mut W, names: &[String], who: usize, info: EndInfo) -> Written<()>
     ensures { OnOk result (Appends (W.contents writer.old) (W.contents writer.new)
-        (end_line (map string_bytes names.now) who info)) }
+        (udp_end_line (map string_bytes names.now) who info)) }
 {
     write_standing(writer, names, who, info)?;
     write_counts(writer, info)?;
@@ -34,7 +34,7 @@ fn write_end<W: Write>(writer: &mut W, names: &[String], who: usize, info: EndIn
 
 /// Writes a line for each end: its host, its state, how many messages went in and out, and its next
 /// number. The names are those of the hosts, in order.
-pub fn write_ends<W: Write>(writer: &mut W, site: &Site, names: &[String]) -> Written<()>
+pub fn write_ends<W: Write>(writer: &mut W, site: &UdpNet, names: &[String]) -> Written<()>
     ensures { OnOk result (Appends (W.contents writer.old) (W.contents writer.new)
         (end_lines site.now (map string_bytes names.now) 0 site.now.ends.items)) }
 {

@@ -3,19 +3,21 @@
 ghost use Rattle.std.specs.Prelude.{◌≡◌, ◌≤◌, ℕ, List, Bool, Err, IfErr, IfOk, IfSome, None, Result, Some, string_bytes};
 ghost use Rattle.std.specs.Io.KnownBytes.{Appends};
 ghost use Rattle.ipx_sim.specs.ActLine.{refused_line};
-ghost use Rattle.ipx_sim.specs.Places.{map_view};
+ghost use Rattle.ipx_sim.specs.ScriptPlaces.{map_view};
 ghost use Rattle.ipx_sim.specs.Script.{IsTooLong, too_long_line};
-ghost use Rattle.ipx_udp.specs.Doing.{Does, DoesLine, said};
-ghost use Rattle.ipx_udp.specs.Stops.{bad_line, told_of};
-ghost use Rattle.ipx_udp.specs.declared.stop.Stop.{Stop as AnyStop};
+ghost use Rattle.ipx_udp.specs.UdpDoing.{DoesNamed, DoesLine, said};
+ghost use Rattle.ipx_udp.specs.Stops.{bad_script_line, told_of_line};
+ghost use Rattle.ipx_udp.specs.declared.stop.UdpScriptFault.{UdpScriptFault as AnyStop};
 
 use crate::mapped::is_mapped;
-use crate::site::Site;
-use crate::stop::Stop;
+use crate::site::UdpNet;
+use crate::stop::UdpScriptFault;
 use crate::summing::write_ends;
 use ipx_commands::{InputFault, MOST_INPUT, read_up_to, tell_no_memory, write_lines};
 use ipx_net::Event;
-use ipx_sim::{Layout, Line, Map, fields_of, is_blank, read_line, refused_to_line, tell_too_long};
+use ipx_sim::{
+    Layout, Map, ScriptLine, fields_of, is_blank, read_line, refused_to_line, tell_too_long,
+};
 use ipx_wire::OutOfMemory;
 use log::{Log, warn};
 use spx_messages::EndFault;
@@ -30,11 +32,11 @@ const LINES_END: u32 = 1_000_002;
 #[derive(Clone, Copy)]
 struct Stopped {
     line: u32,
-    stop: Stop,
+    stop: UdpScriptFault,
 }
 
-fn bad_line(alloc: Global, line: u32) -> Result<(String, u8), OutOfMemory>
-    ensures { IfOk result (λ l. (string_bytes l.0 ≡ bad_line line) × (l.1 ≡ 2)) }
+fn bad_script_line(alloc: Global, line: u32) -> Result<(String, u8), OutOfMemory>
+    ensures { IfOk result (λ l. (string_bytes l.0 ≡ bad_script_line line) × (l.1 ≡ 2)) }
 {
     Ok((format!(in alloc; "line {line} bad\n")?, 2))
 }
@@ -53,23 +55,23 @@ fn fixed_line(alloc: Global, text: &str, status: u8) -> Result<(String, u8), Out
 
 /// Tells why a script goes no further.
 fn tell_stopped<W: Write>(alloc: Global, stopped: Stopped, writer: &mut W) -> Result<u8, u8>
-    ensures bad { IfOk result (λ status. (stopped.stop ≡ Stop.Bad) × (status ≡ 2)
-        × Appends (W.contents writer.old) (W.contents writer.new) (bad_line stopped.line)) }
+    ensures bad { IfOk result (λ status. (stopped.stop ≡ UdpScriptFault.Bad) × (status ≡ 2)
+        × Appends (W.contents writer.old) (W.contents writer.new) (bad_script_line stopped.line)) }
     ensures fault { IfErr result (λ status. status ≡ 1) }
 {
     match stopped.stop {
-        Stop::Bad => write_lines(writer, bad_line(alloc, stopped.line)),
-        Stop::Device => {
+        UdpScriptFault::Bad => write_lines(writer, bad_script_line(alloc, stopped.line)),
+        UdpScriptFault::Device => {
             let _ = writer.write_all(b"fault (39) Device\n");
             Err(1)
         }
-        Stop::Memory => Err(tell_no_memory(writer)),
-        Stop::Refused(_) | Stop::NoSuchEnd | Stop::Write => Err(1),
+        UdpScriptFault::Memory => Err(tell_no_memory(writer)),
+        UdpScriptFault::Refused(_) | UdpScriptFault::NoSuchEnd | UdpScriptFault::Write => Err(1),
     }
 }
 
 /// What a line came to, which prints `ok` where it is done, or does not.
-fn said(done: Result<(), Stop>, says: bool) -> Result<bool, Stop>
+fn said(done: Result<(), UdpScriptFault>, says: bool) -> Result<bool, UdpScriptFault>
     ensures { result ≡ said says done }
 {
     match done {
@@ -79,11 +81,11 @@ fn said(done: Result<(), Stop>, says: bool) -> Result<bool, Stop>
 }
 
 /// Does a line of the script. It answers whether it prints `ok`.
-fn do_line(alloc: Global, site: &mut Site, line: Line) -> Result<bool, Stop>
-    ensures { Does line site.old site.new result }
+fn do_line(alloc: Global, site: &mut UdpNet, line: ScriptLine) -> Result<bool, UdpScriptFault>
+    ensures { DoesNamed line site.old site.new result }
 {
     match line {
-        Line::Act(
+        ScriptLine::Act(
             Event::Dial {
                 host,
                 socket,
@@ -91,74 +93,85 @@ fn do_line(alloc: Global, site: &mut Site, line: Line) -> Result<bool, Stop>
                 buffers,
             },
         ) => said(site.dial(alloc, host, socket, to, buffers), false),
-        Line::Act(Event::Send { who, message }) => said(site.send(alloc, who, &message), false),
-        Line::Act(Event::Close { who }) => said(site.close(alloc, who), true),
-        Line::Fill { end, count } => said(site.fill(alloc, end, count), false),
-        Line::Pump(turns) => said(site.pump(alloc, turns), false),
-        _ => Err(Stop::Bad),
+        ScriptLine::Act(Event::Send { who, message }) => said(
+            site.send(alloc, who, &message),
+            false,
+        ),
+        ScriptLine::Act(Event::Close { who }) => said(site.close(alloc, who), true),
+        ScriptLine::Fill { end, count } => said(site.fill(alloc, end, count), false),
+        ScriptLine::Pump(turns) => said(site.pump(alloc, turns), false),
+        _ => Err(UdpScriptFault::Bad),
     }
 }
 
 /// Reads and does a line that is behind the layout. It answers whether it prints `ok`.
-fn read_and_do(alloc: Global, site: &mut Site, map: &Map, line: &[u8]) -> Result<bool, Stop>
+fn read_and_do(
+    alloc: Global,
+    site: &mut UdpNet,
+    map: &Map,
+    line: &[u8],
+) -> Result<bool, UdpScriptFault>
     ensures { DoesLine (map_view map.now) line.now site.old site.new result }
 {
     if is_blank(line) {
         return Ok(false);
     }
     let Ok(fields) = fields_of(alloc, line) else {
-        return Err(Stop::Memory);
+        return Err(UdpScriptFault::Memory);
     };
     match read_line(alloc, map, &fields) {
         Ok(line) => do_line(alloc, site, line),
-        Err(halt) => Err(Stop::from(halt)),
+        Err(halt) => Err(UdpScriptFault::from(halt)),
     }
 }
 
 /// What a line prints, and its status, where the script goes on.
-fn told_of(alloc: Global, done: Result<bool, Stop>) -> Result<(String, u8), Stop>
-    ensures told { IfOk result (λ l. told_of done ≡ Some (string_bytes l.0, l.1)) }
-    ensures stops { told_of done ≡ None → IfErr result (λ stop. done ≡ Err stop) }
+fn told_of_line(
+    alloc: Global,
+    done: Result<bool, UdpScriptFault>,
+) -> Result<(String, u8), UdpScriptFault>
+    ensures told { IfOk result (λ l. told_of_line done ≡ Some (string_bytes l.0, l.1)) }
+    ensures stops { told_of_line done ≡ None → IfErr result (λ stop. done ≡ Err stop) }
     ensures few { IfOk result (λ l. l.1 ≤ 1) }
 {
     let told = match done {
         Ok(false) => fixed_line(alloc, "", 0),
         Ok(true) => fixed_line(alloc, "ok\n", 0),
-        Err(Stop::Refused(fault)) => refused_line(alloc, fault),
-        Err(Stop::NoSuchEnd) => fixed_line(alloc, "fault (34) NoSuchEnd\n", 1),
+        Err(UdpScriptFault::Refused(fault)) => refused_line(alloc, fault),
+        Err(UdpScriptFault::NoSuchEnd) => fixed_line(alloc, "fault (34) NoSuchEnd\n", 1),
         Err(stop) => return Err(stop),
     };
     match told {
         Ok(told) => Ok(told),
-        Err(_) => Err(Stop::Memory),
+        Err(_) => Err(UdpScriptFault::Memory),
     }
 }
 
 /// Does a line and writes what it came to. It answers the line's status.
 fn run_line<W: Write>(
     alloc: Global,
-    site: &mut Site,
+    site: &mut UdpNet,
     map: &Map,
     line: &[u8],
     writer: &mut W,
-) -> Result<u8, Stop>
+) -> Result<u8, UdpScriptFault>
     ensures tells { IfOk result (λ status. (done : Result Bool AnyStop) × (text : List ℕ)
         × DoesLine (map_view map.now) line.now site.old site.new done
-        × (told_of done ≡ Some (text, status))
+        × (told_of_line done ≡ Some (text, status))
         × Appends (W.contents writer.old) (W.contents writer.new) text) }
     ensures few { IfOk result (λ status. status ≤ 1) }
 {
-    let (text, status) = told_of(alloc, read_and_do(alloc, site, map, line))?;
+    let (text, status) = told_of_line(alloc, read_and_do(alloc, site, map, line))?;
     match writer.write_all(text.as_bytes()) {
         Ok(()) => Ok(status),
-        Err(_) => Err(Stop::Write),
+        Err(_) => Err(UdpScriptFault::Write),
     }
 }
 
 /// Runs the lines from that number on, and answers the greatest of their statuses.
 fn run_lines<W: Write>(
     alloc: Global,
-    site: &mut Site,
+    site: &mut UdpNet,
     map: &Map,
     input: &[u8],
     first: u32,
@@ -178,10 +191,10 @@ fn run_lines<W: Write>(
 }
 
 /// Reads a line of the layout. It is false where the line is of another kind.
-fn read_layout(alloc: Global, layout: &mut Layout, line: &[u8]) -> Result<bool, Stop> {
+fn read_layout(alloc: Global, layout: &mut Layout, line: &[u8]) -> Result<bool, UdpScriptFault> {
     let read = layout.read(alloc, line)?;
     if read && !is_mapped(layout) {
-        return Err(Stop::Bad);
+        return Err(UdpScriptFault::Bad);
     }
     Ok(read)
 }
@@ -201,7 +214,7 @@ fn lay_out(alloc: Global, layout: &mut Layout, input: &[u8]) -> Result<u32, Stop
 /// Runs the lines from that number on, and writes the last ones. It answers the status.
 fn run_bound<W: Write>(
     alloc: Global,
-    site: &mut Site,
+    site: &mut UdpNet,
     map: &Map,
     input: &[u8],
     first: u32,
@@ -212,7 +225,7 @@ fn run_bound<W: Write>(
         Ok(()) => Ok(status),
         Err(_) => Err(Stopped {
             line: first,
-            stop: Stop::Write,
+            stop: UdpScriptFault::Write,
         }),
     }
 }
@@ -226,7 +239,7 @@ fn run_whole<R: Net + Log, W: Write>(
 ) -> Result<u8, Stopped> {
     let mut layout = Layout::new(alloc);
     let first = lay_out(alloc, &mut layout, input)?;
-    let mut site = match Site::bind(rt, alloc, &layout, port) {
+    let mut site = match UdpNet::bind(rt, alloc, &layout, port) {
         Ok(site) => site,
         Err(stop) => return Err(Stopped { line: first, stop }),
     };

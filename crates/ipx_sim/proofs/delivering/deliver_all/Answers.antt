@@ -2,17 +2,17 @@ use Rattle.std.proofs.Common.{◌≡◌, ℕ, ◌+◌, Bool, List, Result, Ok, E
 use Rattle.std.specs.Prelude.{MatchBool, false, slice_index_or}
 use Rattle.std.proofs.lemmas.Result.{err_from_is_err_and}
 use Rattle.ipx_net.specs.NetView.{NetView}
-use Rattle.ipx_sim.specs.Delivering.{DeliveredView, DeliversNew, DeliversTo, delivered_view}
-use Rattle.ipx_sim.specs.Doing.{Each, Stays}
+use Rattle.ipx_sim.specs.Delivering.{DeliveredView, DeliversNew, DeliversParcelTo, delivered_view}
+use Rattle.ipx_sim.specs.ScriptDoing.{DoesEach, DoesNothing}
 use Rattle.ipx_sim.specs.declared.map.Spot.{Spot}
-use Rattle.ipx_sim.specs.declared.stop.Stop.{Stop}
+use Rattle.ipx_sim.specs.declared.stop.LineFault.{LineFault}
 use Rattle.ipx_sim.proofs.Deeds.{each_number, each_stop_number}
 use Rattle.ipx_sim.proofs.delivering.deliver_all.Goals as goal
 
 -- a delivery looks at the marks alone
-by_marks : (d e : DeliveredView) (spots : List Spot) (parcel : ℕ) (a : NetView) (r : Result Bool Stop) (b : NetView) → d.marks ≡ e.marks → DeliversNew d spots parcel a r b → DeliversNew e spots parcel a r b
+by_marks : (d e : DeliveredView) (spots : List Spot) (parcel : ℕ) (a : NetView) (r : Result Bool LineFault) (b : NetView) → d.marks ≡ e.marks → DeliversNew d spots parcel a r b → DeliversNew e spots parcel a r b
 by_marks d e spots parcel a r b same did =
-    subst (λ (m : List Bool). MatchBool (slice_index_or m parcel false) (Stays a r b) (Each (DeliversTo parcel) spots a r b)) same did
+    subst (λ (m : List Bool). MatchBool (slice_index_or m parcel false) (DoesNothing a r b) (DoesEach (DeliversParcelTo parcel) spots a r b)) same did
 
 pub returns-in_err-any : goal.returns-in_err-any
 returns-in_err-any c =

@@ -1,7 +1,7 @@
 use Rattle.std.proofs.Common.{ℕ, List, [], map, string_bytes, sym, arith}
 use Rattle.std.specs.Str.{bytes_eq}
 use Rattle.std.proofs.lemmas.List.{length-map}
-use Rattle.ipx_sim.specs.Places.{place_among}
+use Rattle.ipx_sim.specs.ScriptPlaces.{place_among}
 use Rattle.ipx_sim.proofs.Positions.{first_at, first_none, not_yet}
 use Rattle.ipx_sim.proofs.map.place_among.Goals as goal
 

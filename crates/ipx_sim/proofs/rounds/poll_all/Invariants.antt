@@ -1,7 +1,7 @@
 use Rattle.std.proofs.Common.{take, Ok}
-use Rattle.ipx_sim.specs.Doing.{Each}
+use Rattle.ipx_sim.specs.ScriptDoing.{DoesEach}
 use Rattle.ipx_sim.specs.Going.{PollsOut}
 use Rattle.ipx_sim.proofs.rounds.poll_all.Given as goal
 
 abbrev pub invariant-loop-member : goal.invariant-loop-member
-invariant-loop-member l = Each PollsOut (take l.member-index l.members) l.fn.net (Ok l.any) l.net
+invariant-loop-member l = DoesEach PollsOut (take l.member-index l.members) l.fn.net (Ok l.any) l.net

@@ -1,6 +1,6 @@
 use Rattle.std.proofs.Common.{◌∙◌, ◌+◌, ap, take}
 use Rattle.std.proofs.lemmas.List.{take_rest}
-use Rattle.ipx_sim.specs.Places.{map_view, place_at, port_in}
+use Rattle.ipx_sim.specs.ScriptPlaces.{map_view, place_at, port_in}
 use Rattle.ipx_sim.proofs.map.Map.place.Goals as goal
 
 pub returns-in-Some : goal.returns-in-Some

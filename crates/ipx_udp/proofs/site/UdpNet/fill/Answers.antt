@@ -1,7 +1,7 @@
 use Rattle.std.proofs.Common.{refl, subst, Err}
-use Rattle.ipx_udp.specs.Calls.{SendsByte}
+use Rattle.ipx_udp.specs.UdpCalls.{SendsByte}
 use Rattle.ipx_udp.proofs.Filling.{fills_more, rest_on, rest_same}
-use Rattle.ipx_udp.proofs.site.Site.fill.Goals as goal
+use Rattle.ipx_udp.proofs.site.UdpNet.fill.Goals as goal
 
 pub loop-k-init : goal.loop-k-init
 loop-k-init c = (refl, rest_same c.args.self.now)

@@ -6,7 +6,7 @@ use Rattle.ipx_net.specs.declared.event.Member.{Member}
 use Rattle.ipx_net.specs.declared.event.Member.TheVariants as Members
 use Rattle.ipx_net.specs.declared.place.Place.{Place}
 use Rattle.ipx_net.specs.declared.place.Place.TheVariants as Places
-use Rattle.ipx_sim.specs.Fields.{number_in, within}
+use Rattle.ipx_sim.specs.ScriptFields.{number_in, within}
 use Rattle.ipx_sim.specs.declared.map.Map.{Map}
 use Rattle.ipx_sim.specs.declared.map.Spot.{Spot}
 
@@ -52,15 +52,15 @@ same_place (Places.Port router port) (Places.Host b) = false
 same_place (Places.Port router port) (Places.Port r p) = (router == r) && (port == p)
 
 -- a port of a router, where the router has it
-abbrev pub port_at : List Spot → Option ℕ → Option ℕ → Option Place
-port_at spots (Some router) (Some port) =
+abbrev pub port_spot : List Spot → Option ℕ → Option ℕ → Option Place
+port_spot spots (Some router) (Some port) =
     if list_any (λ s. same_place s.place (Places.Port router port)) spots
     then Some (Places.Port router port) else None
-port_at spots (Some router) None = None
-port_at spots None port = None
+port_spot spots (Some router) None = None
+port_spot spots None port = None
 
 abbrev pub port_in : MapView → List ℕ → List ℕ → Option Place
-port_in m router port = port_at m.spots (router_in m router) (within 0 255 (number_in port))
+port_in m router port = port_spot m.spots (router_in m router) (within 0 255 (number_in port))
 
 -- a host, or a router and its port with a dot between them
 abbrev pub place_at : MapView → List ℕ → Option ℕ → Option Place

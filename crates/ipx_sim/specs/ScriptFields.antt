@@ -56,8 +56,8 @@ abbrev pub short_in : List ℕ → Option ℕ
 short_in field = within 0 65535 (number_in field)
 
 -- buffers of a link: 1 to 8,192
-abbrev pub buffers_in : List ℕ → Option ℕ
-buffers_in field = within 1 most_units (short_in field)
+abbrev pub buffers_field : List ℕ → Option ℕ
+buffers_field field = within 1 most_units (short_in field)
 
 -- ---- addresses
 
@@ -86,15 +86,15 @@ socket_in field =
     then option_map (λ n. record { 0 = n }) (numeral_up_to 0xffff 16 field) else None
 
 -- a network, a node and a socket
-abbrev pub address_of : Option Network → Option Node → Option Socket → Option Address
-address_of (Some network) (Some host) (Some socket) =
+abbrev pub parse_address : Option Network → Option Node → Option Socket → Option Address
+parse_address (Some network) (Some host) (Some socket) =
     Some (record { network = network; node = host; socket = socket })
-address_of (Some network) (Some host) None = None
-address_of (Some network) None to = None
-address_of None host to = None
+parse_address (Some network) (Some host) None = None
+parse_address (Some network) None to = None
+parse_address None host to = None
 
 abbrev pub address_in : List ℕ → List ℕ → List ℕ → Option Address
-address_in network node socket = address_of (network_in network) (node_in node) (socket_in socket)
+address_in network node socket = parse_address (network_in network) (node_in node) (socket_in socket)
 
 -- ---- messages
 

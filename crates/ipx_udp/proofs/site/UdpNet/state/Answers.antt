@@ -4,7 +4,7 @@ use Rattle.spx_messages.specs.declared.fault.EndFault.TheVariants.{NoSuchEnd}
 use Rattle.std.proofs.Common.{◌∙◌}
 use Rattle.ipx_udp.proofs.Held.{stands_in}
 use Rattle.ipx_udp.proofs.Telling.{at_host, told}
-use Rattle.ipx_udp.proofs.site.Site.state.Goals as goal
+use Rattle.ipx_udp.proofs.site.UdpNet.state.Goals as goal
 
 pub returns : goal.returns
 returns c =

@@ -1,7 +1,7 @@
 use Rattle.std.proofs.Common.{ap, inl, subst}
 use Rattle.spx_units.specs.Message.{MessageView}
-use Rattle.ipx_udp.specs.Calls.{SendsAt}
-use Rattle.ipx_udp.proofs.site.Site.send_byte.Goals as goal
+use Rattle.ipx_udp.specs.UdpCalls.{SendsAt}
+use Rattle.ipx_udp.proofs.site.UdpNet.send_byte.Goals as goal
 
 pub returns-clause-sends : goal.returns-clause-sends
 returns-clause-sends c =

@@ -18,9 +18,9 @@ module _ {C : Type 0} (hears misses : C → ℕ → List ℕ → ℕ → C → T
     (ports : ℕ) (peers : Peers) where
   -- one turn, as `run` takes it, and how many of its packets had a node without an IP address; or a
   -- part of one, which a fault ends. What passed at the sockets is not told
-  abbrev pub TakesTurn : SteppedClock → SteppedClock → C → C → Result ℕ RunFault → Type 0
-  TakesTurn clock clock_after old new (Ok unmapped) = (report : Report)
+  abbrev pub TakesRunnerTurn : SteppedClock → SteppedClock → C → C → Result ℕ RunFault → Type 0
+  TakesRunnerTurn clock clock_after old new (Ok unmapped) = (report : Report)
       × Runs hears gives StepsOn ports peers 1 None None clock clock_after old new report
       × (unmapped ≡ report.unmapped)
-  TakesTurn clock clock_after old new (Err f) =
+  TakesRunnerTurn clock clock_after old new (Err f) =
       EndsEarly hears misses gives withholds StepsOn ports peers 1 None None clock clock_after f old new

@@ -1,10 +1,10 @@
 use Rattle.spx_messages.specs.EndpointView.{held_at}
 use Rattle.spx_messages.specs.declared.fault.EndFault.TheVariants.{NoSuchEnd}
 use Rattle.std.proofs.Common.{Ok, Err}
-use Rattle.ipx_udp.specs.Calls.{next_of}
+use Rattle.ipx_udp.specs.UdpCalls.{next_of}
 use Rattle.ipx_udp.proofs.Held.{stands_in}
 use Rattle.ipx_udp.proofs.Telling.{at_host, next_told}
-use Rattle.ipx_udp.proofs.site.Site.next.Goals as goal
+use Rattle.ipx_udp.proofs.site.UdpNet.next.Goals as goal
 
 pub returns-in-Ok : goal.returns-in-Ok
 returns-in-Ok c =

@@ -1,8 +1,8 @@
 use Rattle.std.proofs.Common.{◌∙◌, ◌++◌, ◌∷◌, [], ap, refl, subst}
 use Rattle.spx_messages.specs.Changes.{SameBut}
-use Rattle.ipx_udp.specs.Calls.{Dials}
+use Rattle.ipx_udp.specs.UdpCalls.{Dials}
 use Rattle.ipx_udp.proofs.Held.{stands}
-use Rattle.ipx_udp.proofs.site.Site.dial.Goals as goal
+use Rattle.ipx_udp.proofs.site.UdpNet.dial.Goals as goal
 
 pub returns-in-Err-clause-dials : goal.returns-in-Err-clause-dials
 returns-in-Err-clause-dials c =

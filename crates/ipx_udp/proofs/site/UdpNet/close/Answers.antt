@@ -1,9 +1,9 @@
 use Rattle.std.proofs.Common.{refl, subst}
 use Rattle.spx_messages.specs.Changes.{SameBut}
 use Rattle.spx_messages.specs.declared.fault.EndFault.TheVariants.{NoSuchEnd}
-use Rattle.ipx_udp.specs.Calls.{Closes}
+use Rattle.ipx_udp.specs.UdpCalls.{ClosesEnd}
 use Rattle.ipx_udp.proofs.Held.{found, stands, stands_in}
-use Rattle.ipx_udp.proofs.site.Site.close.Goals as goal
+use Rattle.ipx_udp.proofs.site.UdpNet.close.Goals as goal
 
 pub returns-in-Ok-clause-closes : goal.returns-in-Ok-clause-closes
 returns-in-Ok-clause-closes c =
@@ -19,7 +19,7 @@ returns-in-Ok-clause-closes c =
           runner,
           new,
           stands c.args.self.now.hosts.items end.host runner there.3.0 there.1,
-          subst (λ e. Closes end.id e new) c.endpoint.ensures.value (found tt NoSuchEnd _ _ c.in-Ok.ensures.unknown c.in-Ok.ensures.ok),
+          subst (λ e. ClosesEnd end.id e new) c.endpoint.ensures.value (found tt NoSuchEnd _ _ c.in-Ok.ensures.unknown c.in-Ok.ensures.ok),
           refl,
         ),
       ),

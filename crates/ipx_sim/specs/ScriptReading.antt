@@ -10,12 +10,12 @@ use Rattle.ipx_net.specs.declared.event.Event as code
 use Rattle.ipx_net.specs.declared.event.Event.TheVariants as Events
 use Rattle.ipx_net.specs.declared.event.Member.{Member}
 use Rattle.ipx_net.specs.declared.place.Place.{Place}
-use Rattle.ipx_sim.specs.Fields.{address_in, buffers_in, bytes_in, network_in, node_in, number_in, socket_in, stream_in}
-use Rattle.ipx_sim.specs.Places.{MapView, host_in, member_in, place_in}
-use Rattle.ipx_sim.specs.declared.halt.Halt.{Halt}
-use Rattle.ipx_sim.specs.declared.halt.Halt.TheVariants as Halts
-use Rattle.ipx_sim.specs.declared.line.Line.{Line}
-use Rattle.ipx_sim.specs.declared.line.Line.TheVariants as Lines
+use Rattle.ipx_sim.specs.ScriptFields.{address_in, buffers_field, bytes_in, network_in, node_in, number_in, socket_in, stream_in}
+use Rattle.ipx_sim.specs.ScriptPlaces.{MapView, host_in, member_in, place_in}
+use Rattle.ipx_sim.specs.declared.halt.ScriptFault.{ScriptFault}
+use Rattle.ipx_sim.specs.declared.halt.ScriptFault.TheVariants as Halts
+use Rattle.ipx_sim.specs.declared.line.ScriptLine.{ScriptLine}
+use Rattle.ipx_sim.specs.declared.line.ScriptLine.TheVariants as Lines
 
 -- an event, without where its bytes lie in memory
 pub data EventView : Type 0 where
@@ -41,21 +41,21 @@ event_view (Events.Deliver parcel place) = Deliver parcel place
 event_view (Events.Inject segment next bytes) = Inject segment next bytes.items
 
 -- and so a line
-pub data LineView : Type 0 where
-  Act : EventView → LineView
-  Tick : ℕ → LineView
-  Fill : ℕ → ℕ → LineView
-  Take : ℕ → LineView
-  Run : ℕ → LineView
-  Pump : ℕ → LineView
+pub data ScriptLineView : Type 0 where
+  Act : EventView → ScriptLineView
+  Tick : ℕ → ScriptLineView
+  Fill : ℕ → ℕ → ScriptLineView
+  Take : ℕ → ScriptLineView
+  Run : ℕ → ScriptLineView
+  Pump : ℕ → ScriptLineView
 
-abbrev pub line_view : Line → LineView
-line_view (Lines.Act event) = Act (event_view event)
-line_view (Lines.Tick milliseconds) = Tick milliseconds
-line_view (Lines.Fill end count) = Fill end count
-line_view (Lines.Take end) = Take end
-line_view (Lines.Run rounds) = Run rounds
-line_view (Lines.Pump rounds) = Pump rounds
+abbrev pub script_line_view : ScriptLine → ScriptLineView
+script_line_view (Lines.Act event) = Act (event_view event)
+script_line_view (Lines.Tick milliseconds) = Tick milliseconds
+script_line_view (Lines.Fill end count) = Fill end count
+script_line_view (Lines.Take end) = Take end
+script_line_view (Lines.Run rounds) = Run rounds
+script_line_view (Lines.Pump rounds) = Pump rounds
 
 -- what is named by what was named before, if that was
 infixl 10 ◌>>=◌
@@ -84,7 +84,7 @@ dial_in m args = do
   host ← host_in m (arg fields 0)
   socket ← socket_in (arg fields 1)
   to ← address_in (arg fields 2) (arg fields 3) (arg fields 4)
-  buffers ← buffers_in (arg fields 5)
+  buffers ← buffers_field (arg fields 5)
   Some (Dial host socket to buffers)
 
 -- `close E`, `release E` and `poll NAME`
@@ -117,7 +117,7 @@ event_in m word args =
     else None
 
 -- `send E SS HEX`
-abbrev pub send_in : List (List ℕ) → Option LineView
+abbrev pub send_in : List (List ℕ) → Option ScriptLineView
 send_in args = do
   fields ← exactly 3 args
   end ← number_in (arg fields 0)
@@ -126,7 +126,7 @@ send_in args = do
   Some (Act (Send end (record { stream = stream; body = body })))
 
 -- `inject NET NODE HEX`
-abbrev pub inject_in : List (List ℕ) → Option LineView
+abbrev pub inject_in : List (List ℕ) → Option ScriptLineView
 inject_in args = do
   fields ← exactly 3 args
   segment ← network_in (arg fields 0)
@@ -137,7 +137,7 @@ inject_in args = do
 -- ---- lines
 
 -- `fill E N`
-abbrev pub fill_in : List (List ℕ) → Option LineView
+abbrev pub fill_in : List (List ℕ) → Option ScriptLineView
 fill_in args = do
   fields ← exactly 2 args
   end ← number_in (arg fields 0)
@@ -145,13 +145,13 @@ fill_in args = do
   Some (Fill end count)
 
 -- `take E`, `tick N`, `run N` and `pump N`
-abbrev pub counted_in : (ℕ → LineView) → List (List ℕ) → Option LineView
+abbrev pub counted_in : (ℕ → ScriptLineView) → List (List ℕ) → Option ScriptLineView
 counted_in line args = do
   field ← only_in args
   option_map line (number_in field)
 
 -- by its word, a line whose reading wants no memory
-abbrev pub plain_in : MapView → List ℕ → List (List ℕ) → Option LineView
+abbrev pub plain_in : MapView → List ℕ → List (List ℕ) → Option ScriptLineView
 plain_in m word args =
     if bytes_eq word (codes "fill") then fill_in args
     else if bytes_eq word (codes "take") then counted_in Take args
@@ -161,7 +161,7 @@ plain_in m word args =
     else option_map Act (event_in m word args)
 
 -- a line by its fields, of which the first one is its word
-abbrev pub line_in : MapView → List (List ℕ) → Option LineView
+abbrev pub line_in : MapView → List (List ℕ) → Option ScriptLineView
 line_in m [] = None
 line_in m (word ∷ args) =
     if bytes_eq word (codes "send") then send_in args
@@ -174,11 +174,11 @@ brings_bytes [] = false
 brings_bytes (word ∷ args) = bytes_eq word (codes "send") || bytes_eq word (codes "inject")
 
 -- what is read is the line that is named; none is bad; and only bytes can want memory
-abbrev pub Reads : Option LineView → Bool → Result Line Halt → Type 0
-Reads named wants (Ok line) = named ≡ Some (line_view line)
-Reads named wants (Err Halts.Bad) = named ≡ None
-Reads named wants (Err Halts.Memory) = wants ≡ true
-Reads named wants (Err Halts.Ended) = ⊥
+abbrev pub ReadsScriptLine : Option ScriptLineView → Bool → Result ScriptLine ScriptFault → Type 0
+ReadsScriptLine named wants (Ok line) = named ≡ Some (script_line_view line)
+ReadsScriptLine named wants (Err Halts.Bad) = named ≡ None
+ReadsScriptLine named wants (Err Halts.Memory) = wants ≡ true
+ReadsScriptLine named wants (Err Halts.Ended) = ⊥
 
-abbrev pub ReadsLine : MapView → List (List ℕ) → Result Line Halt → Type 0
-ReadsLine m fields result = Reads (line_in m fields) (brings_bytes fields) result
+abbrev pub ReadsLine : MapView → List (List ℕ) → Result ScriptLine ScriptFault → Type 0
+ReadsLine m fields result = ReadsScriptLine (line_in m fields) (brings_bytes fields) result

@@ -2,9 +2,9 @@ use Rattle.std.proofs.Common.{ap, refl, set, subst}
 use Rattle.spx_units.specs.Message.{message_view}
 use Rattle.spx_messages.specs.Changes.{SameBut}
 use Rattle.spx_messages.specs.declared.fault.EndFault.TheVariants.{NoSuchEnd}
-use Rattle.ipx_udp.specs.Calls.{Sends}
+use Rattle.ipx_udp.specs.UdpCalls.{Sends}
 use Rattle.ipx_udp.proofs.Held.{found, same_again, stands}
-use Rattle.ipx_udp.proofs.site.Site.send.Goals as goal
+use Rattle.ipx_udp.proofs.site.UdpNet.send.Goals as goal
 
 pub returns-in_default-get_mut-clause-sends : goal.returns-in_default-get_mut-clause-sends
 returns-in_default-get_mut-clause-sends c =
