@@ -13,3 +13,5 @@ pub mod Addresses
 pub mod Access
 pub mod Printed
 pub mod Written
+pub mod Taken
+pub mod Hearings

@@ -8,12 +8,14 @@ use Rattle.ipx_site.specs.declared.tally.Tally.{Tally}
 use Rattle.ipx_site.specs.declared.troubles.Troubles.{Troubles}
 use Rattle.ipx_site.specs.Bursts.{counted}
 use Rattle.ipx_site.specs.Moments.{HasPassed, IsDue, IsToAskAgain}
+use Rattle.ipx_site.specs.Sparing.{SparingView}
 
 -- how often each cause happened of which a line is told
 pub record Happened : Type 0 where
   pub strangers : ℕ
   pub forged : ℕ
   pub no_router : ℕ
+  pub too_often : ℕ
   pub refused : ℕ
   pub table_full : ℕ
   pub queue_full : ℕ
@@ -27,6 +29,7 @@ happened_in f = record {
   strangers = f.kept.strangers.count;
   forged = f.kept.forged.count;
   no_router = f.kept.no_router.count;
+  too_often = f.too_often.count;
   refused = f.refused;
   table_full = f.fates.table_full;
   queue_full = f.queue_full;
@@ -36,14 +39,15 @@ happened_in f = record {
 }
 
 -- by what it tallies, what its core counts, and what its device kept back, did not send and lost
-abbrev pub happened : Tally → CoreView → KeptBack → ℕ → ℕ → Happened
+abbrev pub happened : Tally → SparingView CoreView → KeptBack → ℕ → ℕ → Happened
 happened tally core kept refused lost = record {
   strangers = kept.strangers.count;
   forged = kept.forged.count;
   no_router = kept.no_router.count;
+  too_often = core.kept.count;
   refused = refused;
-  table_full = core.fates.table_full;
-  queue_full = core.dropped;
+  table_full = core.core.fates.table_full;
+  queue_full = core.core.dropped;
   device = counted (tally.device_faults + lost);
   memory = tally.memory_faults;
   file = tally.file_faults;
@@ -52,9 +56,9 @@ happened tally core kept refused lost = record {
 -- a line of some cause is to be told
 abbrev pub IsLineDue : Troubles → Happened → ℕ → Type 0
 IsLineDue t n now = IsDue t.strangers n.strangers now ⊎ IsDue t.forged n.forged now
-    ⊎ IsDue t.no_router n.no_router now ⊎ IsDue t.refused n.refused now ⊎ IsDue t.table_full n.table_full now
-    ⊎ IsDue t.queue_full n.queue_full now ⊎ IsDue t.device n.device now
-    ⊎ IsDue t.memory n.memory now ⊎ IsDue t.file n.file now
+    ⊎ IsDue t.no_router n.no_router now ⊎ IsDue t.too_often n.too_often now ⊎ IsDue t.refused n.refused now
+    ⊎ IsDue t.table_full n.table_full now ⊎ IsDue t.queue_full n.queue_full now
+    ⊎ IsDue t.device n.device now ⊎ IsDue t.memory n.memory now ⊎ IsDue t.file n.file now
 
 -- what all that depends on which a router does by itself
 pub record Agenda : Type 0 where
@@ -65,11 +69,11 @@ pub record Agenda : Type 0 where
   pub responses : ℕ
   -- when it wrote its figures last
   pub written : Option ℕ
-  pub core : CoreView
+  pub core : SparingView CoreView
   pub troubles : Troubles
   pub count : Happened
 
-abbrev pub agenda : ℕ → Option ℕ → ℕ → Option ℕ → CoreView → Troubles → Happened → Agenda
+abbrev pub agenda : ℕ → Option ℕ → ℕ → Option ℕ → SparingView CoreView → Troubles → Happened → Agenda
 agenda asked looked responses written core troubles count = record {
   asked = asked;
   looked = looked;
@@ -89,8 +93,8 @@ look_after heard responses = if heard == responses then 10000 else 1000
 -- tell a line
 abbrev pub IsToDo : Agenda → ℕ → Type 0
 IsToDo a now = IsToAskAgain a.asked now
-    ⊎ (is_due a.core.router.told now ≡ true)
-    ⊎ HasPassed (look_after a.core.fates.heard a.responses) a.looked now
+    ⊎ (is_due a.core.core.router.told now ≡ true)
+    ⊎ HasPassed (look_after a.core.core.fates.heard a.responses) a.looked now
     ⊎ HasPassed 10000 a.written now
     ⊎ IsLineDue a.troubles a.count now
 

@@ -9,6 +9,9 @@ pub mod Host
 pub mod Loading
 pub mod Peers
 pub mod Neighbours
+pub mod Askers
+pub mod Sparing
+pub mod Seldom
 pub mod Moments
 pub mod Bursts
 pub mod Leisure

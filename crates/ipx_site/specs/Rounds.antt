@@ -8,20 +8,24 @@ use Rattle.ipx_site.specs.declared.turns.Burst.{Burst}
 use Rattle.ipx_site.specs.Bursts.{Bursts}
 use Rattle.ipx_site.specs.Leisure.{IsLeisure}
 use Rattle.ipx_site.specs.Moments.{IsToAskAgain}
+use Rattle.ipx_site.specs.Sparing.{GivesBelow, HearsSparingly, MissesBelow, SparingView, WithholdsBelow}
 
--- then its core gives the packets of its start once more, and at no other time
-abbrev pub AsksAgain : ℕ → ℕ → ℕ → CoreView → CoreView → Type 0
+-- then its router gives the packets of its start once more, and at no other time
+abbrev pub AsksAgain : ℕ → ℕ → ℕ → SparingView CoreView → SparingView CoreView → Type 0
 AsksAgain now times times_after old new =
-    (IsToAskAgain times now × (times_after ≡ times + 1) × (new ≡ record old { started = false }))
+    (IsToAskAgain times now × (times_after ≡ times + 1)
+    × (new ≡ record old { core = record old.core { started = false } }))
     ⊎ ((IsToAskAgain times now → ⊥) × (times_after ≡ times) × (new ≡ old))
 
 -- one round, at the moment that the clock tells: it asks again where it is time, and takes a burst of
--- at most 256 turns, this one, in which its device keeps back from the one count to the other
-abbrev pub IsRound : {K : Type 0} → K → K → (K → ℕ → K → Type 0) → Peers → ℕ → ℕ → ℕ → ℕ → CoreView → CoreView → Burst → Type 0
+-- at most 256 turns, this one, in which its device keeps back from the one count to the other. Its core
+-- lets those who ask for all that it knows do so in turn
+abbrev pub IsRound : {K : Type 0} → K → K → (K → ℕ → K → Type 0) → Peers → ℕ → ℕ → ℕ → ℕ → SparingView CoreView → SparingView CoreView → Burst → Type 0
 IsRound {K} clock clock_after tells peers kept kept_after times times_after old new b = (now : ℕ) × (tick : K)
-    × (mid : CoreView) × tells clock now tick
+    × (mid : SparingView CoreView) × tells clock now tick
     × AsksAgain now times times_after old mid
-    × Bursts Hears Misses Gives Withholds tells (length old.router.ports) peers 256 b kept kept_after tick clock_after mid new
+    × Bursts (HearsSparingly Hears) (MissesBelow Misses) (GivesBelow Gives) (WithholdsBelow Withholds) tells
+    (length old.core.router.ports) peers 256 b kept kept_after tick clock_after mid new
 
 -- how long it waits then, and when: 100 ms behind a fault; not at all behind a burst that was not quiet;
 -- and behind a quiet one, at the moment that the clock tells, as long as there is nothing to do. What it

@@ -1,6 +1,6 @@
 //! What a router counts, as a text for Prometheus.
 
-use crate::peers::KeptBack;
+use crate::peers::{Kept, KeptBack};
 use ipx_carrier::Fates;
 use std::alloc::{AllocError, Global};
 
@@ -17,6 +17,8 @@ pub struct Figures {
     pub unmapped: u64,
     /// The datagrams that came and were not heard, and those that were to go to no peer.
     pub kept: KeptBack,
+    /// The queries that came too often, and were not answered.
+    pub too_often: Kept,
     pub refused: u64,
     /// How often the system refused a datagram, memory, and the file of these figures.
     pub device_faults: u64,
@@ -182,6 +184,7 @@ impl Figures {
             &[
                 ("forged", self.kept.forged.count),
                 ("no_router", self.kept.no_router.count),
+                ("too_often", self.too_often.count),
             ],
         )?;
         put_one(&mut text, &REFUSED, self.refused)?;

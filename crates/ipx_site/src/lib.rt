@@ -8,6 +8,8 @@
 //! to do.
 #![tactic(auto)]
 
+mod asker;
+mod askers;
 mod asking;
 mod bind_fault;
 mod causes;
@@ -29,10 +31,12 @@ mod readiness;
 mod reading;
 mod room;
 mod routing;
+mod seldom;
 mod senders;
 mod shown;
 mod site;
 mod sockets;
+mod sparing;
 mod start_lines;
 mod station;
 mod status;
@@ -44,6 +48,8 @@ mod turns;
 mod values;
 mod watch;
 
+pub use asker::{Asker, asker_of};
+pub use askers::Askers;
 pub use asking::asking_moment;
 pub use bind_fault::{BindFault, Obstacle};
 pub use causes::Cause;
@@ -60,9 +66,11 @@ pub use readiness::{Readiness, WaitFault};
 pub use reading::read_site;
 pub use room::SOCKET_ROOM;
 pub use routing::do_route;
+pub use seldom::an_asker_is_heard_seldom;
 pub use senders::Senders;
 pub use site::{Accept, SiteFile, SitePort};
 pub use sockets::SiteSockets;
+pub use sparing::Sparing;
 pub use start_lines::{dotted, others, reached_to_text};
 pub use troubles::tell_kept;
 pub use turns::{Burst, run_burst, take_turn};

@@ -69,7 +69,7 @@ pub fn raise(count: &mut u64)
 }
 
 impl Kept {
-    fn none() -> Kept
+    pub fn none() -> Kept
         ensures { result ≡ none_kept }
     {
         Kept {
@@ -78,7 +78,7 @@ impl Kept {
         }
     }
 
-    fn raise(&mut self, from: Option<[u8; 4]>)
+    pub fn raise(&mut self, from: Option<[u8; 4]>)
         ensures counted { self.new ≡ one_more self.old from }
         ensures grows { self.old.count ≤ self.new.count }
     {

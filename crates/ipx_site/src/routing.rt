@@ -1,6 +1,6 @@
 //! The command `route`.
 
-ghost use Rattle.std.specs.Prelude.{◌≡◌, ◌≤◌, ◌⊎◌, All, IfErr, IfOk, OnOk, is_ok, if◌then◌else◌, map};
+ghost use Rattle.std.specs.Prelude.{◌≡◌, ◌≤◌, ◌⊎◌, [], All, IfErr, IfOk, OnOk, is_ok, if◌then◌else◌, map};
 ghost use Rattle.ipx_router.specs.NewRouter.{IsOwnNetwork};
 ghost use Rattle.ipx_carrier.specs.Turns.{peers_of};
 ghost use Rattle.ipx_site.specs.Ports.{GuardPorts, guarded, guarding, heard_at_port, named, router_port_of, router_ports, site_peers, udp_ports};
@@ -13,6 +13,7 @@ use crate::readiness::{Readiness, WaitFault};
 use crate::room::SOCKET_ROOM;
 use crate::site::{Accept, SiteFile, SitePort};
 use crate::sockets::SiteSockets;
+use crate::sparing::Sparing;
 use crate::start_lines::port_to_text;
 use crate::station::{Parts, Station};
 use ipx_carrier::{RouterCore, node_of};
@@ -60,6 +61,19 @@ fn router_of(alloc: Global, ports: &[SitePort]) -> Result<Router, RouteFault>
     let ports = own_ports(alloc, ports)?;
     let router = Router::new(alloc, ports)?;
     Ok(router)
+}
+
+/// The core of a router, which answers in turn who asks for all that it knows.
+fn core_of(alloc: Global, ports: &[SitePort]) -> Result<Sparing<RouterCore>, RouteFault>
+    requires { All IsOwnNetwork (router_ports ports.now) }
+    ensures router { IfOk result (λ c. c.core.router.ports ≡ router_ports ports.now) }
+    ensures ports { IfOk result (λ c. c.ports ≡ router_ports ports.now) }
+    ensures fresh { IfOk result (λ c. (c.askers.askers ≡ []) × (c.askers.back ≡ 0)) }
+{
+    let router = router_of(alloc, ports)?;
+    let own = own_ports(alloc, ports)?;
+    let core = Sparing::new(alloc, RouterCore::new(alloc, router), own)?;
+    Ok(core)
 }
 
 /// The peers of a port.
@@ -167,7 +181,10 @@ fn start<'a, R: Net + Log + SystemClock>(
 ) -> Result<Station<'a, R>, RouteFault>
     requires { All IsOwnNetwork (router_ports site.ports.items) }
     // The router has the ports of the file, and each of them its peers and its guard.
-    ensures ports { IfOk result (λ s. s.core.router.ports ≡ router_ports site.ports.items) }
+    ensures ports { IfOk result (λ s. s.core.core.router.ports ≡ router_ports site.ports.items) }
+    // So those who ask at these have their turns, and nobody has asked yet.
+    ensures askers { IfOk result (λ s. (s.core.ports ≡ router_ports site.ports.items)
+        × (s.core.askers.askers ≡ []) × (s.core.askers.back ≡ 0)) }
     ensures peers { IfOk result (λ s. peers_of s.peers.items ≡ site_peers site.ports.items) }
     ensures guards { IfOk result (λ s. GuardPorts site.ports.items s.device.guards.items) }
     // Each has a socket, with the port of UDP of its peers.
@@ -176,14 +193,14 @@ fn start<'a, R: Net + Log + SystemClock>(
     ensures clock { IfOk result (λ s. s.clock.last ≡ 0) }
     ensures asked { IfOk result (λ s. s.asked ≡ 0) }
 {
-    let router = router_of(alloc, &site.ports)?;
+    let core = core_of(alloc, &site.ports)?;
     let peers = peers_by_port(alloc, &site.ports)?;
     let guards = guards_of(alloc, &site.ports)?;
     let sockets = SiteSockets::bind(rt, alloc, &site.ports)?;
     let ready = Readiness::new(rt, alloc, &sockets)?;
     tell_ports(rt, alloc, &site.ports, &sockets)?;
     let parts = Parts {
-        core: RouterCore::new(alloc, router),
+        core,
         device: PeersOnly::new(sockets, guards),
         peers,
         clock: SteadyClock::new(rt),

@@ -14,6 +14,7 @@ use crate::moments::{LONGEST, end_of, is_over, sooner, time_to};
 use crate::peers::PeersOnly;
 use crate::readiness::{Readiness, WaitFault};
 use crate::sockets::SiteSockets;
+use crate::sparing::Sparing;
 use crate::status::write_whole;
 use crate::tally::Tally;
 use crate::troubles::Troubles;
@@ -39,7 +40,7 @@ const TURNS: u32 = 256;
 /// A router that runs.
 #[derive(Drop)]
 pub struct Station<'a, R: SystemClock> {
-    core: RouterCore,
+    core: Sparing<RouterCore>,
     device: PeersOnly<SiteSockets>,
     peers: Vec<Vec<[u8; 4]>>,
     clock: SteadyClock<'a, R>,
@@ -56,14 +57,14 @@ pub struct Station<'a, R: SystemClock> {
     /// When the figures were written last.
     written: Option<u64>,
     // So a turn can always be begun.
-    ghost sockets: { length device.device.sockets.items ≡ length core.router.ports },
-    ghost lists: { length peers.items ≡ length core.router.ports },
+    ghost sockets: { length device.device.sockets.items ≡ length core.core.router.ports },
+    ghost lists: { length peers.items ≡ length core.core.router.ports },
 }
 
 /// The parts of a router that runs.
 #[derive(Drop)]
 pub struct Parts<'a, R: SystemClock> {
-    pub core: RouterCore,
+    pub core: Sparing<RouterCore>,
     pub device: PeersOnly<SiteSockets>,
     pub peers: Vec<Vec<[u8; 4]>>,
     pub clock: SteadyClock<'a, R>,
@@ -75,8 +76,8 @@ impl<'a, R: SystemClock> Station<'a, R> {
     /// A router that begins to run. The caller owes a socket and a list of peers for each port.
     pub fn new(alloc: Global, parts: Parts<'a, R>) -> Station<'a, R>
         requires sockets { length parts.device.device.sockets.items
-            ≡ length parts.core.router.ports }
-        requires lists { length parts.peers.items ≡ length parts.core.router.ports }
+            ≡ length parts.core.core.router.ports }
+        requires lists { length parts.peers.items ≡ length parts.core.core.router.ports }
         ensures core { result.core ≡ parts.entry.core }
         ensures device { result.device ≡ parts.entry.device }
         ensures peers { result.peers ≡ parts.entry.peers }
@@ -110,9 +111,9 @@ impl<'a, R: SystemClock> Station<'a, R> {
 
     /// How long to wait for the next look: shortly, where a response was heard since.
     fn look_period(&self) -> u64
-        ensures { result ≡ look_after self.now.core.fates.heard self.now.responses }
+        ensures { result ≡ look_after self.now.core.core.fates.heard self.now.responses }
     {
-        if self.core.fates().heard == self.responses {
+        if self.core.core().fates().heard == self.responses {
             PERIOD
         } else {
             SOON
@@ -148,8 +149,12 @@ impl<'a, R: SystemClock> Station<'a, R> {
             return;
         }
         self.looked = Some(now);
-        self.responses = self.core.fates().heard;
-        if self.known.look(rt, alloc, self.core.router(), now).is_err() {
+        self.responses = self.core.core().fates().heard;
+        if self
+            .known
+            .look(rt, alloc, self.core.core().router(), now)
+            .is_err()
+        {
             self.tally.want_memory();
         }
     }
@@ -202,7 +207,7 @@ impl<'a, R: SystemClock> Station<'a, R> {
             self.now.device.kept self.now.device.refused self.now.device.device.faults)))
             now result }
     {
-        let telling = self.core.router().next_telling();
+        let telling = self.core.core().router().next_telling();
         let packets = sooner(asking_moment(self.asked), telling);
         let look = end_of(self.looked, self.look_period());
         let figures = sooner(

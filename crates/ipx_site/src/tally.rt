@@ -6,6 +6,7 @@ ghost use Rattle.ipx_site.specs.Leisure.{happened, happened_in};
 use crate::figures::Figures;
 use crate::peers::PeersOnly;
 use crate::sockets::SiteSockets;
+use crate::sparing::Sparing;
 use crate::turns::Burst;
 use crate::watch::Known;
 use ipx_carrier::{RouterCore, RunFault};
@@ -52,7 +53,7 @@ impl Tally {
     /// All figures of a router, at a moment in milliseconds since its start.
     pub fn figures(
         &self,
-        core: &RouterCore,
+        core: &Sparing<RouterCore>,
         device: &PeersOnly<SiteSockets>,
         known: &Known,
         now: u64,
@@ -63,10 +64,11 @@ impl Tally {
         Figures {
             heard: self.heard,
             sent: device.device().sent(),
-            fates: core.fates(),
-            queue_full: core.dropped(),
+            fates: core.core().fates(),
+            queue_full: core.core().dropped(),
             unmapped: self.unmapped,
             kept: device.kept(),
+            too_often: core.kept(),
             refused: device.refused(),
             device_faults: self.device_faults.saturating_add(device.device().faults()),
             memory_faults: self.memory_faults,

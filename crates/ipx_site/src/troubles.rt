@@ -16,6 +16,7 @@ pub struct Troubles {
     strangers: Cause,
     forged: Cause,
     no_router: Cause,
+    too_often: Cause,
     refused: Cause,
     table_full: Cause,
     queue_full: Cause,
@@ -59,6 +60,7 @@ impl Troubles {
             strangers: Cause::new(),
             forged: Cause::new(),
             no_router: Cause::new(),
+            too_often: Cause::new(),
             refused: Cause::new(),
             table_full: Cause::new(),
             queue_full: Cause::new(),
@@ -81,6 +83,8 @@ impl Troubles {
         tell_kept(rt, &mut self.forged, f.kept.forged, now, what);
         let what = "datagrams were no router's to send";
         tell_kept(rt, &mut self.no_router, f.kept.no_router, now, what);
+        let what = "queries came too often";
+        tell_kept(rt, &mut self.too_often, f.too_often, now, what);
         let what = "datagrams were to go to no peer";
         tell(rt, &mut self.refused, f.refused, now, what);
         let what = "responses found a table full";
@@ -108,10 +112,11 @@ impl Troubles {
             self.strangers.next(f.kept.strangers.count),
             self.forged.next(f.kept.forged.count),
         );
-        let refused = sooner(
+        let kept = sooner(
             self.no_router.next(f.kept.no_router.count),
-            self.refused.next(f.refused),
+            self.too_often.next(f.too_often.count),
         );
+        let refused = sooner(kept, self.refused.next(f.refused));
         let full = sooner(
             self.table_full.next(f.fates.table_full),
             self.queue_full.next(f.queue_full),

@@ -36,6 +36,10 @@ pub const FIGURES: Figures = Figures {
             last: None,
         },
     },
+    too_often: Kept {
+        count: 25,
+        last: None,
+    },
     refused: 16,
     device_faults: 17,
     memory_faults: 18,
@@ -46,7 +50,7 @@ pub const FIGURES: Figures = Figures {
 };
 
 /// Lines that stand in it.
-const LINES: [&str; 24] = [
+const LINES: [&str; 25] = [
     "ipx_heard_total 1\n",
     "ipx_sent_total 2\n",
     "ipx_fates_total{fate=\"forwarded\"} 3\n",
@@ -64,6 +68,7 @@ const LINES: [&str; 24] = [
     "ipx_strangers_total 15\n",
     "ipx_kept_back_total{reason=\"forged\"} 23\n",
     "ipx_kept_back_total{reason=\"no_router\"} 24\n",
+    "ipx_kept_back_total{reason=\"too_often\"} 25\n",
     "ipx_refused_total 16\n",
     "ipx_faults_total{of=\"device\"} 17\n",
     "ipx_faults_total{of=\"memory\"} 18\n",

@@ -23,4 +23,6 @@ mod refused_device;
 #[cfg(test)]
 mod sockets;
 #[cfg(test)]
+mod sparing;
+#[cfg(test)]
 mod waiting;

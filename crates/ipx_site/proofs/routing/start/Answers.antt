@@ -4,15 +4,15 @@ use Rattle.ipx_site.specs.Ports.{router_port_of, router_ports, site_peers, udp_p
 use Rattle.ipx_site.proofs.Ports.{same_length}
 use Rattle.ipx_site.proofs.routing.start.Goals as goal
 
-pub new-requires-5-clause-sockets : goal.new-requires-5-clause-sockets
-new-requires-5-clause-sockets g c =
-    let ports = ap (λ r. length r.ports) c.new-2.ensures.router ∙ ap length (c.in_ok-router.ensures ∙ ap router_ports c.deref.ensures.value) ∙ length-map c.args.site.ports.items router_port_of in
-    ap (λ d. length d.sockets.items) c.new-3.ensures.device
+pub new-requires-4-clause-sockets : goal.new-requires-4-clause-sockets
+new-requires-4-clause-sockets g c =
+    let ports = ap length (c.in_ok-core.ensures.router ∙ ap router_ports c.deref.ensures.value) ∙ length-map c.args.site.ports.items router_port_of in
+    ap (λ d. length d.sockets.items) c.new-2.ensures.device
     ∙ same_length (λ s. s.udp_port) (λ p. p.udp_port) c.in_ok-sockets.sockets.sockets.items c.args.site.ports.items (c.in_ok-sockets.ensures ∙ ap udp_ports c.deref-4.ensures.value)
     ∙ sym ports
 
-pub new-requires-5-clause-lists : goal.new-requires-5-clause-lists
-new-requires-5-clause-lists g c =
-    let ports = ap (λ r. length r.ports) c.new-2.ensures.router ∙ ap length (c.in_ok-router.ensures ∙ ap router_ports c.deref.ensures.value) ∙ length-map c.args.site.ports.items router_port_of in
+pub new-requires-4-clause-lists : goal.new-requires-4-clause-lists
+new-requires-4-clause-lists g c =
+    let ports = ap length (c.in_ok-core.ensures.router ∙ ap router_ports c.deref.ensures.value) ∙ length-map c.args.site.ports.items router_port_of in
     same_length (λ v. v.items) (λ p. p.peers.items) c.in_ok-peers.peers.items c.args.site.ports.items (c.in_ok-peers.ensures ∙ ap site_peers c.deref-2.ensures.value)
     ∙ sym ports
