@@ -2,7 +2,7 @@
 use Rattle.std.specs.Prelude.{ℕ, List, [], ◌∷◌, ◌++◌, ◌==◌, ◌||◌, Option, Some, None, if◌then◌else◌}
 use Rattle.ipx_carrier.specs.Device.{Access}
 use Rattle.ipx_carrier.specs.Mapping.{ip_at}
-use Rattle.ipx_site.specs.Ports.{Guarded, heard_by}
+use Rattle.ipx_site.specs.Ports.{Guarded, heard_at_port}
 use Rattle.ipx_site.specs.declared.host.HostFile.{HostFile}
 use Rattle.ipx_wire.specs.declared.address.Address.{Address}
 
@@ -24,8 +24,8 @@ known_ips file dials = with_dialed (file.peers.items ++ file.router ∷ []) dial
 -- routers of its file alone pass packets on to it
 abbrev pub host_access : HostFile → Option (List ℕ) → Access
 host_access file dials = record {
-  sends = heard_by file.accept (known_ips file dials);
-  hears = heard_by file.accept (known_ips file dials);
+  sends = heard_at_port file.accept (known_ips file dials);
+  hears = heard_at_port file.accept (known_ips file dials);
   routers = Some (file.routers.items ++ file.router ∷ []);
 }
 

@@ -1,7 +1,7 @@
 //! Whom a host hears and sends to.
 
 ghost use Rattle.std.specs.Prelude.{◌≡◌, ◌∷◌, ◌++◌, [], IfOk};
-ghost use Rattle.ipx_site.specs.Ports.{guarding, heard_by, named};
+ghost use Rattle.ipx_site.specs.Ports.{guarding, heard_at_port, named};
 ghost use Rattle.ipx_ends.specs.Company.{dialed_ip, guarded_host, known_ips};
 
 use crate::start::StartFault;
@@ -51,7 +51,7 @@ fn heard_ips(
     file: &HostFile,
     dials: Option<[u8; 4]>,
 ) -> Result<Option<Vec<[u8; 4]>>, StartFault>
-    ensures { IfOk result (λ ips. named ips ≡ heard_by file.now.accept (known_ips file.now dials)) }
+    ensures { IfOk result (λ ips. named ips ≡ heard_at_port file.now.accept (known_ips file.now dials)) }
 {
     match file.accept {
         Accept::Any => Ok(None),
