@@ -4,8 +4,8 @@ use Rattle.ipx_ends.specs.Outlet.{left_of}
 use Rattle.ipx_ends.proofs.Hosted.{ended_well}
 use Rattle.ipx_ends.proofs.listen.run_listening.Goals as goal
 
-pub returns-clause-well : goal.returns-clause-well
-returns-clause-well g c = λ zero.
+pub returns-in-Ok-tell_place-clause-well : goal.returns-in-Ok-tell_place-clause-well
+returns-in-Ok-tell_place-clause-well g c = λ zero.
     let held = g.W.Write.contents in
     let old = c.in-Ok.listening in
     let new = c.finish.new.self in
