@@ -127,7 +127,7 @@ module _ (units : List Unit) (n : ℕ) where
   next_asked : (l : LinkView) (now : ℕ) → Queues l units n → Asked l (poll_unit l now) units n
   next_asked l now s =
       cond_both {A = Option OutgoingView × LinkView} (may_send l) (sends l now (slice_get l.queue l.out)) (poll_again l now) (λ r. Asked l r units n)
-      (λ yes. unit_asked l now (slice_get l.queue l.out) s (ltb-true _ _ (and_parts (nat_lt 0 l.room) (nat_lt l.out most_units) (and_parts (is_waiting l) (nat_lt 0 l.room && nat_lt l.out most_units) (and_parts (is_working l.state) (is_waiting l && (nat_lt 0 l.room && nat_lt l.out most_units)) yes).1).1).1) refl)
+      (λ yes. unit_asked l now (slice_get l.queue l.out) s (ltb-true _ _ (and_parts _ _ (and_parts _ _ (and_parts _ _ (and_parts _ _ yes).1).1).1).0) refl)
       (λ no. late_asked l now (late_if_working l now) s refl)
 
   reply_asked : (l : LinkView) (now : ℕ) → Queues l units n → Asked l (poll_reply l now) units n
