@@ -71,7 +71,11 @@ impl Link {
         if self.asked_again().is_some() {
             return Some(0);
         }
-        if self.out == 0 { self.probe_due() } else { None }
+        if self.out == 0 {
+            self.probe_due()
+        } else {
+            None
+        }
     }
 
     fn probe_due(&self) -> Option<u64>
