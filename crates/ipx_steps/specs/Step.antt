@@ -1,5 +1,5 @@
 -- One event that a network takes.
-use Rattle.std.specs.Prelude.{ℕ, List, Option, Result}
+use Rattle.std.specs.Prelude.{ℕ, Bool, List, Option, Result}
 use Rattle.ipx_wire.specs.declared.address.Network.{Network}
 use Rattle.ipx_wire.specs.declared.address.Node.{Node}
 use Rattle.ipx_wire.specs.declared.address.Socket.{Socket}
@@ -10,7 +10,7 @@ use Rattle.spx_messages.specs.declared.fault.EndFault.{EndFault}
 use Rattle.spx_messages.specs.Taking.{TakenView}
 use Rattle.ipx_steps.specs.World.{World, ParcelView}
 use Rattle.ipx_steps.specs.Steps.{Delivers, PollsHost, TakesOf}
-use Rattle.ipx_steps.specs.Calls.{DialsFrom, SendsTo, Closes, ReleasesOf, RefusesAt, InjectsInto, Ticks}
+use Rattle.ipx_steps.specs.Calls.{DialsFrom, SendsTo, Closes, ReleasesOf, PacesOf, AsksAgainOf, RefusesAt, InjectsInto, Ticks}
 use Rattle.ipx_steps.specs.Routers.{TellsOf, CarriesOn}
 
 pub data Step (old new : World) : Type 0 where
@@ -23,6 +23,8 @@ pub data Step (old new : World) : Type 0 where
   Sent : (who : ℕ) (m : MessageView) → SendsTo old who m new → Step old new
   Closed : (who : ℕ) → Closes old who new → Step old new
   Released : (who : ℕ) → ReleasesOf old who new → Step old new
+  Paced : (who window : ℕ) (by_hand : Bool) → PacesOf old who window by_hand new → Step old new
+  AskedAgain : (who place : ℕ) → AsksAgainOf old who place new → Step old new
   Refused : (host : ℕ) → RefusesAt old host new → Step old new
   Injected : (segment : Network) (next : Node) (bytes : List ℕ)
       → InjectsInto old segment next bytes new → Step old new

@@ -1,6 +1,6 @@
 -- A link that nobody paces: its poll, with a new unit wherever the allocation has room and with units
 -- that go again by the clock alone. The rules that `Poll` has besides are the same.
-use Rattle.std.specs.Prelude.{◌≡◌, ℕ, ◌×◌, Bool, false, ◌&&◌, nat_lt, Option, None, slice_get}
+use Rattle.std.specs.Prelude.{◌≡◌, ℕ, Bool, false, ◌&&◌, nat_lt, Option, None, slice_get}
 use Rattle.std.specs.Prelude.{if◌then◌else◌}
 use Rattle.spx_link.specs.declared.state.State.{State}
 use Rattle.spx_link.specs.declared.state.State.TheVariants.{Opening, Live, Ending, PeerEnded}
