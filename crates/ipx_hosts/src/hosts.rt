@@ -173,13 +173,7 @@ impl Hosts {
     }
 
     /// The link of an end that stands gets a window, by the clock or by hand. It is not refused.
-    pub fn pace(
-        &mut self,
-        who: usize,
-        window: u16,
-        by_hand: bool,
-        now: u64,
-    ) -> Result<(), EndFault>
+    pub fn pace(&mut self, who: usize, window: u16, by_hand: bool, now: u64) -> Result<(), EndFault>
         requires order { FitTogether self.old }
         requires stands { stands self.old who ≡ true }
         ensures ok { OnOk result (Noting self.old self.new now []
