@@ -1,6 +1,6 @@
 -- All that a link gives at a moment, read by its peer at once: what becomes of the two links and their ends of the machine.
 use Rattle.std.proofs.Common.{ℕ, ◌+◌, ◌-◌, ◌<◌, ◌≤◌, ◌≡◌, min, nat_lt, true, false, length, take, get_or, Some, None, sym, ap, ◌∙◌, subst, inl, inr, ⊎_elim, arith, slice_get}
-use Rattle.std.proofs.lemmas.Bool.{cases_lt, lt-ltb, leb-true, cond-true}
+use Rattle.std.proofs.lemmas.Bool.{cases_lt, lt-ltb, leb-true, cond-true, cond-false}
 use Rattle.std.proofs.lemmas.Option.{slice_get-get_or}
 use Rattle.spx_link.specs.declared.queue.Queued.{Queued}
 use Rattle.spx_link.specs.Limits.{most_sends}
