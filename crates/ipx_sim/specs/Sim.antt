@@ -13,7 +13,7 @@ use Rattle.ipx_sim.specs.ActLine.{bytes_text, fault_line, refused_line}
 use Rattle.ipx_sim.specs.Delivering.{DeliveredView, Marks, delivered_view}
 use Rattle.ipx_sim.specs.Going.{taken_of, unit_of}
 use Rattle.ipx_sim.specs.Places.{MapView, map_view}
-use Rattle.ipx_sim.specs.Reading.{EventView, Close, Deliver, Dial, Inject, Now, Poll, Release, Send, TakeOne}
+use Rattle.ipx_sim.specs.Reading.{EventView, Again, Close, Deliver, Dial, Inject, Now, Pace, Poll, Release, Send, TakeOne}
 use Rattle.ipx_sim.specs.declared.simulation.Simulation.{Simulation}
 use Rattle.ipx_sim.specs.declared.stop.Stop.{Stop}
 use Rattle.ipx_sim.specs.declared.stop.Stop.TheVariants as Stops
@@ -43,6 +43,8 @@ parcel_of (Dial host socket to buffers) = None
 parcel_of (Send who message) = None
 parcel_of (TakeOne who) = None
 parcel_of (Close who) = None
+parcel_of (Pace who window by_hand) = None
+parcel_of (Again who place) = None
 parcel_of (Release who) = None
 parcel_of (Now now) = None
 parcel_of (Poll member) = None
