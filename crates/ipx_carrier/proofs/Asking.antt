@@ -1,7 +1,7 @@
 -- The ports of a device, asked one after another.
 use Rattle.std.proofs.Common.{◌≡◌, ◌<◌, ℕ, ◌+◌, Bool, List, [], ◌∷◌, ◌++◌, length, Option, is_some, refl, sym, ap, ◌∙◌, subst, arith, cond, length-append}
 use Rattle.ipx_carrier.specs.declared.fault.RunFault.{RunFault}
-use Rattle.ipx_carrier.specs.Device.{Reception, Traffic}
+use Rattle.ipx_carrier.specs.Device.{Reception, TrafficOf}
 use Rattle.ipx_carrier.specs.Turns.{FailsAtPort, HearsAnswer, HearsEach}
 use Rattle.ipx_carrier.specs.Counts.{heard_in}
 use Rattle.ipx_carrier.specs.Parts.{AsksInVain, AsksPort, AsksPorts, AsksSomePorts}
@@ -17,7 +17,7 @@ hears_more hears now port [] a b c bytes last h e k =
 hears_more hears now port (r ∷ rs) a b c bytes last h e k =
     (h.0, h.1, h.2, hears_more hears now (port + 1) rs h.0 b c bytes last h.3 (omega arith) k)
 
-pub asked_none : {C : Type 0} (hears : Hears C) (now : ℕ) (t : Option Traffic) (c : C) → AsksPorts hears now 0 t t c c 0
+pub asked_none : {C A : Type 0} (hears : Hears C) (now : ℕ) (t : Option (TrafficOf A)) (c : C) → AsksPorts hears now 0 t t c c 0
 asked_none hears now t c = ([], refl, passes_nothing t t refl, refl, refl)
 
 heard_more : (rs : List Reception) (port : ℕ) (bytes : Option (List ℕ)) → heard_in (rs ++ record { port = port; bytes = bytes } ∷ []) ≡ heard_in rs + cond (is_some bytes) 1 0
@@ -25,7 +25,7 @@ heard_more rs port bytes =
     let r : List Reception = record { port = port; bytes = bytes } ∷ [] in
     omega (arith, count-append (λ (x : Reception). is_some x.bytes) rs r)
 
-pub asked_more : {C : Type 0} (hears : Hears C) (now port : ℕ) (s t u : Option Traffic) (a b c : C) (count more : ℕ) (heard : Bool) → AsksPorts hears now port s t a b count → AsksPort hears now port t u b c heard → more ≡ count + cond heard 1 0 → AsksPorts hears now (port + 1) s u a c more
+pub asked_more : {C A : Type 0} (hears : Hears C) (now port : ℕ) (s t u : Option (TrafficOf A)) (a b c : C) (count more : ℕ) (heard : Bool) → AsksPorts hears now port s t a b count → AsksPort hears now port t u b c heard → more ≡ count + cond heard 1 0 → AsksPorts hears now (port + 1) s u a c more
 asked_more hears now port s t u a b c count more heard h k e =
     let rs = h.0 in
     let r : List Reception = record { port = port; bytes = k.0 } ∷ [] in
@@ -39,7 +39,7 @@ asked_more hears now port s t u a b c count more heard h k e =
       e ∙ ap (λ b. count + cond b 1 0) is ∙ ap (λ n. n + cond (is_some k.0) 1 0) counted ∙ sym (heard_more rs port k.0),
     )
 
-pub asked_some : {C : Type 0} (hears misses : Hears C) (now port ports : ℕ) (s t u : Option Traffic) (a b c : C) (count : ℕ) (f : RunFault) → AsksPorts hears now port s t a b count → AsksInVain hears misses now port t u f b c → port < ports → AsksSomePorts hears misses now ports s u f a c
+pub asked_some : {C A : Type 0} (hears misses : Hears C) (now port ports : ℕ) (s t u : Option (TrafficOf A)) (a b c : C) (count : ℕ) (f : RunFault) → AsksPorts hears now port s t a b count → AsksInVain hears misses now port t u f b c → port < ports → AsksSomePorts hears misses now ports s u f a c
 asked_some hears misses now port ports s t u a b c count f h k e =
     let long : length h.0 ≡ port = h.1 in
     (h.0, k.0, b, omega arith, passes_received s t u h.0 k.0 h.2 k.1, h.3, subst (λ n. FailsAtPort misses now n k.0 f b c) (sym long) k.2)

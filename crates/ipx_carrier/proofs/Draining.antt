@@ -3,7 +3,7 @@ use Rattle.std.proofs.Common.{◌≡◌, ℕ, List, [], ◌∷◌, ◌++◌, map
 use Rattle.std.specs.Prelude.{suc, zero, replicate, slice_get, slice_set, option_map, ◌==◌}
 use Rattle.std.proofs.lemmas.Bool.{eqb-true, eqb-false}
 use Rattle.std.proofs.lemmas.List.{length-set}
-use Rattle.ipx_carrier.specs.Device.{Datagram, Passes, Reception, Traffic}
+use Rattle.ipx_carrier.specs.Device.{Passes, Reception, TrafficOf}
 use Rattle.ipx_carrier.specs.Waits.{DrainsDevice, DrainsPort, DrainsPorts, LeavesPort, WaitingDatagrams}
 use Rattle.ipx_carrier.specs.Parts.{LeavePorts, TakesFromDevice}
 use Rattle.ipx_carrier.proofs.Passing.{passes_nothing, passes_on}
@@ -12,21 +12,21 @@ leave_on : (room : ℕ) (a b c : Option WaitingDatagrams) (rs rs' : List Recepti
 leave_on room a b c [] rs' h k = subst (λ (a : Option WaitingDatagrams). LeavePorts room a rs' c) h k
 leave_on room a b c (r ∷ rs) rs' h k = (h.0, h.1, leave_on room h.0 b c rs rs' h.2 k)
 
-pub takes_nothing : (room : ℕ) (s t : Option Traffic) (a b : Option WaitingDatagrams) → t ≡ s → b ≡ a → TakesFromDevice room s t a b
+pub takes_nothing : {A : Type 0} (room : ℕ) (s t : Option (TrafficOf A)) (a b : Option WaitingDatagrams) → t ≡ s → b ≡ a → TakesFromDevice room s t a b
 takes_nothing room s t a b e k = ([], [], passes_nothing s t e, k)
 
-pub takes_one : (room port : ℕ) (s t : Option Traffic) (a b : Option WaitingDatagrams) (answer : Option (List ℕ)) → Passes s t (record { port = port; bytes = answer } ∷ []) [] → LeavesPort room port a answer b → TakesFromDevice room s t a b
+pub takes_one : {A : Type 0} (room port : ℕ) (s t : Option (TrafficOf A)) (a b : Option WaitingDatagrams) (answer : Option (List ℕ)) → Passes s t (record { port = port; bytes = answer } ∷ []) [] → LeavesPort room port a answer b → TakesFromDevice room s t a b
 takes_one room port s t a b answer h k = (record { port = port; bytes = answer } ∷ [], [], h, (b, k, refl))
 
-pub takes_on : (room : ℕ) (s t u : Option Traffic) (a b c : Option WaitingDatagrams) → TakesFromDevice room s t a b → TakesFromDevice room t u b c → TakesFromDevice room s u a c
+pub takes_on : {A : Type 0} (room : ℕ) (s t u : Option (TrafficOf A)) (a b c : Option WaitingDatagrams) → TakesFromDevice room s t a b → TakesFromDevice room t u b c → TakesFromDevice room s u a c
 takes_on room s t u a b c h k =
     (h.0 ++ k.0, h.1 ++ k.1, passes_on s t u h.0 k.0 h.1 k.1 h.2 k.2, leave_on room a b c h.0 k.0 h.3 k.3)
 
 -- the same where the room is written otherwise
-pub takes_more : (here room : ℕ) (s t u : Option Traffic) (a b c : Option WaitingDatagrams) → here ≡ room → TakesFromDevice room s t a b → TakesFromDevice here t u b c → TakesFromDevice room s u a c
+pub takes_more : {A : Type 0} (here room : ℕ) (s t u : Option (TrafficOf A)) (a b c : Option WaitingDatagrams) → here ≡ room → TakesFromDevice room s t a b → TakesFromDevice here t u b c → TakesFromDevice room s u a c
 takes_more here room s t u a b c e h k = takes_on room s t u a b c h (subst (λ n. TakesFromDevice n t u b c) e k)
 
-pub takes_sent : (room : ℕ) (s t u : Option Traffic) (a b c : Option WaitingDatagrams) (ds : List Datagram) → TakesFromDevice room s t a b → Passes t u [] ds → c ≡ b → TakesFromDevice room s u a c
+pub takes_sent : {A : Type 0} (room : ℕ) (s t u : Option (TrafficOf A)) (a b c : Option WaitingDatagrams) (ds : List A) → TakesFromDevice room s t a b → Passes t u [] ds → c ≡ b → TakesFromDevice room s u a c
 takes_sent room s t u a b c ds h k e = takes_on room s t u a b c h ([], ds, k, e)
 
 get_set_same : {A : Type 0} (xs : List A) (i : ℕ) (x y : A) → slice_get xs i ≡ Some x → slice_get (slice_set xs i y) i ≡ Some y
@@ -73,6 +73,6 @@ drains_ports room (r ∷ rs) waited new h =
     let k = drains_ports room rs next new (subst (λ (m : Option WaitingDatagrams). LeavePorts room m rs new) h.1.3 h.2) in
     (k.0, k.1, (k.2.0 ∙ length-set waited r.port (drop 1 there), λ p here e. one_first room r rs waited k.0 there h.1.1 h.1.2 k.2.1 p here e (r.port == p) refl))
 
-pub drains : (room : ℕ) (s t : Option Traffic) (a b : Option WaitingDatagrams) → TakesFromDevice room s t a b → DrainsDevice room s t a b
+pub drains : {A : Type 0} (room : ℕ) (s t : Option (TrafficOf A)) (a b : Option WaitingDatagrams) → TakesFromDevice room s t a b → DrainsDevice room s t a b
 drains room s t None b h = (h.0, h.1, h.2, tt)
 drains room s t (Some waited) b h = (h.0, h.1, h.2, drains_ports room h.0 waited b h.3)

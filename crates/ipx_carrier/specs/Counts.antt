@@ -1,30 +1,24 @@
 -- What a run counts of its turns, and what it says of them.
-use Rattle.std.specs.Prelude.{ℕ, ◌+◌, Bool, List, length, count_by, is_some, is_none, not, ◌&&◌}
-use Rattle.ipx_router.specs.Packets.{broadcast}
-use Rattle.ipx_router.specs.Classify.{is_node}
+use Rattle.std.specs.Prelude.{ℕ, ◌+◌, Bool, List, length, count_by, is_some, is_none}
 use Rattle.ipx_carrier.specs.declared.report.Report.{Report}
-use Rattle.ipx_carrier.specs.Mapping.{ip_at}
 use Rattle.ipx_carrier.specs.Device.{Reception}
-use Rattle.ipx_carrier.specs.Turns.{Given, Peers, Turn, packets_of, received_of, sent_of}
+use Rattle.ipx_carrier.specs.Turns.{Given, Turn, Ways, packets_of, received_of, sent_of}
 
 -- the answers that are datagrams
 abbrev pub heard_in : List Reception → ℕ
 heard_in = count_by (λ r. is_some r.bytes)
 
--- the packets for a node that has no IP address and is not all nodes
-abbrev pub is_unmapped : Given → Bool
-is_unmapped p = not (is_node p.node broadcast) && is_none (ip_at p.node)
-
-abbrev pub unmapped_in : List Given → ℕ
-unmapped_in = count_by is_unmapped
+-- the packets for a node that nothing stands for, so that they are not sent
+abbrev pub unmapped_in : {A : Type 0} → Ways A → List Given → ℕ
+unmapped_in ways = count_by (λ p. is_none (ways p))
 
 -- what a run tells of its turns
-abbrev pub report_of : Peers → List Turn → Report
-report_of peers turns = record {
+abbrev pub report_of : {A : Type 0} → Ways A → List Turn → Report
+report_of ways turns = record {
   turns = length turns;
   heard = heard_in (received_of turns);
-  sent = length (sent_of peers (packets_of turns));
-  unmapped = unmapped_in (packets_of turns);
+  sent = length (sent_of ways (packets_of turns));
+  unmapped = unmapped_in ways (packets_of turns);
 }
 
 -- two reports as one

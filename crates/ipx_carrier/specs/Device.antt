@@ -12,10 +12,14 @@ pub record Reception : Type 0 where
   pub port : ℕ
   pub bytes : Option (List ℕ)
 
--- all that passed so far, the first one first
-pub record Traffic : Type 0 where
+-- all that passed so far, the first one first: what was received, and what was sent, of whatever kind
+pub record TrafficOf (A : Type 0) : Type 0 where
   pub received : List Reception
-  pub sent : List Datagram
+  pub sent : List A
+
+-- the same where what is sent are datagrams
+abbrev pub Traffic : Type 0
+Traffic = TrafficOf Datagram
 
 -- what was received is in the front of the room, as long as the count says
 abbrev pub received_in : List ℕ → Option ℕ → Option (List ℕ)
@@ -29,12 +33,13 @@ pub record Access : Type 0 where
   pub everybody : Bool
 
 -- traffic with more of it
-abbrev pub with_more : Traffic → List Reception → List Datagram → Traffic
+abbrev pub with_more : {A : Type 0} → TrafficOf A → List Reception → List A → TrafficOf A
 with_more t received sent =
     record { received = t.received ++ received; sent = t.sent ++ sent }
 
 -- a device that tells its traffic tells this besides what it told before
-abbrev pub Passes : Option Traffic → Option Traffic → List Reception → List Datagram → Type 0
+abbrev pub Passes : {A : Type 0} → Option (TrafficOf A) → Option (TrafficOf A) → List Reception
+    → List A → Type 0
 Passes old new received sent = IfSome old (λ t. new ≡ Some (with_more t received sent))
 
 -- a clock is read again and again, and tells these moments

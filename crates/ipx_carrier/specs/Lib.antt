@@ -4,6 +4,7 @@ pub mod Device
 pub mod Waits
 pub mod Turns
 pub mod Given
+pub mod Segments
 pub mod Counts
 pub mod Parts
 pub mod SendingView

@@ -1,17 +1,13 @@
 -- Words of private functions: the parts of a turn. What asking the ports, and what
 -- sending the core's packets, leave.
-use Rattle.std.specs.Prelude.{◌≡◌, ◌<◌, ℕ, Bool, List, [], ◌∷◌, ◌++◌, length, Option, Some, None, is_some, if◌then◌else◌}
+use Rattle.std.specs.Prelude.{◌≡◌, ◌<◌, ℕ, Bool, List, [], ◌∷◌, ◌++◌, length, Option, Some, None, is_some}
 use Rattle.ipx_carrier.specs.declared.fault.RunFault.{RunFault}
 use Rattle.ipx_carrier.specs.declared.report.Tally.{Tally}
-use Rattle.ipx_carrier.specs.Device.{Datagram, Passes, Reception, Traffic}
+use Rattle.ipx_carrier.specs.Device.{Passes, Reception, TrafficOf}
 use Rattle.ipx_carrier.specs.Waits.{LeavesPort, WaitingDatagrams}
-use Rattle.ipx_carrier.specs.Turns.{FailsAfter, FailsAtPort, GivesAll, GivesEach, Given, HearsAnswer, HearsEach, IsFrontOf, Peers, datagrams_of, sent_of}
-use Rattle.ipx_carrier.specs.Counts.{heard_in, is_unmapped, unmapped_in}
-
--- the device sent the first of these datagrams, up to one that it failed to send
-abbrev pub SendsFrontOf : List Datagram → Option Traffic → Option Traffic → Type 0
-SendsFrontOf all before after =
-    (sent : List Datagram) × IsFrontOf sent all × Passes before after [] sent
+use Rattle.ipx_carrier.specs.Turns.{FailsAfter, FailsAtPort, GivesAll, GivesEach, Given, HearsAnswer, HearsEach, Ways, copies_of, sent_of}
+use Rattle.ipx_carrier.specs.Segments.{copies_count}
+use Rattle.ipx_carrier.specs.Counts.{heard_in, unmapped_in}
 
 -- ports were asked, one after another and with so much room each time, and answered these
 abbrev pub LeavePorts : ℕ → Option WaitingDatagrams → List Reception → Option WaitingDatagrams
@@ -21,71 +17,70 @@ LeavePorts room old (r ∷ rs) new = (mid : Option WaitingDatagrams)
     × LeavesPort room r.port old r.bytes mid × LeavePorts room mid rs new
 
 -- what a device received meanwhile was taken from what waits, and nothing else was
-abbrev pub TakesFromDevice : ℕ → Option Traffic → Option Traffic → Option WaitingDatagrams
-    → Option WaitingDatagrams → Type 0
-TakesFromDevice room before after old new = (received : List Reception) × (sent : List Datagram)
+abbrev pub TakesFromDevice : {A : Type 0} → ℕ → Option (TrafficOf A) → Option (TrafficOf A)
+    → Option WaitingDatagrams → Option WaitingDatagrams → Type 0
+TakesFromDevice {A} room before after old new = (received : List Reception) × (sent : List A)
     × Passes before after received sent × LeavePorts room old received new
 
--- how many datagrams a packet was sent by, or that it could not be
-abbrev pub count_of : Peers → Given → Option ℕ
-count_of peers p = if is_unmapped p then None else Some (length (datagrams_of peers p))
-
-module _ {C : Type 0} (hears : C → ℕ → List ℕ → ℕ → C → Type 0) where
+module _ {C : Type 0} (hears : C → ℕ → List ℕ → ℕ → C → Type 0) {A : Type 0} where
   -- a port was asked, and the core heard what it answered
-  abbrev pub AsksPort : ℕ → ℕ → Option Traffic → Option Traffic → C → C → Bool → Type 0
+  abbrev pub AsksPort : ℕ → ℕ → Option (TrafficOf A) → Option (TrafficOf A) → C → C → Bool → Type 0
   AsksPort now port before after old new heard = (bytes : Option (List ℕ))
       × Passes before after (record { port = port; bytes = bytes } ∷ []) []
       × HearsAnswer hears now port bytes old new × (heard ≡ is_some bytes)
 
   -- so many ports were asked in order, and the core heard what they answered
-  abbrev pub AsksPorts : ℕ → ℕ → Option Traffic → Option Traffic → C → C → ℕ → Type 0
+  abbrev pub AsksPorts : ℕ → ℕ → Option (TrafficOf A) → Option (TrafficOf A) → C → C → ℕ → Type 0
   AsksPorts now ports before after old new count = (rs : List Reception) × (length rs ≡ ports)
       × Passes before after rs [] × HearsEach hears now 0 rs old new × (count ≡ heard_in rs)
 
-module _ {C : Type 0} (hears misses : C → ℕ → List ℕ → ℕ → C → Type 0) where
+module _ {C : Type 0} (hears misses : C → ℕ → List ℕ → ℕ → C → Type 0) {A : Type 0} where
   -- a port was asked, and a fault came of it
-  abbrev pub AsksInVain : ℕ → ℕ → Option Traffic → Option Traffic → RunFault → C → C → Type 0
+  abbrev pub AsksInVain : ℕ → ℕ → Option (TrafficOf A) → Option (TrafficOf A) → RunFault → C → C
+      → Type 0
   AsksInVain now port before after fault old new = (last : List Reception)
       × Passes before after last [] × FailsAtPort misses now port last fault old new
 
   -- some of the ports were asked in order, and a fault came of the last one
-  abbrev pub AsksSomePorts : ℕ → ℕ → Option Traffic → Option Traffic → RunFault → C → C → Type 0
+  abbrev pub AsksSomePorts : ℕ → ℕ → Option (TrafficOf A) → Option (TrafficOf A) → RunFault → C → C
+      → Type 0
   AsksSomePorts now ports before after fault old new = (heard last : List Reception) × (mid : C)
       × (length heard < ports) × Passes before after (heard ++ last) []
       × HearsEach hears now 0 heard old mid
       × FailsAtPort misses now (length heard) last fault mid new
 
 -- what sending a core's packets counted
-abbrev pub tally_of : Peers → List Given → Tally
-tally_of peers packets =
-    record { sent = length (sent_of peers packets); unmapped = unmapped_in packets }
+abbrev pub tally_of : {A : Type 0} → Ways A → List Given → Tally
+tally_of ways packets =
+    record { sent = length (sent_of ways packets); unmapped = unmapped_in ways packets }
 
-module _ {C : Type 0} (gives : C → ℕ → Option Given → C → Type 0) where
+module _ {C : Type 0} (gives : C → ℕ → Option Given → C → Type 0) {A : Type 0} where
   -- the core was asked once: it gave none, or a packet that was sent
-  abbrev pub SendsNext : ℕ → Peers → Option Traffic → Option Traffic → C → C
+  abbrev pub SendsNext : ℕ → Ways A → Option (TrafficOf A) → Option (TrafficOf A) → C → C
       → Option (Option ℕ) → Type 0
-  SendsNext now peers before after old new None = gives old now None new × (after ≡ before)
-  SendsNext now peers before after old new (Some count) = (p : Given) × gives old now (Some p) new
-      × Passes before after [] (datagrams_of peers p) × (count ≡ count_of peers p)
+  SendsNext now ways before after old new None = gives old now None new × (after ≡ before)
+  SendsNext now ways before after old new (Some count) = (p : Given) × gives old now (Some p) new
+      × Passes before after [] (copies_of ways p) × (count ≡ copies_count ways p)
 
   -- the core gave so many packets, and they were sent
-  abbrev pub SendsEach : ℕ → ℕ → Peers → Option Traffic → Option Traffic → C → C → Tally → Type 0
-  SendsEach count now peers before after old new tally = (packets : List Given)
+  abbrev pub SendsEach : ℕ → ℕ → Ways A → Option (TrafficOf A) → Option (TrafficOf A) → C → C → Tally
+      → Type 0
+  SendsEach count now ways before after old new tally = (packets : List Given)
       × (length packets ≡ count) × GivesEach gives now packets old new
-      × Passes before after [] (sent_of peers packets) × (tally ≡ tally_of peers packets)
+      × Passes before after [] (sent_of ways packets) × (tally ≡ tally_of ways packets)
 
   -- the core gave all its packets, or 64 of them, and they were sent
-  abbrev pub SendsAll : ℕ → Peers → Option Traffic → Option Traffic → C → C → Tally → Type 0
-  SendsAll now peers before after old new tally = (packets : List Given)
+  abbrev pub SendsAll : ℕ → Ways A → Option (TrafficOf A) → Option (TrafficOf A) → C → C → Tally
+      → Type 0
+  SendsAll now ways before after old new tally = (packets : List Given)
       × GivesAll gives now packets old new
-      × Passes before after [] (sent_of peers packets) × (tally ≡ tally_of peers packets)
+      × Passes before after [] (sent_of ways packets) × (tally ≡ tally_of ways packets)
 
 module _ {C : Type 0} (gives : C → ℕ → Option Given → C → Type 0)
-    (withholds : C → ℕ → C → Type 0) where
+    (withholds : C → ℕ → C → Type 0) {A : Type 0} where
   -- the core was asked at most so many times, and a fault came of the last one
-  abbrev pub SendsSome : ℕ → ℕ → Peers → Option Traffic → Option Traffic → RunFault → C → C
-      → Type 0
-  SendsSome most now peers before after fault old new = (packets : List Given)
-      × (sent : List Datagram)
-      × FailsAfter gives withholds most now peers packets sent fault old new
+  abbrev pub SendsSome : ℕ → ℕ → Ways A → Option (TrafficOf A) → Option (TrafficOf A) → RunFault → C
+      → C → Type 0
+  SendsSome most now ways before after fault old new = (packets : List Given)
+      × (sent : List A) × FailsAfter gives withholds most now ways packets sent fault old new
       × Passes before after [] sent

@@ -1,18 +1,13 @@
 -- Words of private functions: what became of a packet that a core gave.
 use Rattle.std.specs.Prelude.{ℕ, ◌+◌, Option, Some, None}
 use Rattle.ipx_carrier.specs.declared.report.Tally.{Tally}
-use Rattle.ipx_carrier.specs.declared.sending.Sending.{Sending}
-use Rattle.ipx_carrier.specs.declared.sending.Sending.TheVariants.{Unmapped, Sent}
+use Rattle.ipx_carrier.specs.declared.segments.Sent.{Sent}
+use Rattle.ipx_carrier.specs.Segments.{count_in}
 
--- by how many datagrams it was sent, if it could be
-abbrev pub count_in : Sending → Option ℕ
-count_in Unmapped = None
-count_in (Sent count) = Some count
-
--- the same where there was one
-abbrev pub view : Option Sending → Option (Option ℕ)
+-- by how many copies it was sent, where there was one
+abbrev pub view : Option Sent → Option (Option ℕ)
 view None = None
-view (Some sending) = Some (count_in sending)
+view (Some sent) = Some (count_in sent)
 
 -- a tally with one more packet
 abbrev pub added : Tally → Option ℕ → Tally

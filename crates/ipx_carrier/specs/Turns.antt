@@ -1,6 +1,6 @@
 -- The turns of a core over a device: what each of them received, heard and sent.
 -- The entry points are `Turns`, and `BreaksOff` for the turn that a fault ends.
-use Rattle.std.specs.Prelude.{Vec, ◌≡◌, ◌<◌, ◌≤◌, ◌⊎◌, ℕ, ◌+◌, List, [], ◌∷◌, ◌++◌, length, map, flat_map, slice_get, Option, Some, None, unwrap_or, if◌then◌else◌}
+use Rattle.std.specs.Prelude.{Vec, ◌≡◌, ◌<◌, ◌≤◌, ◌⊎◌, ℕ, ◌+◌, List, [], ◌∷◌, ◌++◌, length, map, flat_map, slice_get, Option, Some, None, option_map, unwrap_or, if◌then◌else◌}
 use Rattle.std.specs.Global.{Global}
 use Rattle.ipx_wire.specs.declared.address.Node.{Node}
 use Rattle.ipx_router.specs.Packets.{broadcast}
@@ -32,16 +32,20 @@ peers_of peers = map (λ v. v.items) peers
 abbrev pub datagram_to : Given → List ℕ → Datagram
 datagram_to p to = record { port = p.port; to = to; bytes = p.bytes }
 
--- a packet for one node goes to its IP address, and nowhere where it has none
-abbrev pub to_node : Given → Option (List ℕ) → List Datagram
-to_node p None = []
-to_node p (Some to) = datagram_to p to ∷ []
+-- by what each packet is sent, or that it is not, since nothing stands for its node
+abbrev pub Ways : Type 0 → Type 0
+Ways A = Given → Option (List A)
 
--- the datagrams that a packet is sent by: a broadcast goes to each peer of its port, in order
-abbrev pub datagrams_of : Peers → Given → List Datagram
-datagrams_of peers p =
-    if is_node p.node broadcast then map (datagram_to p) (unwrap_or (slice_get peers p.port) [])
-    else to_node p (ip_at p.node)
+-- by IP addresses: a broadcast is a datagram to each peer of its port, in order, and a packet for one
+-- node is one to its IP address, if it has one
+abbrev pub by_ip : Peers → Ways Datagram
+by_ip peers p =
+    if is_node p.node broadcast then Some (map (datagram_to p) (unwrap_or (slice_get peers p.port) []))
+    else option_map (λ to. datagram_to p to ∷ []) (ip_at p.node)
+
+-- the copies that a packet is sent by
+abbrev pub copies_of : {A : Type 0} → Ways A → Given → List A
+copies_of ways p = unwrap_or (ways p) []
 
 -- what turns read, received, and sent
 abbrev pub moments_of : List Turn → List ℕ
@@ -53,19 +57,19 @@ received_of turns = flat_map (λ t. t.answers) turns
 abbrev pub packets_of : List Turn → List Given
 packets_of turns = flat_map (λ t. t.packets) turns
 
-abbrev pub sent_of : Peers → List Given → List Datagram
-sent_of peers packets = flat_map (datagrams_of peers) packets
+abbrev pub sent_of : {A : Type 0} → Ways A → List Given → List A
+sent_of ways packets = flat_map (copies_of ways) packets
 
 -- what comes first in a list, up to some item of it
 abbrev pub IsFrontOf : {A : Type 0} → List A → List A → Type 0
 IsFrontOf {A} front whole = (next : A) × (rest : List A) × (whole ≡ front ++ next ∷ rest)
 
--- packets were given, and the last of them could not be sent whole: all datagrams of those before
--- it were sent, and its own up to the one that failed
-abbrev pub FailsInLast : Peers → List Given → List Datagram → Type 0
-FailsInLast peers packets sent = (before : List Given) × (last : Given) × (front : List Datagram)
-    × (packets ≡ before ++ last ∷ []) × IsFrontOf front (datagrams_of peers last)
-    × (sent ≡ sent_of peers before ++ front)
+-- packets were given, and the last of them could not be sent whole: all copies of those before it
+-- were sent, and its own up to the one that failed
+abbrev pub FailsInLast : {A : Type 0} → Ways A → List Given → List A → Type 0
+FailsInLast {A} ways packets sent = (before : List Given) × (last : Given) × (front : List A)
+    × (packets ≡ before ++ last ∷ []) × IsFrontOf front (copies_of ways last)
+    × (sent ≡ sent_of ways before ++ front)
 
 module _ {C : Type 0} (hears : C → ℕ → List ℕ → ℕ → C → Type 0) where
   -- a core hears what a port answered, if that is a datagram
@@ -111,21 +115,21 @@ module _ {C : Type 0} (misses : C → ℕ → List ℕ → ℕ → C → Type 0)
       × (last ≡ record { port = port; bytes = Some bytes } ∷ []) × misses old port bytes now new
 
 module _ {C : Type 0} (gives : C → ℕ → Option Given → C → Type 0)
-    (withholds : C → ℕ → C → Type 0) where
+    (withholds : C → ℕ → C → Type 0) {A : Type 0} where
   -- what a fault ends the asking for packets with: the device fails in the last packet, or the core
   -- withholds one more, and those before it were sent
-  abbrev pub FailsAfter : ℕ → ℕ → Peers → List Given → List Datagram → RunFault → C → C → Type 0
-  FailsAfter most now peers packets sent Device old new = GivesEach gives now packets old new
-      × (length packets ≤ most) × FailsInLast peers packets sent
-  FailsAfter most now peers packets sent OutOfMemory old new = (last : C)
+  abbrev pub FailsAfter : ℕ → ℕ → Ways A → List Given → List A → RunFault → C → C → Type 0
+  FailsAfter most now ways packets sent Device old new = GivesEach gives now packets old new
+      × (length packets ≤ most) × FailsInLast ways packets sent
+  FailsAfter most now ways packets sent OutOfMemory old new = (last : C)
       × GivesEach gives now packets old last × (length packets < most)
-      × (sent ≡ sent_of peers packets) × withholds last now new
+      × (sent ≡ sent_of ways packets) × withholds last now new
 
 module _ {C : Type 0} (hears misses : C → ℕ → List ℕ → ℕ → C → Type 0)
-    (gives : C → ℕ → Option Given → C → Type 0) (withholds : C → ℕ → C → Type 0) where
+    (gives : C → ℕ → Option Given → C → Type 0) (withholds : C → ℕ → C → Type 0) {A : Type 0} where
   -- a turn that a fault ends as its ports are asked: the answers before were heard, and nothing was
   -- sent
-  abbrev pub BreaksOffHearing : ℕ → Turn → List Datagram → RunFault → C → C → Type 0
+  abbrev pub BreaksOffHearing : ℕ → Turn → List A → RunFault → C → C → Type 0
   BreaksOffHearing ports t sent fault old new = (heard last : List Reception) × (mid : C)
       × (t.answers ≡ heard ++ last) × (length heard < ports)
       × HearsEach hears t.moment 0 heard old mid
@@ -133,12 +137,12 @@ module _ {C : Type 0} (hears misses : C → ℕ → List ℕ → ℕ → C → T
       × (t.packets ≡ []) × (sent ≡ [])
 
   -- a turn that a fault ends as its core is asked: each answer was heard
-  abbrev pub BreaksOffSending : ℕ → Peers → Turn → List Datagram → RunFault → C → C → Type 0
-  BreaksOffSending ports peers t sent fault old new = (length t.answers ≡ ports) × (mid : C)
+  abbrev pub BreaksOffSending : ℕ → Ways A → Turn → List A → RunFault → C → C → Type 0
+  BreaksOffSending ports ways t sent fault old new = (length t.answers ≡ ports) × (mid : C)
       × HearsEach hears t.moment 0 t.answers old mid
-      × FailsAfter gives withholds 64 t.moment peers t.packets sent fault mid new
+      × FailsAfter gives withholds 64 t.moment ways t.packets sent fault mid new
 
-  -- a turn that a fault ends, the datagrams that it sent, and the core then
-  abbrev pub BreaksOff : ℕ → Peers → Turn → List Datagram → RunFault → C → C → Type 0
-  BreaksOff ports peers t sent fault old new = BreaksOffHearing ports t sent fault old new
-      ⊎ BreaksOffSending ports peers t sent fault old new
+  -- a turn that a fault ends, what it sent, and the core then
+  abbrev pub BreaksOff : ℕ → Ways A → Turn → List A → RunFault → C → C → Type 0
+  BreaksOff ports ways t sent fault old new = BreaksOffHearing ports t sent fault old new
+      ⊎ BreaksOffSending ports ways t sent fault old new

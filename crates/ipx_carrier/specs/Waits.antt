@@ -1,7 +1,7 @@
 -- The datagrams that wait at the ports of a device, and how they leave it as it is asked.
 -- The entry points are `LeavesPort` where a port is asked once, and `DrainsDevice` for a whole run.
 use Rattle.std.specs.Prelude.{◌≡◌, ◌⊎◌, ℕ, List, [], ◌++◌, length, map, filter, take, drop, replicate, slice_get, slice_set, Option, Some, None, IfSome, option_map, ◌==◌}
-use Rattle.ipx_carrier.specs.Device.{Datagram, Passes, Reception, Traffic}
+use Rattle.ipx_carrier.specs.Device.{Passes, Reception, TrafficOf}
 
 -- for each port the datagrams that wait there, the first one first
 abbrev pub WaitingDatagrams : Type 0
@@ -36,9 +36,9 @@ DrainsPorts room waited received waiting = (length waiting ≡ length waited)
     × DrainsPort room here (answers_of_port port received) left)
 
 -- the same of a device that tells what waits, by the answers that it tells besides those before
-abbrev pub DrainsDevice : ℕ → Option Traffic → Option Traffic → Option WaitingDatagrams
-    → Option WaitingDatagrams → Type 0
-DrainsDevice room before after old new = (received : List Reception) × (sent : List Datagram)
+abbrev pub DrainsDevice : {A : Type 0} → ℕ → Option (TrafficOf A) → Option (TrafficOf A)
+    → Option WaitingDatagrams → Option WaitingDatagrams → Type 0
+DrainsDevice {A} room before after old new = (received : List Reception) × (sent : List A)
     × Passes before after received sent
     × IfSome old (λ waited. (waiting : WaitingDatagrams) × (new ≡ Some waiting)
     × DrainsPorts room waited received waiting)

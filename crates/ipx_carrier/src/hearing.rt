@@ -5,36 +5,38 @@ ghost use Rattle.ipx_carrier.specs.Fault.{failures_after};
 ghost use Rattle.ipx_carrier.specs.Parts.{AsksInVain, AsksPort, AsksPorts, AsksSomePorts, TakesFromDevice};
 
 use crate::cores::Core;
-use crate::datagrams::Datagrams;
 use crate::fault::RunFault;
+use crate::segments::Segments;
 use std::alloc::Global;
 
 /// Asks a port for a datagram, and lets the core hear it. It answers whether there was one.
-fn hear_port<C: Core, D: Datagrams>(
+fn hear_port<C: Core, S: Segments>(
     alloc: Global,
     core: &mut C,
-    datagrams: &mut D,
+    segments: &mut S,
     port: usize,
     now: u64,
     room: &mut [u8],
 ) -> Result<bool, RunFault>
     requires core { port < C.port_count core.old }
-    requires device { port < D.port_count datagrams.old }
-    requires countable { D.failed datagrams.old + 1 < 2 ^ 64 }
+    requires there { port < S.port_count segments.old }
+    requires countable { S.failed segments.old + 1 < 2 ^ 64 }
     ensures heard { IfOk result (λ heard. AsksPort C.hears now port
-        (D.traffic datagrams.old) (D.traffic datagrams.new) core.old core.new heard) }
+        (S.traffic segments.old) (S.traffic segments.new) core.old core.new heard) }
     ensures fault { IfErr result (λ f. AsksInVain C.hears C.misses now port
-        (D.traffic datagrams.old) (D.traffic datagrams.new) f core.old core.new) }
+        (S.traffic segments.old) (S.traffic segments.new) f core.old core.new) }
     ensures waiting { TakesFromDevice (length room.old)
-        (D.traffic datagrams.old) (D.traffic datagrams.new)
-        (D.waiting datagrams.old) (D.waiting datagrams.new) }
-    ensures failures { D.failed datagrams.new ≡ failures_after result (D.failed datagrams.old) }
+        (S.traffic segments.old) (S.traffic segments.new)
+        (S.waiting segments.old) (S.waiting segments.new) }
+    ensures failures { S.failed segments.new ≡ failures_after result (S.failed segments.old) }
     ensures core_ports { C.port_count core.new ≡ C.port_count core.old }
-    ensures device_ports { D.port_count datagrams.new ≡ D.port_count datagrams.old }
-    ensures access { D.access datagrams.new ≡ D.access datagrams.old }
-    ensures kept_back { D.kept_back datagrams.old ≤ D.kept_back datagrams.new }
+    ensures segment_ports { S.port_count segments.new ≡ S.port_count segments.old }
+    ensures ways { S.ways segments.new ≡ S.ways segments.old }
+    ensures access { S.access segments.new ≡ S.access segments.old }
+    ensures kept_back { S.kept_back segments.old ≤ S.kept_back segments.new }
+    ensures kept { S.kept segments.new ≡ S.kept segments.old }
 {
-    let Some(count) = datagrams.receive(port, room)? else {
+    let Some(count) = segments.receive(port, room)? else {
         return Ok(false);
     };
     core.hear(alloc, port, &room[..count], now)?;
@@ -43,32 +45,34 @@ fn hear_port<C: Core, D: Datagrams>(
 
 /// Asks each port once, in order, and lets the core hear what came. It answers how many datagrams
 /// there were.
-pub fn hear_ports<C: Core, D: Datagrams>(
+pub fn hear_ports<C: Core, S: Segments>(
     alloc: Global,
     core: &mut C,
-    datagrams: &mut D,
+    segments: &mut S,
     now: u64,
     room: &mut [u8],
 ) -> Result<u128, RunFault>
-    requires ports { D.port_count datagrams.old ≡ C.port_count core.old }
-    requires countable { D.failed datagrams.old + 1 < 2 ^ 64 }
+    requires ports { S.port_count segments.old ≡ C.port_count core.old }
+    requires countable { S.failed segments.old + 1 < 2 ^ 64 }
     ensures heard { IfOk result (λ count. AsksPorts C.hears now (C.port_count core.old)
-        (D.traffic datagrams.old) (D.traffic datagrams.new) core.old core.new count) }
+        (S.traffic segments.old) (S.traffic segments.new) core.old core.new count) }
     ensures fault { IfErr result (λ f. AsksSomePorts C.hears C.misses now (C.port_count core.old)
-        (D.traffic datagrams.old) (D.traffic datagrams.new) f core.old core.new) }
+        (S.traffic segments.old) (S.traffic segments.new) f core.old core.new) }
     ensures waiting { TakesFromDevice (length room.old)
-        (D.traffic datagrams.old) (D.traffic datagrams.new)
-        (D.waiting datagrams.old) (D.waiting datagrams.new) }
-    ensures failures { D.failed datagrams.new ≡ failures_after result (D.failed datagrams.old) }
+        (S.traffic segments.old) (S.traffic segments.new)
+        (S.waiting segments.old) (S.waiting segments.new) }
+    ensures failures { S.failed segments.new ≡ failures_after result (S.failed segments.old) }
     ensures few { IfOk result (λ count. count < 2 ^ 64) }
     ensures core_ports { C.port_count core.new ≡ C.port_count core.old }
-    ensures device_ports { D.port_count datagrams.new ≡ D.port_count datagrams.old }
-    ensures access { D.access datagrams.new ≡ D.access datagrams.old }
-    ensures kept_back { D.kept_back datagrams.old ≤ D.kept_back datagrams.new }
+    ensures segment_ports { S.port_count segments.new ≡ S.port_count segments.old }
+    ensures ways { S.ways segments.new ≡ S.ways segments.old }
+    ensures access { S.access segments.new ≡ S.access segments.old }
+    ensures kept_back { S.kept_back segments.old ≤ S.kept_back segments.new }
+    ensures kept { S.kept segments.new ≡ S.kept segments.old }
 {
     let mut heard = 0;
     for port in 0..core.ports() {
-        if hear_port(alloc, core, datagrams, port, now, room)? {
+        if hear_port(alloc, core, segments, port, now, room)? {
             heard += 1;
         }
     }

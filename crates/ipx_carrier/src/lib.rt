@@ -5,6 +5,7 @@
 //! datagrams in memory, and [`UdpDatagrams`] has a socket of UDP for each port.
 #![tactic(auto)]
 
+mod by_ip;
 mod clock;
 mod cores;
 mod datagrams;
@@ -18,9 +19,11 @@ mod queue;
 mod report;
 mod router_core;
 mod running;
+mod segments;
 mod sending;
 mod udp;
 
+pub use by_ip::ByIp;
 pub use clock::{Clock, SteppedClock};
 pub use cores::Core;
 pub use datagrams::Datagrams;
@@ -31,5 +34,6 @@ pub use mapping::{ip_of, node_of, node_of_ip_has_that_ip, node_with_ip_is_of_it}
 pub use memory::{MemoryDatagrams, SentDatagram};
 pub use report::Report;
 pub use router_core::RouterCore;
-pub use running::run;
+pub use running::{run, run_segments};
+pub use segments::{Segments, Sent};
 pub use udp::{UDP_PORT, UdpDatagrams};

@@ -5,15 +5,17 @@ ghost use Rattle.ipx_carrier.specs.Fault.{failures_after};
 ghost use Rattle.ipx_carrier.specs.Turns.{peers_of};
 ghost use Rattle.ipx_carrier.specs.Counts.{plus};
 ghost use Rattle.ipx_carrier.specs.Parts.{TakesFromDevice};
-ghost use Rattle.ipx_carrier.specs.Runs.{EndsEarly, Runs};
+ghost use Rattle.ipx_carrier.specs.Runs.{EndsEarly, EndsEarlyBy, Runs, RunsBy};
 ghost use Rattle.ipx_carrier.specs.Waits.{DrainsDevice};
 
+use crate::by_ip::ByIp;
 use crate::clock::Clock;
 use crate::cores::Core;
 use crate::datagrams::Datagrams;
 use crate::fault::RunFault;
 use crate::hearing::hear_ports;
 use crate::report::Report;
+use crate::segments::Segments;
 use crate::sending::send_all;
 use std::alloc::Global;
 
@@ -37,48 +39,105 @@ fn add(a: Report, b: Report) -> Report
 
 /// Takes one turn: it reads the clock, asks each port for a datagram, which the core hears, and
 /// sends what the core gives.
-fn take_turn<C: Core, D: Datagrams, K: Clock>(
+fn take_turn<C: Core, S: Segments, K: Clock>(
     alloc: Global,
     core: &mut C,
-    datagrams: &mut D,
-    peers: &[Vec<[u8; 4]>],
+    segments: &mut S,
     clock: &mut K,
     room: &mut [u8],
 ) -> Result<Report, RunFault>
-    requires ports { D.port_count datagrams.old ≡ C.port_count core.old }
-    requires peers { length peers.now ≡ C.port_count core.old }
-    requires countable { D.failed datagrams.old + 1 < 2 ^ 64 }
+    requires ports { S.port_count segments.old ≡ C.port_count core.old }
+    requires countable { S.failed segments.old + 1 < 2 ^ 64 }
     requires room { 1536 ≤ length room.old }
     ensures turn { IfOk result (λ report.
-        Runs C.hears C.gives K.tells (C.port_count core.old) (peers_of peers.now) 1
-        (D.traffic datagrams.old) (D.traffic datagrams.new) clock.old clock.new
+        RunsBy C.hears C.gives K.tells (C.port_count core.old) (S.ways segments.old) 1
+        (S.traffic segments.old) (S.traffic segments.new) clock.old clock.new
         core.old core.new report) }
     ensures one { IfOk result (λ report. report.turns ≡ 1) }
     ensures heard { IfOk result (λ report. report.heard < 2 ^ 64) }
     ensures sent { IfOk result (λ report. report.sent ≤ 64 * 2 ^ 64) }
     ensures unmapped { IfOk result (λ report. report.unmapped ≤ 64) }
-    ensures fault { IfErr result (λ f. EndsEarly C.hears C.misses C.gives C.withholds K.tells
-        (C.port_count core.old) (peers_of peers.now) 1
-        (D.traffic datagrams.old) (D.traffic datagrams.new) clock.old clock.new
+    ensures fault { IfErr result (λ f. EndsEarlyBy C.hears C.misses C.gives C.withholds K.tells
+        (C.port_count core.old) (S.ways segments.old) 1
+        (S.traffic segments.old) (S.traffic segments.new) clock.old clock.new
         f core.old core.new) }
     ensures waiting { TakesFromDevice (length room.old)
-        (D.traffic datagrams.old) (D.traffic datagrams.new)
-        (D.waiting datagrams.old) (D.waiting datagrams.new) }
-    ensures failures { D.failed datagrams.new ≡ failures_after result (D.failed datagrams.old) }
+        (S.traffic segments.old) (S.traffic segments.new)
+        (S.waiting segments.old) (S.waiting segments.new) }
+    ensures failures { S.failed segments.new ≡ failures_after result (S.failed segments.old) }
     ensures core_ports { C.port_count core.new ≡ C.port_count core.old }
-    ensures device_ports { D.port_count datagrams.new ≡ D.port_count datagrams.old }
-    ensures access { D.access datagrams.new ≡ D.access datagrams.old }
-    ensures kept_back { D.kept_back datagrams.old ≤ D.kept_back datagrams.new }
+    ensures segment_ports { S.port_count segments.new ≡ S.port_count segments.old }
+    ensures ways { S.ways segments.new ≡ S.ways segments.old }
+    ensures access { S.access segments.new ≡ S.access segments.old }
+    ensures kept_back { S.kept_back segments.old ≤ S.kept_back segments.new }
+    ensures kept { S.kept segments.new ≡ S.kept segments.old }
 {
     let now = clock.now();
-    let heard = hear_ports(alloc, core, datagrams, now, room)?;
-    let tally = send_all(alloc, core, datagrams, peers, now, room)?;
+    let heard = hear_ports(alloc, core, segments, now, room)?;
+    let tally = send_all(alloc, core, segments, now, room)?;
     Ok(Report {
         turns: 1,
         heard,
         sent: tally.sent,
         unmapped: tally.unmapped,
     })
+}
+
+/// Runs a core over segments for so many turns.
+///
+/// A turn reads the clock once, asks each port for what came in, in order, and lets the core hear
+/// it. Then it asks the core for packets until it gives none, or gave 64, and hands each to the
+/// segment of its port.
+///
+/// The caller owes segments for as many ports as the core has, at most 1,000,000 turns, and
+/// segments whose count of failures can rise. A fault ends the run, and what went before stands:
+/// `Device` where the segments failed, and `OutOfMemory` where the core wanted memory.
+pub fn run_segments<C: Core, S: Segments, K: Clock>(
+    alloc: Global,
+    core: &mut C,
+    segments: &mut S,
+    clock: &mut K,
+    turns: u64,
+) -> Result<Report, RunFault>
+    requires turns { turns ≤ 1000000 }
+    requires ports { S.port_count segments.old ≡ C.port_count core.old }
+    requires countable { S.failed segments.old + 1 < 2 ^ 64 }
+    // What was received and sent, the moments and the core after are those of so many turns.
+    ensures turns { IfOk result (λ report.
+        RunsBy C.hears C.gives K.tells (C.port_count core.old) (S.ways segments.old) turns
+        (S.traffic segments.old) (S.traffic segments.new) clock.old clock.new
+        core.old core.new report) }
+    // At a fault they are those of fewer turns, and of a part of the next one that the fault ends.
+    ensures fault { IfErr result (λ f. EndsEarlyBy C.hears C.misses C.gives C.withholds K.tells
+        (C.port_count core.old) (S.ways segments.old) turns
+        (S.traffic segments.old) (S.traffic segments.new) clock.old clock.new
+        f core.old core.new) }
+    // At each port what was received is the first datagrams that waited there, each as far as 1,536
+    // bytes, and the others still wait; at a fault too.
+    ensures waiting { DrainsDevice 1536 (S.traffic segments.old) (S.traffic segments.new)
+        (S.waiting segments.old) (S.waiting segments.new) }
+    // `Device` comes just where the segments failed.
+    ensures failures { S.failed segments.new ≡ failures_after result (S.failed segments.old) }
+    ensures core_ports { C.port_count core.new ≡ C.port_count core.old }
+    ensures segment_ports { S.port_count segments.new ≡ S.port_count segments.old }
+    // By what packets are sent and who may speak stays, and what is kept from the core is counted on.
+    ensures ways { S.ways segments.new ≡ S.ways segments.old }
+    ensures access { S.access segments.new ≡ S.access segments.old }
+    ensures kept_back { S.kept_back segments.old ≤ S.kept_back segments.new }
+    ensures kept { S.kept segments.new ≡ S.kept segments.old }
+{
+    let mut room = [0; ROOM];
+    let mut report = Report {
+        turns: 0,
+        heard: 0,
+        sent: 0,
+        unmapped: 0,
+    };
+    for _turn in 0..turns {
+        let turn = take_turn(alloc, core, segments, clock, &mut room)?;
+        report = add(report, turn);
+    }
+    Ok(report)
 }
 
 /// Runs a core over a device for so many turns.
@@ -126,16 +185,6 @@ pub fn run<C: Core, D: Datagrams, K: Clock>(
     ensures access { D.access datagrams.new ≡ D.access datagrams.old }
     ensures kept_back { D.kept_back datagrams.old ≤ D.kept_back datagrams.new }
 {
-    let mut room = [0; ROOM];
-    let mut report = Report {
-        turns: 0,
-        heard: 0,
-        sent: 0,
-        unmapped: 0,
-    };
-    for _turn in 0..turns {
-        let turn = take_turn(alloc, core, datagrams, peers, clock, &mut room)?;
-        report = add(report, turn);
-    }
-    Ok(report)
+    let mut segments = ByIp { datagrams, peers };
+    run_segments(alloc, core, &mut segments, clock, turns)
 }

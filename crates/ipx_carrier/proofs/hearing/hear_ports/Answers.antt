@@ -17,15 +17,17 @@ returns-in_err-hear_port-clause-waiting g c =
 
 pub loop-port-init : goal.loop-port-init
 loop-port-init g c = record {
-  asked = asked_none g.C.Core.hears c.args.now (g.D.Datagrams.traffic c.args.datagrams.now) c.args.core.now;
+  asked = asked_none g.C.Core.hears c.args.now (g.S.Segments.traffic c.args.segments.now) c.args.core.now;
   few = lit≤ tt;
   room = refl;
   waiting = takes_nothing _ _ _ _ _ refl refl;
   failures = refl;
   core_ports = refl;
-  device_ports = refl;
+  segment_ports = refl;
+  ways = refl;
   access = refl;
   kept_back = omega arith;
+  kept = refl;
 }
 
 pub loop-port-preserved : goal.loop-port-preserved
@@ -41,7 +43,9 @@ loop-port-preserved g c =
       waiting = takes_more _ _ _ _ _ _ _ _ c.loop-port.invariant.room c.loop-port.invariant.waiting c.in_ok-hear_port.ensures.waiting;
       failures = search rules;
       core_ports = search rules;
-      device_ports = search rules;
+      segment_ports = search rules;
+      ways = search rules;
       access = search rules;
       kept_back = omega arith;
+      kept = search rules;
     }

@@ -1,9 +1,8 @@
 use Rattle.std.proofs.Common.{rules, arith, refl, length, ◌≡◌}
 use Rattle.std.proofs.lemmas.Result.{err_from_is_err_and}
-use Rattle.ipx_carrier.specs.Turns.{peers_of}
 use Rattle.ipx_carrier.proofs.Courses.{ends_more, ran_more, ran_none}
 use Rattle.ipx_carrier.proofs.Draining.{drains, takes_more, takes_nothing}
-use Rattle.ipx_carrier.proofs.running.run.Goals as goal
+use Rattle.ipx_carrier.proofs.running.run_segments.Goals as goal
 
 pub returns-in_err-turn-clause-fault : goal.returns-in_err-turn-clause-fault
 returns-in_err-turn-clause-fault g c =
@@ -11,7 +10,7 @@ returns-in_err-turn-clause-fault g c =
     let ports = g.C.Core.port_count c.args.core.now in
     let here = g.C.Core.port_count c.loop-turn.core in
     rw (p.1, p.2)
-    (ends_more g.C.Core.hears g.C.Core.misses g.C.Core.gives g.C.Core.withholds g.K.Clock.tells ports (peers_of c.args.peers.now) here c.loop-turn._turn c.args.turns _ _ _ _ _ _ _ _ _ _ c.loop-turn.report c.loop-turn.invariant.core_ports (omega arith) c.loop-turn.invariant.ran c.in_err-turn.ensures.fault)
+    (ends_more g.C.Core.hears g.C.Core.misses g.C.Core.gives g.C.Core.withholds g.K.Clock.tells ports (g.S.Segments.ways c.args.segments.now) here c.loop-turn._turn c.args.turns _ _ _ _ _ _ _ _ _ _ _ c.loop-turn.report c.loop-turn.invariant.core_ports c.loop-turn.invariant.ways (omega arith) c.loop-turn.invariant.ran c.in_err-turn.ensures.fault)
 
 pub returns-in_err-turn-clause-waiting : goal.returns-in_err-turn-clause-waiting
 returns-in_err-turn-clause-waiting g c =
@@ -23,17 +22,19 @@ returns-clause-waiting g c = drains 1536 _ _ _ _ c.loop-turn.invariant.waiting
 
 pub loop-turn-init : goal.loop-turn-init
 loop-turn-init g c = record {
-  ran = ran_none g.C.Core.hears g.C.Core.gives g.K.Clock.tells (g.C.Core.port_count c.args.core.now) (peers_of c.args.peers.now) (g.D.Datagrams.traffic c.args.datagrams.now) c.args.clock.now c.args.core.now _ refl;
+  ran = ran_none g.C.Core.hears g.C.Core.gives g.K.Clock.tells (g.C.Core.port_count c.args.core.now) (g.S.Segments.ways c.args.segments.now) (g.S.Segments.traffic c.args.segments.now) c.args.clock.now c.args.core.now _ refl;
   counted = omega arith;
   heard = omega arith;
   sent = omega arith;
   unmapped = omega arith;
-  waiting = takes_nothing 1536 (g.D.Datagrams.traffic c.args.datagrams.now) (g.D.Datagrams.traffic c.args.datagrams.now) (g.D.Datagrams.waiting c.args.datagrams.now) (g.D.Datagrams.waiting c.args.datagrams.now) refl refl;
+  waiting = takes_nothing 1536 (g.S.Segments.traffic c.args.segments.now) (g.S.Segments.traffic c.args.segments.now) (g.S.Segments.waiting c.args.segments.now) (g.S.Segments.waiting c.args.segments.now) refl refl;
   failures = refl;
   core_ports = refl;
-  device_ports = refl;
+  segment_ports = refl;
+  ways = refl;
   access = refl;
   kept_back = omega arith;
+  kept = refl;
 }
 
 pub loop-turn-preserved : goal.loop-turn-preserved
@@ -43,7 +44,7 @@ loop-turn-preserved g c =
     let turn = c.in_ok-turn.ensures in
     let room : length c.loop-turn.room ≡ 1536 = omega arith in
     record {
-      ran = ran_more g.C.Core.hears g.C.Core.gives g.K.Clock.tells ports (peers_of c.args.peers.now) here c.loop-turn._turn _ _ _ _ _ _ _ _ _ c.loop-turn.report c.in_ok-turn.turn c.add-report.result c.loop-turn.invariant.core_ports c.loop-turn.invariant.ran c.in_ok-turn.ensures.turn c.add-report.ensures;
+      ran = ran_more g.C.Core.hears g.C.Core.gives g.K.Clock.tells ports (g.S.Segments.ways c.args.segments.now) here c.loop-turn._turn _ _ _ _ _ _ _ _ _ _ c.loop-turn.report c.in_ok-turn.turn c.add-report.result c.loop-turn.invariant.core_ports c.loop-turn.invariant.ways c.loop-turn.invariant.ran c.in_ok-turn.ensures.turn c.add-report.ensures;
       counted = rw c.add-report.ensures (omega (arith, turn.one));
       heard = rw c.add-report.ensures (omega (arith, turn.heard));
       sent = rw c.add-report.ensures (omega (arith, turn.sent));
@@ -51,7 +52,9 @@ loop-turn-preserved g c =
       waiting = takes_more _ 1536 _ _ _ _ _ _ room c.loop-turn.invariant.waiting turn.waiting;
       failures = search rules;
       core_ports = search rules;
-      device_ports = search rules;
+      segment_ports = search rules;
+      ways = search rules;
       access = search rules;
       kept_back = omega arith;
+      kept = search rules;
     }

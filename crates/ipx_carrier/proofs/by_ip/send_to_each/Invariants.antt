@@ -1,6 +1,6 @@
 use Rattle.std.proofs.Common.{◌≡◌, ◌≤◌, [], List, ℕ, map, take}
 use Rattle.ipx_carrier.specs.Device.{Datagram, Passes}
-use Rattle.ipx_carrier.proofs.sending.send_to_each.Given as goal
+use Rattle.ipx_carrier.proofs.by_ip.send_to_each.Given as goal
 
 abbrev pub invariant-loop-to : goal.invariant-loop-to
 invariant-loop-to g l =

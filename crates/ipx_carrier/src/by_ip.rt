@@ -1,0 +1,111 @@
+//! Segments of datagrams to IP addresses, by RFC 1234 (Tunneling IPX Traffic through IP Networks).
+
+ghost use Rattle.std.specs.Prelude.{◌≡◌, ◌<◌, ◌≤◌, ◌+◌, ◌^◌, [], OnErr, OnOk, map, slice_get, unwrap_or, is_err};
+ghost use Rattle.ipx_carrier.specs.Device.{Passes};
+ghost use Rattle.ipx_carrier.specs.Fault.{device_failures};
+ghost use Rattle.ipx_carrier.specs.Segments.{SendsFrontOf};
+ghost use Rattle.ipx_carrier.specs.Turns.{by_ip, peers_of};
+
+use crate::datagrams::Datagrams;
+use crate::fault::DeviceFault;
+use crate::mapping::ip_of;
+use crate::segments::{Segments, Sent};
+use ipx_wire::Node;
+
+/// Segments of a device of datagrams: a broadcast goes to each peer of its port, in order, another
+/// packet to the IP address of its node, and nowhere where the node has none. What comes goes to
+/// the core as it is.
+#[derive(Drop)]
+pub struct ByIp<'a, D> {
+    /// The device.
+    pub datagrams: &'a mut D,
+    /// The IP addresses of the other nodes, for each port. A port without a list has none.
+    pub peers: &'a [Vec<[u8; 4]>],
+}
+
+/// Sends bytes by a port to each peer, in order.
+fn send_to_each<D: Datagrams>(
+    datagrams: &mut D,
+    port: usize,
+    peers: &[[u8; 4]],
+    bytes: &[u8],
+) -> Result<(), DeviceFault>
+    requires there { port < D.port_count datagrams.old }
+    requires countable { D.failed datagrams.old + 1 < 2 ^ 64 }
+    ensures sent { OnOk result (Passes (D.traffic datagrams.old) (D.traffic datagrams.new) []
+        (map (λ to. record { port = port; to = to; bytes = bytes.now }) peers.now)) }
+    ensures fault { OnErr result (SendsFrontOf
+        (map (λ to. record { port = port; to = to; bytes = bytes.now }) peers.now)
+        (D.traffic datagrams.old) (D.traffic datagrams.new)) }
+    ensures waiting { D.waiting datagrams.new ≡ D.waiting datagrams.old }
+    ensures failures { D.failed datagrams.new ≡ device_failures result (D.failed datagrams.old) }
+    ensures ports { D.port_count datagrams.new ≡ D.port_count datagrams.old }
+    ensures access { D.access datagrams.new ≡ D.access datagrams.old }
+    ensures kept_back { D.kept_back datagrams.old ≤ D.kept_back datagrams.new }
+{
+    for to in peers {
+        datagrams.send(port, *to, bytes)?;
+    }
+    Ok(())
+}
+
+/// The peers of a port.
+fn peers_at(peers: &[Vec<[u8; 4]>], port: usize) -> &[[u8; 4]]
+    ensures { result.now ≡ unwrap_or (slice_get (peers_of peers.now) port) [] }
+{
+    match peers.get(port) {
+        Some(here) => here,
+        None => &[],
+    }
+}
+
+impl<'a, D: Datagrams> Segments for ByIp<'a, D> {
+    ghost use Rattle.ipx_carrier.specs.Device.{Datagram};
+    ghost use Rattle.std.specs.Borrow.{GName};
+
+    ghost Copy = { Datagram };
+
+    // It goes on over the same device.
+    ghost Kept = { GName };
+
+    ghost kept = { λ s. s.datagrams.ghost_name };
+
+    ghost port_count = { λ s. D.port_count s.datagrams.now };
+
+    ghost failed = { λ s. D.failed s.datagrams.now };
+
+    ghost ways = { λ s. by_ip (peers_of s.peers.now) };
+
+    ghost traffic = { λ s. D.traffic s.datagrams.now };
+
+    ghost waiting = { λ s. D.waiting s.datagrams.now };
+
+    ghost access = { λ s. D.access s.datagrams.now };
+
+    ghost kept_back = { λ s. D.kept_back s.datagrams.now };
+
+    fn ports(&self) -> usize {
+        self.datagrams.ports()
+    }
+
+    fn failures(&self) -> u64 {
+        self.datagrams.failures()
+    }
+
+    fn send(&mut self, port: usize, node: Node, packet: &[u8]) -> Result<Sent, DeviceFault> {
+        if node == Node::BROADCAST {
+            let peers = peers_at(self.peers, port);
+            send_to_each(self.datagrams, port, peers, packet)?;
+            return Ok(Sent::Copies(peers.len()));
+        }
+        let Ok(to) = ip_of(node) else {
+            return Ok(Sent::Unmapped);
+        };
+        self.datagrams.send(port, to, packet)?;
+        Ok(Sent::Copies(1))
+    }
+
+    fn receive(&mut self, port: usize, room: &mut [u8]) -> Result<Option<usize>, DeviceFault> {
+        self.datagrams.receive(port, room)
+    }
+}
