@@ -1,5 +1,5 @@
 -- Packets of a core, sent one after another.
-use Rattle.std.proofs.Common.{◌≡◌, ◌≤◌, ◌<◌, ℕ, zero, suc, ◌+◌, Bool, true, false, List, [], ◌∷◌, ◌++◌, length, map, Option, Some, None, Result, Ok, Err, refl, sym, ap, ◌∙◌, subst, append_assoc, append-nil, arith, cond, length-append, take, get_or, inl, inr, lit≤, lit<, add-zero, is_none, unwrap_or}
+use Rattle.std.proofs.Common.{◌≡◌, ◌≤◌, ◌<◌, ℕ, zero, suc, ◌+◌, false, List, [], ◌∷◌, ◌++◌, length, map, Option, Some, None, Result, Ok, Err, refl, sym, ap, ◌∙◌, subst, append_assoc, append-nil, arith, cond, length-append, take, get_or, inl, inr, lit≤, lit<, add-zero, is_none, unwrap_or}
 use Rattle.std.specs.Prelude.{OnErr, option_map}
 use Rattle.std.proofs.lemmas.Grind.{flat_map-append}
 use Rattle.ipx_router.specs.Packets.{broadcast}

@@ -1,5 +1,5 @@
 -- What a run counts of its turns, and what it says of them.
-use Rattle.std.specs.Prelude.{ℕ, ◌+◌, Bool, List, length, count_by, is_some, is_none}
+use Rattle.std.specs.Prelude.{ℕ, ◌+◌, List, length, count_by, is_some, is_none}
 use Rattle.ipx_carrier.specs.declared.report.Report.{Report}
 use Rattle.ipx_carrier.specs.Device.{Reception}
 use Rattle.ipx_carrier.specs.Turns.{Given, Turn, Ways, packets_of, received_of, sent_of}

@@ -1,5 +1,5 @@
 -- What became of a packet that was handed to the segment of a port, by the copies that it is sent by.
-use Rattle.std.specs.Prelude.{◌≡◌, ℕ, List, [], length, Option, Some, None, option_map}
+use Rattle.std.specs.Prelude.{ℕ, List, [], length, Option, Some, None, option_map}
 use Rattle.ipx_carrier.specs.declared.segments.Sent.{Sent}
 use Rattle.ipx_carrier.specs.declared.segments.Sent.TheVariants.{Unmapped, Copies}
 use Rattle.ipx_carrier.specs.Device.{Passes, TrafficOf}

@@ -1,6 +1,6 @@
 //! Segments of datagrams to IP addresses, by RFC 1234 (Tunneling IPX Traffic through IP Networks).
 
-ghost use Rattle.std.specs.Prelude.{◌≡◌, ◌<◌, ◌≤◌, ◌+◌, ◌^◌, [], OnErr, OnOk, map, slice_get, unwrap_or, is_err};
+ghost use Rattle.std.specs.Prelude.{◌≡◌, ◌<◌, ◌≤◌, ◌+◌, ◌^◌, [], OnErr, OnOk, map, slice_get, unwrap_or};
 ghost use Rattle.ipx_carrier.specs.Device.{Passes};
 ghost use Rattle.ipx_carrier.specs.Fault.{device_failures};
 ghost use Rattle.ipx_carrier.specs.Segments.{SendsFrontOf};

@@ -3,6 +3,10 @@
 //! A [`Core`] hears datagrams and gives packets; [`Datagrams`] are the ports of a device, and a
 //! [`Clock`] tells moments. [`run`] takes turns between the three. [`MemoryDatagrams`] keeps its
 //! datagrams in memory, and [`UdpDatagrams`] has a socket of UDP for each port.
+//!
+//! [`Segments`] say how a packet for a node leaves a port, and what comes in there, whatever it is
+//! sent by. [`run_segments`] takes turns over them, and [`ByIp`] is how `run` has it: datagrams to
+//! the IP addresses that nodes stand for.
 #![tactic(auto)]
 
 mod by_ip;
