@@ -18,7 +18,7 @@ pub const SIX: [&str; 6] = [
 ];
 
 /// Compares what was sent with the first of the six.
-fn are_first(rt: &impl Abort, alloc: Global, sent: &[SentDatagram]) -> Result<(), Fail> {
+pub fn are_first(rt: &impl Abort, alloc: Global, sent: &[SentDatagram]) -> Result<(), Fail> {
     for (datagram, text) in sent.iter().zip(SIX.iter()) {
         assert_eq!(rt; text_of(alloc, datagram)?.as_str(), *text);
     }
