@@ -20,3 +20,5 @@ mod refused_by_others;
 mod sending;
 #[cfg(test)]
 mod texts;
+#[cfg(test)]
+mod wires;
