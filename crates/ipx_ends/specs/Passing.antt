@@ -83,8 +83,8 @@ pub record SameOthers (old new : EndpointView) (id : ℕ) : Type 0 where
   pub self : SameSelf old new
   pub heard : new.heard ≡ old.heard
 
--- what passes from one connection of a host: nothing where it was not heard. Where an end that was taken before left nothing to write,
--- one that is taken now leaves nothing, either
+-- what passes from one connection of a host: nothing where it was not heard. Where an end that was taken
+-- before left nothing to write, one that is taken now leaves nothing, either
 pub record PassesOne (old new : EndpointView) (waiting left : List ℕ)
     (written writes : Option (List ℕ)) (caller caller' : Caller) : Type 0 where
   pub from : PassesFrom (held_at old caller.id) (held_at new caller.id) waiting left written writes caller caller'

@@ -7,7 +7,8 @@ use Rattle.ipx_ends.specs.declared.callers.Standing.TheVariants as Standings
 use Rattle.ipx_ends.specs.declared.listening.Stop.{Stop}
 use Rattle.ipx_ends.specs.declared.listening.Stop.TheVariants.{Ended, Lost, Unwritten, Unwaited}
 
--- the status that goes with it: 0 where the end of the first connection came
+-- the status that goes with it: 0 where the end of the first connection that was
+-- heard came
 abbrev pub stop_status : Stop → ℕ
 stop_status Ended = 0
 stop_status Lost = 1

@@ -17,8 +17,8 @@ pub const LINGER: u64 = 3000;
 /// milliseconds.
 pub const SILENCE: u64 = 60_000;
 
-/// How long a connection of which nothing was heard yet is waited for, before it is asked whether it
-/// is there, or makes room, in milliseconds.
+/// How long a connection of which nothing was heard yet is waited for, before it is asked whether
+/// it is there, or makes room, in milliseconds.
 pub const CALL: u64 = 1000;
 
 /// How a connection that was accepted stands with this host.
@@ -61,7 +61,7 @@ impl Standing {
 pub struct Caller {
     pub id: u16,
     pub from: Address,
-    /// The moment at which it was heard last, or at which it could not be asked.
+    /// The moment at which it came, was heard last, or could not be asked.
     pub heard: u64,
     pub standing: Standing,
 }

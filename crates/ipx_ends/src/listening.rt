@@ -175,7 +175,8 @@ impl<'a, R: Net + Log + Clock> Listening<'a, R> {
         hear_caller(self.once, endpoint, &mut self.callers, id, moment);
     }
 
-    /// Lets a connection go of which nothing was heard for long, since there was no link for another.
+    /// Lets a connection go of which nothing was heard for long, since there was no link for
+    /// another.
     fn make_room(&mut self, moment: u64)
         ensures room { MakesRoom moment
             self.old.station.core.endpoint self.new.station.core.endpoint

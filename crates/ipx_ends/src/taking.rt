@@ -48,8 +48,8 @@ fn take_next(
     }
 }
 
-/// Takes what a connection that was heard holds, and writes each message. It stops where one can't be written
-/// without waiting. It answers whether it took anything.
+/// Takes what a connection that was heard holds, and writes each message. It stops where one can't
+/// be written without waiting. It answers whether it took anything.
 fn take_some<W: Write>(
     alloc: Global,
     endpoint: &mut Endpoint,

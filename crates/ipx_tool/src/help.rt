@@ -256,7 +256,7 @@ fn listen_command<'a>(alloc: Global) -> Result<Command<'a>, Error> {
     let once = Arg::new(alloc, "once")
         .long("once")
         .action(ArgAction::SetTrue)
-        .help("Ends behind the first connection that ends");
+        .help("Ends behind the first connection that is heard");
     let command = Command::new(alloc, "listen")
         .about("A host that takes connections, and writes the messages that come")
         .long_about(LISTEN)

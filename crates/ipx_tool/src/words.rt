@@ -21,7 +21,7 @@ pub enum Task<'a> {
     Udp(u16),
     /// The file of the site.
     Route(&'a str),
-    /// The file of the host, and whether it ends behind the first connection.
+    /// The file of the host, and whether it ends behind the first connection that is heard.
     Listen(&'a str, bool),
     /// The file of the host, and whom it dials.
     Send(&'a str, Target<'a>),
