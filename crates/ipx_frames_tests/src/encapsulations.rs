@@ -5,7 +5,7 @@ use ipx_frames::Encapsulation;
 use ipx_wire::Node;
 use std::test::Fail;
 
-const ROWS: [Heard; 23] = [
+const ROWS: [Heard; 25] = [
     Heard {
         name: "even to the station, 802.3",
         frame: "0200000000010200000000420022ffff00220004000000220200000000014002000000110200\
@@ -55,6 +55,24 @@ const ROWS: [Heard; 23] = [
         name: "the length counts the padding, 802.3",
         frame: "020000000001020000000042002effff00220004000000220200000000014002000000110200\
          0000004240026576656e000000000000000000000000",
+        encapsulation: Encapsulation::Raw,
+        to: STATION,
+        size: 34,
+        sends: false,
+    },
+    Heard {
+        name: "odd, and its length too, 802.3",
+        frame: "0200000000010200000000420021ffff00210004000000220200000000014002000000110200\
+         0000004240026f646400000000000000000000000000",
+        encapsulation: Encapsulation::Raw,
+        to: STATION,
+        size: 33,
+        sends: false,
+    },
+    Heard {
+        name: "a check sequence behind it, 802.3",
+        frame: "0200000000010200000000420022ffff00220004000000220200000000014002000000110200\
+         0000004240026576656e000000000000000000000000deadbeef",
         encapsulation: Encapsulation::Raw,
         to: STATION,
         size: 34,

@@ -50,9 +50,24 @@ fn texts_of_faults(rt: HostRuntime) -> Result<(), Fail> {
         ),
         (FrameFault::OtherType(0x0806), 47, "type 0806, IPX has 8137"),
         (
+            FrameFault::FrameTruncated(47, 60),
+            48,
+            "length says 47 bytes, frame has 60 with the 14 before them",
+        ),
+        (
+            FrameFault::OtherLlc,
+            49,
+            "neither ffff nor e0e003 nor aaaa030000008137 follows the length",
+        ),
+        (
             FrameFault::NoPacket(IpxFault::LengthShort(29)),
             50,
             "length field says 29 bytes, an IPX header needs 30",
+        ),
+        (
+            FrameFault::PacketLong(1498, 1497),
+            51,
+            "a packet of 1498 bytes, the encapsulation takes at most 1497",
         ),
         (
             FrameFault::NoRoom(60, 59),
