@@ -8,6 +8,7 @@ use Rattle.spx_link.specs.Offer.{offer_link}
 use Rattle.spx_units.specs.Cut.{cut_of}
 use Rattle.spx_messages.specs.Changes.{ChangesEnd, SameBut, SameSelf}
 use Rattle.spx_messages.specs.EndpointView.{EndpointView, Held, held_at}
+use Rattle.ipx_carrier.specs.Fates.{raised}
 use Rattle.ipx_wire.specs.declared.address.Address.{Address}
 use Rattle.ipx_ends.specs.Fate.{ends, is_unheard, standing_asked, standing_heard}
 use Rattle.ipx_ends.specs.declared.callers.Caller.{Caller}
@@ -75,7 +76,7 @@ KeepsHeard true old new callers callers' = MatchOption (position has_spoken call
     (λ place. IfSome (slice_get callers place) (λ c. callers' ≡ c ∷ [])
     × LetsLinksGo (remove callers place) old new)
 
--- a connection was not heard, and came a second ago or longer
+-- a connection was not heard, and a second ago or longer it came, or could not be asked
 abbrev pub is_overdue : ℕ → Caller → Bool
 is_overdue now c = is_unheard c.standing && nat_le 1000 (now - c.heard)
 
@@ -85,6 +86,10 @@ MakesRoom now old new callers callers' = MatchOption (position (is_overdue now) 
     ((callers' ≡ callers) × (new ≡ old))
     (λ place. (callers' ≡ remove callers place)
     × IfSome (slice_get callers place) (λ c. LetsLinkGo old new c.id))
+
+-- a count, one higher where so it is
+abbrev pub raised_if : Bool → ℕ → ℕ
+raised_if more n = if more then raised n else n
 
 -- what a host does of what its core noted: a connection is heard, or one comes, or one makes room
 abbrev pub DoesNoted : Bool → Option Came → ℕ → EndpointView → EndpointView → List Caller → List Caller → Type 0

@@ -87,7 +87,7 @@ impl Caller {
         !self.standing.is_unheard()
     }
 
-    /// Whether nothing was heard of it, and it came a second ago or longer.
+    /// Whether nothing was heard of it, and a second ago or longer it came, or could not be asked.
     pub fn is_overdue(&self, now: u64) -> bool
         ensures { result ≡ is_overdue now self.now }
     {

@@ -1,8 +1,8 @@
 //! Who keeps a place among the connections of a host that listens, and who goes for others.
 
-ghost use Rattle.std.specs.Prelude.{◌≡◌, ◌↔◌, ◌<◌, ◌≤◌, true, count_by, length, map, position, vec_capacity, IfSome, IsTrue};
+ghost use Rattle.std.specs.Prelude.{◌≡◌, ◌↔◌, ◌<◌, ◌≤◌, true, count_by, is_some, length, map, position, vec_capacity, IfSome, IsTrue};
 ghost use Rattle.std.specs.List.{list_any};
-ghost use Rattle.ipx_ends.specs.Callers.{Admits, Asks, IsFull, KeepsHeard, LetsLinkGo, LetsLinksGo, MakesRoom, heard_by, has_spoken, is_overdue, is_unheard_of};
+ghost use Rattle.ipx_ends.specs.Callers.{Admits, Asks, IsFull, KeepsHeard, LetsLinkGo, LetsLinksGo, MakesRoom, heard_by, has_spoken, is_overdue, is_unheard_of, raised_if};
 
 use crate::callers::{Caller, hear_one};
 use ipx_wire::Address;
@@ -126,6 +126,7 @@ pub fn hear_caller(
 pub fn make_room(endpoint: &mut Endpoint, callers: &mut Vec<Caller>, moment: u64) -> bool
     requires { 16 ≤ vec_capacity callers.old }
     ensures makes { MakesRoom moment endpoint.old endpoint.new callers.old.items callers.new.items }
+    ensures one { result ≡ is_some (position (is_overdue moment) callers.old.items) }
     ensures room { 16 ≤ vec_capacity callers.new }
 {
     let Some(place) = place_of_overdue(callers, moment) else {
@@ -134,6 +135,13 @@ pub fn make_room(endpoint: &mut Endpoint, callers: &mut Vec<Caller>, moment: u64
     let caller = callers.remove(place);
     let_link_go(endpoint, caller.id);
     true
+}
+
+/// A count, one higher where so it is.
+pub fn count_if(more: bool, count: u64) -> u64
+    ensures { result ≡ raised_if more count }
+{
+    if more { count.saturating_add(1) } else { count }
 }
 
 /// Asks whether a connection is still there, by a message of no bytes: a peer that is there

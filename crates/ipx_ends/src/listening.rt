@@ -1,12 +1,12 @@
 //! A host that listens: its steps, and how it comes to stop.
 
-ghost use Rattle.std.specs.Prelude.{◌≡◌, ◌≢◌, ◌<◌, ◌≤◌, ◌↔◌, ◌∷◌, ◌++◌, [], ℕ, List, false, IfOk, IsTrue, None, OnErr, OnOk, Some, Err, Ok, map, vec_capacity};
+ghost use Rattle.std.specs.Prelude.{◌≡◌, ◌≢◌, ◌<◌, ◌≤◌, ◌↔◌, ◌∷◌, ◌++◌, [], ℕ, List, false, IfOk, IsTrue, None, OnErr, OnOk, Some, Err, Ok, is_some, map, position, vec_capacity};
 ghost use Rattle.ipx_carrier.specs.Mapping.{node_at};
 ghost use Rattle.ipx_carrier.specs.Turns.{peers_of};
 ghost use Rattle.ipx_site.specs.Origins.{named_in};
 ghost use Rattle.ipx_wire.specs.declared.address.Socket.{Socket};
 ghost use Rattle.spx_messages.specs.EndpointView.{buffers_at, held_at};
-ghost use Rattle.ipx_ends.specs.Callers.{Admits, KeepsHeard, KeepsOne, MakesRoom, NotesHeard, caller_of, heard_by, keeps_one_prop};
+ghost use Rattle.ipx_ends.specs.Callers.{Admits, KeepsHeard, KeepsOne, MakesRoom, NotesHeard, caller_of, heard_by, is_overdue, keeps_one_prop, raised_if};
 ghost use Rattle.ipx_ends.specs.Hosting.{Hears, Moves, MovesSome, Serves, StepsTo, host};
 ghost use Rattle.ipx_ends.specs.Outlet.{Writes, left_of};
 ghost use Rattle.ipx_ends.specs.Passing.{PassesEach, PassesSome};
@@ -19,13 +19,13 @@ ghost use Rattle.ipx_ends.specs.declared.listening.Stop.TheVariants as Stops;
 use crate::callers::{Caller, Standing};
 use crate::end_core::{Accepted, Came};
 use crate::gate::Gate;
-use crate::leaving::{MOST_CALLERS, hear_caller, hold, make_room};
+use crate::leaving::{MOST_CALLERS, count_if, hear_caller, hold, make_room};
 use crate::outlet::{Outlet, WriteFault};
 use crate::start::StartFault;
 use crate::station::{Station, Turn};
 use crate::taking::take_each;
 use ipx_site::{Cause, HostFile, WaitFault};
-use log::{Log, warn};
+use log::Log;
 use mio::Interest;
 use std::alloc::Global;
 use std::io::Write;
@@ -78,9 +78,9 @@ pub struct Listening<'a, R: Clock> {
     pub callers: Vec<Caller>,
     pub outlet: Outlet,
     pub once: bool,
-    /// The connections that went before anything was heard of them.
-    pub unheard: u64,
-    of_unheard: Cause,
+    /// How many connections went by their silence, of which nothing was ever heard.
+    pub never_spoke: u64,
+    pub of_never_spoke: Cause,
     ghost room: { 16 ≤ vec_capacity callers },
     ghost one: { KeepsOne once callers.items (left_of outlet) } by { keeps_one_prop once callers.items (left_of outlet) },
 }
@@ -128,8 +128,8 @@ impl<'a, R: Net + Log + Clock> Listening<'a, R> {
             callers: Vec::with_capacity(alloc, MOST_CALLERS)?,
             outlet: Outlet::new(alloc, gate),
             once,
-            unheard: 0,
-            of_unheard: Cause::new(),
+            never_spoke: 0,
+            of_never_spoke: Cause::new(),
         })
     }
 
@@ -181,6 +181,9 @@ impl<'a, R: Net + Log + Clock> Listening<'a, R> {
         ensures room { MakesRoom moment
             self.old.station.core.endpoint self.new.station.core.endpoint
             self.old.callers.items self.new.callers.items }
+        ensures counts { self.new.never_spoke
+            ≡ raised_if (is_some (position (is_overdue moment) self.old.callers.items))
+            self.old.never_spoke }
         ensures core { self.new.station.core ≡ record self.old.station.core {
           endpoint = self.new.station.core.endpoint;
         } }
@@ -192,20 +195,7 @@ impl<'a, R: Net + Log + Clock> Listening<'a, R> {
     {
         let endpoint = &mut self.station.core.endpoint;
         let went = make_room(endpoint, &mut self.callers, moment);
-        self.unheard = self.unheard.saturating_add(u64::from(went));
-    }
-
-    /// Tells how many connections went before anything was heard of them, once a minute at most.
-    fn tell_unheard(&mut self, rt: &R)
-        ensures station { self.new.station ≡ self.old.station }
-        ensures callers { self.new.callers ≡ self.old.callers }
-        ensures outlet { self.new.outlet ≡ self.old.outlet }
-        ensures once { self.new.once ≡ self.old.once }
-    {
-        let unheard = self.unheard;
-        if let Some(more) = self.of_unheard.tell(unheard, self.station.moment()) {
-            warn!(rt; target: "ipx", "{more} callers never spoke ({unheard} since the start)");
-        }
+        self.never_spoke = count_if(went, self.never_spoke);
     }
 
     /// Notes which connection the last datagram was of, or made, or did not find room for.
@@ -291,7 +281,7 @@ impl<'a, R: Net + Log + Clock> Listening<'a, R> {
         ensures once { self.new.once ≡ self.old.once }
     {
         let turn = self.station.turn(rt, alloc);
-        self.tell_unheard(rt);
+        self.tell_silent(rt);
         if turn.heard {
             self.note();
         }

@@ -1,7 +1,8 @@
 //! What a host that listens does with its connections: it asks them, and lets them go.
 
 ghost use Rattle.std.specs.Prelude.{◌≡◌, ◌<◌, [], length, remove, slice_get, slice_set, take, false, All, IfSome, IsTrue, MatchOption, None, OnErr, Some, Err, Ok};
-ghost use Rattle.ipx_ends.specs.Callers.{Asks, EndedAlone, LetsLinkGo};
+ghost use Rattle.ipx_ends.specs.Callers.{Asks, EndedAlone, LetsLinkGo, raised_if};
+ghost use Rattle.ipx_ends.specs.Fate.{is_unheard};
 ghost use Rattle.ipx_ends.specs.Outlet.{left_of};
 ghost use Rattle.ipx_ends.specs.Stop.{parted, stop_in};
 ghost use Rattle.ipx_ends.specs.Tending.{IsFateOf, JustStays, Tends, Tidies};
@@ -10,7 +11,7 @@ ghost use Rattle.ipx_ends.specs.declared.callers.Standing.TheVariants as Standin
 ghost use Rattle.ipx_ends.specs.declared.listening.Stop.TheVariants as Stops;
 
 use crate::callers::{Caller, Fate, Standing, fate_of};
-use crate::leaving::{MOST_CALLERS, ask, let_link_go};
+use crate::leaving::{MOST_CALLERS, ask, count_if, let_link_go};
 use crate::listening::{Listening, Stop};
 use log::{Log, warn};
 use std::alloc::Global;
@@ -88,6 +89,19 @@ impl<'a, R: Net + Log + Clock> Listening<'a, R> {
         ask(alloc, endpoint, &mut self.callers[place], moment);
     }
 
+    /// Tells how many connections went before anything was heard of them, once a minute at most.
+    pub fn tell_silent(&mut self, rt: &R)
+        ensures station { self.new.station ≡ self.old.station }
+        ensures callers { self.new.callers ≡ self.old.callers }
+        ensures outlet { self.new.outlet ≡ self.old.outlet }
+        ensures once { self.new.once ≡ self.old.once }
+    {
+        let count = self.never_spoke;
+        if let Some(more) = self.of_never_spoke.tell(count, self.station.moment()) {
+            warn!(rt; target: "ipx", "{more} callers never spoke ({count} since the start)");
+        }
+    }
+
     /// Lets a connection go. With `once` all is over then, where it was heard.
     fn let_go(&mut self, rt: &R, place: usize, fate: Fate) -> Result<(), Stop>
         requires { place < length self.old.callers.items }
@@ -96,6 +110,8 @@ impl<'a, R: Net + Log + Clock> Listening<'a, R> {
             self.old.station.core.endpoint self.new.station.core.endpoint c.id) }
         ensures stops { IfSome (slice_get self.old.callers.items place) (λ c.
             stop_in result ≡ parted self.old.once fate c.standing) }
+        ensures counts { IfSome (slice_get self.old.callers.items place) (λ c.
+            self.new.never_spoke ≡ raised_if (is_unheard c.standing) self.old.never_spoke) }
         ensures only { OnErr result (IsTrue self.old.once) }
         // With `once` the only connection that was heard goes, and what was taken of it is written.
         ensures written { result ≡ Err Stops.Ended → left_of self.new.outlet ≡ [] }
@@ -110,8 +126,7 @@ impl<'a, R: Net + Log + Clock> Listening<'a, R> {
     {
         let caller = self.callers.remove(place);
         let_link_go(&mut self.station.core.endpoint, caller.id);
-        let unheard = u64::from(!caller.is_heard());
-        self.unheard = self.unheard.saturating_add(unheard);
+        self.never_spoke = count_if(caller.standing.is_unheard(), self.never_spoke);
         tell_parted(rt, &caller, fate);
         stop_of(self.once, fate, caller.standing)
     }

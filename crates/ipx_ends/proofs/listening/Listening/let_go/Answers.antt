@@ -1,7 +1,7 @@
-use Rattle.std.proofs.Common.{◌≡◌, List, Some, arith, length, refl, subst, sym}
+use Rattle.std.proofs.Common.{◌≡◌, ◌∙◌, Bool, List, Some, ap, arith, length, refl, subst, sym}
 use Rattle.std.proofs.lemmas.Option.{slice_get_read}
 use Rattle.std.specs.Prelude.{slice_get}
-use Rattle.ipx_ends.specs.Callers.{KeepsOne}
+use Rattle.ipx_ends.specs.Callers.{KeepsOne, raised_if}
 use Rattle.ipx_ends.specs.Outlet.{left_of}
 use Rattle.ipx_ends.specs.declared.callers.Caller.{Caller}
 use Rattle.ipx_ends.proofs.Holding.{keeps_removed}
@@ -29,3 +29,10 @@ returns-clause-stops g c =
     let k = c.remove-caller.result in
     let at : slice_get items c.args.place ≡ Some k = slice_get_read items (length items) c.args.place k refl c.requires c.remove-caller.ensures.value in
     rw at c.stop_of.ensures.stops
+
+pub returns-clause-counts : goal.returns-clause-counts
+returns-clause-counts g c =
+    let items = c.args.self.now.callers.items in
+    let k = c.remove-caller.result in
+    let at : slice_get items c.args.place ≡ Some k = slice_get_read items (length items) c.args.place k refl c.requires c.remove-caller.ensures.value in
+    rw at (c.count_if-self.ensures ∙ ap (λ (b : Bool). raised_if b c.args.self.now.never_spoke) c.is_unheard.ensures)
