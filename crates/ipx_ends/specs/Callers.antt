@@ -9,7 +9,9 @@ use Rattle.spx_units.specs.Cut.{cut_of}
 use Rattle.spx_messages.specs.Changes.{ChangesEnd, SameBut, SameSelf}
 use Rattle.spx_messages.specs.EndpointView.{EndpointView, Held, held_at}
 use Rattle.ipx_carrier.specs.Fates.{raised}
+use Rattle.ipx_site.specs.Origins.{home_network}
 use Rattle.ipx_wire.specs.declared.address.Address.{Address}
+use Rattle.ipx_wire.specs.declared.address.Network.{Network}
 use Rattle.ipx_ends.specs.Fate.{ends, is_unheard, standing_asked, standing_heard}
 use Rattle.ipx_ends.specs.declared.callers.Caller.{Caller}
 use Rattle.ipx_ends.specs.declared.callers.Standing.TheVariants as Standings
@@ -37,9 +39,9 @@ pub record LetsLinkGo (old new : EndpointView) (id : ℕ) : Type 0 where
   pub self : SameSelf old new
   pub heard : new.heard ≡ old.heard
 
--- two addresses are of one node of one network
-abbrev pub is_same_node : Address → Address → Bool
-is_same_node a b = a.network.0 == b.network.0 && pointwise nat_eq a.node.0 b.node.0
+-- two addresses are of one node of one network, for a host of this one
+abbrev pub is_same_node : Network → Address → Address → Bool
+is_same_node own a b = home_network own a == home_network own b && pointwise nat_eq a.node.0 b.node.0
 
 abbrev pub has_spoken : Caller → Bool
 has_spoken c = not (is_unheard c.standing)
@@ -48,20 +50,20 @@ abbrev pub is_ended : Caller → Bool
 is_ended c = ends c.standing
 
 -- a connection was not heard, and is of the node of an address
-abbrev pub is_unheard_of : Address → Caller → Bool
-is_unheard_of from c = is_unheard c.standing && is_same_node c.from from
+abbrev pub is_unheard_of : Network → Address → Caller → Bool
+is_unheard_of own from c = is_unheard c.standing && is_same_node own c.from from
 
--- there is no place for one more from an address: with `once` one was heard; or 16 are held; or 4 of its
--- node were not heard
-abbrev pub IsFull : Bool → Address → List Caller → Type 0
-IsFull once from callers = (IsTrue once × (list_any has_spoken callers ≡ true)) ⊎ (16 ≤ length callers)
-    ⊎ (4 ≤ count_by (is_unheard_of from) callers)
+-- there is no place at a host of a network for one more from an address: with `once` one was heard; or 16
+-- are held; or 4 of its node were not heard
+abbrev pub IsFull : Bool → Network → Address → List Caller → Type 0
+IsFull once own from callers = (IsTrue once × (list_any has_spoken callers ≡ true))
+    ⊎ (16 ≤ length callers) ⊎ (4 ≤ count_by (is_unheard_of own from) callers)
 
 -- a connection comes: where there is a place it is the last one then, and else its link is let go
 abbrev pub Admits : Bool → Caller → EndpointView → EndpointView → List Caller → List Caller → Type 0
 Admits once c old new callers callers' =
-    ((IsFull once c.from callers → ⊥) × (callers' ≡ callers ++ c ∷ []) × (new ≡ old))
-    ⊎ (IsFull once c.from callers × (callers' ≡ callers) × LetsLinkGo old new c.id)
+    ((IsFull once old.network c.from callers → ⊥) × (callers' ≡ callers ++ c ∷ []) × (new ≡ old))
+    ⊎ (IsFull once old.network c.from callers × (callers' ≡ callers) × LetsLinkGo old new c.id)
 
 -- the links of connections are forgotten, one after another
 abbrev pub LetsLinksGo : List Caller → EndpointView → EndpointView → Type 0

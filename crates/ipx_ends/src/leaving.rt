@@ -5,7 +5,7 @@ ghost use Rattle.std.specs.List.{list_any};
 ghost use Rattle.ipx_ends.specs.Callers.{Admits, Asks, IsFull, KeepsHeard, LetsLinkGo, LetsLinksGo, MakesRoom, heard_by, has_spoken, is_overdue, is_unheard_of, raised_if};
 
 use crate::callers::{Caller, hear_one};
-use ipx_wire::Address;
+use ipx_wire::{Address, Network};
 use spx_messages::{Endpoint, Message};
 use std::alloc::Global;
 
@@ -39,24 +39,24 @@ fn is_any_heard(callers: &[Caller]) -> bool
 }
 
 /// How many connections of the node of an address are held of which nothing was heard.
-fn count_unheard_of(callers: &[Caller], from: &Address) -> usize
-    ensures { result ≡ count_by (is_unheard_of from.now) callers.now }
+fn count_unheard_of(callers: &[Caller], own: Network, from: &Address) -> usize
+    ensures { result ≡ count_by (is_unheard_of own from.now) callers.now }
 {
     callers
         .iter()
-        .filter(|caller| caller.is_unheard_of(from))
+        .filter(|caller| caller.is_unheard_of(own, from))
         .count()
 }
 
-/// Whether a connection that comes from an address is let go at once: with `once` where one was
-/// heard; where 16 are held; and where of its node 4 are, of which nothing was heard.
-fn is_full(once: bool, callers: &[Caller], from: &Address) -> bool
-    ensures { IsTrue result ↔ IsFull once from.now callers.now }
+/// Whether a host of a network lets a connection that comes from an address go at once: with `once`
+/// where one was heard; where 16 are held; and where of its node 4 are, of which nothing was heard.
+fn is_full(once: bool, own: Network, callers: &[Caller], from: &Address) -> bool
+    ensures { IsTrue result ↔ IsFull once own from.now callers.now }
 {
     if once && is_any_heard(callers) {
         return true;
     }
-    callers.len() >= MOST_CALLERS || count_unheard_of(callers, from) >= MOST_UNHEARD
+    callers.len() >= MOST_CALLERS || count_unheard_of(callers, own, from) >= MOST_UNHEARD
 }
 
 /// Holds a connection that comes, where there is a place for it. Else its link goes.
@@ -66,7 +66,8 @@ pub fn hold(once: bool, endpoint: &mut Endpoint, callers: &mut Vec<Caller>, call
         callers.old.items callers.new.items }
     ensures room { 16 ≤ vec_capacity callers.new }
 {
-    if is_full(once, callers, &caller.from) || callers.push(caller).is_err() {
+    let own = endpoint.network();
+    if is_full(once, own, callers, &caller.from) || callers.push(caller).is_err() {
         let_link_go(endpoint, caller.id);
     }
 }
