@@ -13,6 +13,7 @@ use Rattle.ipx_site.specs.Moments.{HasPassed, IsDue, IsToAskAgain}
 pub record Happened : Type 0 where
   pub strangers : ℕ
   pub forged : ℕ
+  pub no_router : ℕ
   pub refused : ℕ
   pub table_full : ℕ
   pub queue_full : ℕ
@@ -25,6 +26,7 @@ abbrev pub happened_in : Figures → Happened
 happened_in f = record {
   strangers = f.kept.strangers.count;
   forged = f.kept.forged.count;
+  no_router = f.kept.no_router.count;
   refused = f.refused;
   table_full = f.fates.table_full;
   queue_full = f.queue_full;
@@ -38,6 +40,7 @@ abbrev pub happened : Tally → CoreView → KeptBack → ℕ → ℕ → Happen
 happened tally core kept refused lost = record {
   strangers = kept.strangers.count;
   forged = kept.forged.count;
+  no_router = kept.no_router.count;
   refused = refused;
   table_full = core.fates.table_full;
   queue_full = core.dropped;
@@ -49,7 +52,7 @@ happened tally core kept refused lost = record {
 -- a line of some cause is to be told
 abbrev pub IsLineDue : Troubles → Happened → ℕ → Type 0
 IsLineDue t n now = IsDue t.strangers n.strangers now ⊎ IsDue t.forged n.forged now
-    ⊎ IsDue t.refused n.refused now ⊎ IsDue t.table_full n.table_full now
+    ⊎ IsDue t.no_router n.no_router now ⊎ IsDue t.refused n.refused now ⊎ IsDue t.table_full n.table_full now
     ⊎ IsDue t.queue_full n.queue_full now ⊎ IsDue t.device n.device now
     ⊎ IsDue t.memory n.memory now ⊎ IsDue t.file n.file now
 

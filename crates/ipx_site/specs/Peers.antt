@@ -1,9 +1,11 @@
 -- Who may speak at the ports of a device, and what a device that asks so hands up and lets down. All
 -- of it is own.
-use Rattle.std.specs.Prelude.{◌≡◌, ℕ, ◌+◌, List, Bool, true, false, not, ◌==◌, ◌&&◌, ◌||◌, Option, Some, None, nat_eq, take}
+use Rattle.std.specs.Prelude.{Vec, ◌≡◌, ℕ, ◌+◌, List, Bool, true, false, not, ◌==◌, ◌&&◌, ◌||◌, Option, Some, None, length, nat_eq, nat_le, take}
+use Rattle.std.specs.Global.{Global}
 use Rattle.std.specs.List.{list_any}
 use Rattle.std.specs.Cmp.Lexicographic.{pointwise}
-use Rattle.ipx_wire.specs.Ipx.{BeginsWith, PacketView}
+use Rattle.ipx_wire.specs.Assigned.{rip_socket, sap_socket}
+use Rattle.ipx_wire.specs.Ipx.{BeginsWith, PacketView, number}
 use Rattle.ipx_wire.specs.declared.address.Network.{Network}
 use Rattle.ipx_wire.specs.declared.address.Node.{Node}
 use Rattle.ipx_wire.specs.declared.ipx.packet.IpxHeader.{IpxHeader}
@@ -15,19 +17,17 @@ use Rattle.ipx_site.specs.declared.peers.Guard.{Guard}
 use Rattle.ipx_site.specs.declared.peers.Kept.{Kept}
 use Rattle.ipx_site.specs.declared.peers.KeptBack.{KeptBack}
 use Rattle.ipx_site.specs.declared.peers.Word.{Word}
-use Rattle.ipx_site.specs.declared.peers.Word.TheVariants.{Heard, Stranger, Forged}
-use Rattle.ipx_site.specs.declared.site.Accept.{Accept}
-use Rattle.ipx_site.specs.declared.site.Accept.TheVariants.{Any, Peers}
+use Rattle.ipx_site.specs.declared.peers.Word.TheVariants.{Heard, Stranger, Forged, NoRouter}
 
 -- an IP address is one of these
 abbrev pub is_peer : List (List ℕ) → List ℕ → Bool
 is_peer peers ip = list_any (λ peer. pointwise nat_eq peer ip) peers
 
--- a datagram from there is heard: from an address that is not known, only where everybody is
-abbrev pub hears_from : Accept → List (List ℕ) → Option (List ℕ) → Bool
-hears_from Any peers from = true
-hears_from Peers peers None = false
-hears_from Peers peers (Some ip) = is_peer peers ip
+-- it is one of those that are named; where none are named each is. One that is not known is none of them
+abbrev pub is_among : Option (Vec (List ℕ) Global) → Option (List ℕ) → Bool
+is_among None from = true
+is_among (Some ips) None = false
+is_among (Some ips) (Some ip) = is_peer ips.items ip
 
 -- at a port of that network a packet comes straight from its source, and no router passed it on: one
 -- that does writes a source network that was left out, which is 0, adds to the hops, and passes none
@@ -52,27 +52,45 @@ abbrev pub IsOwnWord : Network → Option (List ℕ) → List ℕ → Type 0
 IsOwnWord network from bytes =
     (p : PacketView) → BeginsWith bytes p → is_own_word network from p.header ≡ true
 
--- what a guard says of bytes that came from there: first whether they came from a stranger. Where
--- there is no guard everybody is one
+-- a packet is a response, by which routes (RIP) or services (SAP) are told
+abbrev pub is_response : PacketView → Bool
+is_response p = nat_le 2 (length p.body)
+    && ((p.header.to.socket.0 == rip_socket && number 2 0 p.body == 2)
+    || (p.header.to.socket.0 == sap_socket && (number 2 0 p.body == 2 || number 2 0 p.body == 4)))
+
+-- who is none of the routers passes nothing on, and tells nothing
+abbrev pub may_say : Network → Option (Vec (List ℕ) Global) → Option (List ℕ) → PacketView → Bool
+may_say network routers from p =
+    is_among routers from || (is_straight network p.header && not (is_response p))
+
+-- bytes that are no packet do neither
+abbrev pub MaySay : Network → Option (Vec (List ℕ) Global) → Option (List ℕ) → List ℕ → Type 0
+MaySay network routers from bytes =
+    (p : PacketView) → BeginsWith bytes p → may_say network routers from p ≡ true
+
+-- what a guard says of bytes that came from there: first whether they came from a stranger, then
+-- whether they speak for another. Where there is no guard everybody is a stranger
 abbrev pub IsWordOn : Option Guard → Option (List ℕ) → List ℕ → Word → Type 0
 IsWordOn None from bytes word = word ≡ Stranger
-IsWordOn (Some g) from bytes Stranger = hears_from g.accept g.peers.items from ≡ false
+IsWordOn (Some g) from bytes Stranger = is_among g.hears from ≡ false
 IsWordOn (Some g) from bytes Forged =
-    (hears_from g.accept g.peers.items from ≡ true) × (IsOwnWord g.network from bytes → ⊥)
-IsWordOn (Some g) from bytes Heard =
-    (hears_from g.accept g.peers.items from ≡ true) × IsOwnWord g.network from bytes
+    (is_among g.hears from ≡ true) × (IsOwnWord g.network from bytes → ⊥)
+IsWordOn (Some g) from bytes NoRouter = (is_among g.hears from ≡ true)
+    × IsOwnWord g.network from bytes × (MaySay g.network g.routers from bytes → ⊥)
+IsWordOn (Some g) from bytes Heard = (is_among g.hears from ≡ true)
+    × IsOwnWord g.network from bytes × MaySay g.network g.routers from bytes
 
--- a datagram may be sent there by a port: to its peers alone
+-- a datagram may be sent there by a port
 abbrev pub may_go : Option Guard → List ℕ → Bool
 may_go None to = false
-may_go (Some g) to = is_peer g.peers.items to
+may_go (Some g) to = is_among g.sends (Some to)
 
 -- nothing was kept back, for one cause and for any
 abbrev pub none_kept : Kept
 none_kept = record { count = 0; last = None }
 
 abbrev pub nothing_kept : KeptBack
-nothing_kept = record { strangers = none_kept; forged = none_kept }
+nothing_kept = record { strangers = none_kept; forged = none_kept; no_router = none_kept }
 
 -- one more was, and came from there
 abbrev pub one_more : Kept → Option (List ℕ) → Kept
@@ -80,7 +98,7 @@ one_more k from = record { count = raised k.count; last = from }
 
 -- how many were, for all causes
 abbrev pub kept_in : KeptBack → ℕ
-kept_in k = k.strangers.count + k.forged.count
+kept_in k = k.strangers.count + k.forged.count + k.no_router.count
 
 -- what is heard is handed up. What is not raises the count of its cause, and it is as if nothing came
 abbrev pub HandsUp : Word → Option (List ℕ) → ℕ → Option ℕ → KeptBack → KeptBack → Type 0
@@ -89,6 +107,8 @@ HandsUp Stranger from n up before after =
     (up ≡ None) × (after ≡ record before { strangers = one_more before.strangers from })
 HandsUp Forged from n up before after =
     (up ≡ None) × (after ≡ record before { forged = one_more before.forged from })
+HandsUp NoRouter from n up before after =
+    (up ≡ None) × (after ≡ record before { no_router = one_more before.no_router from })
 
 -- so a device receives into a room, where so many bytes came from there, or nothing did
 abbrev pub TakesIn : Option Guard → Option (List ℕ) → List ℕ → Option ℕ → Option ℕ → KeptBack → KeptBack → Type 0

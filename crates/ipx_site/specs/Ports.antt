@@ -1,5 +1,7 @@
 -- The ports of the router that a file describes, and who may speak there. All of it is own.
-use Rattle.std.specs.Prelude.{◌≡◌, ℕ, List, Bool, true, false, map}
+use Rattle.std.specs.Prelude.{Vec, ◌≡◌, ℕ, List, Option, Some, None, map}
+use Rattle.std.specs.Global.{Global}
+use Rattle.std.specs.Option.{option_map}
 use Rattle.ipx_wire.specs.declared.address.Network.{Network}
 use Rattle.ipx_router.specs.declared.port.Port.{Port}
 use Rattle.ipx_carrier.specs.Device.{Access}
@@ -24,17 +26,26 @@ udp_ports ports = map (λ p. p.udp_port) ports
 abbrev pub site_peers : List SitePort → List (List (List ℕ))
 site_peers ports = map (λ p. p.peers.items) ports
 
--- whether everybody is heard
-abbrev pub is_any : Accept → Bool
-is_any Any = true
-is_any Peers = false
+-- the IP addresses that a list names
+abbrev pub named : Option (Vec (List ℕ) Global) → Option (List (List ℕ))
+named ips = option_map (λ v. v.items) ips
 
--- whom a port sends to, and who is heard there: as its file says it, and as its guard does
+-- who is heard at a port: its peers, or everybody
+abbrev pub heard_by : Accept → List (List ℕ) → Option (List (List ℕ))
+heard_by Any peers = None
+heard_by Peers peers = Some peers
+
+-- whom a port sends to, who is heard there, and who is a router: as its file says it, and as its guard
+-- does
 abbrev pub access_of : SitePort → Access
-access_of p = record { peers = p.peers.items; everybody = is_any p.accept }
+access_of p = record {
+  sends = Some p.peers.items;
+  hears = heard_by p.accept p.peers.items;
+  routers = None;
+}
 
 abbrev pub access_by : Guard → Access
-access_by g = record { peers = g.peers.items; everybody = is_any g.accept }
+access_by g = record { sends = named g.sends; hears = named g.hears; routers = named g.routers }
 
 -- the same, and on which network
 pub record Guarded : Type 0 where

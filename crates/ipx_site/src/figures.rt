@@ -179,7 +179,10 @@ impl Figures {
             &mut text,
             &KEPT_BACK,
             "reason",
-            &[("forged", self.kept.forged.count)],
+            &[
+                ("forged", self.kept.forged.count),
+                ("no_router", self.kept.no_router.count),
+            ],
         )?;
         put_one(&mut text, &REFUSED, self.refused)?;
         put_faults(&mut text, self)?;

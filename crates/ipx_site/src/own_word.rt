@@ -1,15 +1,22 @@
-//! Whether a packet names the node that sent it.
+//! Whether a packet names the node that sent it, passed a router, or tells of routes and services.
 
-ghost use Rattle.std.specs.Prelude.{◌≡◌, ◌↔◌, IsTrue};
-ghost use Rattle.ipx_site.specs.Peers.{IsOwnWord, is_node_of, is_own_word, is_straight};
+ghost use Rattle.std.specs.Prelude.{◌≡◌};
+ghost use Rattle.ipx_wire.specs.Ipx.{view};
+ghost use Rattle.ipx_site.specs.Peers.{is_node_of, is_own_word, is_response, is_straight};
 
+use byteorder::{BigEndian, ByteOrder};
 use ipx_carrier::node_of;
-use ipx_wire::{IpxHeader, Network, Node, decode};
+use ipx_wire::{IpxHeader, Network, Node, Packet, Socket};
+
+/// The operations of responses: of RIP and SAP, and of a SAP query for the nearest service.
+const RESPONSE: u16 = 2;
+
+const NEAREST_RESPONSE: u16 = 4;
 
 /// Whether a packet comes straight from its source, at a port of that network. A router that passes
 /// one on writes the source network that was left out, adds to the hops, and passes none on to the
 /// network that it came from.
-fn is_straight(network: Network, header: &IpxHeader) -> bool
+pub fn is_straight(network: Network, header: &IpxHeader) -> bool
     ensures { result ≡ is_straight network header.now }
 {
     let from = header.from.network;
@@ -30,20 +37,22 @@ fn is_node_of(node: Node, ip: Option<[u8; 4]>) -> bool
 
 /// Whether a packet that came from there speaks for its sender, or is one of those that a router
 /// passed on. Nobody is every node.
-fn names_its_sender(network: Network, from: Option<[u8; 4]>, header: &IpxHeader) -> bool
+pub fn is_own_word(network: Network, from: Option<[u8; 4]>, header: &IpxHeader) -> bool
     ensures { result ≡ is_own_word network from header.now }
 {
     let node = header.from.node;
     node != Node::BROADCAST && (!is_straight(network, header) || is_node_of(node, from))
 }
 
-/// Whether bytes that came from there to a port of a network speak for their sender. Bytes that are
-/// no packet speak for nobody.
-pub fn is_own_word(network: Network, from: Option<[u8; 4]>, bytes: &[u8]) -> bool
-    ensures { IsTrue result ↔ IsOwnWord network from bytes.now }
+/// Whether a packet is a response, by which routes or services are told.
+pub fn is_response(packet: &Packet<'_>) -> bool
+    ensures { result ≡ is_response (view packet.now) }
 {
-    match decode(bytes) {
-        Ok(packet) => names_its_sender(network, from, &packet.header),
-        Err(_) => true,
+    if packet.body.len() < 2 {
+        return false;
     }
+    let operation = BigEndian::read_u16(packet.body);
+    let socket = packet.header.to.socket;
+    (socket == Socket::RIP && operation == RESPONSE)
+        || (socket == Socket::SAP && (operation == RESPONSE || operation == NEAREST_RESPONSE))
 }

@@ -5,24 +5,27 @@ ghost use Rattle.ipx_carrier.specs.Device.{Passes, received_in};
 ghost use Rattle.ipx_carrier.specs.Fates.{raised};
 ghost use Rattle.ipx_carrier.specs.Fault.{device_failures};
 ghost use Rattle.ipx_carrier.specs.Waits.{LeavesPort};
-ghost use Rattle.ipx_site.specs.Peers.{IsWordOn, TakesIn, hears_from, is_peer, kept_in, may_go, none_kept, nothing_kept, one_more};
+ghost use Rattle.ipx_wire.specs.Ipx.{view};
+ghost use Rattle.ipx_site.specs.Peers.{IsWordOn, TakesIn, is_among, is_peer, kept_in, may_go, may_say, none_kept, nothing_kept, one_more};
 ghost use Rattle.ipx_site.specs.Ports.{access_by};
 
-use crate::own_word::is_own_word;
+use crate::own_word::{is_own_word, is_response, is_straight};
 use crate::senders::Senders;
-use crate::site::Accept;
 use ipx_carrier::{Datagrams, DeviceFault};
-use ipx_wire::Network;
+use ipx_wire::{Network, Packet, decode};
 
-/// Who is heard at a port, and whom it sends to.
+/// Whom a port sends to, who is heard there, and what each may say: lists of IP addresses, of which
+/// None stands for everybody.
 #[derive(Drop)]
 pub struct Guard {
     /// The network of the port.
     pub network: Network,
-    /// The IP addresses that it sends to.
-    pub peers: Vec<[u8; 4]>,
-    /// Whether they alone are heard.
-    pub accept: Accept,
+    /// Whom it sends to.
+    pub sends: Option<Vec<[u8; 4]>>,
+    /// Who is heard.
+    pub hears: Option<Vec<[u8; 4]>>,
+    /// Who of them is a router, and so may pass on what others sent, and tell routes and services.
+    pub routers: Option<Vec<[u8; 4]>>,
 }
 
 /// What a guard says of a datagram that came.
@@ -33,6 +36,8 @@ pub enum Word {
     Stranger,
     /// It speaks for another node than the one that sent it.
     Forged,
+    /// It was passed on, or tells of routes or services, and none of the routers sent it.
+    NoRouter,
 }
 
 /// The datagrams that were kept back for one cause: how many, and who sent the last of them.
@@ -51,6 +56,8 @@ pub struct KeptBack {
     pub strangers: Kept,
     /// Those that spoke for another node than the one that sent them.
     pub forged: Kept,
+    /// Those that were passed on, or told, by one that is no router.
+    pub no_router: Kept,
 }
 
 /// A count goes up by one, and stays where it is the greatest.
@@ -85,46 +92,61 @@ impl KeptBack {
     pub fn total(&self) -> u128
         ensures { result ≡ kept_in self.now }
     {
-        u128::from(self.strangers.count) + u128::from(self.forged.count)
+        let strangers = u128::from(self.strangers.count);
+        let forged = u128::from(self.forged.count);
+        let no_router = u128::from(self.no_router.count);
+        strangers + forged + no_router
     }
 }
 
-/// Whether an IP address is one of the peers.
-fn is_one_of(peers: &[[u8; 4]], ip: [u8; 4]) -> bool
-    ensures { result ≡ is_peer peers.now ip }
+/// Whether an IP address is one of these.
+pub fn is_one_of(ips: &[[u8; 4]], ip: [u8; 4]) -> bool
+    ensures { result ≡ is_peer ips.now ip }
 {
-    peers.iter().any(|peer| *peer == ip)
+    ips.iter().any(|one| *one == ip)
 }
 
-/// Whether a datagram from there is heard.
-fn hears(guard: &Guard, from: Option<[u8; 4]>) -> bool
-    ensures { result ≡ hears_from guard.now.accept guard.now.peers.items from }
+/// Whether an IP address is among those that are named, where some are.
+fn is_among(ips: &Option<Vec<[u8; 4]>>, ip: Option<[u8; 4]>) -> bool
+    ensures { result ≡ is_among ips.now ip }
 {
-    match (guard.accept, from) {
-        (Accept::Any, _) => true,
-        (Accept::Peers, Some(ip)) => is_one_of(&guard.peers, ip),
-        (Accept::Peers, None) => false,
+    match (ips, ip) {
+        (None, _) => true,
+        (Some(ips), Some(ip)) => is_one_of(ips, ip),
+        (Some(_), None) => false,
     }
+}
+
+/// Whether it is a sender's to send a packet: a router passes on and tells, others do neither.
+fn may_say(guard: &Guard, from: Option<[u8; 4]>, packet: &Packet<'_>) -> bool
+    ensures { result ≡ may_say guard.now.network guard.now.routers from (view packet.now) }
+{
+    is_among(&guard.routers, from)
+        || (is_straight(guard.network, &packet.header) && !is_response(packet))
 }
 
 /// What a guard says of these bytes, which came from there.
 fn word_on(guard: &Guard, from: Option<[u8; 4]>, bytes: &[u8]) -> Word
     ensures { IsWordOn (Some guard.now) from bytes.now result }
 {
-    if !hears(guard, from) {
+    if !is_among(&guard.hears, from) {
         return Word::Stranger;
     }
-    if is_own_word(guard.network, from, bytes) {
+    let Ok(packet) = decode(bytes) else {
+        return Word::Heard;
+    };
+    if !is_own_word(guard.network, from, &packet.header) {
+        return Word::Forged;
+    }
+    if may_say(guard, from, &packet) {
         Word::Heard
     } else {
-        Word::Forged
+        Word::NoRouter
     }
 }
 
-/// A device over another one, which lets pass what comes from a peer of its port in its own name and
-/// what goes to one. It counts what it keeps back.
-///
-/// At a port whose guard says so everybody is heard. A port without a guard hears and sends nothing.
+/// A device over another one, which asks the guard of a port of all that comes and goes there. It
+/// counts what it keeps back. A port without a guard hears and sends nothing.
 #[derive(Drop)]
 pub struct PeersOnly<D: Senders + Drop> {
     device: D,
@@ -146,6 +168,7 @@ impl<D: Senders + Drop> PeersOnly<D> {
             kept: KeptBack {
                 strangers: Kept::none(),
                 forged: Kept::none(),
+                no_router: Kept::none(),
             },
             refused: 0,
         }
@@ -165,7 +188,7 @@ impl<D: Senders + Drop> PeersOnly<D> {
         self.kept
     }
 
-    /// The datagrams that were not sent, since they were to go to no peer.
+    /// The datagrams that were not sent, since their port does not send there.
     pub fn refused(&self) -> u64
         ensures { result ≡ self.now.refused }
     {
@@ -188,7 +211,7 @@ impl<D: Senders + Drop> PeersOnly<D> {
         ensures { result ≡ may_go (slice_get self.now.guards.items port) to }
     {
         match self.guards.get(port) {
-            Some(guard) => is_one_of(&guard.peers, to),
+            Some(guard) => is_among(&guard.sends, Some(to)),
             None => false,
         }
     }
@@ -285,6 +308,7 @@ impl<D: Senders + Drop> Datagrams for PeersOnly<D> {
             Word::Heard => return Ok(Some(count)),
             Word::Stranger => self.kept.strangers.raise(from),
             Word::Forged => self.kept.forged.raise(from),
+            Word::NoRouter => self.kept.no_router.raise(from),
         }
         Ok(None)
     }

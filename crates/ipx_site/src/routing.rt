@@ -3,7 +3,7 @@
 ghost use Rattle.std.specs.Prelude.{◌≡◌, ◌≤◌, ◌⊎◌, All, IfErr, IfOk, OnOk, is_ok, if◌then◌else◌, map};
 ghost use Rattle.ipx_router.specs.NewRouter.{IsOwnNetwork};
 ghost use Rattle.ipx_carrier.specs.Turns.{peers_of};
-ghost use Rattle.ipx_site.specs.Ports.{GuardPorts, guarded, guarding, router_port_of, router_ports, site_peers, udp_ports};
+ghost use Rattle.ipx_site.specs.Ports.{GuardPorts, guarded, guarding, heard_by, named, router_port_of, router_ports, site_peers, udp_ports};
 
 use crate::bind_fault::BindFault;
 use crate::clock::SteadyClock;
@@ -80,15 +80,27 @@ fn peers_by_port(alloc: Global, ports: &[SitePort]) -> Result<Vec<Vec<[u8; 4]>>,
     Ok(lists)
 }
 
+/// Who is heard at a port.
+fn port_hears(alloc: Global, port: &SitePort) -> Result<Option<Vec<[u8; 4]>>, AllocError>
+    ensures { IfOk result (λ ips. named ips ≡ heard_by port.now.accept port.now.peers.items) }
+{
+    match port.accept {
+        Accept::Any => Ok(None),
+        Accept::Peers => Ok(Some(port_peers(alloc, port)?)),
+    }
+}
+
 /// The guard of a port.
 fn guard_of(alloc: Global, port: &SitePort) -> Result<Guard, AllocError>
     ensures { IfOk result (λ g. guarding g ≡ guarded port.now) }
 {
-    let peers = port_peers(alloc, port)?;
+    let sends = Some(port_peers(alloc, port)?);
+    let hears = port_hears(alloc, port)?;
     Ok(Guard {
         network: port.network,
-        peers,
-        accept: port.accept,
+        sends,
+        hears,
+        routers: None,
     })
 }
 

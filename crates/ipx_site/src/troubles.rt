@@ -15,6 +15,7 @@ use log::{Log, warn};
 pub struct Troubles {
     strangers: Cause,
     forged: Cause,
+    no_router: Cause,
     refused: Cause,
     table_full: Cause,
     queue_full: Cause,
@@ -49,6 +50,7 @@ impl Troubles {
         Troubles {
             strangers: Cause::new(),
             forged: Cause::new(),
+            no_router: Cause::new(),
             refused: Cause::new(),
             table_full: Cause::new(),
             queue_full: Cause::new(),
@@ -69,6 +71,8 @@ impl Troubles {
         tell_kept(rt, &mut self.strangers, f.kept.strangers, now, what);
         let what = "datagrams spoke for another node";
         tell_kept(rt, &mut self.forged, f.kept.forged, now, what);
+        let what = "datagrams were no router's to send";
+        tell_kept(rt, &mut self.no_router, f.kept.no_router, now, what);
         let what = "datagrams were to go to no peer";
         tell(rt, &mut self.refused, f.refused, now, what);
         let what = "responses found a table full";
@@ -96,7 +100,10 @@ impl Troubles {
             self.strangers.next(f.kept.strangers.count),
             self.forged.next(f.kept.forged.count),
         );
-        let refused = self.refused.next(f.refused);
+        let refused = sooner(
+            self.no_router.next(f.kept.no_router.count),
+            self.refused.next(f.refused),
+        );
         let full = sooner(
             self.table_full.next(f.fates.table_full),
             self.queue_full.next(f.queue_full),

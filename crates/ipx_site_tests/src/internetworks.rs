@@ -1,9 +1,9 @@
 //! Random internetworks in memory, drawn from a seed: several routers on one network, and hosts that
-//! name any of theirs. Nobody forges there, and nothing is kept back as forged.
+//! name any of theirs. Each guard names the routers. Nobody forges there, and nothing is kept back.
 
 use ipx_carrier::{Datagrams, DeviceFault, RouterCore, SteppedClock, node_of};
 use ipx_router::{Port, Router};
-use ipx_site::{Accept, Guard, PeersOnly, Senders, run_burst};
+use ipx_site::{Guard, PeersOnly, Senders, run_burst};
 use ipx_wire::{Address, IpxHeader, Network, Node, Packet, Socket, decode, encode_into};
 use std::alloc::Global;
 use std::collections::VecDeque;
@@ -138,6 +138,7 @@ struct Internetwork {
     handed_on: u64,
     strangers: u64,
     forged: u64,
+    no_router: u64,
 }
 
 /// The number of a network.
@@ -162,6 +163,7 @@ impl Internetwork {
             handed_on: 0,
             strangers: 0,
             forged: 0,
+            no_router: 0,
         };
         let routers = 2 + dice.below(4);
         for number in 0..routers {
@@ -225,6 +227,17 @@ impl Internetwork {
         Ok(others)
     }
 
+    /// The IP addresses of all routers on a network.
+    fn routers_on(&self, network: usize) -> Result<Vec<[u8; 4]>, Fail> {
+        let mut routers = Vec::new(self.alloc);
+        for (number, stand) in self.stands.iter().enumerate() {
+            if stand.core.is_some() && stand.networks.contains(&network) {
+                routers.push(ip_of(network, number))?;
+            }
+        }
+        Ok(routers)
+    }
+
     /// Carries a datagram on a network to the one that has this IP address, if there is one.
     fn carry(
         &mut self,
@@ -269,8 +282,9 @@ impl Internetwork {
             let network = self.stands[me].networks[port];
             guards.push(Guard {
                 network: network_of(network),
-                peers: self.others_on(network, me)?,
-                accept: Accept::Peers,
+                sends: Some(self.others_on(network, me)?),
+                hears: Some(self.others_on(network, me)?),
+                routers: Some(self.routers_on(network)?),
             })?;
             lists.push(self.others_on(network, me)?)?;
         }
@@ -290,6 +304,7 @@ impl Internetwork {
         let kept = device.kept();
         self.strangers += kept.strangers.count;
         self.forged += kept.forged.count;
+        self.no_router += kept.no_router.count;
     }
 
     /// A router hears what came, and sends what it has to.
@@ -406,10 +421,11 @@ fn no_true_packet_is_kept_back(rt: HostRuntime) -> Result<(), Fail> {
             net.round(&mut dice, round * 5000)?;
         }
         assert!(rt;
-            net.forged == 0 && net.strangers == 0,
-            "internetwork {number} of seed {SEED}: {} forged, {} of strangers",
+            net.forged == 0 && net.strangers == 0 && net.no_router == 0,
+            "internetwork {number} of seed {SEED}: {} forged, {} of strangers, {} no router's",
             net.forged,
-            net.strangers
+            net.strangers,
+            net.no_router
         );
         carried += net.carried;
         handed_on += net.handed_on;
@@ -459,8 +475,9 @@ fn what_waits_behind_forged_datagrams_is_heard(rt: HostRuntime) -> Result<(), Fa
     came.push_back(letter_from(alloc, [10, 0, 0, 1])?)?;
     let guard = Guard {
         network: network_of(0),
-        peers: Vec::new(alloc),
-        accept: Accept::Any,
+        sends: Some(Vec::new(alloc)),
+        hears: None,
+        routers: None,
     };
     let post = Post {
         alloc,

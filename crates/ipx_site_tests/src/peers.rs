@@ -1,7 +1,7 @@
 //! Who is heard, in whose name, and whom is sent to.
 
 use ipx_carrier::{Datagrams, DeviceFault};
-use ipx_site::{Accept, Guard, PeersOnly, Senders};
+use ipx_site::{Guard, PeersOnly, Senders};
 use ipx_wire::{Address, IpxHeader, Network, Node, Packet, Socket, encode_into};
 use std::alloc::{AllocError, Global};
 use std::process::Abort;
@@ -57,17 +57,18 @@ impl Senders for Fountain {
     }
 }
 
-/// That device behind the peer 10.0.0.1.
+/// That device, which sends to 10.0.0.1, and hears it alone, or everybody.
 fn guarded(
     alloc: Global,
     from: [u8; 4],
-    accept: Accept,
+    everybody: bool,
 ) -> Result<PeersOnly<Fountain>, AllocError> {
-    let peers = vec![in alloc; [10, 0, 0, 1]]?;
+    let peer = vec![in alloc; [10, 0, 0, 1]]?;
     let guard = Guard {
         network: HERE,
-        peers,
-        accept,
+        sends: Some(vec![in alloc; [10, 0, 0, 1]]?),
+        hears: if everybody { None } else { Some(peer) },
+        routers: None,
     };
     let fountain = Fountain {
         from: Some(from),
@@ -114,8 +115,9 @@ fn is_heard(
     let _all = encode_into(&Packet { header, body: &[] }, &mut bytes);
     let guard = Guard {
         network: HERE,
-        peers: Vec::new(alloc),
-        accept: Accept::Any,
+        sends: None,
+        hears: None,
+        routers: None,
     };
     let mut device = PeersOnly::new(Fountain { from: ip, bytes }, vec![in alloc; guard]?);
     let mut room = [0; 64];
@@ -176,7 +178,7 @@ fn hears_from_no_address_only_what_a_router_passed_on(rt: HostRuntime) -> Result
 
 #[test]
 fn hears_a_peer(rt: HostRuntime) -> Result<(), AllocError> {
-    let mut device = guarded(rt.alloc(), [10, 0, 0, 1], Accept::Peers)?;
+    let mut device = guarded(rt.alloc(), [10, 0, 0, 1], false)?;
     let mut room = [0; 4];
     assert!(rt; matches!(device.receive(0, &mut room), Ok(Some(4))));
     assert_eq!(rt; device.kept().total(), 0);
@@ -185,7 +187,7 @@ fn hears_a_peer(rt: HostRuntime) -> Result<(), AllocError> {
 
 #[test]
 fn hears_no_stranger(rt: HostRuntime) -> Result<(), AllocError> {
-    let mut device = guarded(rt.alloc(), [10, 0, 0, 2], Accept::Peers)?;
+    let mut device = guarded(rt.alloc(), [10, 0, 0, 2], false)?;
     let mut room = [0; 4];
     assert!(rt; matches!(device.receive(0, &mut room), Ok(None)));
     assert_eq!(rt; device.kept().strangers.count, 1);
@@ -196,7 +198,7 @@ fn hears_no_stranger(rt: HostRuntime) -> Result<(), AllocError> {
 
 #[test]
 fn hears_everybody(rt: HostRuntime) -> Result<(), AllocError> {
-    let mut device = guarded(rt.alloc(), [10, 0, 0, 2], Accept::Any)?;
+    let mut device = guarded(rt.alloc(), [10, 0, 0, 2], true)?;
     let mut room = [0; 4];
     assert!(rt; matches!(device.receive(0, &mut room), Ok(Some(4))));
     assert_eq!(rt; device.kept().total(), 0);
@@ -205,7 +207,7 @@ fn hears_everybody(rt: HostRuntime) -> Result<(), AllocError> {
 
 #[test]
 fn sends_to_peers_alone(rt: HostRuntime) -> Result<(), AllocError> {
-    let mut device = guarded(rt.alloc(), [10, 0, 0, 1], Accept::Any)?;
+    let mut device = guarded(rt.alloc(), [10, 0, 0, 1], true)?;
     assert!(rt; device.send(0, [10, 0, 0, 1], &[1]).is_ok());
     assert_eq!(rt; device.refused(), 0);
     assert!(rt; device.send(0, [10, 0, 0, 2], &[1]).is_ok());

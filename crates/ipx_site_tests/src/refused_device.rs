@@ -4,7 +4,7 @@
 use crate::figures::FIGURES;
 use ipx_carrier::{Core, Datagrams, RunFault};
 use ipx_site::{
-    Accept, BindFault, Burst, Guard, PeersOnly, Readiness, SiteSockets, SteadyClock, WaitFault,
+    BindFault, Burst, Guard, PeersOnly, Readiness, SiteSockets, SteadyClock, WaitFault,
     run_burst,
 };
 use ipx_wire::{Network, Node, OutOfMemory};
@@ -71,8 +71,9 @@ fn guarded(alloc: Global, sockets: SiteSockets) -> PeersOnly<SiteSockets> {
     let mut guards = Vec::new(alloc);
     let guard = Guard {
         network: Network(1),
-        peers: Vec::new(alloc),
-        accept: Accept::Any,
+        sends: Some(Vec::new(alloc)),
+        hears: None,
+        routers: None,
     };
     let _full = guards.push(guard);
     PeersOnly::new(sockets, guards)

@@ -2,7 +2,7 @@
 
 use ipx_carrier::{Core, Datagrams, DeviceFault};
 use ipx_site::{
-    Accept, BindFault, Guard, PeersOnly, Readiness, SiteSockets, SteadyClock, run_burst,
+    BindFault, Guard, PeersOnly, Readiness, SiteSockets, SteadyClock, run_burst,
 };
 use ipx_wire::{Network, Node, OutOfMemory};
 use std::alloc::{AllocError, Global};
@@ -64,11 +64,11 @@ fn send(device: &mut SiteSockets, last: u8) -> Result<(), DeviceFault> {
 
 /// These sockets behind the peer 127.0.92.4.
 fn guarded(alloc: Global, sockets: SiteSockets) -> Result<PeersOnly<SiteSockets>, AllocError> {
-    let peers = vec![in alloc; [127, 0, 92, 4]]?;
     let guard = Guard {
         network: Network(1),
-        peers,
-        accept: Accept::Peers,
+        sends: Some(vec![in alloc; [127, 0, 92, 4]]?),
+        hears: Some(vec![in alloc; [127, 0, 92, 4]]?),
+        routers: None,
     };
     Ok(PeersOnly::new(sockets, vec![in alloc; guard]?))
 }
