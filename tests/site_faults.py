@@ -18,7 +18,7 @@ udp_port = 20999
 socket = "4002"
 """
 KEYS = "a router has status and port, a host network, address, router, udp_port, socket, buffers and from"
-PORT_KEYS = "the keys are network, address, udp_port, cost, peers, accept"
+PORT_KEYS = "the keys are network, address, udp_port, cost, peers, routers, accept"
 NETWORK = 'eight hex digits, neither all 0 nor all f, as "00000011"'
 ADDRESS = 'an IP address of this machine, as "192.0.2.10"'
 NUMBER = "a number from 1 to 65535, as 213"
@@ -86,6 +86,10 @@ ROUTER_FILES = [
     (changed(PORT, "peers", '"127.0.1.20"'), f"port 1: peers is to be {PEERS}"),
     (changed(PORT, "peers", '["127.0.1.20", "b"]'), f"port 1: peers is to be {PEERS}"),
     (changed(PORT, "peers", '["127.0.1.20", "0.0.0.0"]'), f"port 1: peers is to be {PEERS}"),
+    (PORT + "routers = \"127.0.1.20\"\n", "port 1: routers is to be a list of IP addresses among peers"),
+    (PORT + "routers = [\"127.0.1.20\", \"127.0.1.21\"]\n", "port 1: routers is to be a list of IP addresses among peers"),
+    (PORT + "routers = [\"b\"]\naccept = true\n", "port 1: routers is to be a list of IP addresses among peers"),
+    (PORT + "routers = []\naccept = true\n", 'port 1: accept is to be "peers" or "any"'),
     (PORT + "accept = true\n", 'port 1: accept is to be "peers" or "any"'),
     (PORT + "accept = \"all\"\n", 'port 1: accept is to be "peers" or "any"'),
     (PORT + SECOND.replace("00000022", "00000011"), "port 2: network 00000011 is already that of port 1"),

@@ -13,7 +13,7 @@ use Rattle.ipx_site.specs.declared.key.Key.TheVariants.{Status}
 use Rattle.ipx_site.specs.Keys.{key_text}
 use Rattle.ipx_site.specs.Values.{IsText}
 use Rattle.ipx_site.specs.Loading.{IsStatus, fault_status}
-use Rattle.ipx_site.specs.Fields.{Holds, HoldsOr, IsRightOr}
+use Rattle.ipx_site.specs.Fields.{Holds, HoldsIf, HoldsOr, IsRightOr}
 use Rattle.ipx_site.specs.Site.{ArePorts, IsFirstFault, IsPortItem, IsPortItemFault, IsTwin, item_count, twin_place}
 
 -- a fault of the whole comes of one of a part, or of want of memory
@@ -25,6 +25,11 @@ pub right_or : {A : Type 0} (Means : Data → A → Type 0) (key : Key) (ms : Me
     → HoldsOr Means key ms default a → IsRightOr Means key ms
 right_or Means key ms default a (inl absent) = inl absent.0
 right_or Means key ms default a (inr holds) = inr (a, holds)
+
+pub right_if : {A : Type 0} (Means : Data → A → Type 0) (key : Key) (ms : Members) (found : Option A)
+    → HoldsIf Means key ms found → IsRightOr Means key ms
+right_if Means key ms None absent = inl absent
+right_if Means key ms (Some a) holds = inr (a, holds)
 
 -- Of the items that are left the first is at fault. The ports seen so far are those before it, and
 -- they are counted.

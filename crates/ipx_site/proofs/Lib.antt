@@ -8,3 +8,5 @@ pub mod Bursting
 pub mod Ports
 pub mod Rounds
 pub mod Parts
+pub mod Addresses
+pub mod Access

@@ -4,7 +4,7 @@ use Rattle.std.specs.List.{list_any}
 use Rattle.std.specs.Cmp.Lexicographic.{pointwise}
 use Rattle.toml.specs.Data.{Members, no_members, member}
 use Rattle.ipx_site.specs.declared.key.Key.{Key}
-use Rattle.ipx_site.specs.declared.key.Key.TheVariants.{Status, Port, Network, Address, UdpPort, Cost, Peers, Accept, Router, Socket, Buffers, From}
+use Rattle.ipx_site.specs.declared.key.Key.TheVariants.{Status, Port, Network, Address, UdpPort, Cost, Peers, Routers, Accept, Router, Socket, Buffers, From}
 
 -- how a key is written
 abbrev pub key_text : Key → List ℕ
@@ -15,6 +15,7 @@ key_text Address = codes "address"
 key_text UdpPort = codes "udp_port"
 key_text Cost = codes "cost"
 key_text Peers = codes "peers"
+key_text Routers = codes "routers"
 key_text Accept = codes "accept"
 key_text Router = codes "router"
 key_text Socket = codes "socket"
@@ -33,7 +34,7 @@ first_unknown keys (member name d ms) =
 
 -- the keys of the tables, in the order in which their faults are told
 abbrev pub port_keys : List Key
-port_keys = Network ∷ Address ∷ UdpPort ∷ Cost ∷ Peers ∷ Accept ∷ []
+port_keys = Network ∷ Address ∷ UdpPort ∷ Cost ∷ Peers ∷ Routers ∷ Accept ∷ []
 
 abbrev pub site_keys : List Key
 site_keys = Status ∷ Port ∷ []

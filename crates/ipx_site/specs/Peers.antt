@@ -24,10 +24,10 @@ abbrev pub is_peer : List (List ℕ) → List ℕ → Bool
 is_peer peers ip = list_any (λ peer. pointwise nat_eq peer ip) peers
 
 -- it is one of those that are named; where none are named each is. One that is not known is none of them
-abbrev pub is_among : Option (Vec (List ℕ) Global) → Option (List ℕ) → Bool
-is_among None from = true
-is_among (Some ips) None = false
-is_among (Some ips) (Some ip) = is_peer ips.items ip
+abbrev pub is_listed : Option (Vec (List ℕ) Global) → Option (List ℕ) → Bool
+is_listed None from = true
+is_listed (Some ips) None = false
+is_listed (Some ips) (Some ip) = is_peer ips.items ip
 
 -- at a port of that network a packet comes straight from its source, and no router passed it on: one
 -- that does writes a source network that was left out, which is 0, adds to the hops, and passes none
@@ -61,7 +61,7 @@ is_response p = nat_le 2 (length p.body)
 -- who is none of the routers passes nothing on, and tells nothing
 abbrev pub may_say : Network → Option (Vec (List ℕ) Global) → Option (List ℕ) → PacketView → Bool
 may_say network routers from p =
-    is_among routers from || (is_straight network p.header && not (is_response p))
+    is_listed routers from || (is_straight network p.header && not (is_response p))
 
 -- bytes that are no packet do neither
 abbrev pub MaySay : Network → Option (Vec (List ℕ) Global) → Option (List ℕ) → List ℕ → Type 0
@@ -72,18 +72,18 @@ MaySay network routers from bytes =
 -- whether they speak for another. Where there is no guard everybody is a stranger
 abbrev pub IsWordOn : Option Guard → Option (List ℕ) → List ℕ → Word → Type 0
 IsWordOn None from bytes word = word ≡ Stranger
-IsWordOn (Some g) from bytes Stranger = is_among g.hears from ≡ false
+IsWordOn (Some g) from bytes Stranger = is_listed g.hears from ≡ false
 IsWordOn (Some g) from bytes Forged =
-    (is_among g.hears from ≡ true) × (IsOwnWord g.network from bytes → ⊥)
-IsWordOn (Some g) from bytes NoRouter = (is_among g.hears from ≡ true)
+    (is_listed g.hears from ≡ true) × (IsOwnWord g.network from bytes → ⊥)
+IsWordOn (Some g) from bytes NoRouter = (is_listed g.hears from ≡ true)
     × IsOwnWord g.network from bytes × (MaySay g.network g.routers from bytes → ⊥)
-IsWordOn (Some g) from bytes Heard = (is_among g.hears from ≡ true)
+IsWordOn (Some g) from bytes Heard = (is_listed g.hears from ≡ true)
     × IsOwnWord g.network from bytes × MaySay g.network g.routers from bytes
 
 -- a datagram may be sent there by a port
 abbrev pub may_go : Option Guard → List ℕ → Bool
 may_go None to = false
-may_go (Some g) to = is_among g.sends (Some to)
+may_go (Some g) to = is_listed g.sends (Some to)
 
 -- nothing was kept back, for one cause and for any
 abbrev pub none_kept : Kept

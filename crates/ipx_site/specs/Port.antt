@@ -1,5 +1,6 @@
 -- A port of a router in its file: a table `[[port]]`. All of it is own.
-use Rattle.std.specs.Prelude.{◌≡◌, ◌⊎◌, ℕ, None}
+use Rattle.std.specs.Prelude.{Vec, ◌≡◌, ◌⊎◌, ℕ, List, None}
+use Rattle.std.specs.Global.{Global}
 use Rattle.toml.specs.Data.{Members}
 use Rattle.ipx_carrier.specs.Mapping.{usual_port}
 use Rattle.ipx_site.specs.declared.fault.FileFault.{FileFault}
@@ -7,8 +8,8 @@ use Rattle.ipx_site.specs.declared.key.Key.TheVariants as Key
 use Rattle.ipx_site.specs.declared.site.Accept.TheVariants as Accept
 use Rattle.ipx_site.specs.declared.site.SitePort.{SitePort}
 use Rattle.ipx_site.specs.Keys.{first_unknown, port_keys}
-use Rattle.ipx_site.specs.Values.{ArePeers, IsAccept, IsAddress, IsCount, IsNetwork}
-use Rattle.ipx_site.specs.Fields.{Holds, HoldsOr, IsFault, IsRight, IsRightOr, IsUnknown, IsWrong}
+use Rattle.ipx_site.specs.Values.{ArePeers, AreRouterPeers, IsAccept, IsAddress, IsCount, IsNetwork}
+use Rattle.ipx_site.specs.Fields.{Holds, HoldsIf, HoldsOr, IsFault, IsRight, IsRightOr, IsUnknown, IsWrong}
 
 -- a table is that of a port
 pub record IsPort (ms : Members) (p : SitePort) : Type 0 where
@@ -18,7 +19,14 @@ pub record IsPort (ms : Members) (p : SitePort) : Type 0 where
   pub udp_port : HoldsOr (IsCount 65535) Key.UdpPort ms usual_port p.udp_port
   pub cost : HoldsOr (IsCount 65535) Key.Cost ms 1 p.cost
   pub peers : Holds ArePeers Key.Peers ms p.peers
+  pub routers : HoldsIf (AreRouterPeers p.peers.items) Key.Routers ms p.routers
   pub accept : HoldsOr IsAccept Key.Accept ms Accept.Peers p.accept
+
+-- the first fault of the keys behind its peers, which say who of them is a router and who is heard
+abbrev pub IsAccessFault : Members → ℕ → FileFault → Type 0
+IsAccessFault ms table f = (peers : Vec (List ℕ) Global) × Holds ArePeers Key.Peers ms peers
+    × (IsWrong (AreRouterPeers peers.items) Key.Routers ms table f
+    ⊎ (IsRightOr (AreRouterPeers peers.items) Key.Routers ms × IsWrong IsAccept Key.Accept ms table f))
 
 -- the first fault of the table of a port: a name that is no key, and then the keys in order
 abbrev pub IsPortFault : ℕ → Members → FileFault → Type 0
@@ -29,4 +37,4 @@ IsPortFault table ms f =
     ⊎ (IsRight IsAddress Key.Address ms × (IsWrong (IsCount 65535) Key.UdpPort ms table f
     ⊎ (IsRightOr (IsCount 65535) Key.UdpPort ms × (IsWrong (IsCount 65535) Key.Cost ms table f
     ⊎ (IsRightOr (IsCount 65535) Key.Cost ms × (IsFault ArePeers Key.Peers ms table f
-    ⊎ (IsRight ArePeers Key.Peers ms × IsWrong IsAccept Key.Accept ms table f)))))))))))
+    ⊎ IsAccessFault ms table f))))))))))

@@ -31,17 +31,17 @@ abbrev pub named : Option (Vec (List ℕ) Global) → Option (List (List ℕ))
 named ips = option_map (λ v. v.items) ips
 
 -- who is heard at a port: its peers, or everybody
-abbrev pub heard_by : Accept → List (List ℕ) → Option (List (List ℕ))
-heard_by Any peers = None
-heard_by Peers peers = Some peers
+abbrev pub heard_at_port : Accept → List (List ℕ) → Option (List (List ℕ))
+heard_at_port Any peers = None
+heard_at_port Peers peers = Some peers
 
 -- whom a port sends to, who is heard there, and who is a router: as its file says it, and as its guard
 -- does
 abbrev pub access_of : SitePort → Access
 access_of p = record {
   sends = Some p.peers.items;
-  hears = heard_by p.accept p.peers.items;
-  routers = None;
+  hears = heard_at_port p.accept p.peers.items;
+  routers = named p.routers;
 }
 
 abbrev pub access_by : Guard → Access

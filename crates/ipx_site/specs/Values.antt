@@ -1,12 +1,14 @@
 -- What the value of a key means: a number of a network, an address, and so on.
-use Rattle.std.specs.Prelude.{String, Vec, string_bytes, ◌≡◌, ◌≢◌, ℕ, ◌≤◌, pos, List, [], ◌∷◌, length, Option, Some, codes, MatchOption}
+use Rattle.std.specs.Prelude.{String, Vec, string_bytes, ◌≡◌, ◌≢◌, ℕ, ◌≤◌, pos, List, [], ◌∷◌, length, true, Option, Some, codes, MatchOption}
 use Rattle.std.specs.Global.{Global}
+use Rattle.std.specs.List.{list_all}
 use Rattle.std.specs.Str.Parse.{IsNumeral, digits_value}
 use Rattle.std.specs.Net.Grammar.{IsDotted}
 use Rattle.toml.specs.Data.{Data, Items, no_items, item, as_str, as_integer, as_array}
 use Rattle.ipx_wire.specs.declared.address.Network.{Network}
 use Rattle.ipx_wire.specs.declared.address.Socket.{Socket}
 use Rattle.ipx_wire.specs.Assigned.{all_networks, local_network}
+use Rattle.ipx_site.specs.Peers.{is_peer}
 use Rattle.ipx_site.specs.declared.site.Accept.{Accept}
 use Rattle.ipx_site.specs.declared.site.Accept.TheVariants.{Any, Peers}
 
@@ -63,6 +65,10 @@ AreAddresses ds ips = AreEach IsAddress ds ips
 -- an array of strings that are IP addresses
 abbrev pub ArePeers : Data → Vec (List ℕ) Global → Type 0
 ArePeers d ips = (ds : Items) × (as_array d ≡ Some ds) × AreAddresses ds ips.items
+
+-- so, and each of them is one of these peers
+abbrev pub AreRouterPeers : List (List ℕ) → Data → Vec (List ℕ) Global → Type 0
+AreRouterPeers peers d ips = ArePeers d ips × (list_all (is_peer peers) ips.items ≡ true)
 
 -- ---- words of the private functions
 

@@ -6,14 +6,16 @@ ghost use Rattle.toml.specs.Data.{get_member};
 ghost use Rattle.toml.specs.View.{table_view, view};
 ghost use Rattle.ipx_site.specs.Keys.{first_unknown, key_text};
 ghost use Rattle.ipx_site.specs.Origins.{AreOrigins};
-ghost use Rattle.ipx_site.specs.Values.{ArePeers, IsAccept, IsAddress, IsCount, IsNetwork, IsSocket, IsText};
+ghost use Rattle.ipx_site.specs.Values.{ArePeers, AreRouterPeers, IsAccept, IsAddress, IsCount, IsNetwork, IsSocket, IsText};
 ghost use Rattle.ipx_site.specs.Fields.{Gives, GivesIf, GivesOr, Holds, IsMissing, IsUnknown, IsWrong};
 
 use crate::fault::FileFault;
 use crate::key::{Key, is_one_of};
 use crate::origin::{Origin, origins_of};
 use crate::site::Accept;
-use crate::values::{accept_of, address_of, count_of, network_of, peers_of, socket_of, text_of};
+use crate::values::{
+    accept_of, address_of, count_of, network_of, peers_of, routers_of, socket_of, text_of,
+};
 use ipx_wire::{Network, OutOfMemory, Socket};
 use std::alloc::Global;
 use toml::{Table, Value};
@@ -111,6 +113,24 @@ pub fn peers_in(alloc: Global, table: &Table, number: usize) -> Result<Vec<[u8; 
     match peers_of(alloc, required(table, number, Key::Peers)?)? {
         Some(peers) => Ok(peers),
         None => Err(FileFault::Wrong(number, Key::Peers)),
+    }
+}
+
+/// Those of the peers of a port that are routers, if they are named.
+pub fn port_routers_in(
+    alloc: Global,
+    table: &Table,
+    number: usize,
+    peers: &[[u8; 4]],
+) -> Result<Option<Vec<[u8; 4]>>, FileFault>
+    ensures { GivesIf (AreRouterPeers peers.now) Key.Routers (table_view table.now) number result }
+{
+    let Some(value) = held(table, Key::Routers) else {
+        return Ok(None);
+    };
+    match routers_of(alloc, value, peers)? {
+        Some(routers) => Ok(Some(routers)),
+        None => Err(FileFault::Wrong(number, Key::Routers)),
     }
 }
 

@@ -1,12 +1,12 @@
 //! A device that hears its peers alone, and sends to them alone.
 
 ghost use Rattle.std.specs.Prelude.{◌≡◌, ◌<◌, ◌≤◌, ◌+◌, ◌^◌, [], ◌∷◌, ℕ, true, false, Ok, Option, Some, OnErr, OnOk, IfOk, IfSome, is_err, length, map, slice_get};
+ghost use Rattle.ipx_wire.specs.Ipx.{view};
 ghost use Rattle.ipx_carrier.specs.Device.{Passes, received_in};
 ghost use Rattle.ipx_carrier.specs.Fates.{raised};
 ghost use Rattle.ipx_carrier.specs.Fault.{device_failures};
 ghost use Rattle.ipx_carrier.specs.Waits.{LeavesPort};
-ghost use Rattle.ipx_wire.specs.Ipx.{view};
-ghost use Rattle.ipx_site.specs.Peers.{IsWordOn, TakesIn, is_among, is_peer, kept_in, may_go, may_say, none_kept, nothing_kept, one_more};
+ghost use Rattle.ipx_site.specs.Peers.{IsWordOn, TakesIn, is_listed, is_peer, kept_in, may_go, may_say, none_kept, nothing_kept, one_more};
 ghost use Rattle.ipx_site.specs.Ports.{access_by};
 
 use crate::own_word::{is_own_word, is_response, is_straight};
@@ -107,8 +107,8 @@ pub fn is_one_of(ips: &[[u8; 4]], ip: [u8; 4]) -> bool
 }
 
 /// Whether an IP address is among those that are named, where some are.
-fn is_among(ips: &Option<Vec<[u8; 4]>>, ip: Option<[u8; 4]>) -> bool
-    ensures { result ≡ is_among ips.now ip }
+fn is_listed(ips: &Option<Vec<[u8; 4]>>, ip: Option<[u8; 4]>) -> bool
+    ensures { result ≡ is_listed ips.now ip }
 {
     match (ips, ip) {
         (None, _) => true,
@@ -121,7 +121,7 @@ fn is_among(ips: &Option<Vec<[u8; 4]>>, ip: Option<[u8; 4]>) -> bool
 fn may_say(guard: &Guard, from: Option<[u8; 4]>, packet: &Packet<'_>) -> bool
     ensures { result ≡ may_say guard.now.network guard.now.routers from (view packet.now) }
 {
-    is_among(&guard.routers, from)
+    is_listed(&guard.routers, from)
         || (is_straight(guard.network, &packet.header) && !is_response(packet))
 }
 
@@ -129,7 +129,7 @@ fn may_say(guard: &Guard, from: Option<[u8; 4]>, packet: &Packet<'_>) -> bool
 fn word_on(guard: &Guard, from: Option<[u8; 4]>, bytes: &[u8]) -> Word
     ensures { IsWordOn (Some guard.now) from bytes.now result }
 {
-    if !is_among(&guard.hears, from) {
+    if !is_listed(&guard.hears, from) {
         return Word::Stranger;
     }
     let Ok(packet) = decode(bytes) else {
@@ -211,7 +211,7 @@ impl<D: Senders + Drop> PeersOnly<D> {
         ensures { result ≡ may_go (slice_get self.now.guards.items port) to }
     {
         match self.guards.get(port) {
-            Some(guard) => is_among(&guard.sends, Some(to)),
+            Some(guard) => is_listed(&guard.sends, Some(to)),
             None => false,
         }
     }

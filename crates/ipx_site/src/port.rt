@@ -5,7 +5,9 @@ ghost use Rattle.toml.specs.View.{table_view};
 ghost use Rattle.ipx_site.specs.Port.{IsPort, IsPortFault};
 
 use crate::fault::FileFault;
-use crate::fields::{accept_in, address_in, count_in, network_in, peers_in, refuse_unknown};
+use crate::fields::{
+    accept_in, address_in, count_in, network_in, peers_in, port_routers_in, refuse_unknown,
+};
 use crate::key::Key;
 use crate::site::SitePort;
 use ipx_carrier::UDP_PORT;
@@ -13,12 +15,13 @@ use std::alloc::Global;
 use toml::Table;
 
 /// The keys of a port, in the order in which their faults are told.
-const KEYS: [Key; 6] = [
+const KEYS: [Key; 7] = [
     Key::Network,
     Key::Address,
     Key::UdpPort,
     Key::Cost,
     Key::Peers,
+    Key::Routers,
     Key::Accept,
 ];
 
@@ -34,6 +37,7 @@ pub fn port_of(alloc: Global, table: &Table, number: usize) -> Result<SitePort, 
     let udp_port = count_in(table, number, Key::UdpPort, 65535, UDP_PORT)?;
     let cost = count_in(table, number, Key::Cost, 65535, 1)?;
     let peers = peers_in(alloc, table, number)?;
+    let routers = port_routers_in(alloc, table, number, &peers)?;
     let accept = accept_in(table, number)?;
     Ok(SitePort {
         network,
@@ -41,6 +45,7 @@ pub fn port_of(alloc: Global, table: &Table, number: usize) -> Result<SitePort, 
         udp_port,
         cost,
         peers,
+        routers,
         accept,
     })
 }

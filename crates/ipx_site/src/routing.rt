@@ -3,7 +3,7 @@
 ghost use Rattle.std.specs.Prelude.{◌≡◌, ◌≤◌, ◌⊎◌, All, IfErr, IfOk, OnOk, is_ok, if◌then◌else◌, map};
 ghost use Rattle.ipx_router.specs.NewRouter.{IsOwnNetwork};
 ghost use Rattle.ipx_carrier.specs.Turns.{peers_of};
-ghost use Rattle.ipx_site.specs.Ports.{GuardPorts, guarded, guarding, heard_by, named, router_port_of, router_ports, site_peers, udp_ports};
+ghost use Rattle.ipx_site.specs.Ports.{GuardPorts, guarded, guarding, heard_at_port, named, router_port_of, router_ports, site_peers, udp_ports};
 
 use crate::bind_fault::BindFault;
 use crate::clock::SteadyClock;
@@ -82,11 +82,21 @@ fn peers_by_port(alloc: Global, ports: &[SitePort]) -> Result<Vec<Vec<[u8; 4]>>,
 
 /// Who is heard at a port.
 fn port_hears(alloc: Global, port: &SitePort) -> Result<Option<Vec<[u8; 4]>>, AllocError>
-    ensures { IfOk result (λ ips. named ips ≡ heard_by port.now.accept port.now.peers.items) }
+    ensures { IfOk result (λ ips. named ips ≡ heard_at_port port.now.accept port.now.peers.items) }
 {
     match port.accept {
         Accept::Any => Ok(None),
         Accept::Peers => Ok(Some(port_peers(alloc, port)?)),
+    }
+}
+
+/// Who of the peers of a port is a router, where they are named.
+fn port_routers(alloc: Global, port: &SitePort) -> Result<Option<Vec<[u8; 4]>>, AllocError>
+    ensures { IfOk result (λ ips. named ips ≡ named port.now.routers) }
+{
+    match &port.routers {
+        Some(routers) => Ok(Some(Vec::from_slice(alloc, routers)?)),
+        None => Ok(None),
     }
 }
 
@@ -96,11 +106,12 @@ fn guard_of(alloc: Global, port: &SitePort) -> Result<Guard, AllocError>
 {
     let sends = Some(port_peers(alloc, port)?);
     let hears = port_hears(alloc, port)?;
+    let routers = port_routers(alloc, port)?;
     Ok(Guard {
         network: port.network,
         sends,
         hears,
-        routers: None,
+        routers,
     })
 }
 

@@ -24,6 +24,9 @@ pub struct SitePort {
     pub cost: u16,
     /// The IP addresses of the other nodes of the network.
     pub peers: Vec<[u8; 4]>,
+    /// Those of them that may pass on what others sent, and tell. None stands for each that is
+    /// heard.
+    pub routers: Option<Vec<[u8; 4]>>,
     pub accept: Accept,
 }
 

@@ -11,7 +11,7 @@ fn keys_of(table: usize) -> &'static str {
         return "a router has status and port, \
             a host network, address, router, udp_port, socket, buffers and from";
     }
-    "the keys are network, address, udp_port, cost, peers, accept"
+    "the keys are network, address, udp_port, cost, peers, routers, accept"
 }
 
 /// Where a fault lies: nothing for the file itself, and else the port.

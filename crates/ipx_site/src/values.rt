@@ -1,10 +1,13 @@
 //! What the value of a key means.
 
 ghost use Rattle.std.specs.Prelude.{◌≡◌, ◌≤◌, ◌<◌, ◌^◌, IfOk, IfSome};
+ghost use Rattle.std.specs.List.{list_all};
 ghost use Rattle.toml.specs.View.{items_view, view};
-ghost use Rattle.ipx_site.specs.Values.{AreAddresses, ArePeers, IsAccept, IsAddress, IsCount, IsHex, IsNetwork, IsSocket, IsText, ReadsAddresses, Spells};
+ghost use Rattle.ipx_site.specs.Values.{AreAddresses, ArePeers, AreRouterPeers, IsAccept, IsAddress, IsCount, IsHex, IsNetwork, IsSocket, IsText, ReadsAddresses, Spells};
 ghost use Rattle.ipx_site.specs.Fields.{Reads};
+ghost use Rattle.ipx_site.specs.Peers.{is_peer};
 
+use crate::peers::is_one_of;
 use crate::site::Accept;
 use ipx_wire::{Network, OutOfMemory, Socket};
 use std::alloc::Global;
@@ -114,5 +117,30 @@ pub fn peers_of(alloc: Global, value: &Value) -> Result<Option<Vec<[u8; 4]>>, Ou
     match value.as_array() {
         Some(values) => addresses_of(alloc, values),
         None => Ok(None),
+    }
+}
+
+/// Whether each of these IP addresses is one of the peers.
+fn are_among(ips: &[[u8; 4]], peers: &[[u8; 4]]) -> bool
+    ensures { result ≡ list_all (is_peer peers.now) ips.now }
+{
+    ips.iter().all(|ip| is_one_of(peers, *ip))
+}
+
+/// The routers that a value lists, if each of them is one of these peers.
+pub fn routers_of(
+    alloc: Global,
+    value: &Value,
+    peers: &[[u8; 4]],
+) -> Result<Option<Vec<[u8; 4]>>, OutOfMemory>
+    ensures { IfOk result (Reads (AreRouterPeers peers.now) (view value.now)) }
+{
+    let Some(ips) = peers_of(alloc, value)? else {
+        return Ok(None);
+    };
+    if are_among(&ips, peers) {
+        Ok(Some(ips))
+    } else {
+        Ok(None)
     }
 }

@@ -40,7 +40,7 @@ const SITES: [(&str, &str); 9] = [
     ),
     (
         "[[port]]\npeer = []",
-        "port 1: peer is no key here: the keys are network, address, udp_port, cost, peers, accept",
+        "port 1: peer is no key here: the keys are network, address, udp_port, cost, peers, routers, accept",
     ),
     (
         "[[port]]\nnetwork = \"ffffffff\"",
@@ -55,7 +55,7 @@ const SITES: [(&str, &str); 9] = [
 /// A port up to its peers, and what follows with what is printed of it.
 const START: &str = "[[port]]\nnetwork = \"00000001\"\naddress = \"192.0.2.10\"\n";
 
-const PORTS: [(&str, &str); 6] = [
+const PORTS: [(&str, &str); 10] = [
     (
         "udp_port = 0",
         "port 1: udp_port is to be a number from 1 to 65535, as 213",
@@ -76,7 +76,20 @@ const PORTS: [(&str, &str); 6] = [
         "peers = []\naccept = \"all\"",
         "port 1: accept is to be \"peers\" or \"any\"",
     ),
+    (
+        "peers = [\"10.1.0.20\"]\nrouters = [\"10.1.0.21\"]",
+        "port 1: routers is to be a list of IP addresses among peers",
+    ),
+    (
+        "peers = [\"10.1.0.20\"]\nrouters = \"10.1.0.20\"\naccept = \"all\"",
+        "port 1: routers is to be a list of IP addresses among peers",
+    ),
     ("peers = []", "none"),
+    ("peers = []\nrouters = []", "none"),
+    (
+        "peers = [\"10.1.0.20\", \"10.1.0.21\"]\nrouters = [\"10.1.0.21\", \"10.1.0.21\"]",
+        "none",
+    ),
 ];
 
 /// Files of hosts with what is printed of them.

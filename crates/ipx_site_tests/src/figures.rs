@@ -31,6 +31,10 @@ pub const FIGURES: Figures = Figures {
             count: 23,
             last: None,
         },
+        no_router: Kept {
+            count: 24,
+            last: None,
+        },
     },
     refused: 16,
     device_faults: 17,
@@ -42,7 +46,7 @@ pub const FIGURES: Figures = Figures {
 };
 
 /// Lines that stand in it.
-const LINES: [&str; 23] = [
+const LINES: [&str; 24] = [
     "ipx_heard_total 1\n",
     "ipx_sent_total 2\n",
     "ipx_fates_total{fate=\"forwarded\"} 3\n",
@@ -59,6 +63,7 @@ const LINES: [&str; 23] = [
     "ipx_dropped_total{reason=\"unmapped\"} 14\n",
     "ipx_strangers_total 15\n",
     "ipx_kept_back_total{reason=\"forged\"} 23\n",
+    "ipx_kept_back_total{reason=\"no_router\"} 24\n",
     "ipx_refused_total 16\n",
     "ipx_faults_total{of=\"device\"} 17\n",
     "ipx_faults_total{of=\"memory\"} 18\n",

@@ -14,6 +14,7 @@ address = \"192.0.2.10\"
 udp_port = 2130
 cost = 6
 peers = [\"198.51.100.7\", \"203.0.113.9\"]
+routers = [\"203.0.113.9\"]
 accept = \"any\"
 
 [[port]]
@@ -72,6 +73,19 @@ fn reads_peers(rt: HostRuntime) {
     assert_eq!(rt; site.ports.len(), 2);
     assert!(rt; site.ports[0].peers.as_slice() == [[198, 51, 100, 7], [203, 0, 113, 9]].as_slice());
     assert!(rt; site.ports[1].peers.as_slice() == [[10, 1, 0, 20]].as_slice());
+}
+
+#[test]
+fn reads_routers(rt: HostRuntime) {
+    let Some(site) = site(rt.alloc(), SITE) else {
+        panic!(rt; "the file has a fault");
+    };
+    assert_eq!(rt; site.ports.len(), 2);
+    let Some(routers) = &site.ports[0].routers else {
+        panic!(rt; "it names no routers");
+    };
+    assert!(rt; routers.as_slice() == [[203, 0, 113, 9]].as_slice());
+    assert!(rt; site.ports[1].routers.is_none());
 }
 
 #[test]

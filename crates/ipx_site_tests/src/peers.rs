@@ -10,7 +10,8 @@ use std::process::Abort;
 #[derive(Drop)]
 struct Fountain {
     from: Option<[u8; 4]>,
-    bytes: [u8; 30],
+    bytes: [u8; 32],
+    count: usize,
 }
 
 impl Datagrams for Fountain {
@@ -43,7 +44,7 @@ impl Datagrams for Fountain {
     }
 
     fn receive(&mut self, _port: usize, room: &mut [u8]) -> Result<Option<usize>, DeviceFault> {
-        let count = room.len().min(self.bytes.len());
+        let count = room.len().min(self.count).min(self.bytes.len());
         room[..count].copy_from_slice(&self.bytes[..count]);
         Ok(Some(count))
     }
@@ -72,7 +73,8 @@ fn guarded(
     };
     let fountain = Fountain {
         from: Some(from),
-        bytes: [0; 30],
+        bytes: [0; 32],
+        count: 30,
     };
     Ok(PeersOnly::new(fountain, vec![in alloc; guard]?))
 }
@@ -111,7 +113,7 @@ fn is_heard(
             socket: Socket(0x4003),
         },
     };
-    let mut bytes = [0; 30];
+    let mut bytes = [0; 32];
     let _all = encode_into(&Packet { header, body: &[] }, &mut bytes);
     let guard = Guard {
         network: HERE,
@@ -119,7 +121,12 @@ fn is_heard(
         hears: None,
         routers: None,
     };
-    let mut device = PeersOnly::new(Fountain { from: ip, bytes }, vec![in alloc; guard]?);
+    let fountain = Fountain {
+        from: ip,
+        bytes,
+        count: 30,
+    };
+    let mut device = PeersOnly::new(fountain, vec![in alloc; guard]?);
     let mut room = [0; 64];
     let heard = matches!(device.receive(0, &mut room), Ok(Some(30)));
     let kept = device.kept();
@@ -212,5 +219,89 @@ fn sends_to_peers_alone(rt: HostRuntime) -> Result<(), AllocError> {
     assert_eq!(rt; device.refused(), 0);
     assert!(rt; device.send(0, [10, 0, 0, 2], &[1]).is_ok());
     assert_eq!(rt; device.refused(), 1);
+    Ok(())
+}
+
+/// A packet of another node, and one that is the peer's own, each with this body for this socket.
+const SOURCES: [(Network, Node); 2] = [(AWAY, OTHER), (HERE, PEER)];
+
+/// Whether the peer's packet with this source and body, for this socket, is heard where it is one of
+/// the routers, or where none is. What is not is counted as no router's, and as nothing else.
+fn is_let(
+    rt: &impl Abort,
+    alloc: Global,
+    routers: Vec<[u8; 4]>,
+    source: (Network, Node),
+    socket: Socket,
+    operation: u8,
+) -> Result<bool, AllocError> {
+    let header = IpxHeader {
+        hops: 0,
+        kind: 0,
+        to: Address {
+            network: HERE,
+            node: Node::BROADCAST,
+            socket,
+        },
+        from: Address {
+            network: source.0,
+            node: source.1,
+            socket,
+        },
+    };
+    let mut bytes = [0; 32];
+    let packet = Packet {
+        header,
+        body: &[0, operation],
+    };
+    let _all = encode_into(&packet, &mut bytes);
+    let guard = Guard {
+        network: HERE,
+        sends: None,
+        hears: None,
+        routers: Some(routers),
+    };
+    let ip = [10, 0, 0, 1];
+    let fountain = Fountain {
+        from: Some(ip),
+        bytes,
+        count: 32,
+    };
+    let mut device = PeersOnly::new(fountain, vec![in alloc; guard]?);
+    let mut room = [0; 64];
+    let heard = matches!(device.receive(0, &mut room), Ok(Some(32)));
+    let kept = device.kept();
+    assert_eq!(rt; kept.no_router.count, u64::from(!heard));
+    assert!(rt; heard || kept.no_router.last == Some(ip));
+    assert_eq!(rt; kept.total(), u128::from(!heard));
+    Ok(heard)
+}
+
+#[test]
+fn hears_all_of_a_router(rt: HostRuntime) -> Result<(), AllocError> {
+    for source in SOURCES {
+        for socket in [Socket::RIP, Socket::SAP, Socket(0x4002)] {
+            for operation in 1..5 {
+                let routers = vec![in rt.alloc(); [10, 0, 0, 2], [10, 0, 0, 1]]?;
+                assert!(rt; is_let(&rt, rt.alloc(), routers, source, socket, operation)?);
+            }
+        }
+    }
+    Ok(())
+}
+
+#[test]
+fn hears_of_no_router_what_is_its_own_and_no_response(rt: HostRuntime) -> Result<(), AllocError> {
+    for socket in [Socket::RIP, Socket::SAP, Socket(0x4002)] {
+        for operation in 1..5 {
+            let routers = vec![in rt.alloc(); [10, 0, 0, 2]]?;
+            let response = (socket == Socket::RIP && operation == 2)
+                || (socket == Socket::SAP && (operation == 2 || operation == 4));
+            let heard = is_let(&rt, rt.alloc(), routers, SOURCES[1], socket, operation)?;
+            assert_eq!(rt; heard, !response);
+            let none = Vec::new(rt.alloc());
+            assert!(rt; !is_let(&rt, rt.alloc(), none, SOURCES[0], socket, operation)?);
+        }
+    }
     Ok(())
 }

@@ -4,8 +4,7 @@
 use crate::figures::FIGURES;
 use ipx_carrier::{Core, Datagrams, RunFault};
 use ipx_site::{
-    BindFault, Burst, Guard, PeersOnly, Readiness, SiteSockets, SteadyClock, WaitFault,
-    run_burst,
+    BindFault, Burst, Guard, PeersOnly, Readiness, SiteSockets, SteadyClock, WaitFault, run_burst,
 };
 use ipx_wire::{Network, Node, OutOfMemory};
 use std::alloc::Global;

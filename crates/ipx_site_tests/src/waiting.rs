@@ -1,9 +1,7 @@
 //! Waiting for sockets of the loopback, and bursts of turns over them.
 
 use ipx_carrier::{Core, Datagrams, DeviceFault};
-use ipx_site::{
-    BindFault, Guard, PeersOnly, Readiness, SiteSockets, SteadyClock, run_burst,
-};
+use ipx_site::{BindFault, Guard, PeersOnly, Readiness, SiteSockets, SteadyClock, run_burst};
 use ipx_wire::{Network, Node, OutOfMemory};
 use std::alloc::{AllocError, Global};
 use std::test::Fail;

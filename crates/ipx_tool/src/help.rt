@@ -133,6 +133,7 @@ Reads the file SITE, in TOML: a table [[port]] for each network that it joins, w
   udp_port  213 where it is left out
   cost      ticks, 1 where it is left out
   peers     a list of IP addresses: whom it sends to
+  routers   those of them that may pass on and tell, each where it is left out
   accept    \"peers\", as where it is left out, or \"any\": who is heard
 and before the first port, if figures are wanted,
   status    the name of a file, which it writes anew every ten seconds

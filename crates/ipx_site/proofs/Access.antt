@@ -1,0 +1,20 @@
+-- how a fault of the keys that say who may speak is one of them all
+use Rattle.std.proofs.Common.{Vec, ◌≡◌, ℕ, List, Option, inl, inr}
+use Rattle.std.specs.Global.{Global}
+use Rattle.toml.specs.Data.{Members}
+use Rattle.ipx_site.specs.declared.fault.FileFault.{FileFault}
+use Rattle.ipx_site.specs.declared.key.Key.TheVariants as Key
+use Rattle.ipx_site.specs.Fields.{Holds, HoldsIf, IsWrong}
+use Rattle.ipx_site.specs.Port.{IsAccessFault}
+use Rattle.ipx_site.specs.Values.{ArePeers, AreRouterPeers, IsAccept}
+use Rattle.ipx_site.proofs.Faults.{right_if}
+
+module _ (seen : List (List ℕ)) (peers : Vec (List ℕ) Global) (same : seen ≡ peers.items) (ms : Members) (table : ℕ) (f : FileFault)
+    (there : Holds ArePeers Key.Peers ms peers) where
+  pub routers_fault : IsWrong (AreRouterPeers seen) Key.Routers ms table f → IsAccessFault ms table f
+  routers_fault wrong = let now = rw same at wrong in (peers, there, inl now)
+
+  pub accept_fault : (found : Option (Vec (List ℕ) Global)) → HoldsIf (AreRouterPeers seen) Key.Routers ms found
+      → IsWrong IsAccept Key.Accept ms table f → IsAccessFault ms table f
+  accept_fault found named wrong =
+      let now = rw same at named in (peers, there, inr (right_if (AreRouterPeers peers.items) Key.Routers ms found now, wrong))
