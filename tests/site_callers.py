@@ -4,7 +4,7 @@ import struct
 import time
 
 from site_packets import ipx
-from site_world import bound, node, some_bytes, until
+from site_world import bound, listed, node, some_bytes, until
 
 # A listener and a sender on a network without a router; the last listener is asked by somebody who is not named.
 NETWORK = "00000044"
@@ -24,8 +24,8 @@ def start_from(sites):
     """A sender to a listener of each kind."""
     ends = {}
     for name, (listener, sender) in FROM.items():
-        named = ", ".join(f'"{one}"' for one in NAMED[name])
-        sites.host(f"{name}-listener", NETWORK, listener, "127.0.1.89", "4002", f"from = [{named}]\n")
+        sites.host(f"{name}-listener", NETWORK, listener, "127.0.1.89", "4002",
+                   listed("from", NAMED[name]) + listed("peers", [sender]))
         sites.host(f"{name}-sender", NETWORK, sender, "127.0.1.89", "4003")
         data = some_bytes(sites.seed + 9, 20_000)
         ends[name] = (sites.start_listener("--once", name=f"{name}-listener"),
@@ -75,7 +75,8 @@ def ask(ip, listener, port):
 def start_silent(sites):
     """Listeners that are called by some who never speak, and then by a true sender."""
     for name, (listener, sender) in {"once": ONCE, "crowded": CROWDED, "quiet": QUIET}.items():
-        sites.host(f"{name}-listener", NETWORK, listener, "127.0.1.89", "4002")
+        sites.host(f"{name}-listener", NETWORK, listener, "127.0.1.89", "4002",
+                   listed("peers", [sender, *SILENT, ASKING]))
         sites.host(f"{name}-sender", NETWORK, sender, "127.0.1.89", "4003")
     data, ends = some_bytes(sites.seed + 10, 20_000), [(bound(ip, sites.port), ip) for ip in SILENT]
     quiet = sites.start_listener("--once", name="quiet-listener")

@@ -17,7 +17,8 @@ router = "127.0.1.1"
 udp_port = 20999
 socket = "4002"
 """
-KEYS = "a router has status and port, a host network, address, router, udp_port, socket, buffers and from"
+KEYS = ("a router has status and port, a host network, address, router, udp_port, socket, buffers, peers, routers, from and "
+        "accept")
 PORT_KEYS = "the keys are network, address, udp_port, cost, peers, routers, accept"
 NETWORK = 'eight hex digits, neither all 0 nor all f, as "00000011"'
 ADDRESS = 'an IP address of this machine, as "192.0.2.10"'
@@ -30,6 +31,9 @@ ROUTER = 'the IP address of a router, as "10.1.0.1"'
 BUFFERS = "a number from 1 to 8192, as 64"
 FROM = ('a list of at most 256 networks, each alone or with a node behind it, as '
         '["00000022 00000a02001e", "00000033"]')
+FEW_PEERS = 'a list of at most 256 IP addresses, as ["198.51.100.7", "203.0.113.9"]'
+ROUTERS = "a list of at most 256 IP addresses among peers"
+ACCEPT = '"peers" or "any"'
 STATUS = 'the name of a file, as "/run/ipx/hq/hq.prom"'
 
 
@@ -121,7 +125,21 @@ HOST_FILES = [
     (HOST + "from = [\"00000000 00000a02001e\"]\n", f"from is to be {FROM}"),
     (HOST + f"from = {['00000033'] * 257}\n".replace("'", '"'), f"from is to be {FROM}"),
     (HOST + "buffers = 0\nfrom = 1\n", f"buffers is to be {BUFFERS}"),
-    (HOST + "peers = []\n", f"peers is no key here: {KEYS}"),
+    (HOST + "peers = \"127.0.1.30\"\n", f"peers is to be {FEW_PEERS}"),
+    (HOST + "peers = [\"127.0.1.30\", \"b\"]\n", f"peers is to be {FEW_PEERS}"),
+    (HOST + "peers = [\"0.0.0.0\"]\n", f"peers is to be {FEW_PEERS}"),
+    (HOST + f"peers = {['127.0.1.30'] * 257}\n".replace("'", '"'), f"peers is to be {FEW_PEERS}"),
+    (HOST + "routers = 1\n", f"routers is to be {ROUTERS}"),
+    (HOST + "routers = [\"127.0.1.30\"]\n", f"routers is to be {ROUTERS}"),
+    (HOST + "peers = [\"127.0.1.30\"]\nrouters = [\"127.0.1.30\", \"127.0.1.31\"]\n", f"routers is to be {ROUTERS}"),
+    (HOST + f"peers = [\"127.0.1.30\"]\nrouters = {['127.0.1.30'] * 257}\n".replace("'", '"'), f"routers is to be {ROUTERS}"),
+    (HOST + "accept = true\n", f"accept is to be {ACCEPT}"),
+    (HOST + "accept = \"all\"\n", f"accept is to be {ACCEPT}"),
+    (HOST + "buffers = 0\npeers = 1\n", f"buffers is to be {BUFFERS}"),
+    (HOST + "peers = 1\nrouters = 1\n", f"peers is to be {FEW_PEERS}"),
+    (HOST + "routers = 1\nfrom = 1\n", f"routers is to be {ROUTERS}"),
+    (HOST + "from = 1\naccept = 1\n", f"from is to be {FROM}"),
+    (HOST + "status = \"a\"\n", f"status is no key here: {KEYS}"),
 ]
 
 

@@ -5,7 +5,7 @@ import struct
 import time
 
 from site_packets import ipx, rip_response
-from site_world import bound, node, some_bytes, until
+from site_world import bound, listed, node, some_bytes, until
 
 # A router with two peers on one network, of which the first speaks for others, and one on another.
 FORGER, NAMED, FAR = "127.0.1.112", "127.0.1.113", "127.0.1.114"
@@ -43,7 +43,8 @@ def came_to(one, ip):
 def start_forged(sites):
     """Starts the three routers, and a host that listens behind them."""
     sites.host("handed-listener", "00000055", HANDED[1], "127.0.1.118", "4002")
-    sites.host("handed-sender", "00000053", HANDED[0], "127.0.1.115", "4003")
+    sites.host("handed-sender", "00000053", HANDED[0], "127.0.1.115", "4003",
+               listed("peers", ["127.0.1.116"]) + listed("routers", ["127.0.1.116"]))
     for name in FORGED:
         sites.start_router(name)
     ends = {ip: bound(ip, sites.port) for ip in (FORGER, NAMED, FAR)}
@@ -124,7 +125,8 @@ def burst(sites, ends):
 
 
 def hand_on(sites, listener):
-    """A host whose router is not the one that is next: that one hands its packets on along the network."""
+    """A host whose router is not the one that is next: that one hands its packets on along the network.
+    What comes back is the other one's to send, whom the host names among its routers."""
     data = some_bytes(sites.seed + 8, 20_000)
     ready = until(lambda: any("network 00000055 known" in line for line in sites.routers["h1"].said()), 15)
     sites.check("the router that is not next knows the way", ready)

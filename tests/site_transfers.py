@@ -1,7 +1,7 @@
 """Transfers on one machine with room in the sockets, for tests/sites: how many units may be out does not lose them."""
 import time
 
-from site_world import some_bytes, until
+from site_world import listed, some_bytes, until
 
 NETWORK = "00000044"
 # 20 MB at these numbers of buffers, and three senders of 5 MB at 64 to one listener.
@@ -15,7 +15,8 @@ def check_one(sites, buffers, addresses):
     """20 MB from one host to another, both with so many buffers."""
     names = [f"buffers-{buffers}-{end}" for end in ("listener", "sender")]
     for name, address, number in zip(names, addresses, ("4002", "4003")):
-        sites.host(name, NETWORK, address, "127.0.1.89", number, f"buffers = {buffers}\n")
+        sites.host(name, NETWORK, address, "127.0.1.89", number,
+                   f"buffers = {buffers}\n" + listed("peers", addresses))
     data = some_bytes(sites.seed + 10, 2 * sites.size)
     listener = sites.start_listener("--once", name=names[0])
     start = time.monotonic()
@@ -27,7 +28,7 @@ def check_one(sites, buffers, addresses):
 
 def check_three(sites):
     """Three senders at once to one listener: each sends bytes of its own third."""
-    sites.host("many-listener", NETWORK, MANY, "127.0.1.89", "4002")
+    sites.host("many-listener", NETWORK, MANY, "127.0.1.89", "4002", listed("peers", SENDERS))
     thirds = [bytes(byte % 85 + 85 * number for byte in some_bytes(sites.seed + 11 + number, sites.size // 2))
               for number in range(3)]
     listener = sites.start_listener(name="many-listener")

@@ -46,11 +46,15 @@ def some_bytes(seed, count):
     return random.Random(seed).randbytes(count)
 
 
+def listed(key, texts):
+    """The line of a key whose value is a list of texts."""
+    return f"{key} = [" + ", ".join(f'"{text}"' for text in texts) + "]\n"
+
+
 def port_table(network, address, udp_port, peers):
     """The text of a port of a router's file."""
-    listed = ", ".join(f'"{peer}"' for peer in peers)
     return (f'[[port]]\nnetwork = "{network}"\naddress = "{address}"\nudp_port = {udp_port}\n'
-            f"peers = [{listed}]\n")
+            + listed("peers", peers))
 
 
 class Process:

@@ -18,3 +18,4 @@ pub mod Target
 pub mod Tending
 pub mod Transfer
 pub mod Turning
+pub mod Company

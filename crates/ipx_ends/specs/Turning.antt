@@ -25,11 +25,12 @@ misses old port bytes now new = Misses old.endpoint bytes new.endpoint
 abbrev pub withholds : EndCore → ℕ → EndCore → Type 0
 withholds old now new = ⊥
 
--- what is told of a whole turn: whether a datagram was heard, and whether anything happened
+-- what is told of a whole turn: whether a datagram was heard, and whether anything happened. What was
+-- kept back no turn of a core has
 pub record TellsOf (report : Report) (turn : Turn) : Type 0 where
   pub heard : IsTrue turn.heard ↔ (0 < report.heard)
   pub active : IsTrue turn.active
-      ↔ ((0 < report.heard) ⊎ ((0 < report.sent) ⊎ (0 < report.unmapped)))
+      ↔ ((0 < report.heard) ⊎ ((0 < report.sent) ⊎ ((0 < report.unmapped) ⊎ IsTrue turn.kept)))
 
 -- one turn over sockets, as `run` takes it; or a part of one, since memory was refused: then nothing
 -- was heard
@@ -38,4 +39,4 @@ TakesTurn {K} clock clock_after tells peers old new turn =
     ((report : Report) × Runs hears gives tells 1 peers 1 None None clock clock_after old new report
     × TellsOf report turn)
     ⊎ (EndsEarly hears misses gives withholds tells 1 peers 1 None None clock clock_after OutOfMemory old new
-    × (turn ≡ record { heard = false; active = true }))
+    × (turn.heard ≡ false) × (turn.active ≡ true))

@@ -7,6 +7,7 @@
 
 mod asking;
 mod callers;
+mod company;
 mod end_core;
 mod feeding;
 mod gate;
@@ -24,6 +25,7 @@ mod start;
 mod station;
 mod taking;
 mod target;
+mod telling;
 mod tending;
 mod verdict;
 

@@ -12,7 +12,7 @@ ghost use Rattle.ipx_ends.specs.Outlet.{left_of};
 use crate::listening::Listening;
 use crate::start::{StartFault, tell_start};
 use ipx_carrier::node_of;
-use ipx_site::{HostFile, load_host};
+use ipx_site::{Accept, HostFile, load_host};
 use log::{Log, info};
 use std::alloc::Global;
 use std::io::Write;
@@ -26,8 +26,12 @@ fn tell_place<R: Log>(rt: &R, file: &HostFile) {
     let socket = file.socket;
     let [a, b, c, d] = file.address;
     let udp = file.udp_port;
+    let any = match file.accept {
+        Accept::Any => " accept any",
+        Accept::Peers => "",
+    };
     info!(rt; target: "ipx",
-        "socket {socket} network {network} node {node} udp {a}.{b}.{c}.{d}:{udp}");
+        "socket {socket} network {network} node {node} udp {a}.{b}.{c}.{d}:{udp}{any}");
 }
 
 /// Runs a host that was started, and answers its status. Why one was not is told, and is 1.

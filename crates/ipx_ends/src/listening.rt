@@ -4,9 +4,11 @@ ghost use Rattle.std.specs.Prelude.{◌≡◌, ◌≢◌, ◌<◌, ◌≤◌, �
 ghost use Rattle.ipx_carrier.specs.Mapping.{node_at};
 ghost use Rattle.ipx_carrier.specs.Turns.{peers_of};
 ghost use Rattle.ipx_site.specs.Origins.{named_in};
+ghost use Rattle.ipx_site.specs.Ports.{guarding};
 ghost use Rattle.ipx_wire.specs.declared.address.Socket.{Socket};
 ghost use Rattle.spx_messages.specs.EndpointView.{buffers_at, held_at};
 ghost use Rattle.ipx_ends.specs.Callers.{Admits, KeepsHeard, KeepsOne, MakesRoom, NotesHeard, caller_of, heard_by, keeps_one_prop};
+ghost use Rattle.ipx_ends.specs.Company.{guarded_host};
 ghost use Rattle.ipx_ends.specs.Hosting.{Hears, Moves, MovesSome, Serves, StepsTo, host};
 ghost use Rattle.ipx_ends.specs.Outlet.{Writes, left_of};
 ghost use Rattle.ipx_ends.specs.Passing.{PassesEach, PassesSome};
@@ -115,8 +117,11 @@ impl<'a, R: Net + Log + Clock> Listening<'a, R> {
         ensures own { IfOk result (λ l. l.station.core.network ≡ file.now.network) }
         ensures peers { IfOk result (λ l.
             peers_of l.station.wire.peers.items ≡ (file.now.router ∷ []) ∷ []) }
+        // Whom it hears and sends to, its file says.
+        ensures guard { IfOk result (λ l.
+            map guarding l.station.wire.device.guards.items ≡ guarded_host file.now None ∷ []) }
     {
-        let mut station = Station::open(rt, alloc, file)?;
+        let mut station = Station::open(rt, alloc, file, None)?;
         station
             .core
             .endpoint

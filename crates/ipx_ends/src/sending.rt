@@ -1,11 +1,13 @@
 //! A host that sends: what it sees of its link after each turn, and how its transfer ends.
 
-ghost use Rattle.std.specs.Prelude.{◌≡◌, ◌<◌, ◌≤◌, ◌+◌, ◌↔◌, ◌⊎◌, ℕ, List, false, true, length, IfOk, IsTrue, Err, Ok, None, Option, Some};
+ghost use Rattle.std.specs.Prelude.{◌≡◌, ◌<◌, ◌≤◌, ◌+◌, ◌↔◌, ◌⊎◌, ◌∷◌, [], ℕ, List, false, true, length, map, IfOk, IsTrue, Err, Ok, None, Option, Some};
 ghost use Rattle.std.specs.Io.KnownBytes.{IsAtEnd};
 ghost use Rattle.ipx_carrier.specs.Turns.{peers_of};
+ghost use Rattle.ipx_site.specs.Ports.{guarding};
 ghost use Rattle.ipx_wire.specs.declared.address.Address.{Address};
 ghost use Rattle.spx_messages.specs.EndpointView.{held_at};
 ghost use Rattle.ipx_ends.specs.Books.{Follows};
+ghost use Rattle.ipx_ends.specs.Company.{dialed_ip as name_of_dialed, guarded_host};
 ghost use Rattle.ipx_ends.specs.Rounds.{EndsWith, IsStep, LastsOn, Transfers, place};
 ghost use Rattle.ipx_ends.specs.Sent.{IsDialing};
 ghost use Rattle.ipx_ends.specs.Sleeping.{MayWait, longest_wait};
@@ -13,6 +15,7 @@ ghost use Rattle.ipx_ends.specs.Steps.{IsFeedFault, IsStepFault, noted};
 ghost use Rattle.ipx_ends.specs.Transfer.{IsWaiting, IsWholeAt, joined_at, left_at, state_at};
 ghost use Rattle.ipx_ends.specs.declared.verdict.Verdict.TheVariants as Verdicts;
 
+use crate::company::dialed_ip;
 use crate::gate::Gate;
 use crate::handing::drop_what_came;
 use crate::ids::{dialed, passed_ids};
@@ -77,12 +80,15 @@ impl<'a, R: Net + Log + Clock + Eprint> Sending<'a, R> {
         to: Address,
         shows: bool,
     ) -> Result<Sending<'a, R>, StartFault>
-        ensures { IfOk result (λ s. (known : Option (List ℕ)) → IsDialing file.now to
+        ensures dialing { IfOk result (λ s. (known : Option (List ℕ)) → IsDialing file.now to
             (place s.station.clock s.station.core (noted s.joined s.left)
             s.read s.closed s.ledger known)
             (peers_of s.station.wire.peers.items) s.id) }
+        // It hears and sends to whom its file says, and the node that it dials.
+        ensures guard { IfOk result (λ s. map guarding s.station.wire.device.guards.items
+            ≡ guarded_host file.now (name_of_dialed file.now to) ∷ []) }
     {
-        let mut station = Station::open(rt, alloc, file)?;
+        let mut station = Station::open(rt, alloc, file, dialed_ip(file, to))?;
         let gate = Gate::new(rt, alloc, STDIN, Interest::READABLE);
         station.watch(gate.fd());
         let count = passed_ids(rt);

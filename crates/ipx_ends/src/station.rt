@@ -1,23 +1,28 @@
 //! A host by its file: its endpoint, its socket and its clock.
 
-ghost use Rattle.std.specs.Prelude.{◌≡◌, ◌≤◌, ◌∷◌, [], ℕ, IfOk, None, OnErr, Some, length, map};
+ghost use Rattle.std.specs.Prelude.{◌≡◌, ◌<◌, ◌≤◌, ◌↔◌, ◌∷◌, [], ℕ, IfOk, IsTrue, None, OnErr, Some, length, map};
 ghost use Rattle.ipx_carrier.specs.Mapping.{node_at};
 ghost use Rattle.ipx_carrier.specs.Runs.{EndsEarly, Runs};
 ghost use Rattle.ipx_carrier.specs.Turns.{peers_of};
 ghost use Rattle.ipx_site.specs.Origins.{named_in};
+ghost use Rattle.ipx_site.specs.Peers.{kept_in};
+ghost use Rattle.ipx_site.specs.Ports.{access_by, guarding};
 ghost use Rattle.ipx_carrier.specs.declared.fault.RunFault.TheVariants as RunFaults;
 ghost use Rattle.ipx_wire.specs.declared.address.Socket.{Socket};
 ghost use Rattle.spx_link.specs.Links.{count_of};
 ghost use Rattle.spx_messages.specs.EndpointView.{buffers_at, held_at};
+ghost use Rattle.ipx_ends.specs.Company.{guarded_host};
 ghost use Rattle.ipx_ends.specs.Sleeping.{IsSleep};
 ghost use Rattle.ipx_ends.specs.Turning.{TakesTurn, gives, hears, misses, withholds};
 
+use crate::company::guard_of;
 use crate::end_core::{EndCore, copy_origins};
 use crate::start::{StartFault, check_streams};
+use crate::telling::{Counts, Telling};
 use ipx_carrier::{Report, node_of, run};
-use ipx_site::{Cause, HostFile, Readiness, SiteSockets, SteadyClock, WaitFault};
+use ipx_site::{Guard, HostFile, PeersOnly, Readiness, SiteSockets, SteadyClock, WaitFault};
 use ipx_wire::OutOfMemory;
-use log::{Log, warn};
+use log::Log;
 use spx_messages::Endpoint;
 use std::alloc::Global;
 use std::net::Net;
@@ -29,17 +34,20 @@ use std::rt::Clock;
 pub struct Turn {
     /// A datagram was heard.
     pub heard: bool,
-    /// A datagram was heard or sent, a packet had no IP address to go to, or memory was refused:
-    /// the next turn may have something to do as well.
+    /// One was kept back.
+    pub kept: bool,
+    /// A datagram was heard, kept back or sent, a packet had no IP address to go to, or memory was
+    /// refused: the next turn may have something to do as well.
     pub active: bool,
 }
 
-/// The socket of a host, and its peers: there is one port, so a turn can always be begun.
+/// The socket of a host with its guard, and the peers that a broadcast goes to: there is one port,
+/// so a turn can always be begun.
 #[derive(Drop)]
 struct Wire {
-    sockets: SiteSockets,
+    device: PeersOnly<SiteSockets>,
     peers: Vec<Vec<[u8; 4]>>,
-    ghost one_socket: { length sockets.sockets.items ≡ 1 },
+    ghost one_socket: { length device.device.sockets.items ≡ 1 },
     ghost one_list: { length peers.items ≡ 1 },
 }
 
@@ -51,12 +59,24 @@ pub struct Station<'a, R: Clock> {
     clock: SteadyClock<'a, R>,
     readiness: Readiness,
     unheard: u64,
-    of_memory: Cause,
-    of_system: Cause,
-    of_barred: Cause,
+    telling: Telling,
 }
 
 impl Wire {
+    /// One socket with its guard, and one list of peers.
+    fn new(sockets: SiteSockets, guards: Vec<Guard>, peers: Vec<Vec<[u8; 4]>>) -> Wire
+        requires one_socket { length sockets.sockets.items ≡ 1 }
+        requires one_list { length peers.items ≡ 1 }
+        ensures sockets { result.device.device ≡ sockets }
+        ensures guards { result.device.guards.items ≡ guards.items }
+        ensures peers { result.peers ≡ peers }
+    {
+        Wire {
+            device: PeersOnly::new(sockets, guards),
+            peers,
+        }
+    }
+
     /// Takes one turn. Sockets never fail, so what ends one is that memory is refused.
     fn run<R: Clock>(
         &mut self,
@@ -73,8 +93,10 @@ impl Wire {
             1 (peers_of self.old.peers.items) 1 None None clock.old clock.new
             RunFaults.OutOfMemory core.old core.new) }
         ensures peers { self.new.peers ≡ self.old.peers }
+        ensures access { map access_by self.new.device.guards.items
+            ≡ map access_by self.old.device.guards.items }
     {
-        match run(alloc, core, &mut self.sockets, &self.peers, clock, 1) {
+        match run(alloc, core, &mut self.device, &self.peers, clock, 1) {
             Ok(report) => Ok(report),
             Err(_) => Err(OutOfMemory),
         }
@@ -82,8 +104,14 @@ impl Wire {
 }
 
 impl<'a, R: Net + Log + Clock> Station<'a, R> {
-    /// A host that is bound as its file says. It hears whoever reaches its socket.
-    pub fn open(rt: &'a R, alloc: Global, file: &HostFile) -> Result<Station<'a, R>, StartFault>
+    /// A host that is bound as its file says. It hears whom its file names, and the node at the IP
+    /// address that it dials, or everybody.
+    pub fn open(
+        rt: &'a R,
+        alloc: Global,
+        file: &HostFile,
+        dials: Option<[u8; 4]>,
+    ) -> Result<Station<'a, R>, StartFault>
         ensures network { IfOk result (λ s. s.core.endpoint.network ≡ file.now.network) }
         ensures node { IfOk result (λ s. s.core.endpoint.node ≡ node_at file.now.address) }
         ensures router { IfOk result (λ s. s.core.endpoint.router ≡ node_at file.now.router) }
@@ -97,31 +125,31 @@ impl<'a, R: Net + Log + Clock> Station<'a, R> {
         ensures accepted { IfOk result (λ s. s.core.came ≡ None) }
         ensures from { IfOk result (λ s. named_in s.core.from ≡ named_in file.now.from) }
         ensures own { IfOk result (λ s. s.core.network ≡ file.now.network) }
-        // Its router is its one peer.
+        // A broadcast goes to its router alone.
         ensures peers { IfOk result (λ s.
             peers_of s.wire.peers.items ≡ (file.now.router ∷ []) ∷ []) }
         // Its one socket has the UDP port of the file.
         ensures udp_port { IfOk result (λ s.
-            map (λ s. s.udp_port) s.wire.sockets.sockets.items ≡ file.now.udp_port ∷ []) }
+            map (λ s. s.udp_port) s.wire.device.device.sockets.items ≡ file.now.udp_port ∷ []) }
+        // Whom it hears and sends to.
+        ensures guard { IfOk result (λ s.
+            map guarding s.wire.device.guards.items ≡ guarded_host file.now dials ∷ []) }
     {
         check_streams(rt)?;
         let node = node_of(file.address);
         let endpoint = Endpoint::new(alloc, file.network, node, node_of(file.router));
         let router = vec![in alloc; file.router]?;
+        let peers = vec![in alloc; router]?;
+        let guards = vec![in alloc; guard_of(alloc, file, dials)?]?;
         let sockets = SiteSockets::bind_one(rt, alloc, file.address, file.udp_port)?;
         let readiness = Readiness::new(rt, alloc, &sockets)?;
         Ok(Station {
             core: EndCore::new(endpoint, file.network, copy_origins(alloc, &file.from)?),
-            wire: Wire {
-                sockets,
-                peers: vec![in alloc; router]?,
-            },
+            wire: Wire::new(sockets, guards, peers),
             clock: SteadyClock::new(rt),
             readiness,
             unheard: 0,
-            of_memory: Cause::new(),
-            of_system: Cause::new(),
-            of_barred: Cause::new(),
+            telling: Telling::new(),
         })
     }
 
@@ -148,25 +176,23 @@ impl<'a, R: Net + Log + Clock> Station<'a, R> {
         ensures core { TakesTurn self.old.clock self.new.clock
             (λ old moment new. (old.last ≤ moment) × (new.last ≡ moment))
             (peers_of self.old.wire.peers.items) self.old.core self.new.core result }
+        // What was kept back is something that happened: behind it more may lie.
+        ensures kept { IsTrue result.kept
+            ↔ kept_in self.old.wire.device.kept < kept_in self.new.wire.device.kept }
         ensures peers { self.new.wire.peers ≡ self.old.wire.peers }
+        // Who may speak is as before.
+        ensures access { map access_by self.new.wire.device.guards.items
+            ≡ map access_by self.old.wire.device.guards.items }
         ensures readiness { self.new.readiness ≡ self.old.readiness }
     {
         let turn = self.take_turn(alloc);
-        let now = self.core.moment();
-        let faults = self.wire.sockets.faults();
-        if let Some(more) = self.of_system.tell(faults, now) {
-            warn!(rt; target: "ipx",
-                "{more} datagrams the system refused ({faults} since the start)");
-        }
-        let unheard = self.unheard;
-        if let Some(more) = self.of_memory.tell(unheard, now) {
-            warn!(rt; target: "ipx", "{more} times memory was refused ({unheard} since the start)");
-        }
-        let barred = self.core.barred();
-        if let Some(more) = self.of_barred.tell(barred, now) {
-            warn!(rt; target: "ipx",
-                "{more} requests came from nobody who may connect ({barred} since the start)");
-        }
+        let counts = Counts {
+            kept: self.wire.device.kept(),
+            barred: self.core.barred(),
+            system: self.wire.device.device().faults(),
+            memory: self.unheard,
+        };
+        self.telling.tell(rt, counts, self.core.moment());
         turn
     }
 
@@ -175,18 +201,27 @@ impl<'a, R: Net + Log + Clock> Station<'a, R> {
         ensures core { TakesTurn self.old.clock self.new.clock
             (λ old moment new. (old.last ≤ moment) × (new.last ≡ moment))
             (peers_of self.old.wire.peers.items) self.old.core self.new.core result }
+        ensures kept { IsTrue result.kept
+            ↔ kept_in self.old.wire.device.kept < kept_in self.new.wire.device.kept }
         ensures peers { self.new.wire.peers ≡ self.old.wire.peers }
+        ensures access { map access_by self.new.wire.device.guards.items
+            ≡ map access_by self.old.wire.device.guards.items }
         ensures readiness { self.new.readiness ≡ self.old.readiness }
     {
-        match self.wire.run(alloc, &mut self.core, &mut self.clock) {
+        let before = self.wire.device.kept().total();
+        let ran = self.wire.run(alloc, &mut self.core, &mut self.clock);
+        let kept = self.wire.device.kept().total() > before;
+        match ran {
             Ok(report) => Turn {
                 heard: report.heard > 0,
-                active: report.heard > 0 || report.sent > 0 || report.unmapped > 0,
+                kept,
+                active: report.heard > 0 || report.sent > 0 || report.unmapped > 0 || kept,
             },
             Err(OutOfMemory) => {
                 self.unheard = self.unheard.saturating_add(1);
                 Turn {
                     heard: false,
+                    kept,
                     active: true,
                 }
             }

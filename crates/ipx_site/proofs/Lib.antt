@@ -3,6 +3,7 @@ pub mod Faults
 pub mod Found
 pub mod HexText
 pub mod Naming
+pub mod Circles
 pub mod Own
 pub mod Bursting
 pub mod Ports

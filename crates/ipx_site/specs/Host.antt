@@ -1,14 +1,16 @@
 -- The file of a host. All of it is own.
-use Rattle.std.specs.Prelude.{◌≡◌, ◌⊎◌, ℕ, List, None, Some}
+use Rattle.std.specs.Prelude.{◌≡◌, ◌⊎◌, ℕ, List, [], None, Some}
 use Rattle.toml.specs.Data.{Members}
 use Rattle.toml.specs.Parse.{parse_document}
 use Rattle.ipx_carrier.specs.Mapping.{usual_port}
 use Rattle.ipx_site.specs.declared.fault.FileFault.{FileFault}
 use Rattle.ipx_site.specs.declared.key.Key.TheVariants as Key
 use Rattle.ipx_site.specs.declared.host.HostFile.{HostFile}
+use Rattle.ipx_site.specs.declared.site.Accept.TheVariants as Accept
 use Rattle.ipx_site.specs.Keys.{first_unknown, host_keys}
+use Rattle.ipx_site.specs.Neighbours.{AreAmong, AreNeighbours}
 use Rattle.ipx_site.specs.Origins.{AreOrigins}
-use Rattle.ipx_site.specs.Values.{IsAddress, IsCount, IsNetwork, IsSocket}
+use Rattle.ipx_site.specs.Values.{IsAccept, IsAddress, IsCount, IsNetwork, IsSocket}
 use Rattle.ipx_site.specs.Fields.{Holds, HoldsIf, HoldsOr, IsFault, IsNoToml, IsRight, IsRightOr, IsUnknown, IsWrong}
 
 -- a table is that of a host
@@ -20,7 +22,18 @@ pub record IsHost (ms : Members) (h : HostFile) : Type 0 where
   pub udp_port : HoldsOr (IsCount 65535) Key.UdpPort ms usual_port h.udp_port
   pub socket : Holds IsSocket Key.Socket ms h.socket
   pub buffers : HoldsOr (IsCount 8192) Key.Buffers ms 64 h.buffers
+  pub peers : HoldsOr AreNeighbours Key.Peers ms [] h.peers.items
+  pub routers : HoldsOr (AreAmong h.peers.items) Key.Routers ms [] h.routers.items
   pub from : HoldsIf AreOrigins Key.From ms h.from
+  pub accept : HoldsOr IsAccept Key.Accept ms Accept.Peers h.accept
+
+-- the first fault of the keys that say who is heard and who may connect, in order
+abbrev pub IsCircleFault : Members → FileFault → Type 0
+IsCircleFault ms f = IsWrong AreNeighbours Key.Peers ms 0 f
+    ⊎ ((peers : List (List ℕ)) × HoldsOr AreNeighbours Key.Peers ms [] peers
+    × (IsWrong (AreAmong peers) Key.Routers ms 0 f
+    ⊎ (IsRightOr (AreAmong peers) Key.Routers ms × (IsWrong AreOrigins Key.From ms 0 f
+    ⊎ (IsRightOr AreOrigins Key.From ms × IsWrong IsAccept Key.Accept ms 0 f)))))
 
 -- its first fault: a name that is no key, and then the keys in order
 abbrev pub IsHostFault : Members → FileFault → Type 0
@@ -32,7 +45,7 @@ IsHostFault ms f =
     ⊎ (IsRight IsAddress Key.Router ms × (IsWrong (IsCount 65535) Key.UdpPort ms 0 f
     ⊎ (IsRightOr (IsCount 65535) Key.UdpPort ms × (IsFault IsSocket Key.Socket ms 0 f
     ⊎ (IsRight IsSocket Key.Socket ms × (IsWrong (IsCount 8192) Key.Buffers ms 0 f
-    ⊎ (IsRightOr (IsCount 8192) Key.Buffers ms × IsWrong AreOrigins Key.From ms 0 f)))))))))))))
+    ⊎ (IsRightOr (IsCount 8192) Key.Buffers ms × IsCircleFault ms f)))))))))))))
 
 -- a text is the file of a host
 abbrev pub IsHostText : List ℕ → HostFile → Type 0

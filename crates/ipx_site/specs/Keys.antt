@@ -40,4 +40,5 @@ abbrev pub site_keys : List Key
 site_keys = Status ∷ Port ∷ []
 
 abbrev pub host_keys : List Key
-host_keys = Network ∷ Address ∷ Router ∷ UdpPort ∷ Socket ∷ Buffers ∷ From ∷ []
+host_keys =
+    Network ∷ Address ∷ Router ∷ UdpPort ∷ Socket ∷ Buffers ∷ Peers ∷ Routers ∷ From ∷ Accept ∷ []

@@ -8,6 +8,7 @@ pub mod Ports
 pub mod Host
 pub mod Loading
 pub mod Peers
+pub mod Neighbours
 pub mod Moments
 pub mod Bursts
 pub mod Leisure

@@ -1,16 +1,18 @@
 //! The keys of a table, each with its value.
 
-ghost use Rattle.std.specs.Prelude.{String, string_bytes, ◌≡◌, ◌⊎◌, Some, None, IfErr, IfOk, OnOk, MatchOption, MatchResult};
+ghost use Rattle.std.specs.Prelude.{String, string_bytes, ◌≡◌, ◌⊎◌, [], Some, None, IfErr, IfOk, OnOk, MatchOption, MatchResult};
 ghost use Rattle.std.specs.Global.{Global};
 ghost use Rattle.toml.specs.Data.{get_member};
 ghost use Rattle.toml.specs.View.{table_view, view};
 ghost use Rattle.ipx_site.specs.Keys.{first_unknown, key_text};
+ghost use Rattle.ipx_site.specs.Neighbours.{AreAmong, AreNeighbours};
 ghost use Rattle.ipx_site.specs.Origins.{AreOrigins};
 ghost use Rattle.ipx_site.specs.Values.{ArePeers, AreRouterPeers, IsAccept, IsAddress, IsCount, IsNetwork, IsSocket, IsText};
-ghost use Rattle.ipx_site.specs.Fields.{Gives, GivesIf, GivesOr, Holds, IsMissing, IsUnknown, IsWrong};
+ghost use Rattle.ipx_site.specs.Fields.{Gives, GivesIf, GivesOr, Holds, HoldsOr, IsMissing, IsUnknown, IsWrong};
 
 use crate::fault::FileFault;
 use crate::key::{Key, is_one_of};
+use crate::neighbours::{among, neighbours_of};
 use crate::origin::{Origin, origins_of};
 use crate::site::Accept;
 use crate::values::{
@@ -134,7 +136,7 @@ pub fn port_routers_in(
     }
 }
 
-/// Who is heard at a port.
+/// Who is heard.
 pub fn accept_in(table: &Table, number: usize) -> Result<Accept, FileFault>
     ensures { GivesOr IsAccept Key.Accept (table_view table.now) number Accept.Peers result }
 {
@@ -170,6 +172,43 @@ pub fn text_in(alloc: Global, table: &Table, key: Key) -> Result<Option<String>,
     match text_of(alloc, value)? {
         Some(text) => Ok(Some(text)),
         None => Err(FileFault::Wrong(0, key)),
+    }
+}
+
+/// The IP addresses that a host hears besides its router's; none where they are left out.
+pub fn neighbours_in(alloc: Global, table: &Table, number: usize) -> Result<Vec<[u8; 4]>, FileFault>
+    ensures { MatchResult result
+        (λ ips. HoldsOr AreNeighbours Key.Peers (table_view table.now) [] ips.items)
+        (λ f. (f ≡ FileFault.OutOfMemory)
+        ⊎ IsWrong AreNeighbours Key.Peers (table_view table.now) number f) }
+{
+    let Some(value) = held(table, Key::Peers) else {
+        return Ok(Vec::new(alloc));
+    };
+    match neighbours_of(alloc, value)? {
+        Some(ips) => Ok(ips),
+        None => Err(FileFault::Wrong(number, Key::Peers)),
+    }
+}
+
+/// Those of its peers that are routers; none where they are left out.
+pub fn routers_in(
+    alloc: Global,
+    table: &Table,
+    number: usize,
+    peers: &[[u8; 4]],
+) -> Result<Vec<[u8; 4]>, FileFault>
+    ensures { MatchResult result
+        (λ ips. HoldsOr (AreAmong peers.now) Key.Routers (table_view table.now) [] ips.items)
+        (λ f. (f ≡ FileFault.OutOfMemory)
+        ⊎ IsWrong (AreAmong peers.now) Key.Routers (table_view table.now) number f) }
+{
+    let Some(value) = held(table, Key::Routers) else {
+        return Ok(Vec::new(alloc));
+    };
+    match among(alloc, value, peers)? {
+        Some(ips) => Ok(ips),
+        None => Err(FileFault::Wrong(number, Key::Routers)),
     }
 }
 

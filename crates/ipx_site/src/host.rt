@@ -1,13 +1,21 @@
 //! What the file of a host says.
 
-ghost use Rattle.std.specs.Prelude.{◌≡◌, ◌⊎◌, IfErr, IfOk};
+ghost use Rattle.std.specs.Prelude.{◌≡◌, ◌⊎◌, [], IfErr, IfOk};
 ghost use Rattle.toml.specs.View.{table_view};
-ghost use Rattle.ipx_site.specs.Host.{IsHost, IsHostFault, IsHostText, IsHostTextFault};
+ghost use Rattle.ipx_site.specs.Fields.{HoldsIf, HoldsOr};
+ghost use Rattle.ipx_site.specs.Host.{IsCircleFault, IsHost, IsHostFault, IsHostText, IsHostTextFault};
+ghost use Rattle.ipx_site.specs.Neighbours.{AreAmong, AreNeighbours};
+ghost use Rattle.ipx_site.specs.Origins.{AreOrigins};
+ghost use Rattle.ipx_site.specs.Values.{IsAccept};
 
 use crate::fault::FileFault;
-use crate::fields::{address_in, count_in, network_in, origins_in, refuse_unknown, socket_in};
+use crate::fields::{
+    accept_in, address_in, count_in, neighbours_in, network_in, origins_in, refuse_unknown,
+    routers_in, socket_in,
+};
 use crate::key::Key;
 use crate::origin::Origin;
+use crate::site::Accept;
 use crate::toml_text::table_of;
 use ipx_carrier::UDP_PORT;
 use ipx_wire::{Network, Socket};
@@ -29,20 +37,61 @@ pub struct HostFile {
     pub socket: Socket,
     /// The buffers of a connection, 1 to 8,192.
     pub buffers: u16,
+    /// The IP addresses that it hears besides the router's, 256 at most.
+    pub peers: Vec<[u8; 4]>,
+    /// Those of its peers that are routers too, 256 at most.
+    pub routers: Vec<[u8; 4]>,
     /// Who may ask for a connection, 256 entries at most. None stands for everybody.
     pub from: Option<Vec<Origin>>,
+    /// Whether the router and the peers alone are heard.
+    pub accept: Accept,
+}
+
+/// Who is heard besides the router, and who may connect.
+#[derive(Drop)]
+struct Circle {
+    peers: Vec<[u8; 4]>,
+    routers: Vec<[u8; 4]>,
+    from: Option<Vec<Origin>>,
+    accept: Accept,
 }
 
 /// The keys of a host, in the order in which their faults are told.
-const KEYS: [Key; 7] = [
+const KEYS: [Key; 10] = [
     Key::Network,
     Key::Address,
     Key::Router,
     Key::UdpPort,
     Key::Socket,
     Key::Buffers,
+    Key::Peers,
+    Key::Routers,
     Key::From,
+    Key::Accept,
 ];
+
+fn circle_of(alloc: Global, table: &Table) -> Result<Circle, FileFault>
+    ensures peers { IfOk result (λ c.
+        HoldsOr AreNeighbours Key.Peers (table_view table.now) [] c.peers.items) }
+    ensures routers { IfOk result (λ c.
+        HoldsOr (AreAmong c.peers.items) Key.Routers (table_view table.now) [] c.routers.items) }
+    ensures from { IfOk result (λ c. HoldsIf AreOrigins Key.From (table_view table.now) c.from) }
+    ensures accept { IfOk result (λ c.
+        HoldsOr IsAccept Key.Accept (table_view table.now) Accept.Peers c.accept) }
+    ensures fault { IfErr result (λ f.
+        (f ≡ FileFault.OutOfMemory) ⊎ IsCircleFault (table_view table.now) f) }
+{
+    let peers = neighbours_in(alloc, table, 0)?;
+    let routers = routers_in(alloc, table, 0, &peers)?;
+    let from = origins_in(alloc, table, 0, Key::From)?;
+    let accept = accept_in(table, 0)?;
+    Ok(Circle {
+        peers,
+        routers,
+        from,
+        accept,
+    })
+}
 
 fn host_of(alloc: Global, table: &Table) -> Result<HostFile, FileFault>
     ensures host { IfOk result (IsHost (table_view table.now)) }
@@ -56,7 +105,7 @@ fn host_of(alloc: Global, table: &Table) -> Result<HostFile, FileFault>
     let udp_port = count_in(table, 0, Key::UdpPort, 65535, UDP_PORT)?;
     let socket = socket_in(table, 0)?;
     let buffers = count_in(table, 0, Key::Buffers, 8192, 64)?;
-    let from = origins_in(alloc, table, 0, Key::From)?;
+    let circle = circle_of(alloc, table)?;
     Ok(HostFile {
         network,
         address,
@@ -64,7 +113,10 @@ fn host_of(alloc: Global, table: &Table) -> Result<HostFile, FileFault>
         udp_port,
         socket,
         buffers,
-        from,
+        peers: circle.peers,
+        routers: circle.routers,
+        from: circle.from,
+        accept: circle.accept,
     })
 }
 

@@ -9,9 +9,21 @@ use std::fmt;
 fn keys_of(table: usize) -> &'static str {
     if table == 0 {
         return "a router has status and port, \
-            a host network, address, router, udp_port, socket, buffers and from";
+            a host network, address, router, udp_port, socket, buffers, peers, routers, from and \
+            accept";
     }
     "the keys are network, address, udp_port, cost, peers, routers, accept"
+}
+
+/// What the value of a key of a table is to be: a host names 256 others at most.
+fn right_in(table: usize, key: Key) -> &'static str {
+    match (table, key) {
+        (0, Key::Peers) => {
+            "a list of at most 256 IP addresses, as [\"198.51.100.7\", \"203.0.113.9\"]"
+        }
+        (0, Key::Routers) => "a list of at most 256 IP addresses among peers",
+        _ => key.right(),
+    }
 }
 
 /// Where a fault lies: nothing for the file itself, and else the port.
@@ -45,7 +57,7 @@ impl fmt::Display for FileFault {
             }
             FileFault::Wrong(table, key) => {
                 write_place(f, *table)?;
-                write!(f, "{key} is to be {}", key.right())
+                write!(f, "{key} is to be {}", right_in(*table, *key))
             }
             FileFault::Twin(table, network, earlier) => {
                 write_place(f, *table)?;

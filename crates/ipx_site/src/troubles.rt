@@ -1,8 +1,8 @@
 //! The troubles that a person is told of, each at most once a minute.
 
-ghost use Rattle.std.specs.Prelude.{◌↔◌, ◌<◌, ◌^◌, ℕ};
+ghost use Rattle.std.specs.Prelude.{◌≡◌, ◌↔◌, ◌<◌, ◌^◌, ℕ, Some};
 ghost use Rattle.ipx_site.specs.Leisure.{IsLineDue, happened_in};
-ghost use Rattle.ipx_site.specs.Moments.{IsReached};
+ghost use Rattle.ipx_site.specs.Moments.{IsDue, IsReached};
 
 use crate::causes::Cause;
 use crate::figures::Figures;
@@ -24,14 +24,22 @@ pub struct Troubles {
     file: Cause,
 }
 
-fn tell<R: Log>(rt: &R, cause: &mut Cause, count: u64, now: u64, what: &str) {
+fn tell<R: Log>(rt: &R, cause: &mut Cause, count: u64, now: u64, what: &str)
+    ensures told { IsDue cause.old count now → (cause.new.told ≡ count) × (cause.new.at ≡ Some now) }
+    ensures silent { (IsDue cause.old count now → ⊥) → cause.new ≡ cause.old }
+{
     if let Some(more) = cause.tell(count, now) {
         warn!(rt; target: "ipx", "{more} {what} ({count} since the start)");
     }
 }
 
-/// The same of datagrams that were kept back, with who sent the last of them.
-fn tell_kept<R: Log>(rt: &R, cause: &mut Cause, kept: Kept, now: u64, what: &str) {
+/// Logs how many of these there were since it was told last, if it is time, with who sent the last
+/// of them, where that is known.
+pub fn tell_kept<R: Log>(rt: &R, cause: &mut Cause, kept: Kept, now: u64, what: &str)
+    ensures told { IsDue cause.old kept.count now
+        → (cause.new.told ≡ kept.count) × (cause.new.at ≡ Some now) }
+    ensures silent { (IsDue cause.old kept.count now → ⊥) → cause.new ≡ cause.old }
+{
     let count = kept.count;
     let Some(ip) = kept.last else {
         tell(rt, cause, count, now, what);

@@ -97,7 +97,7 @@ pub fn text_of(alloc: Global, value: &Value) -> Result<Option<String>, OutOfMemo
 }
 
 /// The IP addresses that values write, if each of them writes one.
-fn addresses_of(alloc: Global, values: &[Value]) -> Result<Option<Vec<[u8; 4]>>, OutOfMemory>
+pub fn addresses_of(alloc: Global, values: &[Value]) -> Result<Option<Vec<[u8; 4]>>, OutOfMemory>
     ensures { IfOk result (ReadsAddresses (items_view values.now)) }
 {
     let mut ips = Vec::new(alloc);
@@ -121,7 +121,7 @@ pub fn peers_of(alloc: Global, value: &Value) -> Result<Option<Vec<[u8; 4]>>, Ou
 }
 
 /// Whether each of these IP addresses is one of the peers.
-fn are_among(ips: &[[u8; 4]], peers: &[[u8; 4]]) -> bool
+pub fn are_among(ips: &[[u8; 4]], peers: &[[u8; 4]]) -> bool
     ensures { result ≡ list_all (is_peer peers.now) ips.now }
 {
     ips.iter().all(|ip| is_one_of(peers, *ip))

@@ -1,7 +1,7 @@
 //! Each fault of a file, with its line.
 
 use crate::fixture::{host_line, site_line};
-use std::alloc::AllocError;
+use std::alloc::{AllocError, Global};
 
 /// A port, and the lines of one on the same network.
 const TWIN: &str = "\
@@ -32,7 +32,7 @@ const SITES: [(&str, &str); 9] = [
     ),
     (
         "Status = \"a\"",
-        "Status is no key here: a router has status and port, a host network, address, router, udp_port, socket, buffers and from",
+        "Status is no key here: a router has status and port, a host network, address, router, udp_port, socket, buffers, peers, routers, from and accept",
     ),
     (
         "status = 1",
@@ -104,9 +104,77 @@ const HOSTS: [(&str, &str); 3] = [
     ),
     (
         "port = 1",
-        "port is no key here: a router has status and port, a host network, address, router, udp_port, socket, buffers and from",
+        "port is no key here: a router has status and port, a host network, address, router, udp_port, socket, buffers, peers, routers, from and accept",
     ),
 ];
+
+/// A host up to its peers, and what follows with what is printed of it.
+const HOST: &str = "\
+network = \"00000011\"
+address = \"10.1.0.20\"
+router = \"10.1.0.1\"
+socket = \"4002\"
+";
+
+const CIRCLES: [(&str, &str); 8] = [
+    (
+        "peers = \"10.1.0.21\"",
+        "peers is to be a list of at most 256 IP addresses, as [\"198.51.100.7\", \"203.0.113.9\"]",
+    ),
+    (
+        "peers = [\"10.1.0.21\", 4]",
+        "peers is to be a list of at most 256 IP addresses, as [\"198.51.100.7\", \"203.0.113.9\"]",
+    ),
+    (
+        "routers = [\"10.1.0.1\"]",
+        "routers is to be a list of at most 256 IP addresses among peers",
+    ),
+    (
+        "peers = [\"10.1.0.21\"]\nrouters = [\"10.1.0.21\", \"10.1.0.22\"]",
+        "routers is to be a list of at most 256 IP addresses among peers",
+    ),
+    (
+        "routers = 1\nfrom = []\npeers = 1",
+        "peers is to be a list of at most 256 IP addresses, as [\"198.51.100.7\", \"203.0.113.9\"]",
+    ),
+    (
+        "from = 1\naccept = 1\nrouters = 1",
+        "routers is to be a list of at most 256 IP addresses among peers",
+    ),
+    ("accept = \"all\"", "accept is to be \"peers\" or \"any\""),
+    ("peers = []\nrouters = []\naccept = \"any\"", "none"),
+];
+
+#[test]
+fn lines_of_circles(rt: HostRuntime) -> Result<(), AllocError> {
+    for (rest, line) in CIRCLES {
+        let text = format!(in rt.alloc(); "{HOST}{rest}")?;
+        assert_eq!(rt; host_line(rt.alloc(), text.as_str())?.as_str(), line);
+    }
+    Ok(())
+}
+
+/// A list of so many peers, each the same.
+fn peers(alloc: Global, count: usize) -> Result<String, AllocError> {
+    let mut text = format!(in alloc; "{HOST}peers = [")?;
+    for _ in 0..count {
+        text.push_str("\"10.1.0.21\", ")?;
+    }
+    text.push_str("]\n")?;
+    Ok(text)
+}
+
+#[test]
+fn lines_of_many_peers(rt: HostRuntime) -> Result<(), AllocError> {
+    let most = peers(rt.alloc(), 256)?;
+    assert_eq!(rt; host_line(rt.alloc(), most.as_str())?.as_str(), "none");
+    let more = peers(rt.alloc(), 257)?;
+    assert_eq!(rt;
+        host_line(rt.alloc(), more.as_str())?.as_str(),
+        CIRCLES[0].1
+    );
+    Ok(())
+}
 
 #[test]
 fn lines_of_sites(rt: HostRuntime) -> Result<(), AllocError> {

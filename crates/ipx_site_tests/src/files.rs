@@ -39,6 +39,17 @@ socket = \"4002\"
 from = [\"00000022 00000A02001e\", \"00000033\"]
 ";
 
+/// A host that says whom it hears.
+const CIRCLE: &str = "\
+network = \"00000011\"
+address = \"10.1.0.20\"
+router = \"10.1.0.1\"
+socket = \"4002\"
+peers = [\"10.1.0.2\", \"10.1.0.21\"]
+routers = [\"10.1.0.2\"]
+accept = \"any\"
+";
+
 fn is_first(port: &SitePort) -> bool {
     port.network == Network(1)
         && port.address == [192, 0, 2, 10]
@@ -107,7 +118,18 @@ fn reads_a_host(rt: HostRuntime) {
     assert!(rt; host.network == Network(0x11) && host.socket == Socket(0x4002));
     assert!(rt; host.address == [10, 1, 0, 20] && host.router == [10, 1, 0, 1]);
     assert!(rt; host.udp_port == 213 && host.buffers == 64);
-    assert!(rt; host.from.is_none());
+    assert!(rt; host.from.is_none() && host.accept == Accept::Peers);
+    assert!(rt; host.peers.is_empty() && host.routers.is_empty());
+}
+
+#[test]
+fn reads_whom_a_host_hears(rt: HostRuntime) {
+    let Some(host) = host(rt.alloc(), CIRCLE) else {
+        panic!(rt; "the file has a fault");
+    };
+    assert!(rt; host.peers.as_slice() == [[10, 1, 0, 2], [10, 1, 0, 21]].as_slice());
+    assert!(rt; host.routers.as_slice() == [[10, 1, 0, 2]].as_slice());
+    assert!(rt; host.accept == Accept::Any);
 }
 
 #[test]

@@ -26,11 +26,13 @@ network = \"00000011\"
 address = \"10.1.0.20\"
 router = \"10.1.0.1\"
 socket = \"4002\"
+peers = [\"10.1.0.2\", \"10.1.0.21\"]
+routers = [\"10.1.0.2\"]
 from = [\"00000022 00000a02001e\", \"00000033\"]
 ";
 
 /// A key that a host does not have.
-const PEERS_OF_A_HOST: &str = "network = \"00000011\"\npeers = []\n";
+const COST_OF_A_HOST: &str = "network = \"00000011\"\ncost = 1\n";
 
 /// Neither is TOML: a text that ends too soon.
 const CUT: &str = "network = ";
@@ -52,6 +54,7 @@ fn refused_host(rt: HostRuntime) {
         Ok(host) => {
             assert!(rt; host.router == [10, 1, 0, 1] && host.buffers == 64);
             assert!(rt; host.from.as_ref().is_some_and(|from| from.len() == 2));
+            assert!(rt; host.peers.len() == 2 && host.routers.len() == 1);
         }
         Err(fault) => assert!(rt; matches!(fault, FileFault::OutOfMemory)),
     }
@@ -60,7 +63,7 @@ fn refused_host(rt: HostRuntime) {
 /// A fault is told, or memory is wanted: a file with a fault is never read.
 #[test]
 fn refused_faults_of_files(rt: HostRuntime) {
-    match read_host(rt.alloc(), PEERS_OF_A_HOST) {
+    match read_host(rt.alloc(), COST_OF_A_HOST) {
         Ok(_) => assert!(rt; false),
         Err(fault) => {
             assert!(rt; matches!(fault, FileFault::Unknown(0, _) | FileFault::OutOfMemory));

@@ -157,6 +157,10 @@ Reads the file HOST, in TOML:
   udp_port  213 where it is left out
   socket    four hex digits: where it listens
   buffers   of each connection, 64 where it is left out
+  peers     a list of IP addresses: who is heard besides the router
+  routers   those of them that are routers too
+  from      a list of networks, each alone or with a node: who may connect
+  accept    \"peers\", as where it is left out, or \"any\": who is heard
 The bytes of each message go to standard output when it is whole, with nothing between them. Up to
 16 connections are held at once. Where standard output is not read, those who send have to wait, and
 stay connected.";
@@ -176,8 +180,9 @@ A host that asks for a connection, sends its input, and ends the connection
 
 Reads the file HOST as listen does, and dials from its socket to NET NODE SOCKET, which are eight,
 twelve and four hex digits. What one read of standard input gives, at most 65535 bytes, is a
-message. The input may pause for as long as it likes. Where standard error is a terminal, a line
-there tells how far it is.";
+message. The input may pause for as long as it likes. A node of its own network that it dials is
+heard, as the router and the peers are. Where standard error is a terminal, a line there tells how
+far it is.";
 
 const SEND_STATUSES: &str = "\
 Status 0: the other host has acknowledged all of the input, and the end behind it; its program may
