@@ -259,8 +259,8 @@ def check_checked(sites):
 
 def check_running(sites):
     """--check of the files of those that run: their ports are bound, so it binds none, and it says of each what was
-    said as they started, but for the room of its socket."""
-    running = {**{name: ("route", one) for name, one in sites.routers.items()},
+    said as they started, but for the room of its socket. (What w2 said went into a pipe that is closed.)"""
+    running = {**{name: ("route", one) for name, one in sites.routers.items() if name != "w2"},
                **{one.name: ("listen", one) for one in sites.world.processes if one.name == "near"}}
     for name, (command, one) in running.items():
         status, out, told_so = told(sites, [command, "--check", f"{name}.toml"])
