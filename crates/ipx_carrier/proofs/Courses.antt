@@ -5,7 +5,7 @@ use Rattle.std.proofs.lemmas.List.{map-append}
 use Rattle.ipx_carrier.specs.declared.fault.RunFault.{RunFault}
 use Rattle.ipx_carrier.specs.declared.report.Report.{Report}
 use Rattle.ipx_carrier.specs.declared.report.Tally.{Tally}
-use Rattle.ipx_carrier.specs.Device.{Passes, Reception, Tells, TrafficOf}
+use Rattle.ipx_carrier.specs.Device.{Passes, Reception, TellsMoments, TrafficOf}
 use Rattle.ipx_carrier.specs.Turns.{Given, Turn, Turns, Ways, copies_of, moments_of, packets_of, received_of, sent_of}
 use Rattle.ipx_carrier.specs.Counts.{heard_in, plus, report_of, unmapped_in}
 use Rattle.ipx_carrier.specs.Parts.{AsksPorts, AsksSomePorts, SendsAll, SendsSome}
@@ -88,7 +88,7 @@ module _ {C : Type 0} (hears : C → ℕ → List ℕ → ℕ → C → Type 0)
         turns_on ts us a b c h.2 k.2,
         subst (λ (rs : List Reception). Passes s u rs (sent_of ways (packets_of (ts ++ us)))) (sym (more_received ts us))
             (subst (λ (ds : List A). Passes s u (received_of ts ++ received_of us) ds) (sym (all_sent ways ts us)) passed),
-        subst (λ (ms : List ℕ). Tells tells r r'' ms) (sym (more_moments ts us)) (tells_on tells r r' r'' (moments_of ts) (moments_of us) h.4 k.4),
+        subst (λ (ms : List ℕ). TellsMoments tells r r'' ms) (sym (more_moments ts us)) (tells_on tells r r' r'' (moments_of ts) (moments_of us) h.4 k.4),
         ap (λ x. plus x y) h.5 ∙ ap (λ y. plus (report_of ways ts) y) k.5 ∙ sym (more_reported ways ts us),
       )
 
@@ -153,7 +153,7 @@ module _ {C : Type 0} (hears misses : C → ℕ → List ℕ → ℕ → C → T
         k.6,
         subst (λ (rs : List Reception). Passes s u rs (sent_of ways (packets_of (ts ++ us)) ++ k.2)) (sym received)
             (subst (λ (ds : List A). Passes s u (received_of ts ++ rs) ds) (sym sent) passed),
-        subst (λ (ms : List ℕ). Tells tells r r'' ms) (sym moments) (tells_on tells r r' r'' (moments_of ts) ms h.4 k.8),
+        subst (λ (ms : List ℕ). TellsMoments tells r r'' ms) (sym moments) (tells_on tells r r' r'' (moments_of ts) ms h.4 k.8),
       )
 
   pub ends_more : (here m total : ℕ) (there : Ways A) (s t u : Option (TrafficOf A)) (r r' r'' : K) (f : RunFault) (a b c : C) (x : Report) → here ≡ ports → there ≡ ways → m + 1 ≤ total → RunsBy hears gives tells ports ways m s t r r' a b x → EndsEarlyBy hears misses gives withholds tells here there 1 t u r' r'' f b c → EndsEarlyBy hears misses gives withholds tells ports ways total s u r r'' f a c

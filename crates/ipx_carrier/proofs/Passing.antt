@@ -2,7 +2,7 @@
 use Rattle.std.proofs.Common.{◌≡◌, ℕ, ◌+◌, Bool, List, [], ◌∷◌, ◌++◌, Option, Some, None, sym, ap, ◌∙◌, subst, append_assoc, append-nil, cond}
 use Rattle.std.specs.List.{count_by}
 use Rattle.std.proofs.lemmas.List.Sums.{sum_by-append}
-use Rattle.ipx_carrier.specs.Device.{Passes, Reception, Tells, TrafficOf, with_more}
+use Rattle.ipx_carrier.specs.Device.{Passes, Reception, TellsMoments, TrafficOf, with_more}
 
 more_twice : {A : Type 0} (t : TrafficOf A) (rs rs' : List Reception) (ds ds' : List A) → with_more (with_more t rs ds) rs' ds' ≡ with_more t (rs ++ rs') (ds ++ ds')
 more_twice t rs rs' ds ds' = simp append_assoc
@@ -30,6 +30,6 @@ pub count-append : {A : Type 0} (p : A → Bool) (xs ys : List A) → count_by p
 count-append p xs ys = sum_by-append (λ x. cond (p x) 1 0) xs ys
 
 module _ {K : Type 0} (tells : K → ℕ → K → Type 0) where
-  pub tells_on : (a b c : K) (ms ms' : List ℕ) → Tells tells a b ms → Tells tells b c ms' → Tells tells a c (ms ++ ms')
-  tells_on a b c [] ms' h k = subst (λ a. Tells tells a c ms') h k
+  pub tells_on : (a b c : K) (ms ms' : List ℕ) → TellsMoments tells a b ms → TellsMoments tells b c ms' → TellsMoments tells a c (ms ++ ms')
+  tells_on a b c [] ms' h k = subst (λ a. TellsMoments tells a c ms') h k
   tells_on a b c (m ∷ ms) ms' h k = (h.0, h.1, tells_on h.0 b c ms ms' h.2 k)

@@ -10,7 +10,7 @@ use Rattle.ipx_carrier.specs.declared.fault.RunFault.TheVariants.{Device, OutOfM
 use Rattle.ipx_carrier.specs.declared.report.Tally.{Tally}
 use Rattle.ipx_carrier.specs.Device.{Datagram, Passes, Traffic, TrafficOf}
 use Rattle.ipx_carrier.specs.Turns.{FailsAfter, FailsInLast, Given, GivesEach, IsFrontOf, Peers, Ways, by_ip, copies_of, datagram_to, sent_of}
-use Rattle.ipx_carrier.specs.SendingView.{added}
+use Rattle.ipx_carrier.specs.SendingView.{with_one_packet}
 use Rattle.ipx_carrier.specs.Counts.{unmapped_in}
 use Rattle.ipx_carrier.specs.Mapping.{ip_at}
 use Rattle.ipx_carrier.specs.Parts.{SendsAll, SendsEach, SendsNext, SendsSome, tally_of}
@@ -72,7 +72,7 @@ fails_later {A} ways ps qs sent h =
 abbrev record_of : ℕ → ℕ → Tally
 record_of sent unmapped = record { sent = sent; unmapped = unmapped }
 
-count_cases : {A : Type 0} (o : Option (List A)) (s u : ℕ) → record_of (s + length (unwrap_or o [])) (u + cond (is_none o) 1 0) ≡ added (record_of s u) (option_map length o)
+count_cases : {A : Type 0} (o : Option (List A)) (s u : ℕ) → record_of (s + length (unwrap_or o [])) (u + cond (is_none o) 1 0) ≡ with_one_packet (record_of s u) (option_map length o)
 count_cases None s u = ap (λ s. record_of s (u + 1)) (add-zero s)
 count_cases (Some xs) s u = ap (λ u. record_of (s + length xs) u) (add-zero u)
 
@@ -80,7 +80,7 @@ sent_of_more : {A : Type 0} (ways : Ways A) (ps : List Given) (p : Given) → se
 sent_of_more ways ps p =
     flat_map-append (copies_of ways) ps (p ∷ []) ∙ ap (λ ds. sent_of ways ps ++ ds) (append-nil (copies_of ways p))
 
-tally_more : {A : Type 0} (ways : Ways A) (ps : List Given) (p : Given) → tally_of ways (ps ++ p ∷ []) ≡ added (tally_of ways ps) (copies_count ways p)
+tally_more : {A : Type 0} (ways : Ways A) (ps : List Given) (p : Given) → tally_of ways (ps ++ p ∷ []) ≡ with_one_packet (tally_of ways ps) (copies_count ways p)
 tally_more ways ps p =
     let sent : length (sent_of ways (ps ++ p ∷ [])) ≡ length (sent_of ways ps) + length (copies_of ways p) =
     ap length (sent_of_more ways ps p) ∙ length-append (sent_of ways ps) (copies_of ways p) in
@@ -92,7 +92,7 @@ tally_more ways ps p =
 pub sends_none : {C A : Type 0} (gives : C → ℕ → Option Given → C → Type 0) (now : ℕ) (ways : Ways A) (s : Option (TrafficOf A)) (a : C) (t : Tally) → t ≡ record_of 0 0 → SendsEach gives 0 now ways s s a a t
 sends_none gives now ways s a t e = ([], refl, refl, passes_nothing s s refl, e)
 
-pub sends_more : {C A : Type 0} (gives : C → ℕ → Option Given → C → Type 0) (n now : ℕ) (ways : Ways A) (s t u : Option (TrafficOf A)) (a b c : C) (tally next : Tally) (o : Option ℕ) → SendsEach gives n now ways s t a b tally → SendsNext gives now ways t u b c (Some o) → next ≡ added tally o → SendsEach gives (n + 1) now ways s u a c next
+pub sends_more : {C A : Type 0} (gives : C → ℕ → Option Given → C → Type 0) (n now : ℕ) (ways : Ways A) (s t u : Option (TrafficOf A)) (a b c : C) (tally next : Tally) (o : Option ℕ) → SendsEach gives n now ways s t a b tally → SendsNext gives now ways t u b c (Some o) → next ≡ with_one_packet tally o → SendsEach gives (n + 1) now ways s u a c next
 sends_more {A = A} gives n now ways s t u a b c tally next o h k e =
     let ps = h.0 in
     let p = k.0 in
@@ -101,11 +101,11 @@ sends_more {A = A} gives n now ways s t u a b c tally next o h k e =
       omega (arith, length-append ps (p ∷ []), h.1),
       gives_on gives now ps (p ∷ []) a b c h.2 (c, k.1, refl),
       subst (λ (ds : List A). Passes s u [] ds) (sym (sent_of_more ways ps p)) sent,
-      e ∙ ap (λ t. added t o) h.4 ∙ ap (λ o. added (tally_of ways ps) o) k.3 ∙ sym (tally_more ways ps p),
+      e ∙ ap (λ t. with_one_packet t o) h.4 ∙ ap (λ o. with_one_packet (tally_of ways ps) o) k.3 ∙ sym (tally_more ways ps p),
     )
 
 -- the same where the ways are written otherwise
-pub sends_more_there : {C A : Type 0} (gives : C → ℕ → Option Given → C → Type 0) (n now : ℕ) (ways there : Ways A) (s t u : Option (TrafficOf A)) (a b c : C) (tally next : Tally) (o : Option ℕ) → there ≡ ways → SendsEach gives n now ways s t a b tally → SendsNext gives now there t u b c (Some o) → next ≡ added tally o → SendsEach gives (n + 1) now ways s u a c next
+pub sends_more_there : {C A : Type 0} (gives : C → ℕ → Option Given → C → Type 0) (n now : ℕ) (ways there : Ways A) (s t u : Option (TrafficOf A)) (a b c : C) (tally next : Tally) (o : Option ℕ) → there ≡ ways → SendsEach gives n now ways s t a b tally → SendsNext gives now there t u b c (Some o) → next ≡ with_one_packet tally o → SendsEach gives (n + 1) now ways s u a c next
 sends_more_there gives n now ways there s t u a b c tally next o is h k e =
     sends_more gives n now ways s t u a b c tally next o h (subst (λ w. SendsNext gives now w t u b c (Some o)) is k) e
 

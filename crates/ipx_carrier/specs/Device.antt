@@ -45,6 +45,6 @@ Passes old new received sent = IfSome old (λ t. new ≡ Some (with_more t recei
 
 -- a clock is read again and again, and tells these moments
 module _ {K : Type 0} (tells : K → ℕ → K → Type 0) where
-  abbrev pub Tells : K → K → List ℕ → Type 0
-  Tells old new [] = new ≡ old
-  Tells old new (moment ∷ moments) = (mid : K) × tells old moment mid × Tells mid new moments
+  abbrev pub TellsMoments : K → K → List ℕ → Type 0
+  TellsMoments old new [] = new ≡ old
+  TellsMoments old new (moment ∷ moments) = (mid : K) × tells old moment mid × TellsMoments mid new moments

@@ -1,5 +1,5 @@
 -- A host as a core: its endpoint hears, and gives by a poll.
--- The entry points are `Hears` and `Gives`, and `Misses` where memory is refused.
+-- The entry points are `HostHears` and `HostGives`, and `Misses` where memory is refused.
 use Rattle.std.specs.Prelude.{◌≡◌, ℕ, List, Option, Some, None}
 use Rattle.ipx_wire.specs.declared.address.Node.{Node}
 use Rattle.spx_messages.specs.declared.arrived.Arrived.{Arrived}
@@ -10,8 +10,8 @@ use Rattle.ipx_carrier.specs.Turns.{Given}
 use Rattle.ipx_carrier.specs.Given.{given_in}
 
 -- the endpoint reads a datagram, whatever it answers
-abbrev pub Hears : EndpointView → List ℕ → ℕ → EndpointView → Type 0
-Hears old bytes now new = (answer : Arrived) × Arrives old bytes now answer new
+abbrev pub HostHears : EndpointView → List ℕ → ℕ → EndpointView → Type 0
+HostHears old bytes now new = (answer : Arrived) × Arrives old bytes now answer new
 
 -- memory is refused only for a link that would be made; then nothing changes but who heard last
 abbrev pub Misses : EndpointView → List ℕ → EndpointView → Type 0
@@ -23,6 +23,6 @@ at_port None = None
 at_port (Some r) = Some (0, r.0, r.1)
 
 -- what a poll writes into some room is given
-abbrev pub Gives : EndpointView → ℕ → Option Given → EndpointView → Type 0
-Gives old now given new = (polled : Option (Node × ℕ)) × (room written : List ℕ)
+abbrev pub HostGives : EndpointView → ℕ → Option Given → EndpointView → Type 0
+HostGives old now given new = (polled : Option (Node × ℕ)) × (room written : List ℕ)
     × Polls old now polled room written new × (given ≡ given_in written (at_port polled))

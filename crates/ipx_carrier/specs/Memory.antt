@@ -34,7 +34,7 @@ WaitsLast old port bytes new = (here : List (List ℕ)) × (slice_get old port �
     × (new ≡ slice_set old port (here ++ bytes ∷ []))
 
 -- all but what waits is as it was
-pub record KeepsRest (old new : MemoryDatagrams) : Type 0 where
+pub record KeepsAllButWaiting (old new : MemoryDatagrams) : Type 0 where
   pub traffic : traffic_of new ≡ traffic_of old
   pub failures : new.failures ≡ old.failures
   pub fails_after : new.fails_after ≡ old.fails_after

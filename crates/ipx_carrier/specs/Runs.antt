@@ -4,7 +4,7 @@
 use Rattle.std.specs.Prelude.{◌≡◌, ◌<◌, ℕ, List, [], ◌∷◌, ◌++◌, length, Option}
 use Rattle.ipx_carrier.specs.declared.fault.RunFault.{RunFault}
 use Rattle.ipx_carrier.specs.declared.report.Report.{Report}
-use Rattle.ipx_carrier.specs.Device.{Passes, Tells, Traffic, TrafficOf}
+use Rattle.ipx_carrier.specs.Device.{Passes, TellsMoments, Traffic, TrafficOf}
 use Rattle.ipx_carrier.specs.Turns.{BreaksOff, Given, Peers, Turn, Turns, Ways, by_ip, moments_of, packets_of, received_of, sent_of}
 use Rattle.ipx_carrier.specs.Counts.{report_of}
 
@@ -18,7 +18,7 @@ module _ {C : Type 0} (hears : C → ℕ → List ℕ → ℕ → C → Type 0)
   RunsBy ways turns before after clock clock_after old new report = (course : List Turn)
       × (length course ≡ turns) × Turns hears gives ports course old new
       × Passes before after (received_of course) (sent_of ways (packets_of course))
-      × Tells tells clock clock_after (moments_of course) × (report ≡ report_of ways course)
+      × TellsMoments tells clock clock_after (moments_of course) × (report ≡ report_of ways course)
 
   abbrev pub Runs : Peers → ℕ → Option Traffic → Option Traffic → K → K → C → C → Report → Type 0
   Runs peers = RunsBy (by_ip peers)
@@ -36,7 +36,7 @@ module _ {C : Type 0} (hears misses : C → ℕ → List ℕ → ℕ → C → T
       × BreaksOff hears misses gives withholds ports ways last sent fault mid new
       × Passes before after (received_of course ++ last.answers)
       (sent_of ways (packets_of course) ++ sent)
-      × Tells tells clock clock_after (moments_of course ++ last.moment ∷ [])
+      × TellsMoments tells clock clock_after (moments_of course ++ last.moment ∷ [])
 
   abbrev pub EndsEarly : Peers → ℕ → Option Traffic → Option Traffic → K → K → RunFault → C → C
       → Type 0

@@ -5,11 +5,11 @@ use Rattle.ipx_carrier.specs.declared.segments.Sent.{Sent}
 use Rattle.ipx_carrier.specs.Segments.{count_in}
 
 -- by how many copies it was sent, where there was one
-abbrev pub view : Option Sent → Option (Option ℕ)
-view None = None
-view (Some sent) = Some (count_in sent)
+abbrev pub copies_view : Option Sent → Option (Option ℕ)
+copies_view None = None
+copies_view (Some sent) = Some (count_in sent)
 
 -- a tally with one more packet
-abbrev pub added : Tally → Option ℕ → Tally
-added t None = record { sent = t.sent; unmapped = t.unmapped + 1 }
-added t (Some n) = record { sent = t.sent + n; unmapped = t.unmapped }
+abbrev pub with_one_packet : Tally → Option ℕ → Tally
+with_one_packet t None = record { sent = t.sent; unmapped = t.unmapped + 1 }
+with_one_packet t (Some n) = record { sent = t.sent + n; unmapped = t.unmapped }

@@ -1,7 +1,7 @@
 //! What became of the datagrams that a router heard.
 
 ghost use Rattle.std.specs.Prelude.{◌≡◌};
-ghost use Rattle.ipx_router.specs.OutcomeView.{view};
+ghost use Rattle.ipx_router.specs.OutcomeView.{router_outcome};
 ghost use Rattle.ipx_carrier.specs.Fates.{fated, fated_by, none, raised};
 
 use ipx_router::{Outcome, Reason};
@@ -65,7 +65,7 @@ impl Fates {
 
     /// Counts what became of a datagram.
     pub fn count(&mut self, outcome: &Outcome)
-        ensures { self.new ≡ fated (view outcome.now) self.old }
+        ensures { self.new ≡ fated (router_outcome outcome.now) self.old }
     {
         match outcome {
             Outcome::Forward(_) => raise(&mut self.forwarded),

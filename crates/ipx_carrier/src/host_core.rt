@@ -42,13 +42,13 @@ impl HostCore {
 }
 
 impl Core for HostCore {
-    ghost use Rattle.ipx_carrier.specs.HostCore.{Gives, Hears, Misses};
+    ghost use Rattle.ipx_carrier.specs.HostCore.{HostGives, HostHears, Misses};
 
     ghost port_count = { λ c. 1 };
 
-    ghost hears = { λ old port bytes now new. Hears old.endpoint bytes now new.endpoint };
+    ghost hears = { λ old port bytes now new. HostHears old.endpoint bytes now new.endpoint };
 
-    ghost gives = { λ old now given new. Gives old.endpoint now given new.endpoint };
+    ghost gives = { λ old now given new. HostGives old.endpoint now given new.endpoint };
 
     ghost misses = { λ old port bytes now new. Misses old.endpoint bytes new.endpoint };
 

@@ -2,7 +2,7 @@
 
 ghost use Rattle.std.specs.Prelude.{◌≡◌, ◌<◌, ◌≤◌, [], ◌∷◌, ◌++◌, OnOk, OnErr, IfOk, IfSome, Some, None, drop, length, map, option_map, replicate, slice_get, take};
 ghost use Rattle.ipx_carrier.specs.Device.{received_in};
-ghost use Rattle.ipx_carrier.specs.Memory.{KeepsRest, WaitsLast, datagram_bytes, fails_next, memory_received, memory_sent, named_after, traffic_of, waiting_of};
+ghost use Rattle.ipx_carrier.specs.Memory.{KeepsAllButWaiting, WaitsLast, datagram_bytes, fails_next, memory_received, memory_sent, named_after, traffic_of, waiting_of};
 
 use crate::datagrams::Datagrams;
 use crate::fault::DeviceFault;
@@ -73,7 +73,7 @@ impl MemoryDatagrams {
         ensures put { OnOk result
             (WaitsLast (waiting_of self.old) port bytes.now (waiting_of self.new)) }
         ensures refused { OnErr result (waiting_of self.new ≡ waiting_of self.old) }
-        ensures rest { KeepsRest self.old self.new }
+        ensures rest { KeepsAllButWaiting self.old self.new }
     {
         let datagram = bytes.to_vec(alloc)?;
         self.waiting[port].push_back(datagram)?;

@@ -3,8 +3,8 @@
 ghost use Rattle.std.specs.Prelude.{◌≡◌, ℕ, ◌<◌, ◌≤◌, ◌∷◌, [], length, drop, true, false, OnOk, OnErr, IfSome};
 ghost use Rattle.ipx_router.specs.Packets.{sendings};
 ghost use Rattle.ipx_carrier.specs.Given.{given_in};
-ghost use Rattle.ipx_router.specs.OutcomeView.{view};
-ghost use Rattle.ipx_carrier.specs.RouterCore.{AreGivable, IsNotTold, IsRoomFor, first_of, most_queued, sent_by};
+ghost use Rattle.ipx_router.specs.OutcomeView.{router_outcome};
+ghost use Rattle.ipx_carrier.specs.RouterCore.{AreGivable, IsNotTold, IsRoomFor, first_given, most_queued, sendings_of};
 ghost use Rattle.ipx_carrier.specs.Queued.{Puts, PutsStart, PutsTold};
 
 use ipx_router::{Outcome, Reply, Router};
@@ -69,11 +69,11 @@ pub fn put_outcome(
     outcome: Outcome,
 ) -> Result<(), OutOfMemory>
     requires { length queue.old.items ≤ most_queued }
-    ensures put { OnOk result (Puts (sent_by (view outcome))
+    ensures put { OnOk result (Puts (sendings_of (router_outcome outcome))
         (sendings queue.old.items) dropped.old (sendings queue.new.items) dropped.new) }
     ensures refused { OnErr result
         ((queue.new.items ≡ queue.old.items) × (dropped.new ≡ dropped.old)) }
-    ensures lost { OnErr result (IsRoomFor (sendings queue.old.items) (sent_by (view outcome))) }
+    ensures lost { OnErr result (IsRoomFor (sendings queue.old.items) (sendings_of (router_outcome outcome))) }
 {
     match outcome {
         Outcome::Forward(reply) => put_one(queue, dropped, reply),
@@ -131,7 +131,7 @@ pub fn put_told(
 pub fn take_first(queue: &mut VecDeque<Reply>, room: &mut [u8]) -> Option<(usize, Node, usize)>
     requires room { 1536 ≤ length room.old }
     requires givable { (ports : ℕ) × AreGivable ports (sendings queue.old.items) }
-    ensures given { given_in room.new result ≡ first_of (sendings queue.old.items) }
+    ensures given { given_in room.new result ≡ first_given (sendings queue.old.items) }
     ensures within { IfSome result (λ g. g.2 ≤ length room.old) }
     ensures there { (ports : ℕ) → AreGivable ports (sendings queue.old.items) →
         IfSome result (λ g. g.0 < ports) }

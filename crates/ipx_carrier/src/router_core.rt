@@ -97,13 +97,13 @@ impl RouterCore {
 
 impl Core for RouterCore {
     ghost use Rattle.std.specs.Prelude.{length};
-    ghost use Rattle.ipx_carrier.specs.RouterCore.{Gives, Hears, Misses, Withholds};
+    ghost use Rattle.ipx_carrier.specs.RouterCore.{RouterGives, RouterHears, Misses, Withholds};
 
     ghost port_count = { λ c. length c.router.ports };
 
-    ghost hears = { Hears };
+    ghost hears = { RouterHears };
 
-    ghost gives = { Gives };
+    ghost gives = { RouterGives };
 
     ghost misses = { Misses };
 

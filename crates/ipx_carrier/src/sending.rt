@@ -3,7 +3,7 @@
 ghost use Rattle.std.specs.Prelude.{◌≡◌, ◌<◌, ◌≤◌, ◌+◌, ◌*◌, ◌^◌, IfOk, IfErr, length};
 ghost use Rattle.ipx_carrier.specs.Fault.{failures_after};
 ghost use Rattle.ipx_carrier.specs.Segments.{count_in};
-ghost use Rattle.ipx_carrier.specs.SendingView.{added, view};
+ghost use Rattle.ipx_carrier.specs.SendingView.{with_one_packet, copies_view};
 ghost use Rattle.ipx_carrier.specs.Parts.{SendsAll, SendsNext, SendsSome};
 
 use crate::cores::Core;
@@ -24,7 +24,7 @@ fn send_next<C: Core, S: Segments>(
     requires countable { S.failed segments.old + 1 < 2 ^ 64 }
     requires room { 1536 ≤ length room.old }
     ensures sent { IfOk result (λ sent. SendsNext C.gives now (S.ways segments.old)
-        (S.traffic segments.old) (S.traffic segments.new) core.old core.new (view sent)) }
+        (S.traffic segments.old) (S.traffic segments.new) core.old core.new (copies_view sent)) }
     ensures fault { IfErr result (λ f. SendsSome C.gives C.withholds 1 now (S.ways segments.old)
         (S.traffic segments.old) (S.traffic segments.new) f core.old core.new) }
     ensures waiting { S.waiting segments.new ≡ S.waiting segments.old }
@@ -47,7 +47,7 @@ fn send_next<C: Core, S: Segments>(
 fn with_packet(tally: Tally, sent: Sent) -> Tally
     requires sent { tally.sent + 2 ^ 64 < 2 ^ 128 }
     requires unmapped { tally.unmapped + 1 < 2 ^ 128 }
-    ensures added { result ≡ added tally (count_in sent) }
+    ensures added { result ≡ with_one_packet tally (count_in sent) }
     ensures sent { result.sent ≤ tally.sent + 2 ^ 64 }
     ensures unmapped { result.unmapped ≤ tally.unmapped + 1 }
 {

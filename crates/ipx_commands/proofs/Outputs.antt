@@ -5,15 +5,15 @@ use Rattle.std.specs.List.{AllZip, list_all, take_while}
 use Rattle.std.specs.Result.{result_ok}
 use Rattle.hex.specs.Hex.{decode_of}
 use Rattle.ipx_commands.specs.Line.{bad_line}
-use Rattle.ipx_commands.specs.Reading.{ReadingView, IsReading}
+use Rattle.ipx_commands.specs.Reading.{DecodedView, IsDecoded}
 use Rattle.ipx_commands.specs.ShowLine.{reading_lines, reading_status}
 use Rattle.ipx_commands.specs.Show.{Shows, ShowWrites}
 use Rattle.ipx_commands.specs.CheckLine.{LineView, Skipped, Vector, Malformed, input_lines, line_form}
-use Rattle.ipx_commands.specs.Check.{CheckWrites, ChecksLines, IsVerdict, VerdictView, Passed, Failed, check_status, failed_lines, is_known, last_line, outcome}
+use Rattle.ipx_commands.specs.Check.{CheckWrites, ChecksLines, IsVectorOutcome, VectorOutcomeView, Passed, Failed, check_status, failed_lines, is_known, last_line, outcome}
 
 -- bytes are read as one thing
 abbrev pub OneReading : Type 0
-OneReading = (bytes : List ℕ) (a b : ReadingView) → IsReading bytes a → IsReading bytes b → a ≡ b
+OneReading = (bytes : List ℕ) (a b : DecodedView) → IsDecoded bytes a → IsDecoded bytes b → a ≡ b
 
 shows_one : OneReading → (bytes a b : List ℕ) (s t : ℕ) → Shows bytes a s → Shows bytes b t → (a ≡ b) × (s ≡ t)
 shows_one one bytes a b s t x y =
@@ -32,14 +32,14 @@ pub show_writes_one : OneReading → (text a b : List ℕ) (s t : ℕ) → ShowW
 unfolding ShowsText
 show_writes_one one text a b s t x y = shows_text_one one (result_ok (decode_of text)) a b s t x y
 
-verdict_one : OneReading → (l : LineView) (v w : VerdictView) → IsVerdict l v → IsVerdict l w → v ≡ w
+verdict_one : OneReading → (l : LineView) (v w : VectorOutcomeView) → IsVectorOutcome l v → IsVectorOutcome l w → v ≡ w
 verdict_one one Skipped v w x y = x ∙ sym y
 verdict_one one (Vector number bytes) v w x y =
     let same = one bytes x.0 y.0 x.1 y.1 in
-    x.2 ∙ ap (λ (r : ReadingView). if outcome r == number then Passed else Failed) same ∙ sym y.2
+    x.2 ∙ ap (λ (r : DecodedView). if outcome r == number then Passed else Failed) same ∙ sym y.2
 verdict_one one Malformed v w x y = absurd x
 
-verdicts_one : OneReading → (ls : List LineView) (vs ws : List VerdictView) → AllZip IsVerdict ls vs → AllZip IsVerdict ls ws → vs ≡ ws
+verdicts_one : OneReading → (ls : List LineView) (vs ws : List VectorOutcomeView) → AllZip IsVectorOutcome ls vs → AllZip IsVectorOutcome ls ws → vs ≡ ws
 verdicts_one one [] [] [] x y = refl
 verdicts_one one [] [] (w ∷ ws) x y = absurd y
 verdicts_one one [] (v ∷ vs) ws x y = absurd x
@@ -54,7 +54,7 @@ checks_one : OneReading → (lines : List LineView) (a b : List ℕ) (s t : ℕ)
 checks_one one lines a b s t x y =
     let same = verdicts_one one (take_while is_known lines) x.0 y.0 x.1 y.1 in
     let all = list_all is_known lines in
-    (x.2 ∙ ap (λ (vs : List VerdictView). failed_lines vs ++ last_line all vs) same ∙ sym y.2, x.3 ∙ ap (check_status all) same ∙ sym y.3)
+    (x.2 ∙ ap (λ (vs : List VectorOutcomeView). failed_lines vs ++ last_line all vs) same ∙ sym y.2, x.3 ∙ ap (check_status all) same ∙ sym y.3)
 
 ChecksInput : Bool → List LineView → List ℕ → ℕ → Type 0
 ChecksInput long lines text status = MatchBool long ((text ≡ codes "line 0 bad\n") × (status ≡ 2)) (ChecksLines lines text status)

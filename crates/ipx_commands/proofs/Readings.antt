@@ -5,7 +5,7 @@ use Rattle.ipx_wire.specs.Ipx.{PacketView, IsIpx, ipx_fault}
 use Rattle.ipx_wire.specs.Spx.{IsSpx, spx_fault}
 use Rattle.ipx_control.specs.Rip.{RipView, IsRip, rip_fault}
 use Rattle.ipx_control.specs.Sap.{SapView, IsSap, sap_fault}
-use Rattle.ipx_commands.specs.Reading.{ContentsView, OfSpx, OfRip, OfSap, ReadingView, NoPacket, NoSpx, NoControl, Holds, Protocol, Spx, Rip, Sap, Other, IsContents, IsReading, body_fault, protocol_of}
+use Rattle.ipx_commands.specs.Reading.{ContentsView, OfSpx, OfRip, OfSap, DecodedView, NoPacket, NoSpx, NoControl, Holds, Protocol, Spx, Rip, Sap, Other, IsContents, IsDecoded, body_fault, protocol_of}
 
 -- what the layouts of the packets give
 pub record Layouts : Type 0 where
@@ -36,13 +36,13 @@ contents_without_fault l Sap body x f = l.no_sap_fault f.0 body f.1 f.2
 contents_without_fault l Other body x f = refl
 
 -- what the body of a packet is read as
-ReadsBody : PacketView → ReadingView → Type 0
+ReadsBody : PacketView → DecodedView → Type 0
 ReadsBody d (NoPacket f) = ⊥
 ReadsBody d (NoSpx f) = (protocol_of d.header ≡ Spx) × (spx_fault d.body ≡ Some f)
 ReadsBody d (NoControl f) = body_fault (protocol_of d.header) d.body ≡ Some f
 ReadsBody d (Holds e c) = (e ≡ d) × IsContents (protocol_of d.header) d.body c
 
-reads_body : Layouts → (bytes tail : List ℕ) (d : PacketView) → IsIpx d bytes tail → (r : ReadingView) → IsReading bytes r → ReadsBody d r
+reads_body : Layouts → (bytes tail : List ℕ) (d : PacketView) → IsIpx d bytes tail → (r : DecodedView) → IsDecoded bytes r → ReadsBody d r
 unfolding ReadsBody
 reads_body l bytes tail d is (NoPacket f) reads =
     let none = l.no_ipx_fault d bytes tail is in
@@ -63,7 +63,7 @@ spx_refused l d c is_spx holds =
     let spx = subst (λ (p : Protocol). IsContents p d.body c) is_spx holds in
     l.no_spx_fault spx.0 spx.1 d.body spx.2
 
-body_is_one : Layouts → (d : PacketView) (a b : ReadingView) → ReadsBody d a → ReadsBody d b → a ≡ b
+body_is_one : Layouts → (d : PacketView) (a b : DecodedView) → ReadsBody d a → ReadsBody d b → a ≡ b
 unfolding ReadsBody
 body_is_one l d (NoPacket f) b x y = absurd x
 body_is_one l d (NoSpx f) (NoPacket g) x y = absurd y
@@ -99,7 +99,7 @@ body_is_one l d (Holds e c) (Holds k m) x y =
     let contents = contents_are_one l (protocol_of d.header) d.body c m x.1 y.1 in
     λ i. Holds (packet i) (contents i)
 
-pub readings_are_one : Layouts → (bytes : List ℕ) (a b : ReadingView) → IsReading bytes a → IsReading bytes b → a ≡ b
+pub readings_are_one : Layouts → (bytes : List ℕ) (a b : DecodedView) → IsDecoded bytes a → IsDecoded bytes b → a ≡ b
 readings_are_one l bytes (NoPacket f) (NoPacket g) x y = cc
 readings_are_one l bytes (NoPacket f) (NoSpx g) x y =
     let none = l.no_ipx_fault y.0 bytes y.1 y.2 in

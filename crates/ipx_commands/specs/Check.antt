@@ -7,12 +7,12 @@ use Rattle.ipx_wire.specs.Spx.{spx_fault_number}
 use Rattle.ipx_control.specs.Fault.{control_fault_number}
 use Rattle.ipx_commands.specs.declared.check.Verdict as code
 use Rattle.ipx_commands.specs.declared.check.Verdict.TheVariants as verdicts
-use Rattle.ipx_commands.specs.Reading.{ReadingView, NoPacket, NoSpx, NoControl, Holds, IsReading}
+use Rattle.ipx_commands.specs.Reading.{DecodedView, NoPacket, NoSpx, NoControl, Holds, IsDecoded}
 use Rattle.ipx_commands.specs.Text.{most_input}
 use Rattle.ipx_commands.specs.CheckLine.{LineView, Skipped, Vector, Malformed, input_lines, line_form}
 
 -- the number of the fault that refuses a datagram, 0 where none does
-abbrev pub outcome : ReadingView → ℕ
+abbrev pub outcome : DecodedView → ℕ
 outcome (NoPacket f) = ipx_fault_number f
 outcome (NoSpx f) = spx_fault_number f
 outcome (NoControl f) = control_fault_number f
@@ -20,55 +20,55 @@ outcome (Holds d c) = 0
 
 -- what a line tells: it is no vector, or a vector whose datagram has the outcome that it wants,
 -- or another one
-pub data VerdictView : Type 0 where
-  NoVector : VerdictView
-  Passed : VerdictView
-  Failed : VerdictView
+pub data VectorOutcomeView : Type 0 where
+  NoVector : VectorOutcomeView
+  Passed : VectorOutcomeView
+  Failed : VectorOutcomeView
 
-abbrev pub verdict_view : code.Verdict → VerdictView
-verdict_view verdicts.NoVector = NoVector
-verdict_view verdicts.Passed = Passed
-verdict_view verdicts.Failed = Failed
+abbrev pub vector_outcome_view : code.Verdict → VectorOutcomeView
+vector_outcome_view verdicts.NoVector = NoVector
+vector_outcome_view verdicts.Passed = Passed
+vector_outcome_view verdicts.Failed = Failed
 
-abbrev pub IsVerdict : LineView → VerdictView → Type 0
-IsVerdict Skipped v = v ≡ NoVector
-IsVerdict (Vector number bytes) v = (r : ReadingView) × IsReading bytes r
+abbrev pub IsVectorOutcome : LineView → VectorOutcomeView → Type 0
+IsVectorOutcome Skipped v = v ≡ NoVector
+IsVectorOutcome (Vector number bytes) v = (r : DecodedView) × IsDecoded bytes r
     × (v ≡ (if outcome r == number then Passed else Failed))
-IsVerdict Malformed v = ⊥
+IsVectorOutcome Malformed v = ⊥
 
 abbrev pub is_known : LineView → Bool
 is_known Skipped = true
 is_known (Vector number bytes) = true
 is_known Malformed = false
 
-abbrev pub is_vector : VerdictView → Bool
+abbrev pub is_vector : VectorOutcomeView → Bool
 is_vector NoVector = false
 is_vector Passed = true
 is_vector Failed = true
 
-abbrev pub is_failed : VerdictView → Bool
+abbrev pub is_failed : VectorOutcomeView → Bool
 is_failed NoVector = false
 is_failed Passed = false
 is_failed Failed = true
 
 -- written for a vector that failed: the number of its line, from 1
-abbrev pub failed_line : ℕ → VerdictView → List ℕ
+abbrev pub failed_line : ℕ → VectorOutcomeView → List ℕ
 failed_line place NoVector = []
 failed_line place Passed = []
 failed_line place Failed = codes "line " ++ (decimal place ++ 10 ∷ [])
 
-abbrev pub failed_lines : List VerdictView → List ℕ
+abbrev pub failed_lines : List VectorOutcomeView → List ℕ
 failed_lines vs = flat_map (λ p. failed_line p.0 p.1) (enumerate_from 1 vs)
 
 -- the last line: how many vectors there were and how many failed, or, where a line of no known form
 -- follows, its number
-abbrev pub last_line : Bool → List VerdictView → List ℕ
+abbrev pub last_line : Bool → List VectorOutcomeView → List ℕ
 last_line true vs =
     codes "checked " ++ (decimal (count_by is_vector vs)
     ++ (codes " failed " ++ (decimal (count_by is_failed vs) ++ 10 ∷ [])))
 last_line false vs = codes "line " ++ (decimal (length vs + 1) ++ codes " bad\n")
 
-abbrev pub check_status : Bool → List VerdictView → ℕ
+abbrev pub check_status : Bool → List VectorOutcomeView → ℕ
 check_status true vs = if count_by is_failed vs == 0 then 0 else 1
 check_status false vs = 2
 
@@ -76,7 +76,7 @@ check_status false vs = 2
 -- a last line
 abbrev pub ChecksLines : List LineView → List ℕ → ℕ → Type 0
 ChecksLines lines text status =
-    (vs : List VerdictView) × AllZip IsVerdict (take_while is_known lines) vs
+    (vs : List VectorOutcomeView) × AllZip IsVectorOutcome (take_while is_known lines) vs
     × (text ≡ failed_lines vs ++ last_line (list_all is_known lines) vs)
     × (status ≡ check_status (list_all is_known lines) vs)
 

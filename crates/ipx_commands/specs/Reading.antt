@@ -5,7 +5,7 @@ use Rattle.ipx_wire.specs.declared.ipx.packet.IpxHeader.{IpxHeader}
 use Rattle.ipx_wire.specs.declared.ipx.fault.IpxFault.{IpxFault}
 use Rattle.ipx_wire.specs.declared.spx.packet.SpxHeader.{SpxHeader}
 use Rattle.ipx_wire.specs.declared.spx.fault.SpxFault.{SpxFault}
-use Rattle.ipx_wire.specs.Ipx.{PacketView, IsIpx, ipx_fault, view}
+use Rattle.ipx_wire.specs.Ipx.{PacketView, IsIpx, ipx_fault, packet_view}
 use Rattle.ipx_wire.specs.Spx.{IsSpx, spx_fault}
 use Rattle.ipx_control.specs.declared.fault.ControlFault.{ControlFault}
 use Rattle.ipx_control.specs.Rip.{RipView, IsRip, rip_fault, rip_view}
@@ -62,24 +62,24 @@ body_fault Sap body = sap_fault body
 body_fault Other body = None
 
 -- a packet with what its body holds, or the fault that refuses the packet or its body
-pub data ReadingView : Type 0 where
-  NoPacket : IpxFault → ReadingView
-  NoSpx : SpxFault → ReadingView
-  NoControl : ControlFault → ReadingView
-  Holds : PacketView → ContentsView → ReadingView
+pub data DecodedView : Type 0 where
+  NoPacket : IpxFault → DecodedView
+  NoSpx : SpxFault → DecodedView
+  NoControl : ControlFault → DecodedView
+  Holds : PacketView → ContentsView → DecodedView
 
-abbrev pub reading_view : readings_of.Reading → ReadingView
-reading_view (readings.NoPacket fault) = NoPacket fault
-reading_view (readings.NoSpx fault) = NoSpx fault
-reading_view (readings.NoControl fault) = NoControl fault
-reading_view (readings.Holds packet contents) = Holds (view packet) (contents_view contents)
+abbrev pub decoded_view : readings_of.Reading → DecodedView
+decoded_view (readings.NoPacket fault) = NoPacket fault
+decoded_view (readings.NoSpx fault) = NoSpx fault
+decoded_view (readings.NoControl fault) = NoControl fault
+decoded_view (readings.Holds packet contents) = Holds (packet_view packet) (contents_view contents)
 
 -- the bytes are read as this
-abbrev pub IsReading : List ℕ → ReadingView → Type 0
-IsReading bytes (NoPacket f) = ipx_fault bytes ≡ Some f
-IsReading bytes (NoSpx f) = (d : PacketView) × (tail : List ℕ) × IsIpx d bytes tail
+abbrev pub IsDecoded : List ℕ → DecodedView → Type 0
+IsDecoded bytes (NoPacket f) = ipx_fault bytes ≡ Some f
+IsDecoded bytes (NoSpx f) = (d : PacketView) × (tail : List ℕ) × IsIpx d bytes tail
     × (protocol_of d.header ≡ Spx) × (spx_fault d.body ≡ Some f)
-IsReading bytes (NoControl f) = (d : PacketView) × (tail : List ℕ) × IsIpx d bytes tail
+IsDecoded bytes (NoControl f) = (d : PacketView) × (tail : List ℕ) × IsIpx d bytes tail
     × (body_fault (protocol_of d.header) d.body ≡ Some f)
-IsReading bytes (Holds d c) =
+IsDecoded bytes (Holds d c) =
     (tail : List ℕ) × IsIpx d bytes tail × IsContents (protocol_of d.header) d.body c

@@ -3,12 +3,12 @@ use Rattle.std.specs.Prelude.{◌≡◌, ℕ, List, MatchOption}
 use Rattle.std.specs.Result.{result_ok}
 use Rattle.hex.specs.Hex.{decode_of}
 use Rattle.ipx_commands.specs.Line.{bad_line}
-use Rattle.ipx_commands.specs.Reading.{ReadingView, IsReading}
+use Rattle.ipx_commands.specs.Reading.{DecodedView, IsDecoded}
 use Rattle.ipx_commands.specs.ShowLine.{reading_lines, reading_status}
 
 -- the lines and the status of what a datagram is read as
 abbrev pub Shows : List ℕ → List ℕ → ℕ → Type 0
-Shows bytes lines status = (r : ReadingView) × IsReading bytes r
+Shows bytes lines status = (r : DecodedView) × IsDecoded bytes r
     × (lines ≡ reading_lines r) × (status ≡ reading_status r)
 
 -- those for a text: for the bytes that it stands for, or those of a bad line

@@ -12,7 +12,7 @@ use Rattle.ipx_control.specs.declared.sap.packet.ServiceEntry.{ServiceEntry}
 use Rattle.ipx_control.specs.Rip as rip
 use Rattle.ipx_control.specs.Sap as sap
 use Rattle.ipx_commands.specs.Line.{control_fault_text, fault_text, spx_fault_text}
-use Rattle.ipx_commands.specs.Reading.{ContentsView, Plain, OfSpx, OfRip, OfSap, ReadingView, NoPacket, NoSpx, NoControl, Holds}
+use Rattle.ipx_commands.specs.Reading.{ContentsView, Plain, OfSpx, OfRip, OfSap, DecodedView, NoPacket, NoSpx, NoControl, Holds}
 
 -- a network in 8 hex digits, a node in 12 and a socket in 4
 abbrev pub address_text : Address → List ℕ
@@ -107,13 +107,13 @@ contents_lines (OfRip m) = rip_lines m
 contents_lines (OfSap m) = sap_lines m
 
 -- the header and what the body holds, or the fault, on one line
-abbrev pub reading_lines : ReadingView → List ℕ
+abbrev pub reading_lines : DecodedView → List ℕ
 reading_lines (NoPacket f) = codes "refused " ++ (fault_text f ++ 10 ∷ [])
 reading_lines (NoSpx f) = codes "refused " ++ (spx_fault_text f ++ 10 ∷ [])
 reading_lines (NoControl f) = codes "refused " ++ (control_fault_text f ++ 10 ∷ [])
 reading_lines (Holds d c) = header_lines d ++ contents_lines c
 
-abbrev pub reading_status : ReadingView → ℕ
+abbrev pub reading_status : DecodedView → ℕ
 reading_status (NoPacket f) = 1
 reading_status (NoSpx f) = 1
 reading_status (NoControl f) = 1

@@ -4,9 +4,9 @@ ghost use Rattle.std.specs.Prelude.{◌≡◌, ◌≤◌, ◌<◌, ◌+◌, ◌+
 ghost use Rattle.std.specs.Io.KnownBytes.{Appends};
 ghost use Rattle.ipx_commands.specs.Output.{LeavesWritten};
 ghost use Rattle.ipx_commands.specs.Text.{IsInput};
-ghost use Rattle.ipx_commands.specs.Reading.{reading_view};
+ghost use Rattle.ipx_commands.specs.Reading.{decoded_view};
 ghost use Rattle.ipx_commands.specs.CheckLine.{Malformed as no_line, Vector as vector, input_lines, line_form};
-ghost use Rattle.ipx_commands.specs.Check.{CheckWrites, ChecksLines, Failed as told_failed, IsVerdict, VerdictView, check_status, failed_line, failed_lines, last_line, outcome, verdict_view};
+ghost use Rattle.ipx_commands.specs.Check.{CheckWrites, ChecksLines, Failed as told_failed, IsVectorOutcome, VectorOutcomeView, check_status, failed_line, failed_lines, last_line, outcome, vector_outcome_view};
 ghost use Rattle.ipx_commands.specs.Tally.{IsTally};
 
 use crate::check_line::{Line, read_line};
@@ -37,7 +37,7 @@ pub struct Tally {
 
 /// The number of the fault that refuses a datagram, 0 where none does.
 fn outcome_of(reading: &Reading<'_>) -> u8
-    ensures { result ≡ outcome (reading_view reading.now) }
+    ensures { result ≡ outcome (decoded_view reading.now) }
 {
     match reading {
         Reading::NoPacket(fault) => fault.number(),
@@ -48,7 +48,7 @@ fn outcome_of(reading: &Reading<'_>) -> u8
 }
 
 fn verdict_on(alloc: Global, number: u8, bytes: &[u8]) -> Result<Verdict, OutOfMemory>
-    ensures { IfOk result (λ v. IsVerdict (vector number bytes.now) (verdict_view v)) }
+    ensures { IfOk result (λ v. IsVectorOutcome (vector number bytes.now) (vector_outcome_view v)) }
 {
     let reading = read_datagram(alloc, bytes)?;
     if outcome_of(&reading) == number {
@@ -61,7 +61,7 @@ fn verdict_on(alloc: Global, number: u8, bytes: &[u8]) -> Result<Verdict, OutOfM
 fn verdict_of(alloc: Global, line: &[u8]) -> Result<Option<Verdict>, OutOfMemory>
     ensures { IfOk result (λ o. MatchOption o
         (line_form line.now ≡ no_line)
-        (λ v. IsVerdict (line_form line.now) (verdict_view v))) }
+        (λ v. IsVectorOutcome (line_form line.now) (vector_outcome_view v))) }
 {
     match read_line(alloc, line)? {
         Line::Malformed => return Ok(None),
@@ -84,8 +84,8 @@ fn note(alloc: Global, tally: &mut Tally, verdict: Verdict) -> Result<(), AllocE
     requires lines { tally.old.lines ≤ 1000001 }
     requires vectors { tally.old.vectors ≤ tally.old.lines }
     requires failed { tally.old.failed ≤ tally.old.lines }
-    ensures { OnOk result ((vs : List VerdictView) → IsTally vs tally.old
-        → IsTally (vs ++ verdict_view verdict ∷ []) tally.new) }
+    ensures { OnOk result ((vs : List VectorOutcomeView) → IsTally vs tally.old
+        → IsTally (vs ++ vector_outcome_view verdict ∷ []) tally.new) }
 {
     let place = tally.lines + 1;
     match verdict {
@@ -112,7 +112,7 @@ fn note(alloc: Global, tally: &mut Tally, verdict: Verdict) -> Result<(), AllocE
 /// The lines and the status where a line of no known form comes next.
 fn lines_at_bad_line(alloc: Global, tally: &Tally) -> Result<(String, u8), OutOfMemory>
     requires { tally.now.lines ≤ 1000001 }
-    ensures { IfOk result (λ r. (vs : List VerdictView) → IsTally vs tally.now
+    ensures { IfOk result (λ r. (vs : List VectorOutcomeView) → IsTally vs tally.now
         → (string_bytes r.0 ≡ failed_lines vs ++ last_line false vs)
         × (r.1 ≡ check_status false vs)) }
 {
@@ -123,7 +123,7 @@ fn lines_at_bad_line(alloc: Global, tally: &Tally) -> Result<(String, u8), OutOf
 
 /// The lines and the status where all lines were read.
 fn lines_at_end(alloc: Global, tally: &Tally) -> Result<(String, u8), OutOfMemory>
-    ensures { IfOk result (λ r. (vs : List VerdictView) → IsTally vs tally.now
+    ensures { IfOk result (λ r. (vs : List VectorOutcomeView) → IsTally vs tally.now
         → (string_bytes r.0 ≡ failed_lines vs ++ last_line true vs)
         × (r.1 ≡ check_status true vs)) }
 {

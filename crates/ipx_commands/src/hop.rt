@@ -5,7 +5,7 @@ ghost use Rattle.std.specs.Option.{option_map};
 ghost use Rattle.std.specs.Io.KnownBytes.{Appends};
 ghost use Rattle.ipx_commands.specs.Output.{LeavesWritten};
 ghost use Rattle.ipx_commands.specs.Text.{IsInput, packet_of_text, without_line_end};
-ghost use Rattle.ipx_router.specs.OutcomeView.{view};
+ghost use Rattle.ipx_router.specs.OutcomeView.{router_outcome};
 ghost use Rattle.ipx_commands.specs.Hop.{HopAnswers, HopOutcome, HopWrites, hop_routing};
 
 use crate::input::{InputFault, read_up_to};
@@ -65,7 +65,7 @@ fn hop_router(alloc: Global) -> Result<Router, OutOfMemory>
 
 /// What becomes of bytes that come in on port 1.
 fn outcome_for_bytes(alloc: Global, bytes: &[u8]) -> Result<Outcome, OutOfMemory>
-    ensures { IfOk result (λ o. HopOutcome bytes.now (view o)) }
+    ensures { IfOk result (λ o. HopOutcome bytes.now (router_outcome o)) }
 {
     let mut router = hop_router(alloc)?;
     let outcome = router.receive(alloc, 1, bytes, 0)?;

@@ -1,7 +1,7 @@
 //! Laws of what the commands write: for one input there is one output and one status.
 
 ghost use Rattle.std.specs.Prelude.{◌≡◌, ℕ, List};
-ghost use Rattle.ipx_commands.specs.Reading.{IsReading, ReadingView};
+ghost use Rattle.ipx_commands.specs.Reading.{IsDecoded, DecodedView};
 ghost use Rattle.ipx_commands.specs.Hop.{HopWrites};
 ghost use Rattle.ipx_commands.specs.Show.{ShowWrites};
 ghost use Rattle.ipx_commands.specs.Check.{CheckWrites};
@@ -17,7 +17,7 @@ use ipx_wire::{
 
 /// Bytes are read as one thing alone: a packet and what its body holds, or one fault.
 pub fn reading_is_one()
-    ensures { (bytes : List ℕ) (a b : ReadingView) → IsReading bytes a → IsReading bytes b → a ≡ b }
+    ensures { (bytes : List ℕ) (a b : DecodedView) → IsDecoded bytes a → IsDecoded bytes b → a ≡ b }
 {
     bytes_are_one_packet();
     bytes_are_one_spx_packet();

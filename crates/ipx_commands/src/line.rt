@@ -2,7 +2,7 @@
 
 ghost use Rattle.std.specs.Prelude.{◌≡◌, IfOk, string_bytes};
 ghost use Rattle.std.specs.List.{flat_map};
-ghost use Rattle.ipx_router.specs.OutcomeView.{view};
+ghost use Rattle.ipx_router.specs.OutcomeView.{router_outcome};
 ghost use Rattle.ipx_router.specs.Packets.{sending_of, sendings};
 ghost use Rattle.ipx_commands.specs.Line.{control_fault_name, control_fault_text, fault_name, fault_text, lines_of, no_route_name, numbered, reason_text, sending_line, sending_text, spx_fault_name, spx_fault_text, status_of};
 
@@ -133,7 +133,7 @@ fn replies_to_lines(alloc: Global, replies: &[Reply]) -> Result<String, AllocErr
 
 /// The lines of an outcome, none for no replies.
 pub fn outcome_lines(alloc: Global, outcome: &Outcome) -> Result<String, AllocError>
-    ensures { IfOk result (λ t. string_bytes t ≡ lines_of (view outcome.now)) }
+    ensures { IfOk result (λ t. string_bytes t ≡ lines_of (router_outcome outcome.now)) }
 {
     match outcome {
         Outcome::Forward(reply) => {
@@ -151,7 +151,7 @@ pub fn outcome_lines(alloc: Global, outcome: &Outcome) -> Result<String, AllocEr
 
 /// 1 for a packet that was dropped, else 0.
 pub fn outcome_status(outcome: &Outcome) -> u8
-    ensures { result ≡ status_of (view outcome.now) }
+    ensures { result ≡ status_of (router_outcome outcome.now) }
 {
     match outcome {
         Outcome::Forward(_) => 0,

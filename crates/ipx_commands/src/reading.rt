@@ -2,7 +2,7 @@
 
 ghost use Rattle.std.specs.Prelude.{◌≡◌, ◌⊎◌, IfOk, IfErr, Some, None};
 ghost use Rattle.ipx_wire.specs.Spx.{spx_fault};
-ghost use Rattle.ipx_commands.specs.Reading.{IsContents, IsReading, Spx, body_fault, contents_view, protocol_at, reading_view};
+ghost use Rattle.ipx_commands.specs.Reading.{IsContents, IsDecoded, Spx, body_fault, contents_view, protocol_at, decoded_view};
 
 use ipx_control::{ControlFault, Rip, Sap, decode_rip, decode_sap};
 use ipx_wire::{
@@ -63,7 +63,7 @@ fn contents_at<'a>(
 /// Reads a datagram and what its body holds. Packet type 5 is SPX, whatever the socket; else the
 /// destination socket says what the body is. It wants memory for the entries of RIP and SAP alone.
 pub fn read_datagram(alloc: Global, bytes: &[u8]) -> Result<Reading<'_>, OutOfMemory>
-    ensures { IfOk result (λ r. IsReading bytes.now (reading_view r)) }
+    ensures { IfOk result (λ r. IsDecoded bytes.now (decoded_view r)) }
 {
     let packet = match decode(bytes) {
         Ok(packet) => packet,

@@ -2,10 +2,10 @@
 
 ghost use Rattle.std.specs.Prelude.{◌≡◌, ◌==◌, IfOk, string_bytes};
 ghost use Rattle.std.specs.List.{before_first, flat_map};
-ghost use Rattle.ipx_wire.specs.Ipx.{view};
+ghost use Rattle.ipx_wire.specs.Ipx.{packet_view};
 ghost use Rattle.ipx_control.specs.Rip.{rip_view};
 ghost use Rattle.ipx_control.specs.Sap.{sap_view};
-ghost use Rattle.ipx_commands.specs.Reading.{contents_view, reading_view};
+ghost use Rattle.ipx_commands.specs.Reading.{contents_view, decoded_view};
 ghost use Rattle.ipx_commands.specs.ShowLine.{address_text, bit_text, contents_lines, control_text, counts_text, header_lines, ids_text, name_byte, name_text, reach, reading_lines, reading_status, rip_entry_line, rip_lines, sap_lines, service_line, spx_line, word_text};
 
 use crate::line::{control_fault_to_text, fault_to_text, spx_fault_to_text};
@@ -25,7 +25,7 @@ fn address_to_text(alloc: Global, address: Address) -> Result<String, AllocError
 }
 
 fn packet_to_lines(alloc: Global, packet: &Packet<'_>) -> Result<String, AllocError>
-    ensures { IfOk result (λ t. string_bytes t ≡ header_lines (view packet.now)) }
+    ensures { IfOk result (λ t. string_bytes t ≡ header_lines (packet_view packet.now)) }
 {
     let hops = packet.header.hops;
     let kind = packet.header.kind;
@@ -223,7 +223,7 @@ fn contents_to_lines(alloc: Global, contents: &Contents<'_>) -> Result<String, A
 
 /// The header, and what the body holds; or the fault, on one line.
 pub fn reading_to_lines(alloc: Global, reading: &Reading<'_>) -> Result<String, AllocError>
-    ensures { IfOk result (λ t. string_bytes t ≡ reading_lines (reading_view reading.now)) }
+    ensures { IfOk result (λ t. string_bytes t ≡ reading_lines (decoded_view reading.now)) }
 {
     match reading {
         Reading::NoPacket(fault) => {
@@ -248,7 +248,7 @@ pub fn reading_to_lines(alloc: Global, reading: &Reading<'_>) -> Result<String, 
 
 /// 0 for a packet, 1 for one that is refused.
 pub fn reading_to_status(reading: &Reading<'_>) -> u8
-    ensures { result ≡ reading_status (reading_view reading.now) }
+    ensures { result ≡ reading_status (decoded_view reading.now) }
 {
     match reading {
         Reading::NoPacket(_) | Reading::NoSpx(_) | Reading::NoControl(_) => 1,

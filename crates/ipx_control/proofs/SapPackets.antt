@@ -10,7 +10,7 @@ use Rattle.ipx_wire.specs.FieldLaws.{FieldLaws}
 use Rattle.ipx_wire.specs.Ipx.{IsAddress, IsBytes, IsWritten, address_bytes, number}
 use Rattle.ipx_control.specs.declared.sap.packet.ServiceEntry.{ServiceEntry}
 use Rattle.ipx_control.specs.Entries.{AreEntries}
-use Rattle.ipx_control.specs.Lent.{first_entries, service_in, services_in}
+use Rattle.ipx_control.specs.Lent.{first_entries, service_in, service_entries_in}
 use Rattle.ipx_control.specs.Sap.{IsSap, IsSapQuery, IsSapResponse, IsSapInRange, IsSapTail, AreServicesInRange, IsServiceEntry, IsServiceEntryInRange, SapView, Query, Response, query_operation, response_operation, sap_fault, service_bytes}
 use Rattle.std.proofs.lemmas.Bool.{eqb-true, le-ltb, ltb-false}
 use Rattle.ipx_control.specs.declared.fault.ControlFault.TheVariants.{NoOperation, QueryShort, TooManyEntries, UnknownOperation}
@@ -206,18 +206,18 @@ service_in_is : (bytes : List ℕ) → IsServiceEntry (service_in bytes) bytes
 service_in_is bytes = record { kind = refl; name = refl; at = record { network = refl; node = refl; socket = refl }; hops = refl }
 
 -- services that are read off bytes are those that fit
-pub services_are : (bytes : List ℕ) → (tail : List ℕ) × AreEntries IsServiceEntry 64 (services_in bytes) bytes tail × (length tail < 64)
+pub services_are : (bytes : List ℕ) → (tail : List ℕ) × AreEntries IsServiceEntry 64 (service_entries_in bytes) bytes tail × (length tail < 64)
 services_are bytes =
     let count = length bytes / 64 in
     (drop (count * 64) bytes, first_are service_in 64 IsServiceEntry service_in_is count bytes (omega arith), omega (arith, length-drop (count * 64) bytes))
 
 -- the first of them, and those behind it
-pub services_more : FieldLaws → (e : ServiceEntry) (bytes : List ℕ) → 64 ≤ length bytes → IsServiceEntry e bytes → services_in bytes ≡ e ∷ services_in (drop 64 bytes)
+pub services_more : FieldLaws → (e : ServiceEntry) (bytes : List ℕ) → 64 ≤ length bytes → IsServiceEntry e bytes → service_entries_in bytes ≡ e ∷ service_entries_in (drop 64 bytes)
 services_more laws e bytes fits is =
     let rest = drop 64 bytes in
     let count : length bytes / 64 ≡ suc (length rest / 64) = omega (arith, length-drop 64 bytes) in
     let first : service_in bytes ≡ e = same_service laws (service_in bytes) e bytes (service_in_is bytes) is in
-    ap (λ (n : ℕ). first_entries service_in 64 n bytes) count ∙ ap (λ (x : ServiceEntry). x ∷ services_in rest) first
+    ap (λ (n : ℕ). first_entries service_in 64 n bytes) count ∙ ap (λ (x : ServiceEntry). x ∷ service_entries_in rest) first
 
 query_of : (nearest : Bool) (bytes : List ℕ) → 4 ≤ length bytes → number 2 0 bytes ≡ query_operation nearest → (m : SapView) × (tail : List ℕ) × IsSap m bytes tail
 query_of nearest bytes room said = (Query nearest (number 2 2 bytes), drop 4 bytes, record { has_query = room; operation = said; service = refl; rest = refl })

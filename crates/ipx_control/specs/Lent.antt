@@ -38,5 +38,5 @@ service_in bytes = record {
   hops = number 2 62 bytes;
 }
 
-abbrev pub services_in : List ℕ → List ServiceEntry
-services_in = whole_entries service_in 64
+abbrev pub service_entries_in : List ℕ → List ServiceEntry
+service_entries_in = whole_entries service_in 64

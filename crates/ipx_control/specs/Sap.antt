@@ -94,7 +94,7 @@ pub record IsServiceEntryInRange (e : ServiceEntry) : Type 0 where
   pub hops : e.hops < 2 ^ 16
 
 -- what a service has as lists are bytes
-pub record HoldsBytes (e : ServiceEntry) : Type 0 where
+pub record ServiceHoldsBytes (e : ServiceEntry) : Type 0 where
   pub name : IsBytes e.name
   pub node : IsBytes e.at.node.0
 

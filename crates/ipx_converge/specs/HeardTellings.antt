@@ -12,7 +12,7 @@ use Rattle.ipx_router.specs.Knowledge.{known_at, routes_in}
 use Rattle.ipx_router.specs.OutcomeView.{OutcomeView, Dropped}
 use Rattle.ipx_router.specs.Packets.{SendingView}
 use Rattle.ipx_router.specs.RouterView.{RouterView}
-use Rattle.ipx_router.specs.Telling.{Tells, is_due}
+use Rattle.ipx_router.specs.Telling.{TellsIfDue, is_due}
 use Rattle.ipx_router.specs.Told.{IsToldRoute}
 use Rattle.ipx_converge.specs.Histories.{Internet, Meet}
 
@@ -41,7 +41,7 @@ abbrev pub TellingsAreHeard : Type 0
 TellingsAreHeard = (net : Internet) (s q r p : ℕ) (meet : Meet net s q r p)
     (teller old new : RouterView) (now : ℕ) (sent : List SendingView) (told : Option ℕ)
     → teller.ports ≡ meet.theirs → old.ports ≡ meet.ours → meet.far.node ≢ meet.near.node
-    → is_due teller.told now ≡ true → Tells (known_at teller now) teller.told now sent told
+    → is_due teller.told now ≡ true → TellsIfDue (known_at teller now) teller.told now sent told
     → ReceivesInTurn p now old (leaving_by q sent) new
     → (entries : List RipEntry)
     × HearsEntries p now (record { port = p; neighbour = meet.far.node }) old

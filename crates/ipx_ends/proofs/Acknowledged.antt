@@ -3,7 +3,7 @@ use Rattle.std.proofs.Common.{◌≡◌, ℕ, ◌+◌, ◌-◌, ◌*◌, ◌^◌
 use Rattle.std.specs.Prelude.{sum}
 use Rattle.std.proofs.lemmas.List.Sums.{sum_by-cons, sum_by_push}
 use Rattle.ipx_site.specs.Bursts.{counted}
-use Rattle.ipx_ends.specs.Ledger.{Counts, IsFirstOpen, all_units, bytes_acknowledged, units_in}
+use Rattle.ipx_ends.specs.Ledger.{CountsAcknowledged, IsFirstOpen, all_units, bytes_acknowledged, units_in}
 
 -- 534 bytes for each unit of a message are no fewer than it has
 whole_units : (b n : ℕ) → units_in b ≤ n → min b (534 * n) ≡ b
@@ -39,18 +39,18 @@ bytes_open b more begun h =
     let others : bytes_acknowledged more (begun - units_in b) ≡ 0 = ap (bytes_acknowledged more) none ∙ no_bytes more in
     omega (arith, others)
 
-counts_bytes : (given : List ℕ) (units : ℕ) (left : List ℕ) (begun whole : ℕ) → Counts given units left begun whole
+counts_bytes : (given : List ℕ) (units : ℕ) (left : List ℕ) (begun whole : ℕ) → CountsAcknowledged given units left begun whole
     → counted (bytes_acknowledged given units) ≡ counted (whole + bytes_acknowledged left begun)
 counts_bytes given units left begun whole c =
     let is : bytes_acknowledged given units ≡ sum c.gone + bytes_acknowledged left begun =
     ap (λ l. bytes_acknowledged l units) c.in_order ∙ ap (bytes_acknowledged (c.gone ++ left)) c.acknowledged ∙ bytes_gone c.gone left begun in
     omega (arith, is, c.bytes)
 
-pub exact_none : (given : List ℕ) (units : ℕ) (left : List ℕ) (begun whole : ℕ) → Counts given units left begun whole → left ≡ [] → counted (whole + 0) ≡ counted (bytes_acknowledged given units)
+pub exact_none : (given : List ℕ) (units : ℕ) (left : List ℕ) (begun whole : ℕ) → CountsAcknowledged given units left begun whole → left ≡ [] → counted (whole + 0) ≡ counted (bytes_acknowledged given units)
 exact_none given units left begun whole c none =
     omega (arith, counts_bytes given units left begun whole c, ap (λ l. bytes_acknowledged l begun) none)
 
-pub exact_some : (given : List ℕ) (units : ℕ) (left : List ℕ) (begun whole first : ℕ) → Counts given units left begun whole → IsFirstOpen left begun
+pub exact_some : (given : List ℕ) (units : ℕ) (left : List ℕ) (begun whole first : ℕ) → CountsAcknowledged given units left begun whole → IsFirstOpen left begun
     → 0 < length left → first ≡ get_or left 0 first
     → counted (whole + min (min (begun * 534) (2 ^ 64 - 1)) first) ≡ counted (bytes_acknowledged given units)
 exact_some given units [] begun whole first c unclosed some is = absurd (omega arith)
@@ -58,11 +58,11 @@ exact_some given units (b ∷ more) begun whole first c unclosed some is =
     omega (arith, counts_bytes given units (b ∷ more) begun whole c, bytes_open b more begun unclosed)
 
 -- nothing was handed in
-pub counts_none : Counts [] 0 [] 0 0
+pub counts_none : CountsAcknowledged [] 0 [] 0 0
 counts_none = record { gone = []; in_order = refl; acknowledged = refl; bytes = refl }
 
 -- a message more
-pub counts_pushed : (given : List ℕ) (units : ℕ) (left : List ℕ) (begun whole bytes : ℕ) → Counts given units left begun whole → Counts (given ++ bytes ∷ []) units (left ++ bytes ∷ []) begun whole
+pub counts_pushed : (given : List ℕ) (units : ℕ) (left : List ℕ) (begun whole bytes : ℕ) → CountsAcknowledged given units left begun whole → CountsAcknowledged (given ++ bytes ∷ []) units (left ++ bytes ∷ []) begun whole
 counts_pushed given units left begun whole bytes c =
     record {
       gone = c.gone;
@@ -72,7 +72,7 @@ counts_pushed given units left begun whole bytes c =
     }
 
 -- it is not acknowledged whole, where no more units are than were handed in
-pub open_pushed : (given : List ℕ) (units : ℕ) (left : List ℕ) (begun whole bytes : ℕ) → Counts given units left begun whole → units ≤ all_units given
+pub open_pushed : (given : List ℕ) (units : ℕ) (left : List ℕ) (begun whole bytes : ℕ) → CountsAcknowledged given units left begun whole → units ≤ all_units given
     → IsFirstOpen left begun → IsFirstOpen (left ++ bytes ∷ []) begun
 open_pushed given units [] begun whole bytes c few unclosed =
     let all : all_units given ≡ all_units c.gone = ap all_units (c.in_order ∙ append-nil c.gone) in
@@ -81,7 +81,7 @@ open_pushed given units (b ∷ more) begun whole bytes c few unclosed = unclosed
 
 -- the first that is left goes
 pub counts_closed : (given : List ℕ) (units b : ℕ) (left more : List ℕ) (begun begun' whole whole' : ℕ) → left ≡ b ∷ more → begun ≡ units_in b + begun' → whole' ≡ counted (whole + b)
-    → Counts given units left begun whole → Counts given units more begun' whole'
+    → CountsAcknowledged given units left begun whole → CountsAcknowledged given units more begun' whole'
 counts_closed given units b left more begun begun' whole whole' is enough bytes c =
     record {
       gone = c.gone ++ b ∷ [];
@@ -96,8 +96,8 @@ few_closed units b count begun begun' left more is unclosed all enough =
     let h : IsFirstOpen (b ∷ more) units = subst (λ l. IsFirstOpen l units) is unclosed in omega arith
 
 -- more units are acknowledged
-pub counts_more : (given : List ℕ) (units : ℕ) (left : List ℕ) (begun whole more begun' : ℕ) → Counts given units left begun whole → units + more < 2 ^ 64 → begun' ≡ counted (begun + more)
-    → Counts given (units + more) left begun' whole
+pub counts_more : (given : List ℕ) (units : ℕ) (left : List ℕ) (begun whole more begun' : ℕ) → CountsAcknowledged given units left begun whole → units + more < 2 ^ 64 → begun' ≡ counted (begun + more)
+    → CountsAcknowledged given (units + more) left begun' whole
 counts_more given units left begun whole more begun' c few is =
     record {
       gone = c.gone;

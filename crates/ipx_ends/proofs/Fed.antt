@@ -16,11 +16,11 @@ use Rattle.spx_messages.specs.Taking.{IsPushed, PeerEnd, TakenView, joins_on, ov
 use Rattle.spx_messages.specs.declared.fault.EndFault.{EndFault}
 use Rattle.spx_messages.specs.declared.fault.EndFault.TheVariants as EndFaults
 use Rattle.spx_messages.specs.declared.taken.Taken.{Taken}
-use Rattle.ipx_ends.specs.Books.{Follows}
+use Rattle.ipx_ends.specs.Books.{EntersAcknowledged}
 use Rattle.ipx_ends.specs.Dropping.{DropsCame}
-use Rattle.ipx_ends.specs.Feeding.{Feeds, Intake, KeepsQueue, Rests, SameQueue, intake}
-use Rattle.ipx_ends.specs.Rounds.{IsStep, Place, intake_of, place}
-use Rattle.ipx_ends.specs.Steps.{FeedsOn, Goes, IsFeedFault, IsStepFault, SeenSoFar, Sees}
+use Rattle.ipx_ends.specs.Feeding.{Feeds, Intake, KeepsQueue, LeavesIntake, SameQueue, intake}
+use Rattle.ipx_ends.specs.Rounds.{IsSendStep, SendState, intake_of, place}
+use Rattle.ipx_ends.specs.Steps.{FeedsOn, GoesOnOrEnds, IsFeedFault, IsStepFault, SeenSoFar, Sees}
 use Rattle.ipx_ends.specs.Transfer.{IsWaiting, IsWholeAt, ended_at, joined_at, left_at, state_at, verdict_at}
 use Rattle.ipx_carrier.specs.Turns.{Peers}
 use Rattle.ipx_ends.specs.Turning.{TakesTurn}
@@ -157,8 +157,8 @@ same_intake e e' r r' c c' l l' k p q s t = cc
 
 -- what the link acknowledges was counted, what came was dropped, and then the link was fed
 pub stepped : (id id' : ℕ) (core core' : EndCore) (start dropped : EndpointView) (read read' closed closed' : Bool) (ledger ledger' : Ledger) (known : Option (List ℕ)) (new : Intake) (bytes : List ℕ)
-    → id' ≡ id → core' ≡ core → read' ≡ read → closed' ≡ closed → Follows (held_at core.endpoint id) ledger ledger' → DropsCame core'.endpoint dropped id'
-    → Feeds (intake dropped read' closed' ledger' known) new id' bytes → (state_at core.endpoint id ≢ Some Live → Rests (intake dropped read' closed' ledger' known) new bytes)
+    → id' ≡ id → core' ≡ core → read' ≡ read → closed' ≡ closed → EntersAcknowledged (held_at core.endpoint id) ledger ledger' → DropsCame core'.endpoint dropped id'
+    → Feeds (intake dropped read' closed' ledger' known) new id' bytes → (state_at core.endpoint id ≢ Some Live → LeavesIntake (intake dropped read' closed' ledger' known) new bytes)
     → FeedsOn id core.endpoint (intake start read closed ledger known) new bytes
 stepped id id' core core' start dropped read read' closed closed' ledger ledger' known new bytes p q r s follows drops fed only =
     record {
@@ -169,8 +169,8 @@ stepped id id' core core' start dropped read read' closed closed' ledger ledger'
       feeds = subst (λ (i : ℕ). Feeds (intake dropped read closed ledger' known) new i bytes) p
           (subst (λ (b : Bool). Feeds (intake dropped b closed ledger' known) new id' bytes) r
           (subst (λ (b : Bool). Feeds (intake dropped read' b ledger' known) new id' bytes) s fed));
-      only = λ other. subst (λ (b : Bool). Rests (intake dropped b closed ledger' known) new bytes) r
-          (subst (λ (b : Bool). Rests (intake dropped read' b ledger' known) new bytes) s (only other));
+      only = λ other. subst (λ (b : Bool). LeavesIntake (intake dropped b closed ledger' known) new bytes) r
+          (subst (λ (b : Bool). LeavesIntake (intake dropped read' b ledger' known) new bytes) s (only other));
     }
 
 -- the clock is as the turn left it
@@ -189,22 +189,22 @@ went_on seen look mid shown looked fed showed =
     subst (λ (k : EndCore). k ≡ record seen { endpoint = k.endpoint }) (sym showed) on
 
 -- a step that goes on waits; its faults are faults of both
-goes_ok : (id : ℕ) (seen : EndpointView) (old new : Intake) (v : Option Verdict) (more : Bool) → Goes IsFeedFault id seen old new v (Ok more) → Goes {T = Unit {0}} IsStepFault id seen old new v (Ok tt)
+goes_ok : (id : ℕ) (seen : EndpointView) (old new : Intake) (v : Option Verdict) (more : Bool) → GoesOnOrEnds IsFeedFault id seen old new v (Ok more) → GoesOnOrEnds {T = Unit {0}} IsStepFault id seen old new v (Ok tt)
 goes_ok id seen old new (Some w) more goes = absurd (let no = goes.0 in cc)
 goes_ok id seen old new None more goes = (tt, goes.1)
 
-goes_unwaited : (id : ℕ) (seen : EndpointView) (old new : Intake) (v : Option Verdict) (more : Bool) → Goes IsFeedFault id seen old new v (Ok more) → Goes {T = Unit {0}} IsStepFault id seen old new v (Err Unwaited)
+goes_unwaited : (id : ℕ) (seen : EndpointView) (old new : Intake) (v : Option Verdict) (more : Bool) → GoesOnOrEnds IsFeedFault id seen old new v (Ok more) → GoesOnOrEnds {T = Unit {0}} IsStepFault id seen old new v (Err Unwaited)
 goes_unwaited id seen old new (Some w) more goes = absurd (let no = goes.0 in cc)
 goes_unwaited id seen old new None more goes = (inr refl, tt)
 
-goes_err : (id : ℕ) (seen : EndpointView) (old new : Intake) (v : Option Verdict) (f : Verdict) → Goes {T = Bool} IsFeedFault id seen old new v (Err f) → Goes {T = Unit {0}} IsStepFault id seen old new v (Err f)
+goes_err : (id : ℕ) (seen : EndpointView) (old new : Intake) (v : Option Verdict) (f : Verdict) → GoesOnOrEnds {T = Bool} IsFeedFault id seen old new v (Err f) → GoesOnOrEnds {T = Unit {0}} IsStepFault id seen old new v (Err f)
 goes_err id seen old new (Some w) f goes =
     let same : f ≡ w = (let is = goes.0 in cc) in
     (subst (λ (x : Verdict). ◌≡◌ {A = Result (Unit {0}) Verdict} (Err f) (Err x)) same refl, goes.1)
 goes_err id seen old new None f goes = (inl goes.0, tt)
 
-pub step_ok : {K : Type 0} (old new : Place K) (more : Bool) (tells : K → ℕ → K → Type 0) (peers : Peers) (id : ℕ)
-    → IsStep IsFeedFault old new (Ok more) tells peers id → IsStep {T = Unit {0}} IsStepFault old new (Ok tt) tells peers id
+pub step_ok : {K : Type 0} (old new : SendState K) (more : Bool) (tells : K → ℕ → K → Type 0) (peers : Peers) (id : ℕ)
+    → IsSendStep IsFeedFault old new (Ok more) tells peers id → IsSendStep {T = Unit {0}} IsStepFault old new (Ok tt) tells peers id
 step_ok old new more tells peers id s = record {
   seen = s.seen;
   turn = s.turn;
@@ -215,8 +215,8 @@ step_ok old new more tells peers id s = record {
   core = s.core;
 }
 
-pub step_unwaited : {K : Type 0} (old new : Place K) (more : Bool) (tells : K → ℕ → K → Type 0) (peers : Peers) (id : ℕ)
-    → IsStep IsFeedFault old new (Ok more) tells peers id → IsStep {T = Unit {0}} IsStepFault old new (Err Unwaited) tells peers id
+pub step_unwaited : {K : Type 0} (old new : SendState K) (more : Bool) (tells : K → ℕ → K → Type 0) (peers : Peers) (id : ℕ)
+    → IsSendStep IsFeedFault old new (Ok more) tells peers id → IsSendStep {T = Unit {0}} IsStepFault old new (Err Unwaited) tells peers id
 step_unwaited old new more tells peers id s = record {
   seen = s.seen;
   turn = s.turn;
@@ -227,8 +227,8 @@ step_unwaited old new more tells peers id s = record {
   core = s.core;
 }
 
-pub step_err : {K : Type 0} (old new : Place K) (f : Verdict) (tells : K → ℕ → K → Type 0) (peers : Peers) (id : ℕ)
-    → IsStep {T = Bool} IsFeedFault old new (Err f) tells peers id → IsStep {T = Unit {0}} IsStepFault old new (Err f) tells peers id
+pub step_err : {K : Type 0} (old new : SendState K) (f : Verdict) (tells : K → ℕ → K → Type 0) (peers : Peers) (id : ℕ)
+    → IsSendStep {T = Bool} IsFeedFault old new (Err f) tells peers id → IsSendStep {T = Unit {0}} IsStepFault old new (Err f) tells peers id
 step_err old new f tells peers id s = record {
   seen = s.seen;
   turn = s.turn;
@@ -244,7 +244,7 @@ pub same_place : {K : Type 0} (clock clock' : K) (core core' : EndCore) (n : See
     → clock' ≡ clock → core' ≡ core → place clock core n r c l k ≡ place clock' core' n r c l k
 same_place clock clock' core core' n r c l k p q = cc
 
-pub step_waited : {K : Type 0} (old : Place K) (clock clock' : K) (core core' : EndCore) (n : SeenSoFar) (r c : Bool) (l : Ledger) (k : Option (List ℕ)) (answer : Result (Unit {0}) Verdict) (tells : K → ℕ → K → Type 0) (peers : Peers) (id : ℕ)
-    → clock' ≡ clock → core' ≡ core → IsStep IsStepFault old (place clock core n r c l k) answer tells peers id → IsStep IsStepFault old (place clock' core' n r c l k) answer tells peers id
+pub step_waited : {K : Type 0} (old : SendState K) (clock clock' : K) (core core' : EndCore) (n : SeenSoFar) (r c : Bool) (l : Ledger) (k : Option (List ℕ)) (answer : Result (Unit {0}) Verdict) (tells : K → ℕ → K → Type 0) (peers : Peers) (id : ℕ)
+    → clock' ≡ clock → core' ≡ core → IsSendStep IsStepFault old (place clock core n r c l k) answer tells peers id → IsSendStep IsStepFault old (place clock' core' n r c l k) answer tells peers id
 step_waited {K} old clock clock' core core' n r c l k answer tells peers id p q s =
-    subst (λ (x : Place K). IsStep IsStepFault old x answer tells peers id) (same_place clock clock' core core' n r c l k p q) s
+    subst (λ (x : SendState K). IsSendStep IsStepFault old x answer tells peers id) (same_place clock clock' core core' n r c l k p q) s

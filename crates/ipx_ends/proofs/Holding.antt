@@ -15,12 +15,12 @@ use Rattle.spx_messages.specs.Taking.{TakenView, Nothing, Part, PeerEnd, Whole, 
 use Rattle.spx_messages.specs.declared.fault.EndFault.{EndFault}
 use Rattle.ipx_ends.specs.Callers.{Admits, Asks as IsAsked, EndedAlone, KeepsHeard, KeepsOne, LetsLinkGo, LetsLinksGo, MakesRoom, heard_by, is_ended, has_spoken, is_overdue, once_heard}
 use Rattle.ipx_ends.specs.Outlet.{Writes}
-use Rattle.ipx_ends.specs.Tending.{Does, IsFateOf, JustStays, Tends}
+use Rattle.ipx_ends.specs.Tending.{DoesAction, IsFateOf, JustStays, Tends}
 use Rattle.ipx_ends.specs.declared.end_core.EndCore.{EndCore}
 use Rattle.ipx_ends.specs.Stop.{parted}
 use Rattle.ipx_ends.specs.declared.listening.Stop.{Stop}
 use Rattle.ipx_ends.specs.declared.listening.Stop.TheVariants as Stops
-use Rattle.ipx_ends.specs.Fate.{IsFate, ends, is_unheard, standing_asked, standing_heard}
+use Rattle.ipx_ends.specs.Fate.{IsCallerAction, ends, is_unheard, standing_asked, standing_heard}
 use Rattle.ipx_ends.specs.Passing.{PassesEach, PassesFrom, PassesOne, PassesSome, held_after, standing_after, standing_with}
 use Rattle.ipx_ends.specs.declared.callers.Caller.{Caller}
 use Rattle.ipx_ends.specs.declared.callers.Fate.{Fate}
@@ -35,7 +35,7 @@ on_err (Ok x) P p = tt
 on_err (Err e) P p = p
 
 -- what becomes of a connection is one thing
-pub fate_stays : (f : Fate) (standing : Standing) (state : Option State) (silent : ℕ) → IsFate f standing state silent → (f ≡ Stays → ⊥) → IsFate Stays standing state silent → ⊥
+pub fate_stays : (f : Fate) (standing : Standing) (state : Option State) (silent : ℕ) → IsCallerAction f standing state silent → (f ≡ Stays → ⊥) → IsCallerAction Stays standing state silent → ⊥
 fate_stays Stays standing state silent is not stays = not refl
 fate_stays Asks standing state silent is not stays = stays.2 is
 fate_stays Over standing state silent is not stays = stays.1 is
@@ -401,7 +401,7 @@ asked_ended now old new c c' (inr p) ended = sym (ap (λ (k : Caller). k.standin
 same_some : (k c : Caller) → Some k ≡ Some c → k ≡ c
 same_some k c e = same_Some k c e
 
-done_alone : (now : ℕ) (k c : Caller) (fate : Fate) (old new : EndpointView) (cs' : List Caller) → k ≡ c → Does true now c 0 fate old new (k ∷ []) cs' None → EndedAlone cs' → EndedAlone (k ∷ [])
+done_alone : (now : ℕ) (k c : Caller) (fate : Fate) (old new : EndpointView) (cs' : List Caller) → k ≡ c → DoesAction true now c 0 fate old new (k ∷ []) cs' None → EndedAlone cs' → EndedAlone (k ∷ [])
 done_alone now k c Stays old new cs' at does alone = subst EndedAlone does.1 alone
 done_alone now k c Asks old new cs' at does alone =
     let same = same_head does.0 alone.0 [] [] (sym does.2 ∙ alone.1) in
@@ -414,7 +414,7 @@ alone_is_heard cs' alone =
     any_ended cs' (ap (list_any is_ended) alone.1 ∙ ap (λ (x : Standing). ends x || false) alone.2)
 
 done_among : (now : ℕ) (k j c : Caller) (ks : List Caller) (place : ℕ) (fate : Fate) (old new : EndpointView) (cs' : List Caller) → (list_any has_spoken (k ∷ j ∷ ks) ≡ true → length (k ∷ j ∷ ks) ≡ 1)
-    → Does true now c place fate old new (k ∷ j ∷ ks) cs' None → EndedAlone cs' → EndedAlone (k ∷ j ∷ ks)
+    → DoesAction true now c place fate old new (k ∷ j ∷ ks) cs' None → EndedAlone cs' → EndedAlone (k ∷ j ∷ ks)
 done_among now k j c ks place Stays old new cs' one does alone = subst EndedAlone does.1 alone
 done_among now k j c ks place Asks old new cs' one does alone =
     absurd (omega (arith, ap length does.2, ap length alone.1, length-set (k ∷ j ∷ ks) place does.0))
@@ -451,7 +451,7 @@ stop_is r y s stop at same e =
     (cc)
 
 -- and where all ends well, it was
-done_ends : (now : ℕ) (c : Caller) (place : ℕ) (fate : Fate) (old new : EndpointView) (cs cs' : List Caller) → Does true now c place fate old new cs cs' (Some Stops.Ended) → c.standing ≡ Standings.Ended
+done_ends : (now : ℕ) (c : Caller) (place : ℕ) (fate : Fate) (old new : EndpointView) (cs cs' : List Caller) → DoesAction true now c place fate old new cs cs' (Some Stops.Ended) → c.standing ≡ Standings.Ended
 done_ends now c place Stays old new cs cs' does = let no : Some Stops.Ended ≡ None = does.2 in absurd (cc)
 done_ends now c place Asks old new cs cs' does = let no : Some Stops.Ended ≡ None = does.3 in absurd (cc)
 done_ends now c place Over old new cs cs' does = parted_ended Over c.standing does.2

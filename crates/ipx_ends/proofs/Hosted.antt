@@ -10,11 +10,11 @@ use Rattle.ipx_site.specs.Origins.{named_in}
 use Rattle.ipx_site.specs.declared.host.HostFile.{HostFile}
 use Rattle.ipx_wire.specs.declared.address.Socket.{Socket}
 use Rattle.spx_messages.specs.EndpointView.{EndpointView, Held, buffers_at, held_at}
-use Rattle.ipx_ends.specs.Hosting.{Hears, Host, ListensWell, Moves, MovesSome, Serves, ServesWell, Steps, StepsOn, StepsTo, host}
+use Rattle.ipx_ends.specs.Hosting.{HearsAndNotesAll, Host, ListensWell, WritesAndPasses, MovesSome, Serves, ServesWell, Steps, StepsWithoutStop, StepsTo, host}
 use Rattle.ipx_ends.specs.Outlet.{Writes, left_of}
 use Rattle.ipx_ends.specs.Passing.{PassesEach, PassesFrom, PassesSome, given_each, given_from}
 use Rattle.ipx_ends.specs.Stop.{parted, stop_status}
-use Rattle.ipx_ends.specs.Tending.{Does, JustStays, Tends, TendsFirst, TendsOn, Tidies}
+use Rattle.ipx_ends.specs.Tending.{DoesAction, JustStays, Tends, TendsFirst, TendsOn, Tidies}
 use Rattle.ipx_ends.specs.declared.callers.Caller.{Caller}
 use Rattle.ipx_ends.specs.declared.callers.Fate.{Fate}
 use Rattle.ipx_ends.specs.declared.callers.Fate.TheVariants as Fates
@@ -82,7 +82,7 @@ parts true Fates.Over Standings.Ended = tt
 parts true Fates.GivenUp Standings.Ended = tt
 
 does_part : (once : Bool) (now : ℕ) (c : Caller) (place : ℕ) (fate : Fate) (old new : EndpointView) (cs cs' : List Caller) (stop : Option Stop)
-    → Does once now c place fate old new cs cs' stop → IsParting stop
+    → DoesAction once now c place fate old new cs cs' stop → IsParting stop
 does_part once now c place Fates.Stays old new cs cs' stop does = subst IsParting (sym does.2) tt
 does_part once now c place Fates.Asks old new cs cs' stop does = subst IsParting (sym does.3) tt
 does_part once now c place Fates.Over old new cs cs' stop does = subst IsParting (sym does.2) (parts once Fates.Over c.standing)
@@ -117,13 +117,13 @@ each_writes old new x y a b (c ∷ cs) cs' p =
     let rest : Writes (p.1 ++ more) y p.2 b = each_writes p.0 new p.1 y p.2 b cs p.4 p.7 in
     subst (λ (l : List ℕ). Writes l y a b) (append_assoc x one more) (writes_through (x ++ one) p.1 more y a p.2 b first rest)
 
-moves_writes : (old new : EndCore) (cs cs' : List Caller) (x y : List ℕ) (a b : Option (List ℕ)) (bytes : List ℕ) → Moves old new cs cs' x y a b bytes → Writes (x ++ bytes) y a b
+moves_writes : (old new : EndCore) (cs cs' : List Caller) (x y : List ℕ) (a b : Option (List ℕ)) (bytes : List ℕ) → WritesAndPasses old new cs cs' x y a b bytes → Writes (x ++ bytes) y a b
 moves_writes old new cs cs' x y a b bytes m =
     let rest = each_writes old.endpoint new.endpoint m.between y m.writing b cs cs' m.passes in
     writes_through x m.between bytes y a m.writing b m.first (subst (λ (l : List ℕ). Writes (m.between ++ l) y m.writing b) (sym m.given) rest)
 
 pub moved_all : (core core' : EndCore) (cs cs' : List Caller) (x y z : List ℕ) (a b d : Option (List ℕ)) → Writes x y a b → PassesEach core.endpoint core'.endpoint y z b d cs cs'
-    → core' ≡ record core { endpoint = core'.endpoint } → (bytes : List ℕ) × Moves core core' cs cs' x z a d bytes
+    → core' ≡ record core { endpoint = core'.endpoint } → (bytes : List ℕ) × WritesAndPasses core core' cs cs' x z a d bytes
 moved_all core core' cs cs' x y z a b d wrote passes same =
     (given_each core.endpoint core'.endpoint y z b d cs cs' passes, record { between = y; writing = b; first = wrote; passes = passes; given = refl; core = same })
 
@@ -141,18 +141,18 @@ moved_none core cs x y a b wrote = moved_some core core cs cs x y y a b b wrote 
 
 pub stepped : {K : Type 0} (clock clock1 clock2 clock3 : K) (core core1 core2 core3 : EndCore) (cs cs1 cs2 cs3 : List Caller) (o o1 o2 o3 : Outlet) (once once' : Bool) (a b : Option (List ℕ))
     (stop : Option Stop) (tells : K → ℕ → K → Type 0) (peers : Peers) (bytes : List ℕ)
-    → Hears clock clock1 core core1 cs cs1 once tells peers → o1 ≡ o → clock2 ≡ clock1 → once' ≡ once
-    → Moves core1 core2 cs1 cs2 (left_of o1) (left_of o2) a b bytes → clock3 ≡ clock2 → o3 ≡ o2 → Tidies once' core2 core3 cs2 cs3 stop
+    → HearsAndNotesAll clock clock1 core core1 cs cs1 once tells peers → o1 ≡ o → clock2 ≡ clock1 → once' ≡ once
+    → WritesAndPasses core1 core2 cs1 cs2 (left_of o1) (left_of o2) a b bytes → clock3 ≡ clock2 → o3 ≡ o2 → Tidies once' core2 core3 cs2 cs3 stop
     → Steps (host clock core cs (left_of o) a) (host clock3 core3 cs3 (left_of o3) b) once stop tells peers bytes
 stepped {K} clock clock1 clock2 clock3 core core1 core2 core3 cs cs1 cs2 cs3 o o1 o2 o3 once once' a b stop tells peers bytes hears unheard ticks same moves tidied unwritten tidies =
     record {
       heard = core1;
       there = cs1;
-      hears = subst (λ (k : K). Hears clock k core core1 cs cs1 once tells peers) (sym (tidied ∙ ticks)) hears;
+      hears = subst (λ (k : K). HearsAndNotesAll clock k core core1 cs cs1 once tells peers) (sym (tidied ∙ ticks)) hears;
       moved = core2;
       still = cs2;
-      moves = subst (λ (k : Outlet). Moves core1 core2 cs1 cs2 (left_of k) (left_of o3) a b bytes) unheard
-          (subst (λ (k : Outlet). Moves core1 core2 cs1 cs2 (left_of o1) (left_of k) a b bytes) (sym unwritten) moves);
+      moves = subst (λ (k : Outlet). WritesAndPasses core1 core2 cs1 cs2 (left_of k) (left_of o3) a b bytes) unheard
+          (subst (λ (k : Outlet). WritesAndPasses core1 core2 cs1 cs2 (left_of o1) (left_of k) a b bytes) (sym unwritten) moves);
       tidied = subst (λ (k : Bool). Tidies k core2 core3 cs2 cs3 stop) same tidies;
     }
 
@@ -182,7 +182,7 @@ more_writes x y z before now bytes a b c is first rest =
     subst (λ (l : List ℕ). Writes l z a c) all (writes_through (x ++ before) y now z a b c first rest)
 
 on_writes : {K : Type 0} (n : ℕ) (old new : Host K) (once : Bool) (tells : K → ℕ → K → Type 0) (peers : Peers) (bytes : List ℕ)
-    → StepsOn n old new once tells peers bytes → Writes (old.left ++ bytes) new.left old.written new.written
+    → StepsWithoutStop n old new once tells peers bytes → Writes (old.left ++ bytes) new.left old.written new.written
 on_writes {K} zero old new once tells peers bytes run =
     let none : Writes (old.left ++ bytes) old.left old.written old.written =
     subst (λ (l : List ℕ). Writes l old.left old.written old.written) (sym (ap (λ l. old.left ++ l) run.1 ∙ append-nil old.left)) (writes_none old.left old.written) in
@@ -193,17 +193,17 @@ on_writes (suc n) old new once tells peers bytes run =
 
 -- one more
 pub steps_more : {K : Type 0} (n : ℕ) (old last new : Host K) (once once' : Bool) (tells : K → ℕ → K → Type 0) (peers here : Peers) (before now : List ℕ)
-    → once' ≡ once → here ≡ peers → StepsOn n old last once tells peers before → StepsTo last new once' None tells here now
-    → (bytes : List ℕ) × StepsOn (n + 1) old new once tells peers bytes
+    → once' ≡ once → here ≡ peers → StepsWithoutStop n old last once tells peers before → StepsTo last new once' None tells here now
+    → (bytes : List ℕ) × StepsWithoutStop (n + 1) old new once tells peers bytes
 steps_more n old last new once once' tells peers here before now same among run step =
     let next : suc n ≡ n + 1 = omega arith in
     let one : Steps last new once None tells peers now =
     subst (λ (o : Bool). Steps last new o None tells peers now) same (subst (λ (p : Peers). Steps last new once' None tells p now) among step) in
-    (before ++ now, subst (λ (k : ℕ). StepsOn k old new once tells peers (before ++ now)) next (last, before, now, refl, run, one))
+    (before ++ now, subst (λ (k : ℕ). StepsWithoutStop k old new once tells peers (before ++ now)) next (last, before, now, refl, run, one))
 
 -- and a last one
 pub served : {K : Type 0} (n : ℕ) (old last new : Host K) (once once' : Bool) (stop : Stop) (tells : K → ℕ → K → Type 0) (peers here : Peers) (before now : List ℕ)
-    → once' ≡ once → here ≡ peers → StepsOn n old last once tells peers before → StepsTo last new once' (Some stop) tells here now
+    → once' ≡ once → here ≡ peers → StepsWithoutStop n old last once tells peers before → StepsTo last new once' (Some stop) tells here now
     → (bytes : List ℕ) × Serves old new once stop tells peers bytes × Writes (old.left ++ bytes) new.left old.written new.written
 served n old last new once once' stop tells peers here before now same among run step =
     let one : StepsTo last new once (Some stop) tells peers now =
@@ -215,7 +215,7 @@ served n old last new once once' stop tells peers here before now same among run
     )
 
 pub served_long : {K : Type 0} (n : ℕ) (old new : Host K) (once : Bool) (tells : K → ℕ → K → Type 0) (peers : Peers) (bytes : List ℕ) → n ≡ 18446744073709551615
-    → StepsOn n old new once tells peers bytes
+    → StepsWithoutStop n old new once tells peers bytes
     → (bytes : List ℕ) × Serves old new once Lost tells peers bytes × Writes (old.left ++ bytes) new.left old.written new.written
 served_long n old new once tells peers bytes long run = (bytes, inr (refl, n, long, run), on_writes n old new once tells peers bytes run)
 

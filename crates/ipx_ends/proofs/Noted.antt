@@ -5,12 +5,12 @@ use Rattle.ipx_wire.specs.Ipx.{BeginsWith, PacketView}
 use Rattle.spx_messages.specs.Arrives.{Arrives}
 use Rattle.spx_messages.specs.EndpointView.{EndpointView}
 use Rattle.spx_messages.specs.declared.arrived.Arrived.TheVariants as Arriveds
-use Rattle.ipx_ends.specs.Noting.{IsFrom}
+use Rattle.ipx_ends.specs.Noting.{IsPacketFrom}
 
 -- the address that it is from is read
 pub sent_from : (old new : EndpointView) (bytes : List ℕ) (now id : ℕ) (found : Option Address)
     → ((p : PacketView) → BeginsWith bytes p → found ≡ Some p.header.from) → Arrives old bytes now (Arriveds.Accepted id) new
-    → (from : Address) × IsFrom bytes from × (found ≡ Some from)
+    → (from : Address) × IsPacketFrom bytes from × (found ≡ Some from)
 sent_from old new bytes now id found reads a =
     let asks = a.answers.asks.comes.is in
     let p = a.answers.packet in

@@ -7,7 +7,7 @@ use Rattle.spx_messages.specs.Taking.{TakenView, Nothing, Part, PeerEnd, Whole, 
 use Rattle.spx_messages.specs.declared.fault.EndFault.{EndFault}
 use Rattle.ipx_ends.specs.Fate.{is_unheard}
 use Rattle.ipx_ends.specs.Outlet.{Writes, left_of}
-use Rattle.ipx_ends.specs.Passing.{Passes, PassesEach, PassesFrom, PassesOne, SameOthers, Takes, TakesNothing, bodies_after, held_after, left_with, standing_with}
+use Rattle.ipx_ends.specs.Passing.{PassesHeld, PassesEach, PassesFrom, PassesOne, SameOthers, Takes, TakesNothing, bodies_after, held_after, left_with, standing_with}
 use Rattle.ipx_ends.specs.declared.callers.Caller.{Caller}
 use Rattle.ipx_ends.specs.declared.callers.Standing.{Standing}
 use Rattle.ipx_ends.specs.declared.callers.Standing.TheVariants as Standings
@@ -129,7 +129,7 @@ one_idle old mid new outlet outlet' x a b c c' c'' heard same p idle others =
     }))
 
 -- what passed, without how the connection stands
-pub from_passes : (o after : Option Held) (x y : List ℕ) (a b : Option (List ℕ)) (c c' : Caller) → PassesFrom o after x y a b c c' → IfSome o (λ h. Passes h after x y a b)
+pub from_passes : (o after : Option Held) (x y : List ℕ) (a b : Option (List ℕ)) (c c' : Caller) → PassesFrom o after x y a b c c' → IfSome o (λ h. PassesHeld h after x y a b)
 from_passes None after x y a b c c' p = tt
 from_passes (Some h) after x y a b c c' p = (p.0, p.1, p.2)
 

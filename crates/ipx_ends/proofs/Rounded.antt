@@ -8,11 +8,11 @@ use Rattle.ipx_site.specs.declared.host.HostFile.{HostFile}
 use Rattle.ipx_wire.specs.declared.address.Address.{Address}
 use Rattle.spx_link.specs.declared.state.State.{State}
 use Rattle.spx_messages.specs.EndpointView.{EndpointView, held_at}
-use Rattle.ipx_ends.specs.Books.{Follows}
+use Rattle.ipx_ends.specs.Books.{EntersAcknowledged}
 use Rattle.ipx_ends.specs.Feeding.{Feeds, Intake}
-use Rattle.ipx_ends.specs.Rounds.{IsStep, LastRound, Place, Round, Rounds, Transfers, intake_of}
-use Rattle.ipx_ends.specs.Sent.{IsDialing, SendsAll}
-use Rattle.ipx_ends.specs.Steps.{Goes, IsStepFault, Sees}
+use Rattle.ipx_ends.specs.Rounds.{IsSendStep, LastRound, SendState, Round, Rounds, Transfers, intake_of}
+use Rattle.ipx_ends.specs.Sent.{IsDialing, SendsWholeInput}
+use Rattle.ipx_ends.specs.Steps.{GoesOnOrEnds, IsStepFault, Sees}
 use Rattle.ipx_ends.specs.Transfer.{state_at}
 use Rattle.ipx_ends.specs.Turning.{TakesTurn}
 use Rattle.ipx_ends.specs.declared.end_core.EndCore.{EndCore}
@@ -38,9 +38,9 @@ fed_bytes old new id bytes (inr (inr rests)) =
     subst (λ l. Consumes old.known new.known l) (sym rests.none) (subst (λ (i : Intake). Consumes old.known i.known []) (sym rests.same) (consumes_none old.known))
 
 -- and in one after another the bodies, one behind the other
-pub rounds_bytes : {K : Type 0} (old : Place K) (bodies : List (List ℕ)) (new : Place K) (tells : K → ℕ → K → Type 0) (peers : Peers) (id : ℕ)
+pub rounds_bytes : {K : Type 0} (old : SendState K) (bodies : List (List ℕ)) (new : SendState K) (tells : K → ℕ → K → Type 0) (peers : Peers) (id : ℕ)
     → Rounds old bodies new tells peers id → Consumes old.known new.known (concat bodies)
-rounds_bytes {K} old [] new tells peers id same = subst (λ (p : Place K). Consumes old.known p.known []) (sym same) (consumes_none old.known)
+rounds_bytes {K} old [] new tells peers id same = subst (λ (p : SendState K). Consumes old.known p.known []) (sym same) (consumes_none old.known)
 rounds_bytes old (bytes ∷ more) new tells peers id (next, round, rest) =
     consumes_on old.known next.known new.known bytes (concat more)
     (fed_bytes (record (intake_of old) { endpoint = round.fed.dropped; ledger = round.fed.ledger }) (intake_of next) id bytes round.fed.feeds)
@@ -52,35 +52,35 @@ fed_end old new id bytes (inl reads) was is = (reads.all is).1
 fed_end old new id bytes (inr (inl ends)) was is = subst (λ (i : Intake). IsAtEnd i.known) (sym ends.is) (was ends.read)
 fed_end old new id bytes (inr (inr rests)) was is = subst (λ (i : Intake). i.read ≡ true → IsAtEnd i.known) (sym rests.same) was is
 
-pub rounds_end : {K : Type 0} (old : Place K) (bodies : List (List ℕ)) (new : Place K) (tells : K → ℕ → K → Type 0) (peers : Peers) (id : ℕ)
+pub rounds_end : {K : Type 0} (old : SendState K) (bodies : List (List ℕ)) (new : SendState K) (tells : K → ℕ → K → Type 0) (peers : Peers) (id : ℕ)
     → Rounds old bodies new tells peers id → (old.read ≡ true → IsAtEnd old.known) → new.read ≡ true → IsAtEnd new.known
-rounds_end {K} old [] new tells peers id same was is = subst (λ (p : Place K). p.read ≡ true → IsAtEnd p.known) (sym same) was is
+rounds_end {K} old [] new tells peers id same was is = subst (λ (p : SendState K). p.read ≡ true → IsAtEnd p.known) (sym same) was is
 rounds_end old (bytes ∷ more) new tells peers id (next, round, rest) was is =
     rounds_end next more new tells peers id rest
     (fed_end (record (intake_of old) { endpoint = round.fed.dropped; ledger = round.fed.ledger }) (intake_of next) id bytes round.fed.feeds was) is
 
 -- one more
-rounds_more : {K : Type 0} (old : Place K) (bodies : List (List ℕ)) (last new : Place K) (tells : K → ℕ → K → Type 0) (peers : Peers) (id : ℕ) (bytes : List ℕ)
+rounds_more : {K : Type 0} (old : SendState K) (bodies : List (List ℕ)) (last new : SendState K) (tells : K → ℕ → K → Type 0) (peers : Peers) (id : ℕ) (bytes : List ℕ)
     → Rounds old bodies last tells peers id → Round last new bytes tells peers id → Rounds old (bodies ++ bytes ∷ []) new tells peers id
 rounds_more {K} old [] last new tells peers id bytes same round =
-    (new, subst (λ (p : Place K). Round p new bytes tells peers id) same round, refl)
+    (new, subst (λ (p : SendState K). Round p new bytes tells peers id) same round, refl)
 rounds_more old (b ∷ more) last new tells peers id bytes run round =
     (run.0, run.1, rounds_more run.0 more last new tells peers id bytes run.2 round)
 
 -- the same step, of the same id and peers
-pub same_step : {K T : Type 0} (faults : Option State → Verdict → Type 0) (old new : Place K) (answer : Result T Verdict) (tells : K → ℕ → K → Type 0) (peers here : Peers) (id id' : ℕ)
-    → id' ≡ id → here ≡ peers → IsStep faults old new answer tells here id' → IsStep faults old new answer tells peers id
+pub same_step : {K T : Type 0} (faults : Option State → Verdict → Type 0) (old new : SendState K) (answer : Result T Verdict) (tells : K → ℕ → K → Type 0) (peers here : Peers) (id id' : ℕ)
+    → id' ≡ id → here ≡ peers → IsSendStep faults old new answer tells here id' → IsSendStep faults old new answer tells peers id
 same_step faults old new answer tells peers here id id' same among s =
-    subst (λ (i : ℕ). IsStep faults old new answer tells peers i) same (subst (λ (p : Peers). IsStep faults old new answer tells p id') among s)
+    subst (λ (i : ℕ). IsSendStep faults old new answer tells peers i) same (subst (λ (p : Peers). IsSendStep faults old new answer tells p id') among s)
 
 -- a run goes on by a step that answers no verdict
-round_of : {K : Type 0} (last new : Place K) (tells : K → ℕ → K → Type 0) (peers : Peers) (id : ℕ) (s : IsStep {T = Unit {0}} IsStepFault last new (Ok tt) tells peers id) (v : Option Verdict) → s.verdict ≡ v
+round_of : {K : Type 0} (last new : SendState K) (tells : K → ℕ → K → Type 0) (peers : Peers) (id : ℕ) (s : IsSendStep {T = Unit {0}} IsStepFault last new (Ok tt) tells peers id) (v : Option Verdict) → s.verdict ≡ v
     → (bytes : List ℕ) × Round last new bytes tells peers id
 round_of last new tells peers id s (Some w) is =
-    let goes = subst (λ (v : Option Verdict). Goes {T = Unit {0}} IsStepFault id s.seen.endpoint (intake_of last) (intake_of new) v (Ok tt)) is s.goes in
+    let goes = subst (λ (v : Option Verdict). GoesOnOrEnds {T = Unit {0}} IsStepFault id s.seen.endpoint (intake_of last) (intake_of new) v (Ok tt)) is s.goes in
     absurd (let no = goes.0 in cc)
 round_of last new tells peers id s None is =
-    let goes = subst (λ (v : Option Verdict). Goes {T = Unit {0}} IsStepFault id s.seen.endpoint (intake_of last) (intake_of new) v (Ok tt)) is s.goes in (
+    let goes = subst (λ (v : Option Verdict). GoesOnOrEnds {T = Unit {0}} IsStepFault id s.seen.endpoint (intake_of last) (intake_of new) v (Ok tt)) is s.goes in (
       goes.1.0,
       record {
         seen = s.seen;
@@ -96,8 +96,8 @@ round_of last new tells peers id s None is =
 count_more : (bodies : List (List ℕ)) (bytes : List ℕ) → length (bodies ++ bytes ∷ []) ≡ length bodies + 1
 count_more bodies bytes = omega (arith, length-append bodies (bytes ∷ []))
 
-pub rounds_step : {K : Type 0} (old : Place K) (bodies : List (List ℕ)) (last new : Place K) (tells : K → ℕ → K → Type 0) (peers : Peers) (id : ℕ) (count : ℕ)
-    → length bodies ≡ count → Rounds old bodies last tells peers id → IsStep {T = Unit {0}} IsStepFault last new (Ok tt) tells peers id
+pub rounds_step : {K : Type 0} (old : SendState K) (bodies : List (List ℕ)) (last new : SendState K) (tells : K → ℕ → K → Type 0) (peers : Peers) (id : ℕ) (count : ℕ)
+    → length bodies ≡ count → Rounds old bodies last tells peers id → IsSendStep {T = Unit {0}} IsStepFault last new (Ok tt) tells peers id
     → (more : List (List ℕ)) × (length more ≡ count + 1) × Rounds old more new tells peers id
 rounds_step old bodies last new tells peers id count so run step =
     let round = round_of last new tells peers id step step.verdict refl in
@@ -109,13 +109,13 @@ not_fault state (inl (live, inr e)) = cc
 not_fault state (inr e) = cc
 
 -- and takes a last turn in the one that answers that it is done
-last_of : {K : Type 0} (last new : Place K) (tells : K → ℕ → K → Type 0) (peers : Peers) (id : ℕ) (s : IsStep {T = Unit {0}} IsStepFault last new (Err Done) tells peers id) (v : Option Verdict) → s.verdict ≡ v
+last_of : {K : Type 0} (last new : SendState K) (tells : K → ℕ → K → Type 0) (peers : Peers) (id : ℕ) (s : IsSendStep {T = Unit {0}} IsStepFault last new (Err Done) tells peers id) (v : Option Verdict) → s.verdict ≡ v
     → LastRound last new tells peers id
 last_of last new tells peers id s None is =
-    let goes = subst (λ (v : Option Verdict). Goes {T = Unit {0}} IsStepFault id s.seen.endpoint (intake_of last) (intake_of new) v (Err Done)) is s.goes in
+    let goes = subst (λ (v : Option Verdict). GoesOnOrEnds {T = Unit {0}} IsStepFault id s.seen.endpoint (intake_of last) (intake_of new) v (Err Done)) is s.goes in
     absurd (not_fault (state_at s.seen.endpoint id) goes.0)
 last_of last new tells peers id s (Some w) is =
-    let goes = subst (λ (v : Option Verdict). Goes {T = Unit {0}} IsStepFault id s.seen.endpoint (intake_of last) (intake_of new) v (Err Done)) is s.goes in
+    let goes = subst (λ (v : Option Verdict). GoesOnOrEnds {T = Unit {0}} IsStepFault id s.seen.endpoint (intake_of last) (intake_of new) v (Err Done)) is s.goes in
     let same : w ≡ Done = (let it = goes.0 in cc) in
     let at : new.core ≡ s.seen = subst (λ (e : EndpointView). new.core ≡ record s.seen { endpoint = e }) (ap (λ (i : Intake). i.endpoint) goes.1.is) s.core in
     let sees : Sees last.noted new.noted s.seen.endpoint s.seen.moment id last.closed (Some Done) =
@@ -124,31 +124,31 @@ last_of last new tells peers id s (Some w) is =
       turn = s.turn;
       turned = subst (λ (k : EndCore). TakesTurn last.clock new.clock tells peers last.core k s.turn) (sym at) s.turned;
       sees = subst (λ (k : EndCore). Sees last.noted new.noted k.endpoint k.moment id last.closed (Some Done)) (sym at) sees;
-      follows = subst (λ (k : EndCore). Follows (held_at k.endpoint id) last.ledger new.ledger) (sym at) goes.1.follows;
+      follows = subst (λ (k : EndCore). EntersAcknowledged (held_at k.endpoint id) last.ledger new.ledger) (sym at) goes.1.follows;
       read = ap (λ (i : Intake). i.read) goes.1.is;
       closed = ap (λ (i : Intake). i.closed) goes.1.is;
       known = ap (λ (i : Intake). i.known) goes.1.is;
     }
 
-pub last_round : {K : Type 0} (last new : Place K) (tells : K → ℕ → K → Type 0) (peers : Peers) (id : ℕ) (f : Verdict)
-    → f ≡ Done → IsStep {T = Unit {0}} IsStepFault last new (Err f) tells peers id → LastRound last new tells peers id
+pub last_round : {K : Type 0} (last new : SendState K) (tells : K → ℕ → K → Type 0) (peers : Peers) (id : ℕ) (f : Verdict)
+    → f ≡ Done → IsSendStep {T = Unit {0}} IsStepFault last new (Err f) tells peers id → LastRound last new tells peers id
 last_round last new tells peers id f done step =
-    let s = subst (λ (v : Verdict). IsStep {T = Unit {0}} IsStepFault last new (Err v) tells peers id) done step in
+    let s = subst (λ (v : Verdict). IsSendStep {T = Unit {0}} IsStepFault last new (Err v) tells peers id) done step in
     last_of last new tells peers id s s.verdict refl
 
 -- where a transfer ended well, the reader is at its end
-pub transfers_end : {K : Type 0} (old new : Place K) (tells : K → ℕ → K → Type 0) (peers : Peers) (id : ℕ)
+pub transfers_end : {K : Type 0} (old new : SendState K) (tells : K → ℕ → K → Type 0) (peers : Peers) (id : ℕ)
     → Transfers old new tells peers id → (old.read ≡ true → IsAtEnd old.known) → IsAtEnd new.known
 transfers_end old new tells peers id t was =
     let last = t.runs.2 in
     subst (λ k. IsAtEnd k) (sym last.known) (rounds_end old t.bodies t.runs.0 tells peers id t.runs.1 was (sym last.read ∙ t.read))
 
 -- what was opened and ran well is a transfer of the host of a file
-pub sends : {S E K : Type 0} (X : Type 0) (opened : Result S E) (r : ℕ) (file : HostFile) (to : Address) (known left : Option (List ℕ)) (tells : K → ℕ → K → Type 0) (at : S → Option (List ℕ) → Place K) (among : S → Peers) (id : S → ℕ)
+pub sends : {S E K : Type 0} (X : Type 0) (opened : Result S E) (r : ℕ) (file : HostFile) (to : Address) (known left : Option (List ℕ)) (tells : K → ℕ → K → Type 0) (at : S → Option (List ℕ) → SendState K) (among : S → Peers) (id : S → ℕ)
     → ((s : S) (k : Option (List ℕ)) → (at s k).known ≡ k)
     → IfOk opened (λ s. (k : Option (List ℕ)) → IsDialing file to (at s k) (among s) (id s))
-    → IfOk opened (λ s. r ≡ 0 → (last : Place K) × Transfers (at s known) last tells (among s) (id s) × (last.known ≡ left))
-    → OnErr opened ((r ≡ 1) × X) → r ≡ 0 → SendsAll file to known left tells
+    → IfOk opened (λ s. r ≡ 0 → (last : SendState K) × Transfers (at s known) last tells (among s) (id s) × (last.known ≡ left))
+    → OnErr opened ((r ≡ 1) × X) → r ≡ 0 → SendsWholeInput file to known left tells
 sends X (Ok s) r file to known left tells at among id begins dials ran failed zero =
     let run = ran zero in
     let dial = dials known in

@@ -6,12 +6,12 @@ use Rattle.spx_link.specs.Marks.{distance}
 use Rattle.spx_link.specs.declared.numbers.Numbers.{Numbers}
 use Rattle.spx_messages.specs.EndpointView.{Held}
 use Rattle.ipx_site.specs.Bursts.{counted}
-use Rattle.ipx_ends.specs.Ledger.{Counts, IsFirstOpen, all_units, base_of, units_in}
+use Rattle.ipx_ends.specs.Ledger.{CountsAcknowledged, IsFirstOpen, all_units, base_of, units_in}
 use Rattle.ipx_ends.specs.declared.ledger.Ledger.{Ledger}
 
 -- of messages of these lengths so many units are acknowledged, and the ledger says so
-abbrev pub Says : Ledger → List ℕ → ℕ → Type 0
-Says l given units = Counts given units l.messages.items l.units l.whole
+abbrev pub LedgerSays : Ledger → List ℕ → ℕ → Type 0
+LedgerSays l given units = CountsAcknowledged given units l.messages.items l.units l.whole
 
 -- its first message, if there is one, is not acknowledged whole
 abbrev pub HasFirstOpen : Ledger → Type 0
@@ -22,7 +22,7 @@ pub record IsUnused (l : Ledger) : Type 0 where
   pub base : l.base ≡ 0
   pub ahead : l.ahead ≡ 0
   pub given : l.given ≡ 0
-  pub says : Says l [] 0
+  pub says : LedgerSays l [] 0
   pub first : HasFirstOpen l
 
 -- a message of so many bytes is entered, behind those before
@@ -30,8 +30,8 @@ pub record Enters (old new : Ledger) (bytes : ℕ) : Type 0 where
   pub base : new.base ≡ old.base
   pub ahead : new.ahead ≡ counted (old.ahead + units_in bytes)
   pub given : new.given ≡ counted (old.given + bytes)
-  pub says : (given : List ℕ) (units : ℕ) → Says old given units → Says new (given ++ bytes ∷ []) units
-  pub first : (given : List ℕ) (units : ℕ) → Says old given units → units ≤ all_units given
+  pub says : (given : List ℕ) (units : ℕ) → LedgerSays old given units → LedgerSays new (given ++ bytes ∷ []) units
+  pub first : (given : List ℕ) (units : ℕ) → LedgerSays old given units → units ≤ all_units given
       → HasFirstOpen old → HasFirstOpen new
 
 -- what one read gave is entered as one message, and nothing where none came
@@ -48,11 +48,11 @@ pub record Acknowledges (old new : Ledger) (n : Numbers) : Type 0 where
   pub base : new.base ≡ base_of n
   pub ahead : new.ahead ≡ old.ahead - units_more old n
   pub given : new.given ≡ old.given
-  pub says : (given : List ℕ) (units : ℕ) → Says old given units → units + units_more old n < 2 ^ 64
-      → Says new given (units + units_more old n)
+  pub says : (given : List ℕ) (units : ℕ) → LedgerSays old given units → units + units_more old n < 2 ^ 64
+      → LedgerSays new given (units + units_more old n)
   pub first : HasFirstOpen old → HasFirstOpen new
 
 -- what the link that is held under an id acknowledges is entered; where none is held, nothing is
-abbrev pub Follows : Option Held → Ledger → Ledger → Type 0
-Follows None old new = new ≡ old
-Follows (Some h) old new = Acknowledges old new (numbers_of h.link)
+abbrev pub EntersAcknowledged : Option Held → Ledger → Ledger → Type 0
+EntersAcknowledged None old new = new ≡ old
+EntersAcknowledged (Some h) old new = Acknowledges old new (numbers_of h.link)

@@ -53,15 +53,15 @@ is_unheard_of from c = is_unheard c.standing && is_same_node c.from from
 
 -- there is no place for one more from an address: with `once` one was heard; or 16 are held; or 4 of its
 -- node were not heard
-abbrev pub IsFull : Bool → Address → List Caller → Type 0
-IsFull once from callers = (IsTrue once × (list_any has_spoken callers ≡ true)) ⊎ (16 ≤ length callers)
+abbrev pub HasNoPlaceFor : Bool → Address → List Caller → Type 0
+HasNoPlaceFor once from callers = (IsTrue once × (list_any has_spoken callers ≡ true)) ⊎ (16 ≤ length callers)
     ⊎ (4 ≤ count_by (is_unheard_of from) callers)
 
 -- a connection comes: where there is a place it is the last one then, and else its link is let go
 abbrev pub Admits : Bool → Caller → EndpointView → EndpointView → List Caller → List Caller → Type 0
 Admits once c old new callers callers' =
-    ((IsFull once c.from callers → ⊥) × (callers' ≡ callers ++ c ∷ []) × (new ≡ old))
-    ⊎ (IsFull once c.from callers × (callers' ≡ callers) × LetsLinkGo old new c.id)
+    ((HasNoPlaceFor once c.from callers → ⊥) × (callers' ≡ callers ++ c ∷ []) × (new ≡ old))
+    ⊎ (HasNoPlaceFor once c.from callers × (callers' ≡ callers) × LetsLinkGo old new c.id)
 
 -- the links of connections are forgotten, one after another
 abbrev pub LetsLinksGo : List Caller → EndpointView → EndpointView → Type 0

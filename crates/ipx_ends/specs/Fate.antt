@@ -38,12 +38,12 @@ IsToAsk standing state silent = IsHeld state × (((standing ≡ Standings.Open) 
     ⊎ ((standing ≡ Standings.Called) × (1000 ≤ silent)))
 
 -- what becomes of it; it stays where nothing of this is so
-abbrev pub IsFate : Fate → Standing → Option State → ℕ → Type 0
-IsFate Stays standing state silent = (state ≢ Some States.Lost)
+abbrev pub IsCallerAction : Fate → Standing → Option State → ℕ → Type 0
+IsCallerAction Stays standing state silent = (state ≢ Some States.Lost)
     × (IsOver standing state silent → ⊥) × (IsToAsk standing state silent → ⊥)
-IsFate Asks standing state silent = IsToAsk standing state silent
-IsFate Over standing state silent = IsOver standing state silent
-IsFate GivenUp standing state silent = state ≡ Some States.Lost
+IsCallerAction Asks standing state silent = IsToAsk standing state silent
+IsCallerAction Over standing state silent = IsOver standing state silent
+IsCallerAction GivenUp standing state silent = state ≡ Some States.Lost
 
 -- how a connection stands once it is asked: whether it was heard before stays to be seen
 abbrev pub standing_asked : Standing → Standing

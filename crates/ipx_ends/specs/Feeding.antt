@@ -82,10 +82,10 @@ pub record EndsInput (old new : Intake) (id : ℕ) (bytes : List ℕ) : Type 0 w
   pub none : bytes ≡ []
 
 -- nothing is read, handed in, queued or counted
-pub record Rests (old new : Intake) (bytes : List ℕ) : Type 0 where
+pub record LeavesIntake (old new : Intake) (bytes : List ℕ) : Type 0 where
   pub same : new ≡ old
   pub none : bytes ≡ []
 
 -- what one step feeds into a link, of the bytes that leave the reader
 abbrev pub Feeds : Intake → Intake → ℕ → List ℕ → Type 0
-Feeds old new id bytes = ReadsOn old new id bytes ⊎ EndsInput old new id bytes ⊎ Rests old new bytes
+Feeds old new id bytes = ReadsOn old new id bytes ⊎ EndsInput old new id bytes ⊎ LeavesIntake old new bytes

@@ -39,7 +39,7 @@ NotesIf true once old new callers callers' = NotesHeard once old new callers cal
 NotesIf false once old new callers callers' = (new ≡ old) × (callers' ≡ callers)
 
 -- a turn, and what is noted of it
-pub record Hears {K : Type 0} (clock clock' : K) (old new : EndCore) (callers callers' : List Caller)
+pub record HearsAndNotesAll {K : Type 0} (clock clock' : K) (old new : EndCore) (callers callers' : List Caller)
     (once : Bool) (tells : K → ℕ → K → Type 0) (peers : Peers) : Type 0 where
   pub seen : EndCore
   pub turn : Turn
@@ -47,7 +47,7 @@ pub record Hears {K : Type 0} (clock clock' : K) (old new : EndCore) (callers ca
   pub noted : NotesIf turn.heard once seen new callers callers'
 
 -- what waits is written, and then each connection passes what it holds: these bytes in all
-pub record Moves (old new : EndCore) (callers callers' : List Caller) (waiting left : List ℕ)
+pub record WritesAndPasses (old new : EndCore) (callers callers' : List Caller) (waiting left : List ℕ)
     (written writes : Option (List ℕ)) (bytes : List ℕ) : Type 0 where
   pub between : List ℕ
   pub writing : Option (List ℕ)
@@ -64,25 +64,25 @@ pub record MovesSome (old new : EndCore) (callers callers' : List Caller) (waiti
   pub rest : List Caller
   pub before : callers ≡ front ++ rest
   pub after : callers' ≡ front' ++ rest
-  pub moves : Moves old new front front' waiting left written writes bytes
+  pub moves : WritesAndPasses old new front front' waiting left written writes bytes
 
 -- one step
 pub record Steps {K : Type 0} (old new : Host K) (once : Bool) (stop : Option Stop)
     (tells : K → ℕ → K → Type 0) (peers : Peers) (bytes : List ℕ) : Type 0 where
   pub heard : EndCore
   pub there : List Caller
-  pub hears : Hears old.clock new.clock old.core heard old.callers there once tells peers
+  pub hears : HearsAndNotesAll old.clock new.clock old.core heard old.callers there once tells peers
   pub moved : EndCore
   pub still : List Caller
-  pub moves : Moves heard moved there still old.left new.left old.written new.written bytes
+  pub moves : WritesAndPasses heard moved there still old.left new.left old.written new.written bytes
   pub tidied : Tidies once moved new.core still new.callers stop
 
 -- one that the writer breaks off
-pub record BreaksOff {K : Type 0} (old new : Host K) (once : Bool) (tells : K → ℕ → K → Type 0)
+pub record WriterBreaksOff {K : Type 0} (old new : Host K) (once : Bool) (tells : K → ℕ → K → Type 0)
     (peers : Peers) (bytes : List ℕ) : Type 0 where
   pub heard : EndCore
   pub there : List Caller
-  pub hears : Hears old.clock new.clock old.core heard old.callers there once tells peers
+  pub hears : HearsAndNotesAll old.clock new.clock old.core heard old.callers there once tells peers
   pub moves : MovesSome heard new.core there new.callers old.left new.left old.written new.written bytes
 
 -- what a step does by why it stops the host, if it does; the wait behind a step changes nothing
@@ -90,24 +90,24 @@ abbrev pub StepsTo : {K : Type 0} → Host K → Host K → Bool → Option Stop
 StepsTo old new once None tells peers bytes = Steps old new once None tells peers bytes
 StepsTo old new once (Some Ended) tells peers bytes = Steps old new once (Some Ended) tells peers bytes
 StepsTo old new once (Some Lost) tells peers bytes = Steps old new once (Some Lost) tells peers bytes
-StepsTo old new once (Some Unwritten) tells peers bytes = BreaksOff old new once tells peers bytes
+StepsTo old new once (Some Unwritten) tells peers bytes = WriterBreaksOff old new once tells peers bytes
 StepsTo old new once (Some Unwaited) tells peers bytes = Steps old new once None tells peers bytes
 
 -- so many steps, one after another, none of which stops the host: these bytes in all
-abbrev pub StepsOn : {K : Type 0} → ℕ → Host K → Host K → Bool → (K → ℕ → K → Type 0) → Peers → List ℕ → Type 0
-StepsOn zero old new once tells peers bytes = (new ≡ old) × (bytes ≡ [])
-StepsOn {K} (suc n) old new once tells peers bytes = (last : Host K) × (before now : List ℕ)
-    × (bytes ≡ before ++ now) × StepsOn n old last once tells peers before
+abbrev pub StepsWithoutStop : {K : Type 0} → ℕ → Host K → Host K → Bool → (K → ℕ → K → Type 0) → Peers → List ℕ → Type 0
+StepsWithoutStop zero old new once tells peers bytes = (new ≡ old) × (bytes ≡ [])
+StepsWithoutStop {K} (suc n) old new once tells peers bytes = (last : Host K) × (before now : List ℕ)
+    × (bytes ≡ before ++ now) × StepsWithoutStop n old last once tells peers before
     × Steps last new once None tells peers now
 
 -- a whole run: steps, and one that stops the host. Lost is told, too, where none of 2^64 - 1 steps did
 abbrev pub Serves : {K : Type 0} → Host K → Host K → Bool → Stop → (K → ℕ → K → Type 0) → Peers → List ℕ → Type 0
 Serves {K} old new once stop tells peers bytes =
     ((count : ℕ) × (last : Host K) × (before now : List ℕ) × (bytes ≡ before ++ now)
-    × StepsOn count old last once tells peers before
+    × StepsWithoutStop count old last once tells peers before
     × StepsTo last new once (Some stop) tells peers now)
     ⊎ ((stop ≡ Lost) × (count : ℕ) × (count ≡ 2 ^ 64 - 1)
-    × StepsOn count old new once tells peers bytes)
+    × StepsWithoutStop count old new once tells peers bytes)
 
 -- a run that ends well: its writer took what was left to write, and then these bytes, and nothing is
 -- left
@@ -118,7 +118,7 @@ ServesWell {K} old once writes tells peers bytes = (new : Host K)
 
 -- a host as its file says it, which listens at the socket of that, and nowhere else. It has no
 -- connection yet, and nothing to write
-pub record Begins {K : Type 0} (file : HostFile) (start : Host K) (peers : Peers)
+pub record BeginsListening {K : Type 0} (file : HostFile) (start : Host K) (peers : Peers)
     (written : Option (List ℕ)) : Type 0 where
   pub network : start.core.endpoint.network ≡ file.network
   pub node : start.core.endpoint.node ≡ node_at file.address
@@ -141,6 +141,6 @@ pub record ListensWell {K : Type 0} (file : HostFile) (once : Bool)
   pub start : Host K
   pub peers : Peers
   pub bytes : List ℕ
-  pub begins : Begins file start peers written
+  pub begins : BeginsListening file start peers written
   pub serves : ServesWell start once writes tells peers bytes
   pub took : Appends written writes bytes

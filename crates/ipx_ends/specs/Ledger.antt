@@ -33,7 +33,7 @@ IsFirstOpen (bytes ∷ more) units = units < units_in bytes
 
 -- of messages of these lengths so many units are acknowledged: all of the first ones, which are gone,
 -- with so many bytes whole, and so many units of those that are left
-pub record Counts (given : List ℕ) (units : ℕ) (left : List ℕ) (begun whole : ℕ) : Type 0 where
+pub record CountsAcknowledged (given : List ℕ) (units : ℕ) (left : List ℕ) (begun whole : ℕ) : Type 0 where
   pub gone : List ℕ
   pub in_order : given ≡ gone ++ left
   pub acknowledged : units ≡ all_units gone + begun

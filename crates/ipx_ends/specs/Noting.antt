@@ -11,8 +11,8 @@ use Rattle.ipx_ends.specs.declared.end_core.Came.{Came}
 use Rattle.ipx_ends.specs.declared.end_core.Came.TheVariants as Cames
 
 -- the bytes begin with a packet that is from an address
-abbrev pub IsFrom : List ℕ → Address → Type 0
-IsFrom bytes from = (packet : PacketView) × BeginsWith bytes packet × (packet.header.from ≡ from)
+abbrev pub IsPacketFrom : List ℕ → Address → Type 0
+IsPacketFrom bytes from = (packet : PacketView) × BeginsWith bytes packet × (packet.header.from ≡ from)
 
 -- what is noted of a datagram that was answered so, and that this link read, if one did
 abbrev pub Notes : Arrived → Option ℕ → List ℕ → Option Came → Type 0
@@ -23,7 +23,7 @@ Notes Arriveds.NoListener heard bytes came = came ≡ None
 Notes Arriveds.NoRoom heard bytes came = came ≡ Some Cames.NoRoom
 Notes Arriveds.Stranger heard bytes came = came ≡ None
 Notes (Arriveds.Accepted id) heard bytes came =
-    (from : Address) × IsFrom bytes from × (came ≡ Some (Cames.Accepted (record { id = id; from = from })))
+    (from : Address) × IsPacketFrom bytes from × (came ≡ Some (Cames.Accepted (record { id = id; from = from })))
 Notes (Arriveds.Link id r) heard bytes came = came ≡ option_map Cames.Heard heard
 
 -- an endpoint reads a datagram with some answer, of which that is noted

@@ -57,8 +57,8 @@ bodies_after (suc n) h = bodies_after n h ++ left_with (take_end (held_after n h
 
 -- what waited to be written, and then the bodies that so many takes give, are what a writer took, and
 -- then what is left to write; and what is held is what those takes leave
-abbrev pub Passes : Held → Option Held → List ℕ → List ℕ → Option (List ℕ) → Option (List ℕ) → Type 0
-Passes h after waiting left written writes = (count : ℕ) × (after ≡ Some (held_after count h))
+abbrev pub PassesHeld : Held → Option Held → List ℕ → List ℕ → Option (List ℕ) → Option (List ℕ) → Type 0
+PassesHeld h after waiting left written writes = (count : ℕ) × (after ≡ Some (held_after count h))
     × Writes (waiting ++ bodies_after count h) left written writes
 
 -- how a connection stands after so many takes

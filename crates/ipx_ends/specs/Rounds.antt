@@ -7,9 +7,9 @@ use Rattle.std.specs.List.{concat}
 use Rattle.ipx_carrier.specs.Turns.{Peers}
 use Rattle.spx_link.specs.declared.state.State.{State}
 use Rattle.spx_messages.specs.EndpointView.{held_at}
-use Rattle.ipx_ends.specs.Books.{Follows}
+use Rattle.ipx_ends.specs.Books.{EntersAcknowledged}
 use Rattle.ipx_ends.specs.Feeding.{Intake, intake}
-use Rattle.ipx_ends.specs.Steps.{FeedsOn, Goes, IsStepFault, SeenSoFar, Sees}
+use Rattle.ipx_ends.specs.Steps.{FeedsOn, GoesOnOrEnds, IsStepFault, SeenSoFar, Sees}
 use Rattle.ipx_ends.specs.Transfer.{IsWholeAt}
 use Rattle.ipx_ends.specs.Turning.{TakesTurn}
 use Rattle.ipx_ends.specs.declared.end_core.EndCore.{EndCore}
@@ -20,7 +20,7 @@ use Rattle.ipx_ends.specs.declared.verdict.Verdict.TheVariants.{Done, GivenUp}
 
 -- where a run is: its clock and its core, what is noted of the connection, whether all is read,
 -- whether the end is queued, what is counted, and what the reader has left, where that is known
-pub record Place (K : Type 0) : Type 0 where
+pub record SendState (K : Type 0) : Type 0 where
   pub clock : K
   pub core : EndCore
   pub noted : SeenSoFar
@@ -29,7 +29,7 @@ pub record Place (K : Type 0) : Type 0 where
   pub ledger : Ledger
   pub known : Option (List ℕ)
 
-abbrev pub place : {K : Type 0} → K → EndCore → SeenSoFar → Bool → Bool → Ledger → Option (List ℕ) → Place K
+abbrev pub place : {K : Type 0} → K → EndCore → SeenSoFar → Bool → Bool → Ledger → Option (List ℕ) → SendState K
 place clock core noted read closed ledger known = record {
   clock = clock;
   core = core;
@@ -40,23 +40,23 @@ place clock core noted read closed ledger known = record {
   known = known;
 }
 
-abbrev pub intake_of : {K : Type 0} → Place K → Intake
+abbrev pub intake_of : {K : Type 0} → SendState K → Intake
 intake_of p = intake p.core.endpoint p.read p.closed p.ledger p.known
 
 -- one step, and its answer: a turn, which leaves a core; by this it is noted and told how the
 -- connection stands, and the transfer ends or goes on. Nothing else of the core changes
-pub record IsStep {K T : Type 0} (faults : Option State → Verdict → Type 0) (old new : Place K)
+pub record IsSendStep {K T : Type 0} (faults : Option State → Verdict → Type 0) (old new : SendState K)
     (answer : Result T Verdict) (tells : K → ℕ → K → Type 0) (peers : Peers) (id : ℕ) : Type 0 where
   pub seen : EndCore
   pub turn : Turn
   pub turned : TakesTurn old.clock new.clock tells peers old.core seen turn
   pub verdict : Option Verdict
   pub sees : Sees old.noted new.noted seen.endpoint seen.moment id old.closed verdict
-  pub goes : Goes faults id seen.endpoint (intake_of old) (intake_of new) verdict answer
+  pub goes : GoesOnOrEnds faults id seen.endpoint (intake_of old) (intake_of new) verdict answer
   pub core : new.core ≡ record seen { endpoint = new.core.endpoint }
 
 -- one round: a step with no verdict, which feeds these bytes
-pub record Round {K : Type 0} (old new : Place K) (bytes : List ℕ) (tells : K → ℕ → K → Type 0)
+pub record Round {K : Type 0} (old new : SendState K) (bytes : List ℕ) (tells : K → ℕ → K → Type 0)
     (peers : Peers) (id : ℕ) : Type 0 where
   pub seen : EndCore
   pub turn : Turn
@@ -66,30 +66,30 @@ pub record Round {K : Type 0} (old new : Place K) (bytes : List ℕ) (tells : K 
   pub core : new.core ≡ record seen { endpoint = new.core.endpoint }
 
 -- the last one is a turn alone, which tells that all is done
-pub record LastRound {K : Type 0} (old new : Place K) (tells : K → ℕ → K → Type 0) (peers : Peers)
+pub record LastRound {K : Type 0} (old new : SendState K) (tells : K → ℕ → K → Type 0) (peers : Peers)
     (id : ℕ) : Type 0 where
   pub turn : Turn
   pub turned : TakesTurn old.clock new.clock tells peers old.core new.core turn
   pub sees : Sees old.noted new.noted new.core.endpoint new.core.moment id old.closed (Some Done)
-  pub follows : Follows (held_at new.core.endpoint id) old.ledger new.ledger
+  pub follows : EntersAcknowledged (held_at new.core.endpoint id) old.ledger new.ledger
   pub read : new.read ≡ old.read
   pub closed : new.closed ≡ old.closed
   pub known : new.known ≡ old.known
 
 -- one round after another, which feed these bytes each
-abbrev pub Rounds : {K : Type 0} → Place K → List (List ℕ) → Place K → (K → ℕ → K → Type 0) → Peers → ℕ → Type 0
+abbrev pub Rounds : {K : Type 0} → SendState K → List (List ℕ) → SendState K → (K → ℕ → K → Type 0) → Peers → ℕ → Type 0
 Rounds old [] new tells peers id = new ≡ old
-Rounds {K} old (bytes ∷ more) new tells peers id = (next : Place K)
+Rounds {K} old (bytes ∷ more) new tells peers id = (next : SendState K)
     × Round old next bytes tells peers id × Rounds next more new tells peers id
 
 -- and a last one
-abbrev pub RunsOut : {K : Type 0} → Place K → List (List ℕ) → Place K → (K → ℕ → K → Type 0) → Peers → ℕ → Type 0
-RunsOut {K} old bodies new tells peers id = (last : Place K)
+abbrev pub RunsOut : {K : Type 0} → SendState K → List (List ℕ) → SendState K → (K → ℕ → K → Type 0) → Peers → ℕ → Type 0
+RunsOut {K} old bodies new tells peers id = (last : SendState K)
     × Rounds old bodies last tells peers id × LastRound last new tells peers id
 
 -- a transfer that ended well: what left the reader is what was fed, one body behind the other; all is
 -- read, the end is queued, and the peer has acknowledged all, that end too
-pub record Transfers {K : Type 0} (old new : Place K) (tells : K → ℕ → K → Type 0) (peers : Peers)
+pub record Transfers {K : Type 0} (old new : SendState K) (tells : K → ℕ → K → Type 0) (peers : Peers)
     (id : ℕ) : Type 0 where
   pub bodies : List (List ℕ)
   pub runs : RunsOut old bodies new tells peers id
@@ -99,15 +99,15 @@ pub record Transfers {K : Type 0} (old new : Place K) (tells : K → ℕ → K �
   pub whole : IsWholeAt new.core.endpoint id
 
 -- one that a step ended with a verdict, behind some rounds
-pub record EndsWith {K : Type 0} (old new : Place K) (verdict : Verdict) (tells : K → ℕ → K → Type 0)
+pub record EndsWith {K : Type 0} (old new : SendState K) (verdict : Verdict) (tells : K → ℕ → K → Type 0)
     (peers : Peers) (id : ℕ) : Type 0 where
   pub bodies : List (List ℕ)
-  pub last : Place K
+  pub last : SendState K
   pub rounds : Rounds old bodies last tells peers id
-  pub step : IsStep {T = Unit {0}} IsStepFault last new (Err verdict) tells peers id
+  pub step : IsSendStep {T = Unit {0}} IsStepFault last new (Err verdict) tells peers id
 
 -- one that no step ended in so many rounds, and that is given up
-pub record LastsOn {K : Type 0} (old new : Place K) (verdict : Verdict) (tells : K → ℕ → K → Type 0)
+pub record LastsOn {K : Type 0} (old new : SendState K) (verdict : Verdict) (tells : K → ℕ → K → Type 0)
     (peers : Peers) (id : ℕ) : Type 0 where
   pub bodies : List (List ℕ)
   pub rounds : Rounds old bodies new tells peers id

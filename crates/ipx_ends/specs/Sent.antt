@@ -1,4 +1,4 @@
--- What `ipx send` has done where it ends well. The entry point is `SendsAll`. All of it is own.
+-- What `ipx send` has done where it ends well. The entry point is `SendsWholeInput`. All of it is own.
 use Rattle.std.specs.Prelude.{◌≡◌, ◌≢◌, ℕ, false, List, [], ◌∷◌, Option, Some, None}
 use Rattle.std.specs.Io.KnownBytes.{IsAtEnd}
 use Rattle.ipx_carrier.specs.Mapping.{node_at}
@@ -9,13 +9,13 @@ use Rattle.ipx_wire.specs.declared.address.Socket.{Socket}
 use Rattle.spx_link.specs.Offer.{dialed}
 use Rattle.spx_messages.specs.EndpointView.{buffers_at, held_at}
 use Rattle.ipx_ends.specs.Books.{IsUnused}
-use Rattle.ipx_ends.specs.Rounds.{Place, Transfers}
+use Rattle.ipx_ends.specs.Rounds.{SendState, Transfers}
 use Rattle.ipx_ends.specs.Steps.{noted}
 use Rattle.ipx_ends.specs.Transfer.{IsWholeAt}
 
 -- a host as its file says it, which listens nowhere, and whose one link asks for a connection to an
 -- address. Nothing was seen of it, and nothing is read or counted
-pub record IsDialing {K : Type 0} (file : HostFile) (to : Address) (p : Place K) (peers : Peers)
+pub record IsDialing {K : Type 0} (file : HostFile) (to : Address) (p : SendState K) (peers : Peers)
     (id : ℕ) : Type 0 where
   pub network : p.core.endpoint.network ≡ file.network
   pub node : p.core.endpoint.node ≡ node_at file.address
@@ -32,12 +32,12 @@ pub record IsDialing {K : Type 0} (file : HostFile) (to : Address) (p : Place K)
 
 -- such a host has run a transfer that ended well, from what a reader had to what it has left, which is
 -- nothing. Its link is there, its end is queued, and all that was queued on it is acknowledged
-pub record SendsAll {K : Type 0} (file : HostFile) (to : Address) (known left : Option (List ℕ))
+pub record SendsWholeInput {K : Type 0} (file : HostFile) (to : Address) (known left : Option (List ℕ))
     (tells : K → ℕ → K → Type 0) : Type 0 where
   pub id : ℕ
   pub peers : Peers
-  pub start : Place K
-  pub last : Place K
+  pub start : SendState K
+  pub last : SendState K
   pub dials : IsDialing file to start peers id
   pub begins : start.known ≡ known
   pub transfers : Transfers start last tells peers id

@@ -4,7 +4,7 @@ use Rattle.std.specs.Prelude.{◌≡◌, ◌≤◌, ◌<◌, ◌⊎◌, ◌^◌,
 use Rattle.spx_link.specs.Due.{IsQuiet}
 use Rattle.spx_link.specs.LinkView.{LinkView}
 use Rattle.spx_link.specs.Links.{LinksView, link_at}
-use Rattle.ipx_ends.specs.Fate.{IsFate}
+use Rattle.ipx_ends.specs.Fate.{IsCallerAction}
 use Rattle.ipx_ends.specs.Transfer.{state_at}
 use Rattle.ipx_ends.specs.declared.callers.Caller.{Caller}
 use Rattle.ipx_ends.specs.declared.callers.Fate.TheVariants.{Stays}
@@ -22,7 +22,7 @@ pub record IsSleep (links : LinksView) (now most time : ℕ) : Type 0 where
 
 -- at a moment nothing is to be done with a connection of which nothing came, and whose link is as it is
 abbrev pub JustStaysAt : EndCore → ℕ → Caller → Type 0
-JustStaysAt core t c = IsFate Stays c.standing (state_at core.endpoint c.id) (t - c.heard)
+JustStaysAt core t c = IsCallerAction Stays c.standing (state_at core.endpoint c.id) (t - c.heard)
 
 -- so long one connection just stays: an hour at most, and where it is less there is something to do with
 -- it then

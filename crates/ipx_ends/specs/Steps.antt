@@ -5,9 +5,9 @@ use Rattle.std.specs.Option.{option_map}
 use Rattle.spx_link.specs.declared.state.State.{State}
 use Rattle.spx_link.specs.declared.state.State.TheVariants.{Live}
 use Rattle.spx_messages.specs.EndpointView.{EndpointView, held_at}
-use Rattle.ipx_ends.specs.Books.{Follows}
+use Rattle.ipx_ends.specs.Books.{EntersAcknowledged}
 use Rattle.ipx_ends.specs.Dropping.{DropsCame}
-use Rattle.ipx_ends.specs.Feeding.{Feeds, Intake, Rests}
+use Rattle.ipx_ends.specs.Feeding.{Feeds, Intake, LeavesIntake}
 use Rattle.ipx_ends.specs.Transfer.{IsWaiting, IsWholeAt, ended_at, joined_at, left_at, state_at, verdict_at}
 use Rattle.ipx_ends.specs.declared.ledger.Ledger.{Ledger}
 use Rattle.ipx_ends.specs.declared.verdict.Verdict.{Verdict}
@@ -37,22 +37,22 @@ pub record Sees (old new : SeenSoFar) (seen : EndpointView) (moment id : ℕ) (c
 -- these bytes, where it was seen Live, and nothing else
 pub record FeedsOn (id : ℕ) (seen : EndpointView) (old new : Intake) (bytes : List ℕ) : Type 0 where
   pub ledger : Ledger
-  pub follows : Follows (held_at seen id) old.ledger ledger
+  pub follows : EntersAcknowledged (held_at seen id) old.ledger ledger
   pub dropped : EndpointView
   pub drops : DropsCame seen dropped id
   pub feeds : Feeds (record old { endpoint = dropped; ledger = ledger }) new id bytes
   pub only : state_at seen id ≢ Some Live
-      → Rests (record old { endpoint = dropped; ledger = ledger }) new bytes
+      → LeavesIntake (record old { endpoint = dropped; ledger = ledger }) new bytes
 
 -- what the link that was seen acknowledges is counted, and nothing is dropped or fed
 pub record FeedsNothing (id : ℕ) (seen : EndpointView) (old new : Intake) : Type 0 where
-  pub follows : Follows (held_at seen id) old.ledger new.ledger
+  pub follows : EntersAcknowledged (held_at seen id) old.ledger new.ledger
   pub is : new ≡ record old { endpoint = seen; ledger = new.ledger }
 
 -- a verdict ends the transfer, and nothing is fed; with none it goes on, but for faults of its own
-abbrev pub Goes : {T : Type 0} → (Option State → Verdict → Type 0) → ℕ → EndpointView → Intake → Intake → Option Verdict → Result T Verdict → Type 0
-Goes faults id seen old new (Some v) answer = (answer ≡ Err v) × FeedsNothing id seen old new
-Goes faults id seen old new None answer = IfErr answer (faults (state_at seen id))
+abbrev pub GoesOnOrEnds : {T : Type 0} → (Option State → Verdict → Type 0) → ℕ → EndpointView → Intake → Intake → Option Verdict → Result T Verdict → Type 0
+GoesOnOrEnds faults id seen old new (Some v) answer = (answer ≡ Err v) × FeedsNothing id seen old new
+GoesOnOrEnds faults id seen old new None answer = IfErr answer (faults (state_at seen id))
     × OnOk answer ((bytes : List ℕ) × FeedsOn id seen old new bytes)
 
 -- the faults of what reads, hands in and queues

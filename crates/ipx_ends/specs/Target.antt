@@ -8,17 +8,17 @@ use Rattle.ipx_ends.specs.declared.target.TargetFault.{TargetFault}
 use Rattle.ipx_ends.specs.declared.target.TargetFault.TheVariants.{Network, Node, Socket}
 
 -- a word is so many bytes, two hex digits each
-abbrev pub Spells : List ℕ → ℕ → List ℕ → Type 0
-Spells word count bytes = decode_sized word count ≡ Ok bytes
+abbrev pub SpellsBytes : List ℕ → ℕ → List ℕ → Type 0
+SpellsBytes word count bytes = decode_sized word count ≡ Ok bytes
 
 abbrev pub SpellsNothing : List ℕ → ℕ → Type 0
-SpellsNothing word count = (bytes : List ℕ) → Spells word count bytes → ⊥
+SpellsNothing word count = (bytes : List ℕ) → SpellsBytes word count bytes → ⊥
 
 -- three words name an address, the first byte of a number first
-pub record Names (t : Target) (a : Address) : Type 0 where
-  pub network : (bytes : List ℕ) × Spells t.network.now 4 bytes × (big_number 4 bytes ≡ a.network.0)
-  pub node : Spells t.node.now 6 a.node.0
-  pub socket : (bytes : List ℕ) × Spells t.socket.now 2 bytes × (big_number 2 bytes ≡ a.socket.0)
+pub record NamesAddress (t : Target) (a : Address) : Type 0 where
+  pub network : (bytes : List ℕ) × SpellsBytes t.network.now 4 bytes × (big_number 4 bytes ≡ a.network.0)
+  pub node : SpellsBytes t.node.now 6 a.node.0
+  pub socket : (bytes : List ℕ) × SpellsBytes t.socket.now 2 bytes × (big_number 2 bytes ≡ a.socket.0)
 
 -- the word that names nothing
 abbrev pub IsTargetFault : Target → TargetFault → Type 0

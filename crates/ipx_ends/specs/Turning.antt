@@ -2,7 +2,7 @@
 use Rattle.std.specs.Prelude.{◌≡◌, ◌<◌, ◌↔◌, ◌⊎◌, ℕ, IsTrue, false, true, List, Option, None}
 use Rattle.ipx_carrier.specs.declared.fault.RunFault.TheVariants.{OutOfMemory}
 use Rattle.ipx_carrier.specs.declared.report.Report.{Report}
-use Rattle.ipx_carrier.specs.HostCore.{Gives, Misses}
+use Rattle.ipx_carrier.specs.HostCore.{HostGives, Misses}
 use Rattle.ipx_carrier.specs.Runs.{EndsEarly, Runs}
 use Rattle.ipx_carrier.specs.Turns.{Given, Peers}
 use Rattle.ipx_ends.specs.Barring.{HearsAllowed}
@@ -15,7 +15,7 @@ abbrev pub hears : EndCore → ℕ → List ℕ → ℕ → EndCore → Type 0
 hears old port bytes now new = HearsAllowed old bytes now new
 
 abbrev pub gives : EndCore → ℕ → Option Given → EndCore → Type 0
-gives old now given new = Gives old.endpoint now given new.endpoint
+gives old now given new = HostGives old.endpoint now given new.endpoint
     × (new ≡ record old { endpoint = new.endpoint; moment = now })
 
 abbrev pub misses : EndCore → ℕ → List ℕ → ℕ → EndCore → Type 0

@@ -2,7 +2,7 @@
 
 ghost use Rattle.std.specs.Prelude.{◌≡◌, ◌↔◌, Some, map};
 ghost use Rattle.spx_link.specs.declared.state.State.TheVariants as States;
-ghost use Rattle.ipx_ends.specs.Fate.{IsFate, IsOver, IsToAsk, is_unheard, standing_asked, standing_heard};
+ghost use Rattle.ipx_ends.specs.Fate.{IsCallerAction, IsOver, IsToAsk, is_unheard, standing_asked, standing_heard};
 ghost use Rattle.ipx_ends.specs.Callers.{heard_by, has_spoken, is_overdue, is_unheard_of};
 ghost use Rattle.ipx_ends.specs.declared.callers.Fate.TheVariants as Fates;
 
@@ -137,7 +137,7 @@ pub enum Fate {
 /// What becomes of a connection of this standing, whose link has this state, or is gone, and that
 /// was silent for so many milliseconds.
 pub fn fate_of(standing: Standing, state: Option<State>, silent: u64) -> Fate
-    ensures fate { IsFate result standing state silent }
+    ensures fate { IsCallerAction result standing state silent }
     ensures given_up { (result ≡ Fates.GivenUp) ↔ (state ≡ Some States.Lost) }
     ensures over { (result ≡ Fates.Over) ↔ IsOver standing state silent }
     ensures asks { (result ≡ Fates.Asks) ↔ IsToAsk standing state silent }

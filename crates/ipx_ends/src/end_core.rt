@@ -160,14 +160,14 @@ impl EndCore {
 
 impl Core for EndCore {
     ghost use Rattle.std.specs.Prelude.{◌≡◌};
-    ghost use Rattle.ipx_carrier.specs.HostCore.{Gives, Misses};
+    ghost use Rattle.ipx_carrier.specs.HostCore.{HostGives, Misses};
     ghost use Rattle.ipx_ends.specs.Barring.{HearsAllowed};
 
     ghost port_count = { λ c. 1 };
 
     ghost hears = { λ old port bytes now new. HearsAllowed old bytes now new };
 
-    ghost gives = { λ old now given new. Gives old.endpoint now given new.endpoint
+    ghost gives = { λ old now given new. HostGives old.endpoint now given new.endpoint
         × (new ≡ record old { endpoint = new.endpoint; moment = now }) };
 
     ghost misses = { λ old port bytes now new. Misses old.endpoint bytes new.endpoint

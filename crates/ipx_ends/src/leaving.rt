@@ -2,7 +2,7 @@
 
 ghost use Rattle.std.specs.Prelude.{◌≡◌, ◌↔◌, ◌<◌, ◌≤◌, true, count_by, is_some, length, map, position, vec_capacity, IfSome, IsTrue};
 ghost use Rattle.std.specs.List.{list_any};
-ghost use Rattle.ipx_ends.specs.Callers.{Admits, Asks, IsFull, KeepsHeard, LetsLinkGo, LetsLinksGo, MakesRoom, heard_by, has_spoken, is_overdue, is_unheard_of, raised_if};
+ghost use Rattle.ipx_ends.specs.Callers.{Admits, Asks, HasNoPlaceFor, KeepsHeard, LetsLinkGo, LetsLinksGo, MakesRoom, heard_by, has_spoken, is_overdue, is_unheard_of, raised_if};
 
 use crate::callers::{Caller, hear_one};
 use ipx_wire::Address;
@@ -51,7 +51,7 @@ fn count_unheard_of(callers: &[Caller], from: &Address) -> usize
 /// Whether a connection that comes from an address is let go at once: with `once` where one was
 /// heard; where 16 are held; and where of its node 4 are, of which nothing was heard.
 fn is_full(once: bool, callers: &[Caller], from: &Address) -> bool
-    ensures { IsTrue result ↔ IsFull once from.now callers.now }
+    ensures { IsTrue result ↔ HasNoPlaceFor once from.now callers.now }
 {
     if once && is_any_heard(callers) {
         return true;

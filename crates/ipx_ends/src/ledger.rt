@@ -4,7 +4,7 @@ ghost use Rattle.std.specs.Prelude.{◌≡◌, ◌<◌, ◌≤◌, ◌+◌, ◌-
 ghost use Rattle.spx_link.specs.Marks.{distance};
 ghost use Rattle.spx_units.specs.Cut.{cut_of};
 ghost use Rattle.ipx_site.specs.Bursts.{counted};
-ghost use Rattle.ipx_ends.specs.Ledger.{Counts, IsFirstOpen, all_units, base_of, bytes_acknowledged, units_in};
+ghost use Rattle.ipx_ends.specs.Ledger.{CountsAcknowledged, IsFirstOpen, all_units, base_of, bytes_acknowledged, units_in};
 
 use ipx_wire::SPX_MAX_DATA_SIZE;
 use spx_link::Numbers;
@@ -48,7 +48,7 @@ impl Ledger {
         ensures given { result.given ≡ 0 }
         ensures ahead { result.ahead ≡ 0 }
         ensures base { result.base ≡ 0 }
-        ensures counts { Counts [] 0 result.messages.items result.units result.whole }
+        ensures counts { CountsAcknowledged [] 0 result.messages.items result.units result.whole }
         ensures first { IsFirstOpen result.messages.items result.units }
     {
         Ledger {
@@ -68,12 +68,12 @@ impl Ledger {
         ensures base { self.new.base ≡ self.old.base }
         // It stands behind those that were handed in before.
         ensures counts { OnOk result ((given : List ℕ) (units : ℕ)
-            → Counts given units self.old.messages.items self.old.units self.old.whole
-            → Counts (given ++ bytes ∷ []) units
+            → CountsAcknowledged given units self.old.messages.items self.old.units self.old.whole
+            → CountsAcknowledged (given ++ bytes ∷ []) units
             self.new.messages.items self.new.units self.new.whole) }
         // Where no more units were acknowledged than were handed in.
         ensures first { OnOk result ((given : List ℕ) (units : ℕ)
-            → Counts given units self.old.messages.items self.old.units self.old.whole
+            → CountsAcknowledged given units self.old.messages.items self.old.units self.old.whole
             → units ≤ all_units given → IsFirstOpen self.old.messages.items self.old.units
             → IsFirstOpen self.new.messages.items self.new.units) }
         ensures refused { OnErr result
@@ -96,9 +96,9 @@ impl Ledger {
         ensures given { self.new.given ≡ self.old.given }
         // As many units more are acknowledged, of all that was handed in.
         ensures counts { (given : List ℕ) (units : ℕ)
-            → Counts given units self.old.messages.items self.old.units self.old.whole
+            → CountsAcknowledged given units self.old.messages.items self.old.units self.old.whole
             → units + distance (base_of numbers) self.old.base < 2 ^ 64
-            → Counts given (units + distance (base_of numbers) self.old.base)
+            → CountsAcknowledged given (units + distance (base_of numbers) self.old.base)
             self.new.messages.items self.new.units self.new.whole }
         // Each message is let go all of whose units are acknowledged.
         ensures first { IsFirstOpen self.old.messages.items self.old.units
@@ -154,7 +154,7 @@ impl Ledger {
         ensures least { self.now.whole ≤ result }
         // Of all that was handed in, while the first message that is left is not acknowledged whole.
         ensures exact { (given : List ℕ) (units : ℕ)
-            → Counts given units self.now.messages.items self.now.units self.now.whole
+            → CountsAcknowledged given units self.now.messages.items self.now.units self.now.whole
             → IsFirstOpen self.now.messages.items self.now.units
             → result ≡ counted (bytes_acknowledged given units) }
     {

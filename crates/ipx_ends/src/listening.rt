@@ -7,7 +7,7 @@ ghost use Rattle.ipx_site.specs.Origins.{named_in};
 ghost use Rattle.ipx_wire.specs.declared.address.Socket.{Socket};
 ghost use Rattle.spx_messages.specs.EndpointView.{buffers_at, held_at};
 ghost use Rattle.ipx_ends.specs.Callers.{Admits, KeepsHeard, KeepsOne, MakesRoom, NotesHeard, caller_of, heard_by, is_overdue, keeps_one_prop, raised_if};
-ghost use Rattle.ipx_ends.specs.Hosting.{Hears, Moves, MovesSome, Serves, StepsTo, host};
+ghost use Rattle.ipx_ends.specs.Hosting.{HearsAndNotesAll, WritesAndPasses, MovesSome, Serves, StepsTo, host};
 ghost use Rattle.ipx_ends.specs.Outlet.{Writes, left_of};
 ghost use Rattle.ipx_ends.specs.Passing.{PassesEach, PassesSome};
 ghost use Rattle.ipx_ends.specs.Sleeping.{MayRest};
@@ -247,7 +247,7 @@ impl<'a, R: Net + Log + Clock> Listening<'a, R> {
     /// Writes what is left to write, and then takes from each connection. It answers whether it
     /// wrote or took anything.
     fn pass<W: Write>(&mut self, alloc: Global, writer: &mut W) -> Result<bool, WriteFault>
-        ensures all { OnOk result ((bytes : List ℕ) × Moves
+        ensures all { OnOk result ((bytes : List ℕ) × WritesAndPasses
             self.old.station.core self.new.station.core
             self.old.callers.items self.new.callers.items
             (left_of self.old.outlet) (left_of self.new.outlet)
@@ -270,7 +270,7 @@ impl<'a, R: Net + Log + Clock> Listening<'a, R> {
 
     /// Takes a turn, and notes the datagram that it heard.
     fn hear(&mut self, rt: &R, alloc: Global) -> Turn
-        ensures hears { Hears self.old.station.clock self.new.station.clock
+        ensures hears { HearsAndNotesAll self.old.station.clock self.new.station.clock
             self.old.station.core self.new.station.core
             self.old.callers.items self.new.callers.items self.old.once
             (λ old moment new. (old.last ≤ moment) × (new.last ≡ moment))

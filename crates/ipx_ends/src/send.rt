@@ -7,10 +7,10 @@ ghost use Rattle.ipx_site.specs.Host.{IsHostText};
 ghost use Rattle.ipx_site.specs.Loading.{IsFileText};
 ghost use Rattle.ipx_site.specs.declared.clock.SteadyClock.{SteadyClock};
 ghost use Rattle.ipx_wire.specs.declared.address.Address.{Address};
-ghost use Rattle.ipx_ends.specs.Rounds.{Place, Transfers, place};
-ghost use Rattle.ipx_ends.specs.Sent.{SendsAll};
+ghost use Rattle.ipx_ends.specs.Rounds.{SendState, Transfers, place};
+ghost use Rattle.ipx_ends.specs.Sent.{SendsWholeInput};
 ghost use Rattle.ipx_ends.specs.Steps.{noted};
-ghost use Rattle.ipx_ends.specs.Target.{Names};
+ghost use Rattle.ipx_ends.specs.Target.{NamesAddress};
 
 use crate::sending::Sending;
 use crate::start::{StartFault, tell_start};
@@ -35,7 +35,7 @@ fn send_opened<R: Net + Log + Clock + Eprint, I: Read>(
     ensures status { result < 2 }
     ensures unopened { OnErr opened.entry ((result ≡ 1) × (reader.new ≡ reader.old)) }
     // Where it ends well, it was a transfer from what was opened.
-    ensures sent { IfOk opened.entry (λ s. result ≡ 0 → (last : Place (SteadyClock R))
+    ensures sent { IfOk opened.entry (λ s. result ≡ 0 → (last : SendState (SteadyClock R))
         × Transfers
         (place s.station.clock s.station.core (noted s.joined s.left)
         s.read s.closed s.ledger (I.remaining reader.old))
@@ -65,7 +65,7 @@ fn send_loaded<R: Net + Log + Clock + Eprint, I: Read>(
 ) -> u8
     ensures status { OnOk loaded (result < 2) }
     // Where it ends well, the host of the file sent to the address all that the reader had.
-    ensures sent { IfOk loaded (λ file. result ≡ 0 → SendsAll {K = SteadyClock R} file to
+    ensures sent { IfOk loaded (λ file. result ≡ 0 → SendsWholeInput {K = SteadyClock R} file to
         (I.remaining reader.old) (I.remaining reader.new)
         (λ old moment new. (old.last ≤ moment) × (new.last ≡ moment))) }
     ensures unloaded { IfErr loaded (λ status. (result ≡ status) × (reader.new ≡ reader.old)) }
@@ -96,7 +96,7 @@ pub fn do_send<R: Net + Log + Files + Clock + Eprint, I: Read>(
     shows: bool,
 ) -> u8
     // Words that name no address are told, and nothing is read or bound.
-    ensures words { ((a : Address) → Names target.entry a → ⊥)
+    ensures words { ((a : Address) → NamesAddress target.entry a → ⊥)
         → (result ≡ 2) × (reader.new ≡ reader.old) }
     ensures few { result ≤ 2 }
     // For a fault of the words or of the file nothing is read.
@@ -106,8 +106,8 @@ pub fn do_send<R: Net + Log + Files + Clock + Eprint, I: Read>(
     // And a host as some text of a file says it has sent to the address that the words name all
     // that the reader had, by rounds of which the last one saw all of it acknowledged, the end too.
     ensures sent { result ≡ 0 → (text : List ℕ) × (file : HostFile) × (to : Address)
-        × IsFileText text × IsHostText text file × Names target.entry to
-        × SendsAll {K = SteadyClock R} file to
+        × IsFileText text × IsHostText text file × NamesAddress target.entry to
+        × SendsWholeInput {K = SteadyClock R} file to
         (I.remaining reader.old) (I.remaining reader.new)
         (λ old moment new. (old.last ≤ moment) × (new.last ≡ moment)) }
 {

@@ -5,8 +5,8 @@ ghost use Rattle.std.specs.Io.KnownBytes.{IsAtEnd};
 ghost use Rattle.ipx_carrier.specs.Turns.{peers_of};
 ghost use Rattle.ipx_wire.specs.declared.address.Address.{Address};
 ghost use Rattle.spx_messages.specs.EndpointView.{held_at};
-ghost use Rattle.ipx_ends.specs.Books.{Follows};
-ghost use Rattle.ipx_ends.specs.Rounds.{EndsWith, IsStep, LastsOn, Transfers, place};
+ghost use Rattle.ipx_ends.specs.Books.{EntersAcknowledged};
+ghost use Rattle.ipx_ends.specs.Rounds.{EndsWith, IsSendStep, LastsOn, Transfers, place};
 ghost use Rattle.ipx_ends.specs.Sent.{IsDialing};
 ghost use Rattle.ipx_ends.specs.Sleeping.{MayWait, longest_wait};
 ghost use Rattle.ipx_ends.specs.Steps.{IsFeedFault, IsStepFault, noted};
@@ -116,7 +116,7 @@ impl<'a, R: Net + Log + Clock + Eprint> Sending<'a, R> {
         ensures read { self.new.read ≡ self.old.read }
         ensures closed { self.new.closed ≡ self.old.closed }
         // What the link acknowledges is counted.
-        ensures ledger { Follows (held_at self.old.station.core.endpoint self.old.id)
+        ensures ledger { EntersAcknowledged (held_at self.old.station.core.endpoint self.old.id)
             self.old.ledger self.new.ledger }
         ensures joined { self.new.joined ≡ joined_at self.old.joined result }
         ensures left { self.new.left
@@ -183,7 +183,7 @@ impl<'a, R: Net + Log + Clock + Eprint> Sending<'a, R> {
     fn step<I: Read>(&mut self, rt: &R, alloc: Global, reader: &mut I) -> Result<bool, Verdict>
         ensures id { self.new.id ≡ self.old.id }
         // It notes, tells and feeds by what the turn left.
-        ensures steps { IsStep IsFeedFault
+        ensures steps { IsSendStep IsFeedFault
             (place self.old.station.clock self.old.station.core
             (noted self.old.joined self.old.left)
             self.old.read self.old.closed self.old.ledger (I.remaining reader.old))
@@ -234,7 +234,7 @@ impl<'a, R: Net + Log + Clock + Eprint> Sending<'a, R> {
     ) -> Result<(), Verdict>
         ensures id { self.new.id ≡ self.old.id }
         // It notes, tells and feeds by what the turn left.
-        ensures steps { IsStep IsStepFault
+        ensures steps { IsSendStep IsStepFault
             (place self.old.station.clock self.old.station.core
             (noted self.old.joined self.old.left)
             self.old.read self.old.closed self.old.ledger (I.remaining reader.old))

@@ -4,7 +4,7 @@ ghost use Rattle.std.specs.Prelude.{◌≡◌, ◌<◌, ℕ, take, false, IfSome
 ghost use Rattle.spx_messages.specs.EndpointView.{held_at};
 ghost use Rattle.spx_messages.specs.Taking.{PeerEnd as TheEnd, take_end};
 ghost use Rattle.ipx_ends.specs.Outlet.{left_of};
-ghost use Rattle.ipx_ends.specs.Passing.{Passes, PassesEach, PassesOne, PassesSome, SameOthers, Takes, TakesNothing};
+ghost use Rattle.ipx_ends.specs.Passing.{PassesHeld, PassesEach, PassesOne, PassesSome, SameOthers, Takes, TakesNothing};
 ghost use Rattle.ipx_ends.specs.declared.callers.Caller.{Caller};
 
 use crate::callers::{Caller, Standing};
@@ -60,7 +60,7 @@ fn take_some<W: Write>(
     // What was left to write, and then the bodies of the messages that were taken, are what the
     // writer took, and then what is left to write; where the writer fails, too.
     ensures passes { IfSome (held_at endpoint.old caller.old.id) (λ h.
-        Passes h (held_at endpoint.new caller.old.id) (left_of outlet.old) (left_of outlet.new)
+        PassesHeld h (held_at endpoint.new caller.old.id) (left_of outlet.old) (left_of outlet.new)
         (W.contents writer.old) (W.contents writer.new)) }
     ensures one { PassesOne endpoint.old endpoint.new (left_of outlet.old) (left_of outlet.new)
         (W.contents writer.old) (W.contents writer.new) caller.old caller.new }

@@ -1,7 +1,7 @@
 //! The address that words name.
 
 ghost use Rattle.std.specs.Prelude.{IfErr, IfOk};
-ghost use Rattle.ipx_ends.specs.Target.{IsTargetFault, Names};
+ghost use Rattle.ipx_ends.specs.Target.{IsTargetFault, NamesAddress};
 
 use byteorder::{BigEndian, ByteOrder};
 use hex::FromHex;
@@ -38,7 +38,7 @@ impl fmt::Display for TargetFault {
 impl Target<'_> {
     /// The address: eight, twelve and four hex digits, and nothing else.
     pub(crate) fn address(&self) -> Result<Address, TargetFault>
-        ensures named { IfOk result (Names self.now) }
+        ensures named { IfOk result (NamesAddress self.now) }
         ensures fault { IfErr result (IsTargetFault self.now) }
     {
         let Ok(network) = <[u8; 4] as FromHex>::from_hex(self.network) else {

@@ -21,10 +21,10 @@ use Rattle.spx_units.specs.declared.fault.MessageFault.TheVariants as MessageFau
 use Rattle.ipx_log.specs.Note.{Opened, Released}
 use Rattle.ipx_steps.specs.Calls.{DialsFrom, ReleasesOf}
 use Rattle.ipx_steps.specs.Steps.{TakesOf, ends_after, here_after, marked_over, unit_notes, whole_notes}
-use Rattle.ipx_steps.specs.World.{EndNow, Station, StandsAt, end_at, held_in, held_of, home_at}
+use Rattle.ipx_steps.specs.World.{EndNow, HostState, StandsAt, end_at, held_in, held_of, home_at}
 use Rattle.ipx_hosts.specs.Hosts.{DeliveredAt, FitTogether, HostsView, LeftBy, LeftAs, LeftAt, Noting, Standing, is_lost, stands, stands_now}
 use Rattle.ipx_hosts.specs.Refusing.{end_held, held_by, want}
-use Rattle.ipx_hosts.specs.Stations.{ChangesAt, DialsAt, ReleasesAt, Stays, StaysAt}
+use Rattle.ipx_hosts.specs.Stations.{ChangesAt, DialsAt, ReleasesAt, RefusalKeeps, StaysAt}
 use Rattle.ipx_hosts.specs.declared.refusal.Refusal.{Refusal}
 use Rattle.ipx_hosts.specs.declared.refusal.Refusal.TheVariants as Refusals
 
@@ -39,7 +39,7 @@ there_read [] k x d e = absurd (cc e)
 there_read (z ∷ zs) zero x d e = cc e
 there_read (z ∷ zs) (suc k) x d e = there_read zs k x d e
 
-abbrev pub made : List Station → List EndNow → HostsView
+abbrev pub made : List HostState → List EndNow → HostsView
 made ss es = record { stations = ss; ends = es }
 
 stands_still : (o : Option EndNow) → stands_now o ≡ true → (e : EndNow) × (o ≡ Some e) × (e.released ≡ false)
@@ -50,7 +50,7 @@ stands_still (Some e) is = (e, refl, not_true e.released is)
     not_true true is = absurd (cc is)
     not_true false is = refl
 
-pub standing : (v : HostsView) (ss : List Station) (es : List EndNow) (who : ℕ) (e : EndNow) → made ss es ≡ v → e ≡ get_or es who e → FitTogether v → stands v who ≡ true → Standing v who e.host e.id
+pub standing : (v : HostsView) (ss : List HostState) (es : List EndNow) (who : ℕ) (e : EndNow) → made ss es ≡ v → e ≡ get_or es who e → FitTogether v → stands v who ≡ true → Standing v who e.host e.id
 standing v ss es who e view read order is =
     let s : (x : EndNow) × (slice_get v.ends who ≡ Some x) × (x.released ≡ false) = stands_still (slice_get v.ends who) is in
     let at : slice_get es who ≡ Some s.0 = ap (λ (u : HostsView). slice_get u.ends who) view ∙ s.1 in
@@ -71,14 +71,14 @@ standing v ss es who e view read order is =
       live = w.live;
     }
 
-pub host_within : (v : HostsView) (ss : List Station) (es : List EndNow) (who host id : ℕ) → made ss es ≡ v → Standing v who host id → host < length ss
+pub host_within : (v : HostsView) (ss : List HostState) (es : List EndNow) (who host id : ℕ) → made ss es ≡ v → Standing v who host id → host < length ss
 host_within v ss es who host id view s = there_within ss host s.station (ap (λ (u : HostsView). slice_get u.stations host) view ∙ s.there)
 
-pub end_within : (v : HostsView) (ss : List Station) (es : List EndNow) (who host id : ℕ) → made ss es ≡ v → Standing v who host id → who < length es
+pub end_within : (v : HostsView) (ss : List HostState) (es : List EndNow) (who host id : ℕ) → made ss es ≡ v → Standing v who host id → who < length es
 end_within v ss es who host id view s = there_within es who s.end' (ap (λ (u : HostsView). slice_get u.ends who) view ∙ s.at)
 
 -- a host refused
-left_at : (v : HostsView) (ss : List Station) (es : List EndNow) (host : ℕ) (x y : Station) (t : ℕ) → made ss es ≡ v → x ≡ get_or ss host x → host < length ss
+left_at : (v : HostsView) (ss : List HostState) (es : List EndNow) (host : ℕ) (x y : HostState) (t : ℕ) → made ss es ≡ v → x ≡ get_or ss host x → host < length ss
     → StaysAt x y → LeftAt host v (made (set ss host y) es) t
 left_at v ss es host x y t view read within same =
     subst (λ u. LeftAt host u (made (set ss host y) es) t) view (
@@ -98,7 +98,7 @@ left_at v ss es host x y t view read within same =
     })
 
 -- the host of an end refused
-pub left : (v : HostsView) (ss : List Station) (es : List EndNow) (who host id : ℕ) (x y : Station) (t : ℕ) → made ss es ≡ v → x ≡ get_or ss host x → Standing v who host id
+pub left : (v : HostsView) (ss : List HostState) (es : List EndNow) (who host id : ℕ) (x y : HostState) (t : ℕ) → made ss es ≡ v → x ≡ get_or ss host x → Standing v who host id
     → StaysAt x y → LeftAs who v (made (set ss host y) es) t
 left v ss es who host id x y t view read s same =
     record {
@@ -107,14 +107,14 @@ left v ss es who host id x y t view read s same =
       left = subst (λ k. LeftAt k v (made (set ss host y) es) t) (sym s.host_is) (left_at v ss es host x y t view read (host_within v ss es who host id view s) same);
     }
 
-pub left_err : {A E : Type 0} (r : Result A E) (v : HostsView) (ss : List Station) (es : List EndNow) (who host id : ℕ) (x y : Station) (t : ℕ) → made ss es ≡ v → x ≡ get_or ss host x → Standing v who host id
+pub left_err : {A E : Type 0} (r : Result A E) (v : HostsView) (ss : List HostState) (es : List EndNow) (who host id : ℕ) (x y : HostState) (t : ℕ) → made ss es ≡ v → x ≡ get_or ss host x → Standing v who host id
     → OnErr r (StaysAt x y) → OnErr r (LeftAs who v (made (set ss host y) es) t)
 left_err (Ok a) v ss es who host id x y t view read s same = tt
 left_err (Err f) v ss es who host id x y t view read s same = left v ss es who host id x y t view read s same
 
 -- ---- dial
 
-pub dialled : (v : HostsView) (ss : List Station) (es es' : List EndNow) (host who : ℕ) (x y : Station) (socket : Socket) (to : Address) (buffers t id : ℕ)
+pub dialled : (v : HostsView) (ss : List HostState) (es es' : List EndNow) (host who : ℕ) (x y : HostState) (socket : Socket) (to : Address) (buffers t id : ℕ)
     → made ss es ≡ v → x ≡ get_or ss host x → host < length ss → (0 < buffers) × (buffers ≤ most_units) → who ≡ length es
     → DialsAt x who socket to buffers t id y → es' ≡ es ++ record { host = host; id = id; released = false; overlong = false } ∷ []
     → (i : ℕ) × Noting v (made (set ss host y) es') t (Opened (length v.ends) host buffers ∷ []) (λ w w'. DialsFrom w host socket to buffers i w')
@@ -141,7 +141,7 @@ dialled v ss es es' host who x y socket to buffers t id view read within range n
 
 -- ---- release
 
-pub released : (v : HostsView) (ss : List Station) (es : List EndNow) (who host id : ℕ) (x y : Station) (e : EndNow) (t : ℕ) → made ss es ≡ v → x ≡ get_or ss host x → e ≡ get_or es who e
+pub released : (v : HostsView) (ss : List HostState) (es : List EndNow) (who host id : ℕ) (x y : HostState) (e : EndNow) (t : ℕ) → made ss es ≡ v → x ≡ get_or ss host x → e ≡ get_or es who e
     → Standing v who host id → ReleasesAt x id y
     → Noting v (made (set ss host y) (set es who (record e { released = true }))) t (Released who ∷ []) (λ w w'. ReleasesOf w who w')
 released v ss es who host id x y e t view read end_read s r =
@@ -212,7 +212,7 @@ set_there (z ∷ zs) zero e x at same = ap (λ w. w ∷ zs) (same ∙ first z e 
     first a b e = cc
 set_there (z ∷ zs) (suc k) e x at same = ap (λ ws. z ∷ ws) (set_there zs k e x at same)
 
-pub taken : (v : HostsView) (ss : List Station) (es es' : List EndNow) (who host id : ℕ) (x y : Station) (r : Result Taken EndFault) (u : Option Unit) (t : ℕ) → made ss es ≡ v → x ≡ get_or ss host x
+pub taken : (v : HostsView) (ss : List HostState) (es es' : List EndNow) (who host id : ℕ) (x y : HostState) (r : Result Taken EndFault) (u : Option Unit) (t : ℕ) → made ss es ≡ v → x ≡ get_or ss host x
     → Standing v who host id
     → IfSome (held_at x.endpoint id) (λ h. u ≡ first_of h.link.held)
     → IfSome (held_at x.endpoint id) (λ h. r ≢ Err want → (result_view r ≡ (take_end h).0) × ChangesAt x id (take_end h).1 y)
@@ -228,7 +228,7 @@ taken v ss es es' who host id x y r u t view read s unit takes not_want ends =
         let within : host < length ss = there_within ss host s.station s.there in
         let there : slice_get ss host ≡ Some x = slice_get_read ss (length ss) host x refl within read in
         let same : x ≡ s.station = read ∙ there_read ss host s.station x s.there in
-        let holds : held_at x.endpoint id ≡ Some s.held = ap (λ (z : Station). held_at z.endpoint id) same ∙ s.live in
+        let holds : held_at x.endpoint id ≡ Some s.held = ap (λ (z : HostState). held_at z.endpoint id) same ∙ s.live in
         let came : (result_view r ≡ (take_end s.held).0) × ChangesAt x id (take_end s.held).1 y = at_held (held_at x.endpoint id) (λ h. r ≢ Err want → (result_view r ≡ (take_end h).0) × ChangesAt x id (take_end h).1 y) s.held takes holds not_want in
         let first : u ≡ first_of s.held.link.held = at_held (held_at x.endpoint id) (λ h. u ≡ first_of h.link.held) s.held unit holds in
         record {
@@ -253,12 +253,12 @@ taken v ss es es' who host id x y r u t view read s unit takes not_want ends =
 
 -- ---- refusals
 
-pub left_so : (f : Refusal) (v : HostsView) (ss : List Station) (es : List EndNow) (host : ℕ) (x y : Station) (t : ℕ) → made ss es ≡ v → x ≡ get_or ss host x → host < length ss
-    → Stays f x y → LeftBy f host v (made (set ss host y) es) t
+pub left_so : (f : Refusal) (v : HostsView) (ss : List HostState) (es : List EndNow) (host : ℕ) (x y : HostState) (t : ℕ) → made ss es ≡ v → x ≡ get_or ss host x → host < length ss
+    → RefusalKeeps f x y → LeftBy f host v (made (set ss host y) es) t
 left_so (Refusals.ByEnd f) v ss es host x y t view read within same = left_at v ss es host x y t view read within same
 left_so Refusals.OutOfMemory v ss es host x y t view read within same = tt
 
-pub host_there : (v : HostsView) (ss : List Station) (es : List EndNow) (host : ℕ) → made ss es ≡ v → host < length v.stations → host < length ss
+pub host_there : (v : HostsView) (ss : List HostState) (es : List EndNow) (host : ℕ) → made ss es ≡ v → host < length v.stations → host < length ss
 host_there v ss es host view there = subst (λ (u : HostsView). host < length u.stations) (sym view) there
 
 pub marks_lost : (es : List EndNow) (who : ℕ) (e : EndNow) (a : Result TakenView EndFault) → e ≡ get_or es who e → is_lost a ≡ true → (x : EndNow) → slice_get es who ≡ Some x
@@ -270,27 +270,27 @@ marks_lost es who e a read is x at =
 pub marks_kept : (es : List EndNow) (who : ℕ) (a : Result TakenView EndFault) → is_lost a ≡ false → a ≢ Err want → (x : EndNow) → slice_get es who ≡ Some x → es ≡ set es who (marked_over a x)
 marks_kept es who a is not_want x at = sym (set_there es who x (marked_over a x) at (kept_marks a x is not_want))
 
-pub stays_held : (v : HostsView) (ss : List Station) (es : List EndNow) (who host id : ℕ) (x y : Station) → made ss es ≡ v → x ≡ get_or ss host x → Standing v who host id
+pub stays_held : (v : HostsView) (ss : List HostState) (es : List EndNow) (who host id : ℕ) (x y : HostState) → made ss es ≡ v → x ≡ get_or ss host x → Standing v who host id
     → IfSome (held_at x.endpoint id) (λ _. StaysAt x y) → StaysAt x y
 stays_held v ss es who host id x y view read s stays =
     let there : slice_get ss host ≡ Some s.station = ap (λ (u : HostsView). slice_get u.stations host) view ∙ s.there in
     let same : x ≡ s.station = read ∙ there_read ss host s.station x there in
-    at_held (held_at x.endpoint id) (λ _. StaysAt x y) s.held stays (ap (λ (z : Station). held_at z.endpoint id) same ∙ s.live)
+    at_held (held_at x.endpoint id) (λ _. StaysAt x y) s.held stays (ap (λ (z : HostState). held_at z.endpoint id) same ∙ s.live)
 
 -- what is held is held
 pub unheld : (o : Option Held) (P : Type 0) → o ≡ None → IfSome o (λ _. P)
 unheld None P is = tt
 unheld (Some h) P is = absurd (cc is)
 
-pub known_held : (v : HostsView) (ss : List Station) (es : List EndNow) (who host id : ℕ) (x : Station) (P : Type 0) → made ss es ≡ v → x ≡ get_or ss host x → Standing v who host id
+pub known_held : (v : HostsView) (ss : List HostState) (es : List EndNow) (who host id : ℕ) (x : HostState) (P : Type 0) → made ss es ≡ v → x ≡ get_or ss host x → Standing v who host id
     → IfSome (held_at x.endpoint id) (λ _. P) → P
 known_held v ss es who host id x P view read s holds =
     let there : slice_get ss host ≡ Some s.station = ap (λ (u : HostsView). slice_get u.stations host) view ∙ s.there in
     let same : x ≡ s.station = read ∙ there_read ss host s.station x there in
-    at_held (held_at x.endpoint id) (λ _. P) s.held holds (ap (λ (z : Station). held_at z.endpoint id) same ∙ s.live)
+    at_held (held_at x.endpoint id) (λ _. P) s.held holds (ap (λ (z : HostState). held_at z.endpoint id) same ∙ s.live)
 
 -- what an end has is what its host holds under its id
-pub held_there : (v : HostsView) (ss : List Station) (es : List EndNow) (who host id : ℕ) (x : Station) → made ss es ≡ v → x ≡ get_or ss host x → Standing v who host id
+pub held_there : (v : HostsView) (ss : List HostState) (es : List EndNow) (who host id : ℕ) (x : HostState) → made ss es ≡ v → x ≡ get_or ss host x → Standing v who host id
     → held_at x.endpoint id ≡ end_held v.stations v.ends who
 held_there v ss es who host id x view read s =
     let there : slice_get ss host ≡ Some s.station = ap (λ (u : HostsView). slice_get u.stations host) view ∙ s.there in
@@ -298,17 +298,17 @@ held_there v ss es who host id x view read s =
     let of_end : end_held v.stations v.ends who ≡ held_of v.stations s.end' = ap (held_by v.stations) s.at in
     let not_released : held_of v.stations s.end' ≡ held_in (slice_get v.stations s.end'.host) s.end'.id = ap (λ b. cond b None (held_in (slice_get v.stations s.end'.host) s.end'.id)) s.stands in
     let at_host : held_in (slice_get v.stations s.end'.host) s.end'.id ≡ held_in (Some s.station) id =
-    ap (λ k. held_in (slice_get v.stations k) s.end'.id) s.host_is ∙ ap (λ k. held_in (slice_get v.stations host) k) s.id_is ∙ ap (λ (o : Option Station). held_in o id) s.there in
-    ap (λ (z : Station). held_at z.endpoint id) same ∙ sym (of_end ∙ not_released ∙ at_host)
+    ap (λ k. held_in (slice_get v.stations k) s.end'.id) s.host_is ∙ ap (λ k. held_in (slice_get v.stations host) k) s.id_is ∙ ap (λ (o : Option HostState). held_in o id) s.there in
+    ap (λ (z : HostState). held_at z.endpoint id) same ∙ sym (of_end ∙ not_released ∙ at_host)
 
 -- what stands at a host is what was read of it
-pub station_there : (v : HostsView) (ss : List Station) (es : List EndNow) (host : ℕ) (x : Station) → made ss es ≡ v → x ≡ get_or ss host x → host < length ss → Some x ≡ slice_get v.stations host
+pub station_there : (v : HostsView) (ss : List HostState) (es : List EndNow) (host : ℕ) (x : HostState) → made ss es ≡ v → x ≡ get_or ss host x → host < length ss → Some x ≡ slice_get v.stations host
 station_there v ss es host x view read within =
     sym (slice_get_read ss (length ss) host x refl within read) ∙ ap (λ (u : HostsView). slice_get u.stations host) view
 
 -- ---- addresses
 
-pub homes_set : (v : HostsView) (ss : List Station) (es : List EndNow) (host : ℕ) (x y : Station) → made ss es ≡ v → x ≡ get_or ss host x → home_at y ≡ home_at x → map home_at (set ss host y) ≡ map home_at v.stations
+pub homes_set : (v : HostsView) (ss : List HostState) (es : List EndNow) (host : ℕ) (x y : HostState) → made ss es ≡ v → x ≡ get_or ss host x → home_at y ≡ home_at x → map home_at (set ss host y) ≡ map home_at v.stations
 homes_set v ss es host x y view read home =
     map-set_same home_at ss host y x (home ∙ ap home_at read) ∙ ap (λ (u : HostsView). map home_at u.stations) view
 
@@ -325,7 +325,7 @@ ends_kept Arriveds.Stranger host es other = refl
 ends_kept (Arriveds.Accepted id) host es other = absurd (other id refl)
 ends_kept (Arriveds.Link id r) host es other = refl
 
-pub delivered : (v : HostsView) (ss : List Station) (es : List EndNow) (host count : ℕ) (x y : Station) (bytes : List ℕ) (t : ℕ) (a : Arrived) → made ss es ≡ v → x ≡ get_or ss host x → host < length ss → count ≡ length es
+pub delivered : (v : HostsView) (ss : List HostState) (es : List EndNow) (host count : ℕ) (x y : HostState) (bytes : List ℕ) (t : ℕ) (a : Arrived) → made ss es ≡ v → x ≡ get_or ss host x → host < length ss → count ≡ length es
     → ((id : ℕ) → a ≢ Arriveds.Accepted id) → Arrives x.endpoint bytes t a y.endpoint → y.here ≡ here_after a count x.here → DeliveredAt v host bytes t a (made (set ss host y) es)
 delivered v ss es host count x y bytes t a view read within counted other arrives here =
     subst (λ u. DeliveredAt u host bytes t a (made (set ss host y) es)) view (record {

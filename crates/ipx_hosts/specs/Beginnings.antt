@@ -5,7 +5,7 @@ use Rattle.ipx_wire.specs.declared.address.Node.{Node}
 use Rattle.ipx_wire.specs.declared.address.Socket.{Socket}
 use Rattle.spx_link.specs.Links.{count_of}
 use Rattle.spx_messages.specs.EndpointView.{buffers_at, held_at}
-use Rattle.ipx_steps.specs.World.{Station}
+use Rattle.ipx_steps.specs.World.{HostState}
 
 -- the buffers of the links that are accepted at a socket
 abbrev pub listens_at : Option (Socket × ℕ) → Socket → Option ℕ
@@ -13,7 +13,7 @@ listens_at None socket = None
 listens_at (Some l) socket = if l.0.0 == socket.0 then Some l.1 else None
 
 pub record BeginsAt (network : Network) (node router : Node) (listen : Option (Socket × ℕ))
-    (s : Station) : Type 0 where
+    (s : HostState) : Type 0 where
   pub network_is : s.endpoint.network ≡ network
   pub node_is : s.endpoint.node ≡ node
   pub router_is : s.endpoint.router ≡ router
@@ -27,8 +27,8 @@ pub record BeginsAt (network : Network) (node router : Node) (listen : Option (S
   pub buffers : (socket : Socket) → buffers_at s.endpoint socket ≡ listens_at listen socket
 
 -- such a host comes behind the others
-pub record AddsHost (old new : List Station) (network : Network) (node router : Node)
+pub record AddsHost (old new : List HostState) (network : Network) (node router : Node)
     (listen : Option (Socket × ℕ)) : Type 0 where
-  pub station : Station
+  pub station : HostState
   pub begins : BeginsAt network node router listen station
   pub stations : new ≡ old ++ station ∷ []

@@ -14,10 +14,10 @@ use Rattle.ipx_steps.specs.Calls.{RefusesAt}
 use Rattle.ipx_steps.specs.Steps.{ends_after, here_after}
 use Rattle.ipx_hosts.specs.declared.refusal.Refusal.{Refusal}
 use Rattle.ipx_hosts.specs.declared.refusal.Refusal.TheVariants as Refusals
-use Rattle.ipx_steps.specs.World.{EndNow, InOrder, ParcelView, Station, World, end_at, home_at}
+use Rattle.ipx_steps.specs.World.{EndNow, InOrder, ParcelView, HostState, World, end_at, home_at}
 
 pub record HostsView : Type 0 where
-  pub stations : List Station
+  pub stations : List HostState
   pub ends : List EndNow
 
 -- with these parcels and this log, at a moment
@@ -54,7 +54,7 @@ pub record Standing (v : HostsView) (who host id : ℕ) : Type 0 where
   pub stands : end'.released ≡ false
   pub host_is : end'.host ≡ host
   pub id_is : end'.id ≡ id
-  pub station : Station
+  pub station : HostState
   pub there : slice_get v.stations host ≡ Some station
   pub known : end_at station.here id ≡ Some who
   pub held : Held
@@ -85,9 +85,9 @@ is_lost (Err f) = true
 -- a host was polled, and nothing else changed
 pub record PolledAt (old : HostsView) (host now : ℕ) (result : Option (Node × ℕ))
     (room written : List ℕ) (new : HostsView) : Type 0 where
-  pub before : Station
+  pub before : HostState
   pub there : slice_get old.stations host ≡ Some before
-  pub after : Station
+  pub after : HostState
   pub polls : Polls before.endpoint now result room written after.endpoint
   pub here : after.here ≡ before.here
   pub stations : new.stations ≡ set old.stations host after
@@ -96,9 +96,9 @@ pub record PolledAt (old : HostsView) (host now : ℕ) (result : Option (Node ×
 -- a datagram came to a host, and nothing else changed
 pub record DeliveredAt (old : HostsView) (host : ℕ) (bytes : List ℕ) (now : ℕ) (answer : Arrived)
     (new : HostsView) : Type 0 where
-  pub before : Station
+  pub before : HostState
   pub there : slice_get old.stations host ≡ Some before
-  pub after : Station
+  pub after : HostState
   pub arrives : Arrives before.endpoint bytes now answer after.endpoint
   pub here : after.here ≡ here_after answer (length old.ends) before.here
   pub stations : new.stations ≡ set old.stations host after

@@ -13,16 +13,16 @@ use Rattle.spx_messages.specs.EndpointView.{Held}
 use Rattle.spx_messages.specs.Taking.{IsPushed, overlong, take_end}
 use Rattle.spx_messages.specs.declared.fault.EndFault.{EndFault}
 use Rattle.spx_messages.specs.declared.fault.EndFault.TheVariants as EndFaults
-use Rattle.ipx_steps.specs.World.{EndNow, Station, held_of}
+use Rattle.ipx_steps.specs.World.{EndNow, HostState, held_of}
 use Rattle.ipx_hosts.specs.declared.refusal.Refusal.{Refusal}
 use Rattle.ipx_hosts.specs.declared.refusal.Refusal.TheVariants as Refusals
 
 -- what stands under the number of an end: nothing once it is released
-abbrev pub held_by : List Station → Option EndNow → Option Held
+abbrev pub held_by : List HostState → Option EndNow → Option Held
 held_by hosts None = None
 held_by hosts (Some e) = held_of hosts e
 
-abbrev pub end_held : List Station → List EndNow → ℕ → Option Held
+abbrev pub end_held : List HostState → List EndNow → ℕ → Option Held
 end_held hosts ends who = held_by hosts (slice_get ends who)
 
 -- want of memory, by what it is wanted for: a link, a message that is cut or joined, units that are
@@ -45,15 +45,15 @@ abbrev pub full_fault : LinksView → Option EndFault
 full_fault s = if count_of s == most_links then Some too_many else None
 
 -- a host that is not there is refused by no end
-abbrev pub dial_fault : Option Station → Option EndFault
+abbrev pub dial_fault : Option HostState → Option EndFault
 dial_fault None = None
 dial_fault (Some s) = full_fault s.endpoint.links
 
-abbrev pub DialIsRefused : Option Station → EndFault → Type 0
+abbrev pub DialIsRefused : Option HostState → EndFault → Type 0
 DialIsRefused s f = (dial_fault s ≡ Some f) ⊎ ((f ≡ want_of_link) × (dial_fault s ≡ None))
 
 -- the same, where memory may be refused beside the endpoint
-abbrev pub DialIsLeft : Option Station → Refusal → Type 0
+abbrev pub DialIsLeft : Option HostState → Refusal → Type 0
 DialIsLeft s (Refusals.ByEnd f) = DialIsRefused s f
 DialIsLeft s Refusals.OutOfMemory = dial_fault s ≡ None
 

@@ -8,37 +8,37 @@ use Rattle.spx_link.specs.Offer.{dialed}
 use Rattle.spx_link.specs.declared.outgoing.Sent.{Sent}
 use Rattle.spx_messages.specs.Changes.{AddsEnd, ChangesEnd, ReleasesEnd, SameBut}
 use Rattle.spx_messages.specs.EndpointView.{Held}
-use Rattle.ipx_steps.specs.World.{Station, end_at}
+use Rattle.ipx_steps.specs.World.{HostState, end_at}
 use Rattle.ipx_hosts.specs.declared.refusal.Refusal.{Refusal}
 use Rattle.ipx_hosts.specs.declared.refusal.Refusal.TheVariants as Refusals
 
 -- nothing changes
-pub record StaysAt (old new : Station) : Type 0 where
+pub record StaysAt (old new : HostState) : Type 0 where
   pub same : SameBut old.endpoint new.endpoint
   pub said : new.endpoint.said ≡ old.endpoint.said
   pub heard : new.endpoint.heard ≡ old.endpoint.heard
   pub here : new.here ≡ old.here
 
 -- an end that refuses stays as it is. Of want of memory in the host itself nothing is said
-abbrev pub Stays : Refusal → Station → Station → Type 0
-Stays (Refusals.ByEnd f) old new = StaysAt old new
-Stays Refusals.OutOfMemory old new = Unit {0}
+abbrev pub RefusalKeeps : Refusal → HostState → HostState → Type 0
+RefusalKeeps (Refusals.ByEnd f) old new = StaysAt old new
+RefusalKeeps Refusals.OutOfMemory old new = Unit {0}
 
 -- a link is dialled, which is the end of that number
-pub record DialsAt (old : Station) (who : ℕ) (socket : Socket) (to : Address)
-    (buffers now id : ℕ) (new : Station) : Type 0 where
+pub record DialsAt (old : HostState) (who : ℕ) (socket : Socket) (to : Address)
+    (buffers now id : ℕ) (new : HostState) : Type 0 where
   pub room : count_of old.endpoint.links ≢ most_links
   pub free : IsNextFree old.endpoint.links id
   pub adds : AddsEnd old.endpoint new.endpoint id (dialed id socket to buffers now)
   pub here : new.here ≡ old.here ++ (id, who) ∷ []
 
 -- what is held under an id becomes this
-pub record ChangesAt (old : Station) (id : ℕ) (after : Held) (new : Station) : Type 0 where
+pub record ChangesAt (old : HostState) (id : ℕ) (after : Held) (new : HostState) : Type 0 where
   pub changes : ChangesEnd old.endpoint new.endpoint id after
   pub here : new.here ≡ old.here
 
 -- an id goes
-pub record ReleasesAt (old : Station) (id : ℕ) (new : Station) : Type 0 where
+pub record ReleasesAt (old : HostState) (id : ℕ) (new : HostState) : Type 0 where
   pub releases : ReleasesEnd old.endpoint new.endpoint id
   pub forgotten : end_at new.here id ≡ None
   pub known : (q : ℕ) → q ≢ id → end_at new.here q ≡ end_at old.here q

@@ -2,10 +2,10 @@
 use Rattle.std.specs.Prelude.{ℕ, List, [], Option, Some, None, slice_get}
 use Rattle.spx_link.specs.declared.state.State.{State}
 use Rattle.spx_messages.specs.EndpointView.{Held}
-use Rattle.ipx_steps.specs.World.{Station, held_in}
+use Rattle.ipx_steps.specs.World.{HostState, held_in}
 use Rattle.ipx_hosts.specs.Hosts.{HostsView}
 
-abbrev pub here_in : Option Station → List (ℕ × ℕ)
+abbrev pub here_in : Option HostState → List (ℕ × ℕ)
 here_in None = []
 here_in (Some s) = s.here
 
@@ -18,5 +18,5 @@ abbrev pub state_of : Option Held → Option State
 state_of None = None
 state_of (Some h) = Some h.link.state
 
-abbrev pub state_at : HostsView → ℕ → ℕ → Option State
-state_at v host id = state_of (held_in (slice_get v.stations host) id)
+abbrev pub state_on_host : HostsView → ℕ → ℕ → Option State
+state_on_host v host id = state_of (held_in (slice_get v.stations host) id)

@@ -13,7 +13,7 @@ ghost use Rattle.ipx_hosts.specs.Beginnings.{AddsHost};
 ghost use Rattle.spx_messages.specs.Arrives.{IsAcceptable};
 ghost use Rattle.spx_messages.specs.Taking.{overlong, result_view};
 ghost use Rattle.ipx_hosts.specs.Stations.{reader_of, speaker};
-ghost use Rattle.ipx_hosts.specs.Telling.{here_at, state_at};
+ghost use Rattle.ipx_hosts.specs.Telling.{here_at, state_on_host};
 ghost use Rattle.ipx_hosts.specs.Hosts.{DeliveredAt, FitTogether, LeftAs, LeftBy, Noting, PolledAt, SameHomes, Standing, is_lost, stands};
 ghost use Rattle.ipx_hosts.specs.Refusing.{CloseIsRefused, DialIsLeft, Overruns, PushesTo, SendIsRefused, TakeIsRefused, close_fault, dial_fault, end_held, send_fault, want};
 
@@ -351,7 +351,7 @@ impl Hosts {
 
     /// The state of a link of a host; None where there is none.
     pub fn state(&self, host: usize, id: u16) -> Option<State>
-        ensures { result ≡ state_at self.now host id }
+        ensures { result ≡ state_on_host self.now host id }
     {
         match self.stations.get(host) {
             Some(station) => station.state(id),

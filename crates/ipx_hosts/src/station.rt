@@ -16,7 +16,7 @@ ghost use Rattle.ipx_steps.specs.World.{end_at};
 ghost use Rattle.spx_messages.specs.Changes.{Listens};
 ghost use Rattle.ipx_hosts.specs.Beginnings.{BeginsAt};
 ghost use Rattle.ipx_hosts.specs.Refusing.{CloseIsRefused, DialIsLeft, Overruns, PushesTo, SendIsRefused, TakeIsRefused, close_fault, dial_fault, send_fault, want};
-ghost use Rattle.ipx_hosts.specs.Stations.{ChangesAt, DialsAt, ReleasesAt, Stays, StaysAt, reader_of, speaker};
+ghost use Rattle.ipx_hosts.specs.Stations.{ChangesAt, DialsAt, ReleasesAt, RefusalKeeps, StaysAt, reader_of, speaker};
 ghost use Rattle.ipx_hosts.specs.Telling.{state_of};
 
 use crate::refusal::Refusal;
@@ -28,15 +28,15 @@ use std::marker::Model;
 
 /// A host: its endpoint, and of each of its links the number of the end.
 #[derive(Drop)]
-pub struct Station {
+pub struct HostState {
     endpoint: Endpoint,
     here: Vec<(u16, usize)>,
 }
 
-impl Model for Station {
-    ghost use Rattle.ipx_steps.specs.World.{Station};
+impl Model for HostState {
+    ghost use Rattle.ipx_steps.specs.World.{HostState};
 
-    ghost Value = { Station };
+    ghost Value = { HostState };
 
     ghost view = { λ s. record { endpoint = s.endpoint; here = s.here.items } };
 }
@@ -78,12 +78,12 @@ fn forget(here: &mut Vec<(u16, usize)>, id: u16)
     here.retain(|known| known.0 != id);
 }
 
-impl Station {
+impl HostState {
     /// A host without links.
-    pub fn new(alloc: Global, network: Network, node: Node, router: Node) -> Station
+    pub fn new(alloc: Global, network: Network, node: Node, router: Node) -> HostState
         ensures begins { BeginsAt network node router None result }
     {
-        Station {
+        HostState {
             endpoint: Endpoint::new(alloc, network, node, router),
             here: Vec::new(alloc),
         }
@@ -96,10 +96,10 @@ impl Station {
         node: Node,
         router: Node,
         listen: Option<(Socket, u16)>,
-    ) -> Result<Station, OutOfMemory>
+    ) -> Result<HostState, OutOfMemory>
         ensures { IfOk result (λ s. BeginsAt network node router listen s) }
     {
-        let mut station = Station::new(alloc, network, node, router);
+        let mut station = HostState::new(alloc, network, node, router);
         if let Some((socket, buffers)) = listen {
             station.listen(alloc, socket, buffers)?;
         }
@@ -136,7 +136,7 @@ impl Station {
         ensures ok { IfOk result (λ id. DialsAt self.old who socket to buffers now id self.new) }
         ensures room { OnOk result (dial_fault (Some self.old) ≡ None) }
         ensures fault { IfErr result (DialIsLeft (Some self.old)) }
-        ensures refused { IfErr result (λ f. Stays f self.old self.new) }
+        ensures refused { IfErr result (λ f. RefusalKeeps f self.old self.new) }
         ensures home { home_of self.new.endpoint ≡ home_of self.old.endpoint }
     {
         let id = self.endpoint.dial(alloc, socket, to, buffers, now)?;

@@ -8,7 +8,7 @@ use Rattle.ipx_log.specs.Peers.{ArePeersIn, NothingInjected}
 use Rattle.ipx_log.specs.Addresses.{NothingReleased, AddressesTellPeers}
 use Rattle.ipx_log.specs.Scene.{Scene}
 use Rattle.spx_units.specs.Packets.{Home}
-use Rattle.ipx_log.specs.Deeds.{Deed, Does, Dials, Accepts, Reads, OwesReply, Gives, Rests, Sends, Takes, Overruns, Closes, Releases, Carries, Tells, Injects, IsBegun, Reached, begun, happened}
+use Rattle.ipx_log.specs.Deeds.{Deed, DoesDeed, Dials, Accepts, Reads, OwesReply, Gives, Rests, Sends, Takes, Overruns, Closes, Releases, Carries, Tells, Injects, IsBegun, Reached, begun, happened}
 use Rattle.ipx_log.proofs.Lists.{get_before}
 use Rattle.ipx_log.proofs.Folding.{seen_all-append}
 use Rattle.ipx_log.proofs.PairPremises.{Grew, all_grew}
@@ -21,7 +21,7 @@ use Rattle.ipx_log.specs.Below.{LawsBelow}
 use Rattle.ipx_log.proofs.Lists.{same_element}
 
 -- homes stand
-same_homes : (s s' : Scene) (deed : Deed) → Does deed s s' → s'.homes ≡ s.homes
+same_homes : (s s' : Scene) (deed : Deed) → DoesDeed deed s s' → s'.homes ≡ s.homes
 same_homes s s' (Dials host id socket to buffers now) does = ap (λ (z : Scene). z.homes) does.after
 same_homes s s' (Accepts host id socket parcel buffers now) does = ap (λ (z : Scene). z.homes) does.after
 same_homes s s' (Reads who parcel) does = ap (λ (z : Scene). z.homes) does.after

@@ -8,7 +8,7 @@ use Rattle.spx_link.specs.Machine.{End, Packet, got, learned, read_unit, is_want
 use Rattle.ipx_log.specs.Note.{Note, HandsIn, TakesUnit, AsksEnd, Got, SendsUnit, SendsAgain, SendsSystem, Told, Carried, Injected}
 use Rattle.ipx_log.specs.Scan.{Scan, Mark, seen, scan, unread}
 use Rattle.ipx_log.specs.Handed.{taken_by, taken_of}
-use Rattle.ipx_log.specs.PairLog.{Half, Pair, half_after, pair_after, pair_from, pair_of, new_half, got_mail, mail_of, not_mine, posted, posted_next}
+use Rattle.ipx_log.specs.PairLog.{Half, Pair, half_after, pair_after, pair_from, pair_between, new_half, got_mail, mail_of, not_mine, posted, posted_next}
 use Rattle.ipx_log.specs.Allocation.{IsMadeBy}
 use Rattle.ipx_log.proofs.Lists.{get_last}
 use Rattle.ipx_log.proofs.Tied.{mark_at}
@@ -207,7 +207,7 @@ allows_from parcels c d a b past p (n ∷ ns) are h =
     subst (λ log. Allows c d a b log (pair_from parcels c d q ns)) (append_assoc past (n ∷ []) ns)
     (allows_from parcels c d a b (past ++ n ∷ []) q ns (subst (λ t. AllNumbered t ns) (sym (seen_last past n)) are.1) next)
 
-pub allows_log : (parcels : List (List ℕ)) (c d a b : ℕ) (log : List Note) → AllNumbered unread log → Allows c d a b log (pair_of c d a b parcels log)
+pub allows_log : (parcels : List (List ℕ)) (c d a b : ℕ) (log : List Note) → AllNumbered unread log → Allows c d a b log (pair_between c d a b parcels log)
 allows_log parcels c d a b log are =
     allows_from parcels c d a b [] (record { one = new_half a; two = new_half b }) log are
     (record {

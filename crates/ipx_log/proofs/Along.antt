@@ -7,9 +7,9 @@ use Rattle.ipx_log.specs.Note.{Note}
 use Rattle.ipx_log.specs.Scan.{Scan, Role, scan}
 use Rattle.ipx_log.specs.Peers.{AreJoined}
 use Rattle.ipx_log.proofs.OfTwo.{PairPremises}
-use Rattle.ipx_log.specs.PairLog.{Pair, pair_of}
+use Rattle.ipx_log.specs.PairLog.{Pair, pair_between}
 use Rattle.ipx_log.specs.Scene.{Scene}
-use Rattle.ipx_log.specs.Deeds.{Deed, Does, Dials, Accepts, Reads, OwesReply, Gives, Rests, Sends, Takes, Overruns, Closes, Releases, Carries, Tells, Injects, IsBegun, Reached, begun, happened}
+use Rattle.ipx_log.specs.Deeds.{Deed, DoesDeed, Dials, Accepts, Reads, OwesReply, Gives, Rests, Sends, Takes, Overruns, Closes, Releases, Carries, Tells, Injects, IsBegun, Reached, begun, happened}
 use Rattle.ipx_log.specs.InStep.{Mirrors, IfStands}
 use Rattle.ipx_log.proofs.Facts.{Facts}
 use Rattle.ipx_log.proofs.NextFacts.{FactsAt, next_facts}
@@ -32,7 +32,7 @@ pub record LogGrows (s s' : Scene) : Type 0 where
 log_same : (s s' : Scene) → s'.log ≡ s.log → LogGrows s s'
 log_same s s' e = record { more = []; is = e ∙ sym (append-nil s.log) }
 
-pub log_grows : (s s' : Scene) (deed : Deed) → Does deed s s' → LogGrows s s'
+pub log_grows : (s s' : Scene) (deed : Deed) → DoesDeed deed s s' → LogGrows s s'
 log_grows s s' (Dials host id socket to buffers now) does = record { more = _; is = ap (λ (z : Scene). z.log) does.after }
 log_grows s s' (Accepts host id socket parcel buffers now) does = record { more = _; is = ap (λ (z : Scene). z.log) does.after }
 log_grows s s' (Reads who parcel) does = record { more = _; is = ap (λ (z : Scene). z.log) does.after }
@@ -58,9 +58,9 @@ facts_begun s is =
 
 held_begun : (laws : LawsBelow) (c d a b : ℕ) (s : Scene) → a ≤ most_units → b ≤ most_units → IsBegun s → HeldAt c d a b s
 held_begun laws c d a b s small small' is =
-    subst (λ es. Held c d a b es s.parcels (scan s.log) (pair_of c d a b s.parcels s.log)) (sym is.ends)
-    (subst (λ ps. Held c d a b [] ps (scan s.log) (pair_of c d a b ps s.log)) (sym is.parcels)
-    (subst (λ log. Held c d a b [] [] (scan log) (pair_of c d a b [] log)) (sym is.log)
+    subst (λ es. Held c d a b es s.parcels (scan s.log) (pair_between c d a b s.parcels s.log)) (sym is.ends)
+    (subst (λ ps. Held c d a b [] ps (scan s.log) (pair_between c d a b ps s.log)) (sym is.parcels)
+    (subst (λ log. Held c d a b [] [] (scan log) (pair_between c d a b [] log)) (sym is.log)
     (record {
       whole = record {
         sound = laws.start a b;
@@ -112,9 +112,9 @@ pub record InStep (s : Scene) (c d : ℕ) (p : Pair) : Type 0 where
   pub acknowledged : p.one.end.base ≤ p.two.end.read
   pub acknowledged_back : p.two.end.base ≤ p.one.end.read
 
-pub in_step : (c d a b : ℕ) (s : Scene) → HeldAt c d a b s → InStep s c d (pair_of c d a b s.parcels s.log)
+pub in_step : (c d a b : ℕ) (s : Scene) → HeldAt c d a b s → InStep s c d (pair_between c d a b s.parcels s.log)
 in_step c d a b s h =
-    let p : Pair = pair_of c d a b s.parcels s.log in
+    let p : Pair = pair_between c d a b s.parcels s.log in
     record {
       one = λ e l stands. let t = (h.whole.one.link e l stands.there stands.link).tracks.counts in record { next = t.next; expected = t.expected; out = t.out; room = t.room; held = t.held };
       two = λ e l stands. let t = (h.whole.two.link e l stands.there stands.link).tracks.counts in record { next = t.next; expected = t.expected; out = t.out; room = t.room; held = t.held };

@@ -9,11 +9,11 @@ use Rattle.spx_link.specs.LinkView.{LinkView}
 use Rattle.ipx_wire.specs.Connection.{IsConnectionPacket}
 use Rattle.ipx_log.specs.SentUnits.{SaysOnly}
 use Rattle.ipx_log.specs.Packets.{IsOneOn, one_on}
-use Rattle.spx_units.specs.Packets.{Home, IsWritten}
+use Rattle.spx_units.specs.Packets.{Home, IsWrittenPacket}
 use Rattle.ipx_log.specs.Below.{LawsBelow}
 
 -- what was written is read as what was given, and as nothing else
-pub written_says : (laws : LawsBelow) (home : Home) (l : LinkView) (g : OutgoingView) (bytes : List ℕ) → IsWritten home l g bytes → SaysOnly g.header g.body bytes
+pub written_says : (laws : LawsBelow) (home : Home) (l : LinkView) (g : OutgoingView) (bytes : List ℕ) → IsWrittenPacket home l g bytes → SaysOnly g.header g.body bytes
 written_says laws home l g bytes w p k other reads =
     let same = (laws.one_packet p w.packet bytes reads.tail [] reads.packet w.is).0 in
     let spx : IsSpx k other w.packet.body = subst (λ (q : PacketView). IsSpx k other q.body) same reads.spx in

@@ -12,8 +12,8 @@ use Rattle.ipx_log.specs.Note.{Note, Opened, Accepted, Got, HandsIn, AsksEnd, Ta
 use Rattle.ipx_log.specs.Scan.{Scan, Mark, seen, seen_all, scan, unread, one_further}
 use Rattle.ipx_log.specs.Scene.{Scene}
 use Rattle.ipx_log.specs.Packets.{IsOneOn, one_on, note_of, notes_of, out_notes}
-use Rattle.ipx_log.specs.Deeds.{Deed, Does, Dials, Accepts, Reads, OwesReply, Gives, Rests, Sends, Takes, Overruns, Closes, Releases, Carries, Tells, Injects, Reached, begun, happened}
-use Rattle.ipx_log.specs.Carried.{raised, IsCarried, RoutersAlterHopsAlone}
+use Rattle.ipx_log.specs.Deeds.{Deed, DoesDeed, Dials, Accepts, Reads, OwesReply, Gives, Rests, Sends, Takes, Overruns, Closes, Releases, Carries, Tells, Injects, Reached, begun, happened}
+use Rattle.ipx_log.specs.Carried.{behind_routers, IsCarried, RoutersAlterHopsAlone}
 use Rattle.ipx_log.proofs.Lists.{get_last, get_before, get_here}
 use Rattle.ipx_log.proofs.Tied.{mark_at}
 use Rattle.ipx_log.proofs.Adding.{mark_before, mark_here}
@@ -34,7 +34,7 @@ net_twice : (own n here : Network) → n.0 ≢ 0 → (b : Bool) → b ≡ (own.0
 net_twice own n here h true e = rw (not_zero n.0 h) refl
 net_twice own n here h false e = rw (sym e) refl
 
-twice : (network here : Network) (passed : ℕ) (p : PacketView) → network.0 ≢ 0 → one_on here (raised passed network p) ≡ raised (passed + 1) network p
+twice : (network here : Network) (passed : ℕ) (p : PacketView) → network.0 ≢ 0 → one_on here (behind_routers passed network p) ≡ behind_routers (passed + 1) network p
 twice network here passed p h =
     rw (add_assoc p.header.hops passed 1, net_twice p.header.from.network network here h (p.header.from.network.0 == 0) refl) refl
 
@@ -58,7 +58,7 @@ carried laws parcels segments from k network old new m c at on =
         | inl own ↦
             let same : network ≡ c.network = cc (sym at ∙ ap (slice_get segments) (sym own.2) ∙ c.lies) in
             let one : m.passed + 1 ≡ 1 = omega (arith, own.0) in
-            let becomes : IsIpx (raised 1 c.network on.packet) new [] = subst (λ (n : Network). IsIpx (one_on n on.packet) new []) same on.becomes in
+            let becomes : IsIpx (behind_routers 1 c.network on.packet) new [] = subst (λ (n : Network). IsIpx (one_on n on.packet) new []) same on.becomes in
             inr (
               omega arith,
               (λ zero'. on.network_is (ap (λ (n : Network). n.0) same ∙ zero')),
@@ -66,14 +66,14 @@ carried laws parcels segments from k network old new m c at on =
                 packet = on.packet;
                 tail = on.tail;
                 is = subst (λ bs. IsIpx on.packet bs on.tail) own.1 on.is;
-                becomes = subst (λ n. IsIpx (raised n c.network on.packet) new []) (sym one) becomes;
+                becomes = subst (λ n. IsIpx (behind_routers n c.network on.packet) new []) (sym one) becomes;
                 most = omega (arith, on.hops, own.0);
               },
             )
         | inr far ↦
             let before = far.2 in
-            let same : on.packet ≡ raised m.passed c.network before.packet = (laws.one_packet on.packet (raised m.passed c.network before.packet) old on.tail [] on.is before.becomes).0 in
-            let becomes : IsIpx (one_on network (raised m.passed c.network before.packet)) new [] = subst (λ (p : PacketView). IsIpx (one_on network p) new []) same on.becomes in
+            let same : on.packet ≡ behind_routers m.passed c.network before.packet = (laws.one_packet on.packet (behind_routers m.passed c.network before.packet) old on.tail [] on.is before.becomes).0 in
+            let becomes : IsIpx (one_on network (behind_routers m.passed c.network before.packet)) new [] = subst (λ (p : PacketView). IsIpx (one_on network p) new []) same on.becomes in
             inr (
               omega arith,
               far.1,
@@ -201,7 +201,7 @@ moved s bytes segment n m adds new o =
 abbrev segments_of : Scene → List Network
 segments_of z = z.segments
 
-next_origins : (laws : LawsBelow) (s s' : Scene) (deed : Deed) → Does deed s s' → OriginsAt s → OriginsAt s'
+next_origins : (laws : LawsBelow) (s s' : Scene) (deed : Deed) → DoesDeed deed s s' → OriginsAt s → OriginsAt s'
 next_origins laws s s' (Dials host id socket to buffers now) does o =
     unmoved s s' (Opened (length s.ends) host buffers ∷ []) (ap parcels_of does.after) (ap segments_of does.after) (ap log_of does.after) refl o
 next_origins laws s s' (Accepts host id socket parcel buffers now) does o =

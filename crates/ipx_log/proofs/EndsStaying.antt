@@ -10,10 +10,10 @@ use Rattle.spx_link.specs.Receive.{receive_link}
 use Rattle.ipx_log.specs.Note.{Note, Opened, Accepted, Got, HandsIn, AsksEnd, TakesUnit, Released, Told, Carried, Injected}
 use Rattle.ipx_log.specs.Scan.{Scan, times, seen, seen_all, scan, unread}
 use Rattle.ipx_log.specs.Scene.{Scene, Stand, Stands, linked}
-use Rattle.ipx_log.specs.Deeds.{Deed, Does, Dials, Accepts, Reads, OwesReply, Gives, Rests, Sends, Takes, Overruns, Closes, Releases, Carries, Tells, Injects}
+use Rattle.ipx_log.specs.Deeds.{Deed, DoesDeed, Dials, Accepts, Reads, OwesReply, Gives, Rests, Sends, Takes, Overruns, Closes, Releases, Carries, Tells, Injects}
 use Rattle.ipx_log.specs.Packets.{note_of, notes_of, out_notes}
 use Rattle.ipx_log.specs.SentUnits.{sent_by}
-use Rattle.ipx_log.specs.EndsTold.{StaysAt}
+use Rattle.ipx_log.specs.EndsTold.{StaysAtHost}
 use Rattle.ipx_log.proofs.Lists.{get_before, times-append}
 use Rattle.ipx_log.proofs.Folding.{seen_all-append}
 use Rattle.ipx_log.proofs.Held.{outs_seen, set_other, set_here}
@@ -43,7 +43,7 @@ no_more s j old new k more n there is by who e at gone =
           now ∙ omega (arith, counts, none)
     ]
 
-pub gone_sends_nothing : (s s' : Scene) (deed : Deed) → Does deed s s' → (who : ℕ) (e : Stand) → slice_get s'.ends who ≡ Some e → e.link ≡ None → sent_by who s'.log ≡ sent_by who s.log
+pub gone_sends_nothing : (s s' : Scene) (deed : Deed) → DoesDeed deed s s' → (who : ℕ) (e : Stand) → slice_get s'.ends who ≡ Some e → e.link ≡ None → sent_by who s'.log ≡ sent_by who s.log
 gone_sends_nothing s s' (Dials host id socket to buffers now) does j e at gone = quiet s s' (Opened (length s.ends) host buffers ∷ []) j (ap log_of does.after) refl
 gone_sends_nothing s s' (Accepts host id socket parcel buffers now) does j e at gone = quiet s s' (Accepted (length s.ends) parcel buffers ∷ Got (length s.ends) parcel ∷ []) j (ap log_of does.after) refl
 gone_sends_nothing s s' (Reads who parcel) does j e at gone =
@@ -70,7 +70,7 @@ gone_sends_nothing s s' (Injects segment bytes) does j e at gone = quiet s s' (I
 -- ---- ends stay
 
 abbrev IsStill : List Stand → ℕ → Stand → Type 0
-IsStill ends who e = (f : Stand) × (slice_get ends who ≡ Some f) × StaysAt e f
+IsStill ends who e = (f : Stand) × (slice_get ends who ≡ Some f) × StaysAtHost e f
 
 stays_same : (ends : List Stand) (who : ℕ) (e : Stand) → slice_get ends who ≡ Some e → IsStill ends who e
 stays_same ends who e at = (e, at, record { host = refl; gone = λ is. refl })
@@ -93,7 +93,7 @@ stays_set s j old new l stands host who e at =
 abbrev IsStillIn : ℕ → Stand → Scene → Type 0
 IsStillIn who e z = IsStill z.ends who e
 
-pub ends_stay : (s s' : Scene) (deed : Deed) → Does deed s s' → (who : ℕ) (e : Stand) → slice_get s.ends who ≡ Some e → (f : Stand) × (slice_get s'.ends who ≡ Some f) × StaysAt e f
+pub ends_stay : (s s' : Scene) (deed : Deed) → DoesDeed deed s s' → (who : ℕ) (e : Stand) → slice_get s.ends who ≡ Some e → (f : Stand) × (slice_get s'.ends who ≡ Some f) × StaysAtHost e f
 ends_stay s s' (Dials host id socket to buffers now) does j e at = subst (IsStillIn j e) (sym does.after) (stays_before s.ends _ j e at)
 ends_stay s s' (Accepts host id socket parcel buffers now) does j e at = subst (IsStillIn j e) (sym does.after) (stays_before s.ends _ j e at)
 ends_stay s s' (Reads who parcel) does j e at = subst (IsStillIn j e) (sym does.after) (stays_set s who does.stand _ does.link does.stands refl j e at)

@@ -15,7 +15,7 @@ use Rattle.spx_units.specs.Cut.{cut_of}
 use Rattle.ipx_log.specs.Note.{Note, Opened, Accepted, Got, HandsIn, AsksEnd, TakesUnit, Released, Told, Carried, Injected}
 use Rattle.ipx_log.specs.Scan.{Scan, Role, Maker, times, seen, seen_all, scan, unread, no_role, mark_of, joined_by, asker}
 use Rattle.ipx_log.specs.Scene.{Scene, Stand, linked}
-use Rattle.ipx_log.specs.Deeds.{Deed, Does, Dials, Accepts, Reads, OwesReply, Gives, Rests, Sends, Takes, Overruns, Closes, Releases, Carries, Tells, Injects, Reached, begun, happened}
+use Rattle.ipx_log.specs.Deeds.{Deed, DoesDeed, Dials, Accepts, Reads, OwesReply, Gives, Rests, Sends, Takes, Overruns, Closes, Releases, Carries, Tells, Injects, Reached, begun, happened}
 use Rattle.ipx_log.specs.Packets.{note_of, notes_of, out_notes}
 use Rattle.ipx_log.specs.EndsTold.{EndsAreTold}
 use Rattle.ipx_log.proofs.Lists.{get_last, get_set, times-append}
@@ -197,7 +197,7 @@ AreToldAt s = AreTold s.ends (scan s.log)
 told_at : (ends : List Stand) (log ns : List Note) → AreTold ends (seen_all (scan log) ns) → AreTold ends (scan (log ++ ns))
 told_at ends log ns a = subst (AreTold ends) (sym (seen_all-append unread log ns)) a
 
-next_told : (laws : LawsBelow) (s s' : Scene) (deed : Deed) → Does deed s s' → AreToldAt s → AreToldAt s'
+next_told : (laws : LawsBelow) (s s' : Scene) (deed : Deed) → DoesDeed deed s s' → AreToldAt s → AreToldAt s'
 next_told laws s s' (Dials host id socket to buffers now) does a =
     subst AreToldAt (sym does.after)
     (told_at _ s.log (Opened (length s.ends) host buffers ∷ [])

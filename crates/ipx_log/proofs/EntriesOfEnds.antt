@@ -14,7 +14,7 @@ use Rattle.spx_units.specs.Message.{MessageView}
 use Rattle.spx_units.specs.Cut.{cut_of}
 use Rattle.ipx_log.specs.Note.{Note, Opened, Accepted, Joined, HandsIn, HandsOut, TakesUnit, AsksEnd, Got, Released, SendsUnit, SendsAgain, SendsSystem, Told, Carried, Injected}
 use Rattle.ipx_log.specs.Scene.{Scene, Stand, Stands, linked}
-use Rattle.ipx_log.specs.Deeds.{Deed, Does, Dials, Accepts, Reads, OwesReply, Gives, Rests, Sends, Takes, Overruns, Closes, Releases, Carries, Tells, Injects, Reached, begun, happened}
+use Rattle.ipx_log.specs.Deeds.{Deed, DoesDeed, Dials, Accepts, Reads, OwesReply, Gives, Rests, Sends, Takes, Overruns, Closes, Releases, Carries, Tells, Injects, Reached, begun, happened}
 use Rattle.ipx_log.specs.Packets.{note_of, notes_of, out_notes}
 use Rattle.ipx_log.specs.EntriesOfEnds.{EntriesTellEnds}
 use Rattle.ipx_log.proofs.Lists.{get_last, get_set}
@@ -236,7 +236,7 @@ other_unsaid j m at who differ n has is =
     let k : j ≡ who = cc both in
     differ k
 
-next_said : (laws : LawsBelow) (s s' : Scene) (deed : Deed) → Does deed s s' → AreSaid s → AreSaid s'
+next_said : (laws : LawsBelow) (s s' : Scene) (deed : Deed) → DoesDeed deed s s' → AreSaid s → AreSaid s'
 next_said laws s s' (Dials host id socket to buffers now) does said =
     let j : ℕ = length s.ends in
     let n : Note = Opened j host buffers in

@@ -4,7 +4,7 @@ use Rattle.std.specs.Prelude.{slice_index_or}
 use Rattle.ipx_log.specs.Note.{Note, Opened, Accepted, Joined, HandsIn, HandsOut, TakesUnit, AsksEnd, Got, Released, SendsUnit, SendsAgain, SendsSystem, Told, Carried, Injected}
 use Rattle.ipx_log.specs.Scan.{Scan, seen, seen_all}
 use Rattle.ipx_wire.specs.Connection.{sequence_in}
-use Rattle.ipx_log.specs.PairLog.{Half, Pair, half_after, not_mine, posted, position_of, pair_after, pair_from, pair_of, new_half}
+use Rattle.ipx_log.specs.PairLog.{Half, Pair, half_after, not_mine, posted, position_of, pair_after, pair_from, pair_between, new_half}
 
 pub seen_all-append : (s : Scan) (xs ys : List Note) → seen_all s (xs ++ ys) ≡ seen_all (seen_all s xs) ys
 seen_all-append s [] ys = refl
@@ -83,11 +83,11 @@ pair_same parcels more c d p (n ∷ ns) are =
 
 -- entries and parcels come
 pub pair_grows : (c d a b : ℕ) (parcels more : List (List ℕ)) (log ns : List Note) → AreIn (length parcels) log
-    → pair_of c d a b (parcels ++ more) (log ++ ns) ≡ pair_from (parcels ++ more) c d (pair_of c d a b parcels log) ns
+    → pair_between c d a b (parcels ++ more) (log ++ ns) ≡ pair_from (parcels ++ more) c d (pair_between c d a b parcels log) ns
 pair_grows c d a b parcels more log ns are =
     let start : Pair = record { one = new_half a; two = new_half b } in
     pair_from-append (parcels ++ more) c d start log ns ∙ ap (λ p. pair_from (parcels ++ more) c d p ns) (pair_same parcels more c d start log are)
 
 -- entries come alone
-pub pair_noted : (c d a b : ℕ) (parcels : List (List ℕ)) (log ns : List Note) → pair_of c d a b parcels (log ++ ns) ≡ pair_from parcels c d (pair_of c d a b parcels log) ns
+pub pair_noted : (c d a b : ℕ) (parcels : List (List ℕ)) (log ns : List Note) → pair_between c d a b parcels (log ++ ns) ≡ pair_from parcels c d (pair_between c d a b parcels log) ns
 pair_noted c d a b parcels log ns = pair_from-append parcels c d (record { one = new_half a; two = new_half b }) log ns

@@ -8,7 +8,7 @@ use Rattle.spx_link.specs.Receive.{receive_link}
 use Rattle.spx_units.specs.Message.{MessageView}
 use Rattle.ipx_log.specs.Note.{Note, SendsUnit}
 use Rattle.ipx_log.specs.Scene.{Scene}
-use Rattle.ipx_log.specs.Deeds.{Deed, Does, DoesGive, Dials, Accepts, Reads, OwesReply, Gives, Rests, Sends, Takes, Overruns, Closes, Releases, Carries, Tells, Injects, Reached, begun, happened}
+use Rattle.ipx_log.specs.Deeds.{Deed, DoesDeed, DoesGive, Dials, Accepts, Reads, OwesReply, Gives, Rests, Sends, Takes, Overruns, Closes, Releases, Carries, Tells, Injects, Reached, begun, happened}
 use Rattle.ipx_log.specs.Packets.{note_of, notes_of, out_notes}
 use Rattle.ipx_log.proofs.Growing.{splits}
 use Rattle.spx_link.specs.declared.outgoing.Sent.TheVariants as Sents
@@ -88,7 +88,7 @@ silent s s' after who parcel is = record { ns = []; log = is ∙ sym (append-nil
 with_notes : (s s' : Scene) (ns after : List Note) (who parcel : ℕ) → s'.log ≡ s.log ++ ns → NoUnits ns → Last s s' after who parcel
 with_notes s s' ns after who parcel is free = record { ns = ns; log = is; is = nothing s s' ns after who parcel free }
 
-last : (s s' : Scene) (deed : Deed) (after : List Note) (who parcel : ℕ) → Does deed s s' → Last s s' after who parcel
+last : (s s' : Scene) (deed : Deed) (after : List Note) (who parcel : ℕ) → DoesDeed deed s s' → Last s s' after who parcel
 last s s' (Dials host id socket to buffers now) after who parcel does = with_notes s s' _ after who parcel (ap log_of does.after) (tt, tt)
 last s s' (Accepts host id socket k buffers now) after who parcel does = with_notes s s' _ after who parcel (ap log_of does.after) (tt, (tt, tt))
 last s s' (Reads e k) after who parcel does = with_notes s s' _ after who parcel (ap log_of does.after) (read_none (receive_link does.link does.header does.body).0 e k)

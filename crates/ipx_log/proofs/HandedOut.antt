@@ -11,7 +11,7 @@ use Rattle.spx_units.specs.Joining.{Joining, join_unit, joined}
 use Rattle.ipx_log.specs.Note.{Note, Opened, Accepted, Got, HandsIn, AsksEnd, TakesUnit, Released, Told, Carried, Injected}
 use Rattle.ipx_log.specs.Handed.{out_by, taken_by, gathered, handed_out, taken_of}
 use Rattle.ipx_log.specs.Scene.{Scene, Stand, linked}
-use Rattle.ipx_log.specs.Deeds.{Deed, Does, Dials, Accepts, Reads, OwesReply, Gives, Rests, Sends, Takes, Overruns, Closes, Releases, Carries, Tells, Injects, Reached, begun, happened}
+use Rattle.ipx_log.specs.Deeds.{Deed, DoesDeed, Dials, Accepts, Reads, OwesReply, Gives, Rests, Sends, Takes, Overruns, Closes, Releases, Carries, Tells, Injects, Reached, begun, happened}
 use Rattle.ipx_log.specs.Packets.{note_of, notes_of, out_notes}
 use Rattle.ipx_log.specs.HandedOut.{HandsOutWhatItTook}
 use Rattle.ipx_log.proofs.Lists.{get_last, get_set}
@@ -125,7 +125,7 @@ takes_other j who ends log stand w u joins differ at h =
 abbrev pub HandsOverAt : Scene → Type 0
 HandsOverAt s = (who : ℕ) → HandsOver s.ends s.log who
 
-next_handed : (s s' : Scene) (deed : Deed) → Does deed s s' → HandsOverAt s → HandsOverAt s'
+next_handed : (s s' : Scene) (deed : Deed) → DoesDeed deed s s' → HandsOverAt s → HandsOverAt s'
 next_handed s s' (Dials host id socket to buffers now) does h =
     subst HandsOverAt (sym does.after)
     (λ who. silent who s.ends (s.ends ++ _ ∷ []) s.log (Opened (length s.ends) host buffers ∷ []) (record { ok = (tt, tt); taken = λ e. refl; out = λ e. refl })

@@ -18,7 +18,7 @@ use Rattle.ipx_log.specs.Note.{Note, Opened, Accepted, Joined, Got, HandsIn, Ask
 use Rattle.ipx_log.specs.Scan.{Scan, Reading, seen, seen_all, scan, unread, is_now}
 use Rattle.ipx_log.specs.Handed.{taken_by, gathered, taken_of}
 use Rattle.ipx_log.specs.Scene.{Scene, Stand, Stands, linked}
-use Rattle.ipx_log.specs.Deeds.{Deed, Does, Dials, Accepts, Reads, OwesReply, Gives, Rests, Sends, Takes, Overruns, Closes, Releases, Carries, Tells, Injects, Reached, begun, happened}
+use Rattle.ipx_log.specs.Deeds.{Deed, DoesDeed, Dials, Accepts, Reads, OwesReply, Gives, Rests, Sends, Takes, Overruns, Closes, Releases, Carries, Tells, Injects, Reached, begun, happened}
 use Rattle.ipx_log.specs.Packets.{note_of, out_notes}
 use Rattle.ipx_log.proofs.Lists.{get_last, get_set, get_here, get_before}
 use Rattle.ipx_log.proofs.Folding.{seen_all-append}
@@ -27,7 +27,7 @@ use Rattle.ipx_log.proofs.PairPremises.{all_grew}
 use Rattle.ipx_log.proofs.HeldReads.{notes_cases}
 use Rattle.ipx_log.proofs.NextFacts.{FactsAt}
 use Rattle.ipx_log.proofs.Along.{LogGrows, facts_along}
-use Rattle.ipx_pairs.specs.Confirmed.{IsRight, Stays}
+use Rattle.ipx_pairs.specs.Confirmed.{ConfirmedIsDone, PollLeaves}
 use Rattle.ipx_pairs.specs.Tracks.{IsOpen, may_end}
 use Rattle.spx_link.specs.declared.received.Received.TheVariants as R
 use Rattle.ipx_log.proofs.SenderScenes.{senders_along}
@@ -46,7 +46,7 @@ pub record HasRead (readings : List Reading) (who : ℕ) : Type 0 where
 
 pub record LinkOk (s : Scene) (who : ℕ) (l : LinkView) : Type 0 where
   pub read : HasRead (scan s.log).readings who ⊎ ((l.held ≡ []) × (l.end_queued ≡ true → length l.queue ≢ 0))
-  pub right : IsRight l
+  pub right : ConfirmedIsDone l
   pub asked : l.end_queued ≡ true → Contains s.log (AsksEnd who)
 
 abbrev pub LinksOk : Scene → Type 0
@@ -73,7 +73,7 @@ asked_grows : (s s' : Scene) (n : Note) → LogGrows s s' → Contains s.log n �
 asked_grows s s' n g h = subst (λ log. Contains log n) (sym g.is) (Contains-append_left s.log g.more n h)
 
 -- the link stays as it was, or is lost
-stays_ok : (s s' : Scene) (who : ℕ) (l k : LinkView) → LogGrows s s' → Stays l k → LinkOk s who l → LinkOk s' who k
+stays_ok : (s s' : Scene) (who : ℕ) (l k : LinkView) → LogGrows s s' → PollLeaves l k → LinkOk s who l → LinkOk s' who k
 stays_ok s s' who l k g stays ok =
     record {
       read = elim ok.read [
@@ -87,7 +87,7 @@ stays_ok s s' who l k g stays ok =
       asked = λ ended. asked_grows s s' (AsksEnd who) g (ok.asked (sym stays.queued ∙ ended));
     }
 
-same_stays : (l : LinkView) → Stays l l
+same_stays : (l : LinkView) → PollLeaves l l
 same_stays l = record { held = refl; queued = refl; queue = refl; state = inl refl }
 
 -- ---- the links of the next scene
@@ -176,7 +176,7 @@ gives_read laws s who l u ok gives = elim ok.read [ inl h ↦ h | inr none ↦ a
 abbrev pub AreOpen : Scene → Type 0
 AreOpen s = (who : ℕ) (e : Stand) (l : LinkView) → Stands s who e l → IsOpen l
 
-pub next_heard : (laws : LawsBelow) (s s' : Scene) (deed : Deed) → Does deed s s' → FactsAt s → AreOpen s → Heard s → Heard s'
+pub next_heard : (laws : LawsBelow) (s s' : Scene) (deed : Deed) → DoesDeed deed s s' → FactsAt s → AreOpen s → Heard s → Heard s'
 next_heard laws s s' (Dials host id socket to buffers now) does f open' h =
     let g : LogGrows s s' = grows_by s s' (Opened (length s.ends) host buffers ∷ []) (ap log_of does.after) in
     record {

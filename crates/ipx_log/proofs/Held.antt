@@ -8,7 +8,7 @@ use Rattle.ipx_log.proofs.Stepping.{swapped}
 use Rattle.spx_units.specs.Message.{MessageView}
 use Rattle.ipx_log.specs.Note.{Note}
 use Rattle.ipx_log.specs.Scan.{Scan, Mark, Role, seen, seen_all, scan, unread}
-use Rattle.ipx_log.specs.PairLog.{Half, Pair, pair_after, pair_from, pair_of}
+use Rattle.ipx_log.specs.PairLog.{Half, Pair, pair_after, pair_from, pair_between}
 use Rattle.ipx_pairs.specs.States.{is_quiet}
 use Rattle.ipx_log.specs.Scene.{Scene, Stand}
 use Rattle.ipx_log.specs.Packets.{out_notes}
@@ -45,20 +45,20 @@ turned c d ends parcels marks sent x y w = record { sound = swapped x.end y.end 
 
 module _ (c d a b : ℕ) where
   abbrev pub HeldAt : Scene → Type 0
-  HeldAt s = Held c d a b s.ends s.parcels (scan s.log) (pair_of c d a b s.parcels s.log)
+  HeldAt s = Held c d a b s.ends s.parcels (scan s.log) (pair_between c d a b s.parcels s.log)
 
   pub at_noted : (s : Scene) (ends : List Stand) (ns : List Note)
-      → Held c d a b ends s.parcels (seen_all (scan s.log) ns) (pair_from s.parcels c d (pair_of c d a b s.parcels s.log) ns)
-      → Held c d a b ends s.parcels (scan (s.log ++ ns)) (pair_of c d a b s.parcels (s.log ++ ns))
+      → Held c d a b ends s.parcels (seen_all (scan s.log) ns) (pair_from s.parcels c d (pair_between c d a b s.parcels s.log) ns)
+      → Held c d a b ends s.parcels (scan (s.log ++ ns)) (pair_between c d a b s.parcels (s.log ++ ns))
   at_noted s ends ns h =
-      subst (λ t. Held c d a b ends s.parcels t (pair_of c d a b s.parcels (s.log ++ ns))) (sym (seen_all-append unread s.log ns))
+      subst (λ t. Held c d a b ends s.parcels t (pair_between c d a b s.parcels (s.log ++ ns))) (sym (seen_all-append unread s.log ns))
       (subst (λ p. Held c d a b ends s.parcels (seen_all (scan s.log) ns) p) (sym (pair_noted c d a b s.parcels s.log ns)) h)
 
   pub at_sent : (s : Scene) (ends : List Stand) (bytes : List ℕ) (n : Note) → AreIn (length s.parcels) s.log
-      → Held c d a b ends (s.parcels ++ bytes ∷ []) (seen (scan s.log) n) (pair_after (s.parcels ++ bytes ∷ []) c d (pair_of c d a b s.parcels s.log) n)
-      → Held c d a b ends (s.parcels ++ bytes ∷ []) (scan (s.log ++ n ∷ [])) (pair_of c d a b (s.parcels ++ bytes ∷ []) (s.log ++ n ∷ []))
+      → Held c d a b ends (s.parcels ++ bytes ∷ []) (seen (scan s.log) n) (pair_after (s.parcels ++ bytes ∷ []) c d (pair_between c d a b s.parcels s.log) n)
+      → Held c d a b ends (s.parcels ++ bytes ∷ []) (scan (s.log ++ n ∷ [])) (pair_between c d a b (s.parcels ++ bytes ∷ []) (s.log ++ n ∷ []))
   at_sent s ends bytes n are h =
-      subst (λ t. Held c d a b ends (s.parcels ++ bytes ∷ []) t (pair_of c d a b (s.parcels ++ bytes ∷ []) (s.log ++ n ∷ []))) (sym (seen_all-append unread s.log (n ∷ [])))
+      subst (λ t. Held c d a b ends (s.parcels ++ bytes ∷ []) t (pair_between c d a b (s.parcels ++ bytes ∷ []) (s.log ++ n ∷ []))) (sym (seen_all-append unread s.log (n ∷ [])))
       (subst (λ p. Held c d a b ends (s.parcels ++ bytes ∷ []) (seen (scan s.log) n) p) (sym (pair_grows c d a b s.parcels (bytes ∷ []) s.log (n ∷ []) are)) h)
 
 -- ---- entries that say nothing here

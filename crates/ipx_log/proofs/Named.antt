@@ -21,7 +21,7 @@ use Rattle.ipx_log.specs.Peers.{end_of}
 use Rattle.ipx_log.specs.Named.{PeersAreNamed}
 use Rattle.ipx_log.specs.Scene.{Scene, Stand, Stands, linked}
 use Rattle.ipx_log.specs.Packets.{note_of, out_notes}
-use Rattle.ipx_log.specs.Deeds.{Deed, Does, DoesGive, DoesRead, Dials, Accepts, Reads, OwesReply, Gives, Rests, Sends, Takes, Overruns, Closes, Releases, Carries, Tells, Injects, IsBegun, Reached, begun, happened}
+use Rattle.ipx_log.specs.Deeds.{Deed, DoesDeed, DoesGive, DoesRead, Dials, Accepts, Reads, OwesReply, Gives, Rests, Sends, Takes, Overruns, Closes, Releases, Carries, Tells, Injects, IsBegun, Reached, begun, happened}
 use Rattle.ipx_log.specs.Below.{LawsBelow}
 use Rattle.ipx_log.proofs.Adding.{mark_before, mark_here}
 use Rattle.ipx_log.proofs.Along.{facts_along}
@@ -225,7 +225,7 @@ gives laws s s' who now segment bytes does f c =
     let says : k.own ≡ h.from_id = ap (λ (y : Names). y.own) n.keeps ∙ sym (ap (λ (x : SpxHeader). x.from_id) header ∙ (n.gave does.given does.gives).from) in
     ap (slice_get put.0) (sym same) ∙ put.1.own who w k (set_here s.ends who w does.stand does.stands.there) refl ∙ ap Some says)))
 
-next_called : (laws : LawsBelow) (s s' : Scene) (deed : Deed) → Does deed s s' → FactsAt s → CalledAt s → CalledAt s'
+next_called : (laws : LawsBelow) (s s' : Scene) (deed : Deed) → DoesDeed deed s s' → FactsAt s → CalledAt s → CalledAt s'
 next_called laws s s' (Dials host id socket to buffers now) does f c =
     let l : LinkView = dialed id socket to buffers now in
     let ns : List Note = Opened (length s.ends) host buffers ∷ [] in

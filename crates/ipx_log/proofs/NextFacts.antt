@@ -11,7 +11,7 @@ use Rattle.ipx_log.specs.Note.{Note, Opened, Accepted, Joined, Got, HandsIn, Ask
 use Rattle.ipx_log.specs.Scan.{Scan, Mark, seen, seen_all, scan, unread, mark_of, one_further, asker, ByUnit, BySystem, ByRouter, FromOutside}
 use Rattle.ipx_log.specs.Peers.{end_of}
 use Rattle.ipx_log.specs.Scene.{Scene, Stand, Stands, linked}
-use Rattle.ipx_log.specs.Deeds.{Deed, Does, Dials, Accepts, Reads, OwesReply, Gives, Rests, Sends, Takes, Overruns, Closes, Releases, Carries, Tells, Injects}
+use Rattle.ipx_log.specs.Deeds.{Deed, DoesDeed, Dials, Accepts, Reads, OwesReply, Gives, Rests, Sends, Takes, Overruns, Closes, Releases, Carries, Tells, Injects}
 use Rattle.ipx_log.specs.Packets.{note_of, out_notes}
 use Rattle.std.proofs.lemmas.Option.{slice_get_within}
 use Rattle.ipx_log.proofs.Folding.{NoteIn, seen_all-append}
@@ -83,7 +83,7 @@ given_scan s Sents.Again who k = record { marks = refl; roles = refl; newest = r
 given_scan s Sents.Ack who k = record { marks = refl; roles = refl; newest = refl; maker = refl }
 given_scan s Sents.Probe who k = record { marks = refl; roles = refl; newest = refl; maker = refl }
 
-pub next_facts : (laws : LawsBelow) (s s' : Scene) (deed : Deed) → Does deed s s' → FactsAt s → FactsAt s'
+pub next_facts : (laws : LawsBelow) (s s' : Scene) (deed : Deed) → DoesDeed deed s s' → FactsAt s → FactsAt s'
 next_facts laws s s' (Dials host id socket to buffers now) does f =
     subst FactsAt (sym does.after)
     (facts_at _ s.parcels s.log (Opened (length s.ends) host buffers ∷ [])

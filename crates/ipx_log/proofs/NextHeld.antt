@@ -16,14 +16,14 @@ use Rattle.ipx_wire.specs.Connection.{IsConnectionPacket}
 use Rattle.ipx_log.specs.Note.{Note, Opened, Accepted, Got, HandsIn, AsksEnd, TakesUnit, Released, Told, Carried, Injected}
 use Rattle.ipx_log.specs.Scan.{Each, Scan, seen_all, scan, unread, ByRouter, FromOutside}
 use Rattle.ipx_log.proofs.OfTwo.{AreRoles, ReadsOf, PairPremises}
-use Rattle.ipx_log.specs.PairLog.{Half, Pair, pair_after, pair_from, pair_of}
+use Rattle.ipx_log.specs.PairLog.{Half, Pair, pair_after, pair_from, pair_between}
 use Rattle.ipx_pairs.specs.Tracks.{Formed, core, Follows, may_end}
 use Rattle.ipx_pairs.specs.Spelling.{PolledTo}
 use Rattle.ipx_pairs.specs.States.{is_quiet}
 use Rattle.ipx_log.specs.Scene.{Scene, Stand, linked}
 use Rattle.ipx_log.specs.Packets.{note_of, notes_of, out_notes}
-use Rattle.spx_units.specs.Packets.{Home, IsWritten}
-use Rattle.ipx_log.specs.Deeds.{Deed, Does, DoesOverrun, Dials, Accepts, Reads, OwesReply, Gives, Rests, Sends, Takes, Overruns, Closes, Releases, Carries, Tells, Injects}
+use Rattle.spx_units.specs.Packets.{Home, IsWrittenPacket}
+use Rattle.ipx_log.specs.Deeds.{Deed, DoesDeed, DoesOverrun, Dials, Accepts, Reads, OwesReply, Gives, Rests, Sends, Takes, Overruns, Closes, Releases, Carries, Tells, Injects}
 use Rattle.ipx_log.proofs.Tied.{Whole}
 use Rattle.ipx_log.proofs.Bytes.{written_says}
 use Rattle.ipx_log.proofs.Taking.{rests_whole}
@@ -81,7 +81,7 @@ notes_sent s Rs.PeerEnded who k = refl
 notes_sent s Rs.Confirmed who k = refl
 notes_sent s Rs.Stranger who k = refl
 
-written_packet : (home : Home) (l : LinkView) (g : OutgoingView) (bytes : List ℕ) (w : IsWritten home l g bytes) → IsConnectionPacket w.packet g.header g.body bytes
+written_packet : (home : Home) (l : LinkView) (g : OutgoingView) (bytes : List ℕ) (w : IsWrittenPacket home l g bytes) → IsConnectionPacket w.packet g.header g.body bytes
 written_packet home l g bytes w = record { tail = []; packet = w.is; kind = w.kind; spx = w.spx }
 
 module _ (laws : LawsBelow) (c d a b : ℕ) (differ : c ≢ d) where
@@ -95,7 +95,7 @@ module _ (laws : LawsBelow) (c d a b : ℕ) (differ : c ≢ d) where
 
   premised : (s : Scene) (r : Received) (who k : ℕ) → PairPremises c d a b (s.log ++ notes_of r who k)
       → let t : Scan = seen_all (scan s.log) (notes_of r who k) in
-      Premised c d a b differ laws s.ends s.parcels (scan s.log) (pair_of c d a b s.parcels s.log) t.roles t.readings
+      Premised c d a b differ laws s.ends s.parcels (scan s.log) (pair_between c d a b s.parcels s.log) t.roles t.readings
   premised s r who k p =
       let t : Scan = seen_all (scan s.log) (notes_of r who k) in
       let is : scan (s.log ++ notes_of r who k) ≡ t = seen_all-append unread s.log (notes_of r who k) in
@@ -116,10 +116,10 @@ module _ (laws : LawsBelow) (c d a b : ℕ) (differ : c ≢ d) where
   line_of s x y w = elim w [ inl v ↦ v.sound | inr v ↦ v.sound ]
 
   rests_here : (s : Scene) (who now : ℕ) (e : Stand) (l : LinkView) → HoldsAt s → slice_get s.ends who ≡ Some e → e.link ≡ Some l → (poll_link l now).0 ≡ None
-      → Held c d a b (set s.ends who (linked e (poll_link l now).1)) s.parcels (scan s.log) (pair_of c d a b s.parcels s.log)
+      → Held c d a b (set s.ends who (linked e (poll_link l now).1)) s.parcels (scan s.log) (pair_between c d a b s.parcels s.log)
   rests_here s who now e l h at is gives =
       let k : LinkView = (poll_link l now).1 in
-      let p : Pair = pair_of c d a b s.parcels s.log in
+      let p : Pair = pair_between c d a b s.parcels s.log in
       elim (cases_eq who c) [
         | inl one ↦
             let at' : slice_get s.ends c ≡ Some e = subst (λ j. slice_get s.ends j ≡ Some e) one at in
@@ -150,24 +150,24 @@ module _ (laws : LawsBelow) (c d a b : ℕ) (differ : c ≢ d) where
         ]
       ]
 
-  pub next_held : (s s' : Scene) (deed : Deed) → NeverOverrun s → Does deed s s' → FactsAt s → PairPremises c d a b s.log → PairPremises c d a b s'.log → HoldsAt s → HoldsAt s'
+  pub next_held : (s s' : Scene) (deed : Deed) → NeverOverrun s → DoesDeed deed s s' → FactsAt s → PairPremises c d a b s.log → PairPremises c d a b s'.log → HoldsAt s → HoldsAt s'
   next_held s s' (Dials host id socket to buffers now) never does f before after h =
       let ns : List Note = Opened (length s.ends) host buffers ∷ [] in
       let then' : PairPremises c d a b (s.log ++ ns) = subst (λ (z : Scene). PairPremises c d a b z.log) does.after after in
       subst HoldsAt (sym does.after)
       (at_noted c d a b s _ ns
-      (dials_held c d a b differ s.ends s.parcels (scan s.log) (pair_of c d a b s.parcels s.log) host id socket to buffers now f.roles does.range.1 (roles_then s.log ns then') h))
+      (dials_held c d a b differ s.ends s.parcels (scan s.log) (pair_between c d a b s.parcels s.log) host id socket to buffers now f.roles does.range.1 (roles_then s.log ns then') h))
   next_held s s' (Accepts host id socket parcel buffers now) never does f before after h =
       let ns : List Note = Accepted (length s.ends) parcel buffers ∷ Got (length s.ends) parcel ∷ [] in
       let then' : PairPremises c d a b (s.log ++ ns) = subst (λ (z : Scene). PairPremises c d a b z.log) does.after after in
       subst HoldsAt (sym does.after)
       (at_noted c d a b s _ ns
-      (accepts_held c d a b differ s.ends s.parcels (scan s.log) (pair_of c d a b s.parcels s.log) laws host id socket does.packet.header.from parcel buffers now does.bytes does.packet does.header does.body
+      (accepts_held c d a b differ s.ends s.parcels (scan s.log) (pair_between c d a b s.parcels s.log) laws host id socket does.packet.header.from parcel buffers now does.bytes does.packet does.header does.body
       f.roles does.range.1 does.comes does.reads does.request (roles_then s.log ns then') h))
   next_held s s' (Reads who parcel) never does f before after h =
       let r : Received = (receive_link does.link does.header does.body).0 in
       let then' : PairPremises c d a b (s.log ++ notes_of r who parcel) = subst (λ (z : Scene). PairPremises c d a b z.log) does.after after in
-      let p : Pair = pair_of c d a b s.parcels s.log in
+      let p : Pair = pair_between c d a b s.parcels s.log in
       let w : Stand = linked does.stand (receive_link does.link does.header does.body).1 in
       subst HoldsAt (sym does.after)
       (at_noted c d a b s (set s.ends who w) (notes_of r who parcel)
@@ -189,32 +189,32 @@ module _ (laws : LawsBelow) (c d a b : ℕ) (differ : c ≢ d) where
   next_held s s' (OwesReply who) never does f before after h =
       let k : LinkView = owe_reply_link does.link in
       subst HoldsAt (sym does.after)
-      (rests_held c d a b differ s.ends s.parcels (scan s.log) (pair_of c d a b s.parcels s.log) who does.stand (linked does.stand k) does.link k (scan s.log) refl refl refl
+      (rests_held c d a b differ s.ends s.parcels (scan s.log) (pair_between c d a b s.parcels s.log) who does.stand (linked does.stand k) does.link k (scan s.log) refl refl refl
       does.stands.there does.stands.link (left_linked does.stand k)
       (λ x y g. record { tracks = g.tracks; open' = g.open' }) (λ q. q) h)
   next_held s s' (Gives who now segment bytes) never does f before after h =
       let n : Note = note_of does.given.what who (length s.parcels) in
       subst HoldsAt (sym does.after)
       (at_sent c d a b s _ bytes n f.are
-      (gives_held c d a b differ s.ends s.parcels (scan s.log) (pair_of c d a b s.parcels s.log) laws who now does.stand does.link does.given bytes
+      (gives_held c d a b differ s.ends s.parcels (scan s.log) (pair_between c d a b s.parcels s.log) laws who now does.stand does.link does.given bytes
       f.roles does.stands.there does.stands.link does.gives (written_says laws does.home does.link does.given bytes does.written)
       (laws.sequence does.written.packet does.given.header does.given.body bytes (written_packet does.home does.link does.given bytes does.written)) h))
   next_held s s' (Rests who now) never does f before after h =
       let k : LinkView = (poll_link does.link now).1 in
-      let p : Pair = pair_of c d a b s.parcels s.log in
+      let p : Pair = pair_between c d a b s.parcels s.log in
       subst HoldsAt (sym does.after) (rests_here s who now does.stand does.link h does.stands.there does.stands.link does.gives)
   next_held s s' (Sends who m) never does f before after h =
       let us : List Unit = cut_of m in
       let k : LinkView = offer_link does.link us in
       subst HoldsAt (sym does.after)
       (at_noted c d a b s _ (HandsIn who m ∷ [])
-      (gains_held c d a b differ s.ends s.parcels (scan s.log) (pair_of c d a b s.parcels s.log) laws us (λ j. HandsIn j m) who does.stand (linked does.stand k) does.link k
+      (gains_held c d a b differ s.ends s.parcels (scan s.log) (pair_between c d a b s.parcels s.log) laws us (λ j. HandsIn j m) who does.stand (linked does.stand k) does.link k
       (λ j i x y. refl) (λ j. refl) does.stands.there does.stands.link does.live (left_linked does.stand k)
       (λ x y g. subst (Formed x.units) (g.open' (live_may does.link.state does.live)) g.tracks.formed)
       (λ x y w g. laws.steps.offers does.link us x.end y.end g (line_of s x y w) does.live (λ j u at. omega (arith, pieces_stream (length m.body) m.stream m.body j u at, does.stream))) h))
   next_held s s' (Takes who u) never does f before after h =
       let k : LinkView = (take_link does.link).1 in
-      let p : Pair = pair_of c d a b s.parcels s.log in
+      let p : Pair = pair_between c d a b s.parcels s.log in
       let ns : List Note = TakesUnit who u ∷ out_notes who does.joins.messages in
       let w : Stand = record (linked does.stand k) { rest = does.joins.rest } in
       subst HoldsAt (sym does.after)
@@ -227,7 +227,7 @@ module _ (laws : LawsBelow) (c d a b : ℕ) (differ : c ≢ d) where
         | inl one ↦ absurd (never s' who u does (inl one))
         | inr not_c ↦ elim (cases_eq who d) [
           | inl two ↦ absurd (never s' who u does (inr two))
-          | inr not_d ↦ subst HoldsAt (sym does.after) (other_held c d a b differ s.ends s.parcels (scan s.log) (pair_of c d a b s.parcels s.log) who _ (scan s.log) (pair_of c d a b s.parcels s.log) not_c not_d refl refl refl refl refl h)
+          | inr not_d ↦ subst HoldsAt (sym does.after) (other_held c d a b differ s.ends s.parcels (scan s.log) (pair_between c d a b s.parcels s.log) who _ (scan s.log) (pair_between c d a b s.parcels s.log) not_c not_d refl refl refl refl refl h)
         ]
       ]
   next_held s s' (Closes who) never does f before after h =
@@ -235,17 +235,17 @@ module _ (laws : LawsBelow) (c d a b : ℕ) (differ : c ≢ d) where
       let k : LinkView = end_link does.link in
       subst HoldsAt (sym does.after)
       (at_noted c d a b s _ (AsksEnd who ∷ [])
-      (gains_held c d a b differ s.ends s.parcels (scan s.log) (pair_of c d a b s.parcels s.log) laws us (λ j. AsksEnd j) who does.stand (linked does.stand k) does.link k
+      (gains_held c d a b differ s.ends s.parcels (scan s.log) (pair_between c d a b s.parcels s.log) laws us (λ j. AsksEnd j) who does.stand (linked does.stand k) does.link k
       (λ j i x y. refl) (λ j. refl) does.stands.there does.stands.link does.live (left_linked does.stand k)
       (λ x y g. subst (Formed x.units) (g.open' (live_may does.link.state does.live)) g.tracks.formed)
       (λ x y w g. laws.steps.ends does.link x.end y.end g (line_of s x y w) does.live) h))
   next_held s s' (Releases who) never does f before after h =
       subst HoldsAt (sym does.after)
       (at_noted c d a b s _ (Released who ∷ [])
-      (rests_held c d a b differ s.ends s.parcels (scan s.log) (pair_of c d a b s.parcels s.log) who does.stand (record does.stand { link = None; rest = None }) does.link does.link (calmed (scan s.log)) refl refl refl
+      (rests_held c d a b differ s.ends s.parcels (scan s.log) (pair_between c d a b s.parcels s.log) who does.stand (record does.stand { link = None; rest = None }) does.link does.link (calmed (scan s.log)) refl refl refl
       does.stands.there does.stands.link (λ m is. absurd (cc is)) (λ x y g. g) (λ q. q) h))
   next_held s s' (Carries from network segment bytes) never does f before after h =
-      let p : Pair = pair_of c d a b s.parcels s.log in
+      let p : Pair = pair_between c d a b s.parcels s.log in
       subst HoldsAt (sym does.after)
       (at_sent c d a b s s.ends bytes (Carried from (length s.parcels)) f.are
       (record {
@@ -255,7 +255,7 @@ module _ (laws : LawsBelow) (c d a b : ℕ) (differ : c ≢ d) where
         unmade = h.unmade;
       }))
   next_held s s' (Tells router segment bytes) never does f before after h =
-      let p : Pair = pair_of c d a b s.parcels s.log in
+      let p : Pair = pair_between c d a b s.parcels s.log in
       subst HoldsAt (sym does.after)
       (at_sent c d a b s s.ends bytes (Told router (length s.parcels)) f.are
       (record {
@@ -265,7 +265,7 @@ module _ (laws : LawsBelow) (c d a b : ℕ) (differ : c ≢ d) where
         unmade = h.unmade;
       }))
   next_held s s' (Injects segment bytes) never does f before after h =
-      let p : Pair = pair_of c d a b s.parcels s.log in
+      let p : Pair = pair_between c d a b s.parcels s.log in
       subst HoldsAt (sym does)
       (at_sent c d a b s s.ends bytes (Injected (length s.parcels)) f.are
       (record {

@@ -24,7 +24,7 @@ use Rattle.ipx_log.specs.Addresses.{NothingReleased}
 use Rattle.ipx_log.specs.Scene.{Scene, Stand, Stands, linked}
 use Rattle.spx_units.specs.Packets.{Home}
 use Rattle.ipx_log.specs.Packets.{IsOneOn, one_on, note_of, out_notes}
-use Rattle.ipx_log.specs.Deeds.{Deed, Does, DoesDial, DoesGive, DoesCarry, DoesTell, Dials, Accepts, Reads, OwesReply, Gives, Rests, Sends, Takes, Overruns, Closes, Releases, Carries, Tells, Injects}
+use Rattle.ipx_log.specs.Deeds.{Deed, DoesDeed, DoesDial, DoesGive, DoesCarry, DoesTell, Dials, Accepts, Reads, OwesReply, Gives, Rests, Sends, Takes, Overruns, Closes, Releases, Carries, Tells, Injects}
 use Rattle.ipx_log.proofs.Bytes.{written_says}
 use Rattle.ipx_log.proofs.NextFacts.{FactsAt, given_mark}
 use Rattle.ipx_log.proofs.Held.{calmed, outs_seen, set_here}
@@ -210,7 +210,7 @@ module _ (laws : LawsBelow) (homes : List Home) (differ : HomesDiffer homes) (ne
       absurd (does.kind (ap (λ (d : PacketView). d.header.kind) (sym is) ∙ reads.kind))))
 
   -- ---- every deed
-  pub next_identified : (s s' : Scene) (deed : Deed) → Does deed s s' → s.homes ≡ homes → FactsAt s → NothingReleased s'.log → NothingInjected s'.log → IdentifiedAt homes s → IdentifiedAt homes s'
+  pub next_identified : (s s' : Scene) (deed : Deed) → DoesDeed deed s s' → s.homes ≡ homes → FactsAt s → NothingReleased s'.log → NothingInjected s'.log → IdentifiedAt homes s → IdentifiedAt homes s'
   next_identified s s' (Dials host id socket to buffers now) does same facts stay nothing f = dials s s' host id socket to buffers now same does facts f
   next_identified s s' (Accepts host id socket parcel buffers now) does same facts stay nothing f = accepts laws homes differ networks s s' host id socket parcel buffers now same does facts nothing f
   next_identified s s' (Reads who parcel) does same facts stay nothing f = reads laws homes differ networks s s' who parcel same does facts nothing f

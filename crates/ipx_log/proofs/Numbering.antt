@@ -9,7 +9,7 @@ use Rattle.spx_units.specs.Message.{MessageView}
 use Rattle.ipx_log.specs.Note.{Note, Opened, Accepted, Got, HandsIn, HandsOut, AsksEnd, TakesUnit, Released, Told, Carried, Injected}
 use Rattle.ipx_log.specs.Scan.{Scan, Role, seen, seen_all, scan, unread, mark_of, role_of, joined_by, asker}
 use Rattle.ipx_log.specs.Scene.{Scene, Stand}
-use Rattle.ipx_log.specs.Deeds.{Deed, Does, Dials, Accepts, Reads, OwesReply, Gives, Rests, Sends, Takes, Overruns, Closes, Releases, Carries, Tells, Injects, Reached, begun, happened}
+use Rattle.ipx_log.specs.Deeds.{Deed, DoesDeed, Dials, Accepts, Reads, OwesReply, Gives, Rests, Sends, Takes, Overruns, Closes, Releases, Carries, Tells, Injects, Reached, begun, happened}
 use Rattle.ipx_log.specs.Packets.{note_of, notes_of, out_notes}
 use Rattle.ipx_log.specs.Numbered.{IsNumbered, NumbersAreInOrder}
 use Rattle.ipx_log.proofs.Folding.{seen_all-append}
@@ -87,7 +87,7 @@ more_count : (s s' : Scene) (bytes : List ℕ) (marks : List _) (m : _) → s'.p
 more_count s s' bytes marks m parcels is a =
     ap length is ∙ omega (arith, length-append (scan s.log).marks (m ∷ []), ap length parcels, length-append s.parcels (bytes ∷ []), a.count)
 
-next_numbered : (s s' : Scene) (deed : Deed) → Does deed s s' → AreToldAt s → AreNumbered s → AreNumbered s'
+next_numbered : (s s' : Scene) (deed : Deed) → DoesDeed deed s s' → AreToldAt s → AreNumbered s → AreNumbered s'
 next_numbered s s' (Dials host id socket to buffers now) does told a =
     numbered s s' (Opened (length s.ends) host buffers ∷ []) (ap log_of does.after) (same_count s s' (ap parcels_of does.after) a) (sym told.count, tt) a
 next_numbered s s' (Accepts host id socket parcel buffers now) does told a =

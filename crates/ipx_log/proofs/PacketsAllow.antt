@@ -19,7 +19,7 @@ use Rattle.ipx_log.specs.Note.{Note, Opened, Accepted, HandsIn, TakesUnit, AsksE
 use Rattle.ipx_log.specs.Scan.{Scan, Mark, Role, FromOutside, seen, seen_all, scan, unread, mark_of, role_of, no_role, one_further}
 use Rattle.ipx_log.specs.Handed.{taken_by, taken_of, handed_out}
 use Rattle.ipx_log.specs.Scene.{Scene, Stand, Stands, linked}
-use Rattle.ipx_log.specs.Deeds.{Deed, Does, DoesGive, Dials, Accepts, Reads, OwesReply, Gives, Rests, Sends, Takes, Overruns, Closes, Releases, Carries, Tells, Injects, IsBegun, Reached, begun, happened}
+use Rattle.ipx_log.specs.Deeds.{Deed, DoesDeed, DoesGive, Dials, Accepts, Reads, OwesReply, Gives, Rests, Sends, Takes, Overruns, Closes, Releases, Carries, Tells, Injects, IsBegun, Reached, begun, happened}
 use Rattle.ipx_log.specs.Packets.{note_of, notes_of, out_notes}
 use Rattle.ipx_log.specs.Allocation.{IsMadeBy}
 use Rattle.ipx_log.proofs.Lists.{get_last, get_here, read_there}
@@ -33,7 +33,7 @@ use Rattle.ipx_log.proofs.Speaking.{eqb_same}
 use Rattle.ipx_log.proofs.NextFacts.{FactsAt}
 use Rattle.ipx_log.proofs.Along.{facts_along}
 use Rattle.ipx_log.proofs.Growing.{IsPosted, posted_more, role_stays}
-use Rattle.ipx_pairs.specs.Allowances.{HasTaken, SameReceived, GivesAs, Took}
+use Rattle.ipx_pairs.specs.Allowances.{HasTakenAndFits, SameReceived, GivesAs, Took}
 use Rattle.spx_link.specs.declared.outgoing.Sent.TheVariants as Sents
 use Rattle.spx_link.specs.declared.received.Received.TheVariants as R
 use Rattle.spx_link.specs.declared.state.State.TheVariants as S
@@ -92,14 +92,14 @@ posting s Sents.Ack who k = record { mark = _; marks = refl; origin = refl; by =
 posting s Sents.Probe who k = record { mark = _; marks = refl; origin = refl; by = inr (inr refl); silent = λ e. record { taken = refl; out = refl } }
 
 -- units that are taken are counted, and no others
-pub same_kept : (taken : ℕ) (l k : LinkView) → SameReceived l k → HasTaken taken l → HasTaken taken k
+pub same_kept : (taken : ℕ) (l k : LinkView) → SameReceived l k → HasTakenAndFits taken l → HasTakenAndFits taken k
 same_kept taken l k same t =
     record {
       expected = same.expected ∙ t.expected ∙ ap (λ (us : List Unit). mark (taken + length us)) (sym same.held);
       fits = omega (arith, t.fits, ap length same.held, ap length same.ahead, same.buffers);
     }
 
-pub took_kept : (taken : ℕ) (l k : LinkView) (u : Unit) → Took l u k → HasTaken taken l → HasTaken (taken + 1) k
+pub took_kept : (taken : ℕ) (l k : LinkView) (u : Unit) → Took l u k → HasTakenAndFits taken l → HasTakenAndFits (taken + 1) k
 took_kept taken l k u t was =
     record {
       expected = t.expected ∙ was.expected ∙ ap mark (omega (arith, ap length t.held));
@@ -109,7 +109,7 @@ took_kept taken l k u t was =
 -- ---- what is so
 pub record LinkSide (e : ℕ) (l : LinkView) (log : List Note) : Type 0 where
   pub taken : ℕ
-  pub kept : HasTaken taken l
+  pub kept : HasTakenAndFits taken l
   pub is : l.state ≢ S.Lost → taken ≡ length (taken_of e log)
   pub buffers : l.buffers ≡ (role_of (scan log) e).buffers
 
@@ -303,7 +303,7 @@ silent_sides s s' who w l k f t stands ends parcels log same open' =
 live_open : (l : LinkView) → refusal l.state ≡ None → l.state ≢ S.Lost
 live_open l live lost = absurd (cc (sym live ∙ ap refusal lost))
 
-pub next_sides : (laws : LawsBelow) (s s' : Scene) (deed : Deed) → Does deed s s' → FactsAt s → SidesAt s → SidesAt s'
+pub next_sides : (laws : LawsBelow) (s s' : Scene) (deed : Deed) → DoesDeed deed s s' → FactsAt s → SidesAt s → SidesAt s'
 next_sides laws s s' (Dials host id socket to buffers now) does f t =
     at_scene Sides s' _ _ _ (ap ends_of does.after) (ap parcels_of does.after) (ap log_of does.after)
     (comes s f t (Opened (length s.ends) host buffers ∷ []) _ _ (record { buffers = buffers; called = true; joined = false; partner = None }) refl (λ e. refl) refl refl refl refl refl refl)

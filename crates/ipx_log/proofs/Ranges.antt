@@ -10,7 +10,7 @@ use Rattle.spx_units.specs.Message.{MessageView}
 use Rattle.ipx_log.specs.Note.{Note, Opened, Accepted, Joined, HandsIn, HandsOut, TakesUnit, AsksEnd, Got, Released, SendsUnit, SendsAgain, SendsSystem, Told, Carried, Injected}
 use Rattle.ipx_log.specs.Scan.{Each, Scan, Role, Maker, seen, seen_all, scan, unread, role_of, mark_of, joined_by, asker, no_role}
 use Rattle.ipx_log.specs.Scene.{Scene}
-use Rattle.ipx_log.specs.Deeds.{Deed, Does, Dials, Accepts, Reads, OwesReply, Gives, Rests, Sends, Takes, Overruns, Closes, Releases, Carries, Tells, Injects, Reached, begun, happened}
+use Rattle.ipx_log.specs.Deeds.{Deed, DoesDeed, Dials, Accepts, Reads, OwesReply, Gives, Rests, Sends, Takes, Overruns, Closes, Releases, Carries, Tells, Injects, Reached, begun, happened}
 use Rattle.ipx_log.specs.Packets.{note_of, notes_of, out_notes}
 use Rattle.ipx_log.proofs.Lists.{get_last, get_set}
 use Rattle.ipx_log.proofs.Folding.{seen_all-append}
@@ -93,7 +93,7 @@ grown log ns log' is range e = subst RolesRanged (sym is) (subst (λ (t : Scan).
 same : (log log' : List Note) → log' ≡ log → RolesRanged log → RolesRanged log'
 same log log' is e = subst RolesRanged (sym is) e
 
-next_ranged : (s s' : Scene) (deed : Deed) → Does deed s s' → RolesRanged s.log → RolesRanged s'.log
+next_ranged : (s s' : Scene) (deed : Deed) → DoesDeed deed s s' → RolesRanged s.log → RolesRanged s'.log
 next_ranged s s' (Dials host id socket to buffers now) does e = grown s.log (Opened (length s.ends) host buffers ∷ []) s'.log (ap log_of does.after) (does.range.1, tt) e
 next_ranged s s' (Accepts host id socket parcel buffers now) does e = grown s.log (Accepted (length s.ends) parcel buffers ∷ Got (length s.ends) parcel ∷ []) s'.log (ap log_of does.after) (does.range.1, (tt, tt)) e
 next_ranged s s' (Reads who parcel) does e = grown s.log (notes_of (receive_link does.link does.header does.body).0 who parcel) s'.log (ap log_of does.after) (read_ranged (receive_link does.link does.header does.body).0 who parcel) e

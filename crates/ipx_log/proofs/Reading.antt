@@ -8,7 +8,7 @@ use Rattle.ipx_wire.specs.Ipx.{PacketView}
 use Rattle.spx_link.specs.declared.received.Received.TheVariants.{Stranger}
 use Rattle.spx_link.specs.LinkView.{LinkView}
 use Rattle.spx_link.specs.Receive.{receive_link}
-use Rattle.spx_link.specs.Fresh.{IsFresh}
+use Rattle.spx_link.specs.Fresh.{IsRecentPacket}
 use Rattle.spx_link.specs.Machine.{End, Packet, got, learned, read_unit, is_wanted, risen, put_mark}
 use Rattle.std.specs.Prelude.{Contains}
 use Rattle.ipx_log.proofs.Running.{got_runs}
@@ -70,7 +70,7 @@ module _ (laws : LawsBelow) (c d : ℕ) (differ : c ≢ d) (ends : List Stand) (
       let says = letter.says bytes comes p h body reads in
       let c_now = times-parts c (mark_at marks k).units sent in
       let d_now = times-parts d (mark_at marks k).units sent in
-      let fresh : IsFresh x.end y.end q = record { sender = omega (arith, letter.own, w.two.count, d_now, near'); receiver = omega (arith, letter.other, w.one.count, c_now, near) } in
+      let fresh : IsRecentPacket x.end y.end q = record { sender = omega (arith, letter.own, w.two.count, d_now, near'); receiver = omega (arith, letter.other, w.one.count, c_now, near) } in
       let follows : Follows (receive_link l h body).1 (got q x.end) y.end =
       laws.steps.receives l h body q x.end y.end
       (record {

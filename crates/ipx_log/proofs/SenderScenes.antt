@@ -20,11 +20,11 @@ use Rattle.ipx_log.specs.Scan.{times, scan, unread}
 use Rattle.ipx_log.specs.Handed.{units_of}
 use Rattle.ipx_log.specs.PairLog.{position_of}
 use Rattle.ipx_log.specs.Scene.{Scene, Stand, linked}
-use Rattle.ipx_log.specs.Deeds.{Deed, Does, Dials, Accepts, Reads, OwesReply, Gives, Rests, Sends, Takes, Overruns, Closes, Releases, Carries, Tells, Injects, DoesGive, IsBegun, Reached, begun, happened}
+use Rattle.ipx_log.specs.Deeds.{Deed, DoesDeed, Dials, Accepts, Reads, OwesReply, Gives, Rests, Sends, Takes, Overruns, Closes, Releases, Carries, Tells, Injects, DoesGive, IsBegun, Reached, begun, happened}
 use Rattle.ipx_log.specs.Packets.{note_of, notes_of, out_notes}
-use Rattle.spx_units.specs.Packets.{Home, IsWritten}
+use Rattle.spx_units.specs.Packets.{Home, IsWrittenPacket}
 use Rattle.ipx_log.specs.SentUnits.{sent_by, IsUnitPacket, CarriesUnit, UnitsAreSentInOrder, LinksSendInOrder, PositionsAreGreatest}
-use Rattle.ipx_pairs.specs.Queues.{SendsFrom, Queues, GivesUnit, Given, PolledFrom}
+use Rattle.ipx_pairs.specs.Queues.{SendsFrom, Queues, GivesUnit, IsGivenOut, PolledFrom}
 use Rattle.ipx_log.proofs.Lists.{get_last, get_set, get_here, read_there, times-append}
 use Rattle.ipx_log.proofs.Bytes.{written_says}
 use Rattle.ipx_log.proofs.Folding.{seen_all-append}
@@ -149,7 +149,7 @@ passes s s' bytes n ends parcels log none units f =
 -- ---- a packet is given
 
 -- what is written is a packet of the unit, and no other
-unit_packet : (laws : LawsBelow) (home : Home) (l : LinkView) (g : OutgoingView) (bytes : List ℕ) (units : List Unit) (k : ℕ) → IsWritten home l g bytes → (has : GivesUnit g units k)
+unit_packet : (laws : LawsBelow) (home : Home) (l : LinkView) (g : OutgoingView) (bytes : List ℕ) (units : List Unit) (k : ℕ) → IsWrittenPacket home l g bytes → (has : GivesUnit g units k)
     → IsUnitPacket has.u (mark k) bytes
 unit_packet laws home l g bytes units k w has =
     record {
@@ -166,7 +166,7 @@ unit_packet laws home l g bytes units k w has =
 
 carries_unit : (laws : LawsBelow) (s s' : Scene) (n : Note) (home : Home) (l : LinkView) (g : OutgoingView) (bytes : List ℕ) (who k : ℕ)
     → s'.log ≡ s.log ++ n ∷ [] → s'.parcels ≡ s.parcels ++ bytes ∷ [] → units_of who (n ∷ []) ≡ []
-    → IsWritten home l g bytes → GivesUnit g (units_of who s.log) k → CarriesUnit s' who k (length s.parcels)
+    → IsWrittenPacket home l g bytes → GivesUnit g (units_of who s.log) k → CarriesUnit s' who k (length s.parcels)
 carries_unit laws s s' n home l g bytes who k log parcels none w has = (
   has.u,
   bytes,
@@ -291,7 +291,7 @@ module _ (laws : LawsBelow) (s s' : Scene) (who now : ℕ) (segment : Network) (
         };
       }) f
 
-  gives_by : (what : Sent) → Given what does.given after units n → Rest → s'.log ≡ s.log ++ note_of what who (length s.parcels) ∷ [] → s'.parcels ≡ s.parcels ++ bytes ∷ []
+  gives_by : (what : Sent) → IsGivenOut what does.given after units n → Rest → s'.log ≡ s.log ++ note_of what who (length s.parcels) ∷ [] → s'.parcels ≡ s.parcels ++ bytes ∷ []
       → s'.ends ≡ set s.ends who (linked does.stand after) → Senders s'
   gives_by Sents.Request from rest log parcels ends = gives_system from rest log parcels ends
   gives_by Sents.Reply from rest log parcels ends = gives_system from rest log parcels ends
@@ -322,7 +322,7 @@ parcels_in z = z.parcels
 abbrev pub log_in : Scene → List Note
 log_in z = z.log
 
-pub next_senders : (laws : LawsBelow) (s s' : Scene) (deed : Deed) → Does deed s s' → Senders s → Senders s'
+pub next_senders : (laws : LawsBelow) (s s' : Scene) (deed : Deed) → DoesDeed deed s s' → Senders s → Senders s'
 next_senders laws s s' (Dials host id socket to buffers now) does f =
     arrives s s' _ (Opened (length s.ends) host buffers ∷ []) (ap ends_in does.after) (ap parcels_in does.after) (ap log_in does.after) refl (λ j. refl)
     (λ l is. subst (λ (k : LinkView). Queues k [] 0) (cc is) (laws.queues.dials id socket to buffers now)) f

@@ -15,9 +15,9 @@ use Rattle.spx_units.specs.Joining.{Joining, added, join_unit, join_all, joined}
 use Rattle.ipx_log.specs.Note.{Note, Opened, Accepted, HandsIn, TakesUnit, AsksEnd, Got, Released, Told, Carried, Injected}
 use Rattle.ipx_log.specs.Scan.{scan}
 use Rattle.ipx_log.specs.Handed.{out_by, units_by, taken_by, gathered, handed_out, units_of, taken_of, IsBeginning}
-use Rattle.ipx_log.specs.PairLog.{pair_of, new_half}
+use Rattle.ipx_log.specs.PairLog.{pair_between, new_half}
 use Rattle.ipx_log.specs.Scene.{Scene, Stand}
-use Rattle.ipx_log.specs.Deeds.{Deed, Does, Dials, Accepts, Reads, OwesReply, Gives, Rests, Sends, Takes, Overruns, Closes, Releases, Carries, Tells, Injects}
+use Rattle.ipx_log.specs.Deeds.{Deed, DoesDeed, Dials, Accepts, Reads, OwesReply, Gives, Rests, Sends, Takes, Overruns, Closes, Releases, Carries, Tells, Injects}
 use Rattle.ipx_log.specs.Packets.{note_of, notes_of, out_notes}
 use Rattle.ipx_log.proofs.Lists.{get_last, get_set}
 use Rattle.ipx_log.proofs.Speaking.{eqb_same}
@@ -176,8 +176,8 @@ module _ (laws : LawsBelow) (c d a b : ℕ) (differ : c ≢ d) where
     pub one : Said c d s
     pub two : Said d c s
 
-  counts : (s : Scene) → (length (taken_of c s.log) ≡ (pair_of c d a b s.parcels s.log).one.end.taken) × (length (taken_of d s.log) ≡ (pair_of c d a b s.parcels s.log).two.end.taken)
-      × ((pair_of c d a b s.parcels s.log).one.end.units ≡ units_of c s.log) × ((pair_of c d a b s.parcels s.log).two.end.units ≡ units_of d s.log)
+  counts : (s : Scene) → (length (taken_of c s.log) ≡ (pair_between c d a b s.parcels s.log).one.end.taken) × (length (taken_of d s.log) ≡ (pair_between c d a b s.parcels s.log).two.end.taken)
+      × ((pair_between c d a b s.parcels s.log).one.end.units ≡ units_of c s.log) × ((pair_between c d a b s.parcels s.log).two.end.units ≡ units_of d s.log)
   counts s =
       let both = both_counted s.parcels c d (record { one = new_half a; two = new_half b }) s.log in
       (omega (arith, both.0.taken), omega (arith, both.1.taken), both.0.units, both.1.units)
@@ -206,13 +206,13 @@ module _ (laws : LawsBelow) (c d a b : ℕ) (differ : c ≢ d) where
   never s h t s' who u does (inl one) =
       let at : slice_get s.ends c ≡ Some does.stand = subst (λ k. slice_get s.ends k ≡ Some does.stand) one does.stands.there in
       let to = laws.steps.takes does.link u _ _ (h.whole.one.link does.stand does.link at does.stands.link) h.whole.sound does.gives in
-      let next : slice_get (units_of d s.log) (length (taken_of c s.log)) ≡ Some u = subst (λ us. slice_get us (length (taken_of c s.log)) ≡ Some u) (counts s).3 (ap (slice_get (pair_of c d a b s.parcels s.log).two.end.units) (counts s).0 ∙ to.is) in
+      let next : slice_get (units_of d s.log) (length (taken_of c s.log)) ≡ Some u = subst (λ us. slice_get us (length (taken_of c s.log)) ≡ Some u) (counts s).3 (ap (slice_get (pair_between c d a b s.parcels s.log).two.end.units) (counts s).0 ∙ to.is) in
       absurd (omega (arith, does.long, overrun_one c d s t.ok t.one does.stand u at (linked' does.stand does.link does.stands.link) next does.data'))
   never s h t s' who u does (inr two) =
       let at : slice_get s.ends d ≡ Some does.stand = subst (λ k. slice_get s.ends k ≡ Some does.stand) two does.stands.there in
       let w = turned c d s.ends s.parcels (scan s.log).marks (scan s.log).sent _ _ h.whole in
       let to = laws.steps.takes does.link u _ _ (w.one.link does.stand does.link at does.stands.link) w.sound does.gives in
-      let next : slice_get (units_of c s.log) (length (taken_of d s.log)) ≡ Some u = subst (λ us. slice_get us (length (taken_of d s.log)) ≡ Some u) (counts s).2 (ap (slice_get (pair_of c d a b s.parcels s.log).one.end.units) (counts s).1 ∙ to.is) in
+      let next : slice_get (units_of c s.log) (length (taken_of d s.log)) ≡ Some u = subst (λ us. slice_get us (length (taken_of d s.log)) ≡ Some u) (counts s).2 (ap (slice_get (pair_between c d a b s.parcels s.log).one.end.units) (counts s).1 ∙ to.is) in
       absurd (omega (arith, does.long, overrun_one d c s t.ok t.two does.stand u at (linked' does.stand does.link does.stands.link) next does.data'))
 
   silent_next : (s : Scene) (ends : List Stand) (parcels : List (List ℕ)) (segments : List _) (ns : List Note) → AreSilent ns → KeepsRest s.ends ends s.log c → KeepsRest s.ends ends s.log d → Tells' s
@@ -302,7 +302,7 @@ module _ (laws : LawsBelow) (c d a b : ℕ) (differ : c ≢ d) where
       }
 
   -- ---- every deed
-  pub next_tells : (s s' : Scene) (deed : Deed) → Does deed s s' → FactsAt s → HeldAt c d a b s → Tells' s → Tells' s'
+  pub next_tells : (s s' : Scene) (deed : Deed) → DoesDeed deed s s' → FactsAt s → HeldAt c d a b s → Tells' s → Tells' s'
   next_tells s s' (Dials host id socket to buffers now) does f h t =
       subst Tells' (sym does.after)
       (silent_next s _ s.parcels s.segments (Opened (length s.ends) host buffers ∷ []) (record { ok = (tt, tt); taken = λ e. refl; out = λ e. refl })
@@ -333,10 +333,10 @@ module _ (laws : LawsBelow) (c d a b : ℕ) (differ : c ≢ d) where
       (takes_next s who does.stand _ u does.joins does.stands.there (linked' does.stand does.link does.stands.link) refl refl does.joined
       (λ one.
       let to = laws.steps.takes does.link u _ _ (h.whole.one.link does.stand does.link (subst (λ k. slice_get s.ends k ≡ Some does.stand) one does.stands.there) does.stands.link) h.whole.sound does.gives in
-      subst (λ us. slice_get us (length (taken_of c s.log)) ≡ Some u) (counts s).3 (ap (slice_get (pair_of c d a b s.parcels s.log).two.end.units) (counts s).0 ∙ to.is))
+      subst (λ us. slice_get us (length (taken_of c s.log)) ≡ Some u) (counts s).3 (ap (slice_get (pair_between c d a b s.parcels s.log).two.end.units) (counts s).0 ∙ to.is))
       (λ two.
       let to = laws.steps.takes does.link u _ _ (w.one.link does.stand does.link (subst (λ k. slice_get s.ends k ≡ Some does.stand) two does.stands.there) does.stands.link) w.sound does.gives in
-      subst (λ us. slice_get us (length (taken_of d s.log)) ≡ Some u) (counts s).2 (ap (slice_get (pair_of c d a b s.parcels s.log).one.end.units) (counts s).1 ∙ to.is)) t)
+      subst (λ us. slice_get us (length (taken_of d s.log)) ≡ Some u) (counts s).2 (ap (slice_get (pair_between c d a b s.parcels s.log).one.end.units) (counts s).1 ∙ to.is)) t)
   next_tells s s' (Overruns who u) does f h t =
       elim (cases_eq who c) [
         | inl one ↦ absurd (never s h t s' who u does (inl one))

@@ -20,7 +20,7 @@ use Rattle.ipx_pairs.specs.Tracks.{Formed, Follows}
 use Rattle.ipx_log.specs.Scene.{Scene, Stand, Stands}
 use Rattle.ipx_log.specs.Deeds.{Reached}
 use Rattle.ipx_log.specs.InStep.{pair_in, PeersFollow}
-use Rattle.ipx_log.specs.Close.{HoldsAll, IsEndOf, ConfirmedIsRead, AcknowledgedIsRead, EndTakenIsWhole}
+use Rattle.ipx_log.specs.Close.{HoldsAll, IsEndInMachine, ConfirmedIsRead, AcknowledgedIsRead, EndTakenIsWhole}
 use Rattle.ipx_log.proofs.Lists.{get_before}
 use Rattle.ipx_log.proofs.Speaking.{eqb_same}
 use Rattle.ipx_log.proofs.Gathering.{both_counted}
@@ -28,7 +28,7 @@ use Rattle.ipx_log.proofs.PairPremises.{to_pair}
 use Rattle.ipx_log.proofs.Telling.{AreOk, Said}
 use Rattle.ipx_log.proofs.Ranges.{in_range}
 use Rattle.ipx_log.proofs.Along.{held_along, joined_differ}
-use Rattle.ipx_pairs.specs.Confirmed.{IsDone}
+use Rattle.ipx_pairs.specs.Confirmed.{HasAllAcknowledged}
 use Rattle.ipx_log.proofs.WholeUnits.{whole_joined, joined_on, taken_there}
 use Rattle.ipx_log.proofs.Heard.{HasRead, heard_along}
 use Rattle.ipx_log.specs.Below.{LawsBelow}
@@ -88,7 +88,7 @@ peers_follow laws s reached premises c d j =
 pub record Met (s : Scene) (c d : ℕ) : Type 0 where
   pub one : End
   pub two : End
-  pub is : IsEndOf s d c two
+  pub is : IsEndInMachine s d c two
   pub peering : Peering s c d one two
 
 met : (laws : LawsBelow) (s : Scene) → Reached s → Premises s.log → (c d : ℕ) → ArePeersIn (scan s.log) c d → Met s c d
@@ -133,7 +133,7 @@ holds_all s c d x y p all e l stands =
     behind_first xs zs vs is = ap (λ ws. xs ++ drop (length xs) ws) (sym is) ∙ (ap (λ ws. xs ++ ws) (past_front xs zs) ∙ is)
 
 -- the queue is empty: all was acknowledged, so all was read
-all_read : (l : LinkView) (x y : End) → Follows l x y → AreSound x y → IsDone l → y.read ≡ length x.units
+all_read : (l : LinkView) (x y : End) → Follows l x y → AreSound x y → HasAllAcknowledged l → y.read ≡ length x.units
 all_read l x y f line done =
     let none : length (queued_units l) ≡ 0 = length-map l.queue unit_of ∙ done.1 in
     let left : length (drop x.base x.units) ≡ 0 = ap length (sym f.tracks.queue) ∙ none in
@@ -143,7 +143,7 @@ all_read l x y f line done =
 pub acknowledged_end_is_read : (laws : LawsBelow) (s : Scene) → Reached s → AcknowledgedIsRead s
 acknowledged_end_is_read laws s reached premises c e l stands queued empty =
     let ok = (heard_along laws reached).links c e l stands in
-    let done : IsDone l = (queued, ap length empty) in
+    let done : HasAllAcknowledged l = (queued, ap length empty) in
     let read : HasRead (scan s.log).readings c = elim ok.read [ inl h ↦ h | inr none ↦ absurd (none.1 done.0 done.1) ] in
     let peer : HasPeer s c = reader_peer s premises.from_own_peer c read in
     let m : Met s c peer.other = met laws s reached premises c peer.other peer.peers in
@@ -157,7 +157,7 @@ acknowledged_end_is_read laws s reached premises c e l stands queued empty =
 
 pub confirmed_is_read : (laws : LawsBelow) (s : Scene) → Reached s → ConfirmedIsRead s
 confirmed_is_read laws s reached premises c e l stands confirmed =
-    let done : IsDone l = ((heard_along laws reached).links c e l stands).right confirmed in
+    let done : HasAllAcknowledged l = ((heard_along laws reached).links c e l stands).right confirmed in
     acknowledged_end_is_read laws s reached premises c e l stands done.0 (none_left l.queue done.1)
   where
     none_left : {A : Type 0} (xs : List A) → length xs ≡ 0 → xs ≡ []

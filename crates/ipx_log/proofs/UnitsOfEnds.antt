@@ -21,7 +21,7 @@ use Rattle.ipx_log.specs.Handed.{in_by, units_by, handed_in, units_of}
 use Rattle.ipx_log.specs.UnitsOfEnds.{end_by, ends_asked, AreCuts, UnitsAreCuts}
 use Rattle.ipx_log.specs.Scene.{Scene, Stand, Stands}
 use Rattle.ipx_log.specs.Packets.{note_of, notes_of, out_notes}
-use Rattle.ipx_log.specs.Deeds.{Deed, Does, Dials, Accepts, Reads, OwesReply, Gives, Rests, Sends, Takes, Overruns, Closes, Releases, Carries, Tells, Injects, Reached, begun, happened}
+use Rattle.ipx_log.specs.Deeds.{Deed, DoesDeed, Dials, Accepts, Reads, OwesReply, Gives, Rests, Sends, Takes, Overruns, Closes, Releases, Carries, Tells, Injects, Reached, begun, happened}
 use Rattle.ipx_log.proofs.Fields.{log_of}
 use Rattle.ipx_log.proofs.Lists.{get_here}
 use Rattle.ipx_log.proofs.Gathering.{gathered-append}
@@ -157,7 +157,7 @@ same_log s s' is c e = subst (AreCuts e) (sym is) (c e)
 more_log : (s s' : Scene) (ns : List Note) → s'.log ≡ s.log ++ ns → ((e : ℕ) → IsIdle e ns) → UnitsAreCuts s → UnitsAreCuts s'
 more_log s s' ns is none c e = subst (AreCuts e) (sym is) (stay_cuts e s.log (c e) ns (none e))
 
-next_cuts : (s s' : Scene) (deed : Deed) → Does deed s s' → Senders s → UnitsAreCuts s → UnitsAreCuts s'
+next_cuts : (s s' : Scene) (deed : Deed) → DoesDeed deed s s' → Senders s → UnitsAreCuts s → UnitsAreCuts s'
 next_cuts s s' (Dials host id socket to buffers now) does f c = more_log s s' _ (ap log_of does.after) (λ e. idle e _ refl refl refl) c
 next_cuts s s' (Accepts host id socket parcel buffers now) does f c = more_log s s' _ (ap log_of does.after) (λ e. idle e _ refl refl refl) c
 next_cuts s s' (Reads who parcel) does f c =

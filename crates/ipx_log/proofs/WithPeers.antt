@@ -6,7 +6,7 @@ use Rattle.ipx_log.specs.Note.{Note}
 use Rattle.ipx_log.specs.Scan.{scan, role_of}
 use Rattle.ipx_log.specs.Peers.{AreJoined, Premises}
 use Rattle.ipx_log.proofs.OfTwo.{PairPremises}
-use Rattle.ipx_log.specs.PairLog.{Half, pair_of}
+use Rattle.ipx_log.specs.PairLog.{Half, pair_between}
 use Rattle.ipx_pairs.specs.Spelling.{Spoke, PolledTo}
 use Rattle.ipx_pairs.specs.Tracks.{core}
 use Rattle.ipx_log.specs.Scene.{Scene}
@@ -37,8 +37,8 @@ gives_within laws c d b log before g x y w allowed =
 -- what a link and its machine are in the scene where a unit was given
 record AtGift (c d a b : ℕ) (s : Scene) : Type 0 where
   premises : PairPremises c d a b s.log
-  whole : Whole c d s.ends s.parcels (scan s.log).marks (scan s.log).sent (pair_of c d a b s.parcels s.log).one (pair_of c d a b s.parcels s.log).two
-  allows : Allows c d a b s.log (pair_of c d a b s.parcels s.log)
+  whole : Whole c d s.ends s.parcels (scan s.log).marks (scan s.log).sent (pair_between c d a b s.parcels s.log).one (pair_between c d a b s.parcels s.log).two
+  allows : Allows c d a b s.log (pair_between c d a b s.parcels s.log)
 
 at_gift : (laws : LawsBelow) (c d : ℕ) {s : Scene} → Reached s → Premises s.log → AreJoined (scan s.log) c d → (old : Scene) → Reached old → (more : List Note) → s.log ≡ old.log ++ more
     → AtGift c d (role_of (scan s.log) c).buffers (role_of (scan s.log) d).buffers old

@@ -22,7 +22,7 @@ use Rattle.ipx_log.specs.Scan.{Each, times, Scan, Mark, Reading, FromOutside, se
 use Rattle.ipx_log.specs.Handed.{taken_by, taken_of, handed_out, out_by}
 use Rattle.ipx_pairs.specs.States.{is_quiet}
 use Rattle.ipx_log.specs.Scene.{Scene, Stand, Stands, linked}
-use Rattle.ipx_log.specs.Deeds.{Deed, Does, Dials, Accepts, Reads, OwesReply, Gives, Rests, Sends, Takes, Overruns, Closes, Releases, Carries, Tells, Injects, Reached, begun, happened}
+use Rattle.ipx_log.specs.Deeds.{Deed, DoesDeed, Dials, Accepts, Reads, OwesReply, Gives, Rests, Sends, Takes, Overruns, Closes, Releases, Carries, Tells, Injects, Reached, begun, happened}
 use Rattle.ipx_log.specs.Packets.{note_of, notes_of, out_notes}
 use Rattle.ipx_log.specs.SentUnits.{sent_by}
 use Rattle.ipx_log.proofs.Lists.{get_before, get_here, times-append}
@@ -238,7 +238,7 @@ none_held laws who s e w l u a stands gives own =
     let link = a.link w l (subst (λ i. slice_get s.ends i ≡ Some w) own stands.there) stands.link in
     absurd (cc (sym took.held ∙ link.held))
 
-next_alone : (laws : LawsBelow) (who : ℕ) (s s' : Scene) (deed : Deed) → Does deed s s' → FactsAt s → SidesAt s → AloneReads who s'.log → AloneAt who s → AloneAt who s'
+next_alone : (laws : LawsBelow) (who : ℕ) (s s' : Scene) (deed : Deed) → DoesDeed deed s s' → FactsAt s → SidesAt s → AloneReads who s'.log → AloneAt who s → AloneAt who s'
 next_alone laws who s s' (Dials host id socket to buffers now) does f t premise a =
     let ns : List Note = Opened (length s.ends) host buffers ∷ [] in
     alone_at who s' _ _ (ap ends_of does.after) (ap log_of does.after)

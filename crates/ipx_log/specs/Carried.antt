@@ -8,8 +8,8 @@ use Rattle.ipx_log.specs.Scene.{Scene}
 use Rattle.ipx_log.specs.Packets.{one_on}
 
 -- the packet behind so many routers, the first of which got it on this network
-abbrev pub raised : ℕ → Network → PacketView → PacketView
-raised passed network p =
+abbrev pub behind_routers : ℕ → Network → PacketView → PacketView
+behind_routers passed network p =
     let once : PacketView = one_on network p in
     record once { header = record once.header { hops = p.header.hops + passed } }
 
@@ -19,7 +19,7 @@ pub record IsCarried (network : Network) (passed : ℕ) (origin bytes : List ℕ
   pub packet : PacketView
   pub tail : List ℕ
   pub is : IsIpx packet origin tail
-  pub becomes : IsIpx (raised passed network packet) bytes []
+  pub becomes : IsIpx (behind_routers passed network packet) bytes []
   pub most : packet.header.hops + passed ≤ 15
 
 -- a parcel is its origin, or that carried by routers

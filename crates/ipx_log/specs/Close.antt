@@ -29,22 +29,22 @@ pub record IsClosed (s : Scene) (c d : ℕ) (two : End) : Type 0 where
   pub holds : HoldsAll s c d
 
 -- d's end in the machine of the two, whichever called
-abbrev pub IsEndOf : Scene → ℕ → ℕ → End → Type 0
-IsEndOf s d c two =
+abbrev pub IsEndInMachine : Scene → ℕ → ℕ → End → Type 0
+IsEndInMachine s d c two =
     (AreJoined (scan s.log) c d × (two ≡ (pair_in s c d).two.end))
     ⊎ (AreJoined (scan s.log) d c × (two ≡ (pair_in s d c).one.end))
 
 abbrev pub ConfirmedIsRead : Scene → Type 0
 ConfirmedIsRead s =
     Premises s.log → (c : ℕ) (e : Stand) (l : LinkView) → Stands s c e l → l.state ≡ Confirmed
-    → (d : ℕ) × (two : End) × IsEndOf s d c two × IsClosed s c d two
+    → (d : ℕ) × (two : End) × IsEndInMachine s d c two × IsClosed s c d two
 
 -- also where no confirmation came: the end was queued, and nothing is left in the queue
 abbrev pub AcknowledgedIsRead : Scene → Type 0
 AcknowledgedIsRead s =
     Premises s.log → (c : ℕ) (e : Stand) (l : LinkView) → Stands s c e l
     → l.end_queued ≡ true → l.queue ≡ []
-    → (d : ℕ) × (two : End) × IsEndOf s d c two × IsClosed s c d two
+    → (d : ℕ) × (two : End) × IsEndInMachine s d c two × IsClosed s c d two
 
 abbrev pub EndTakenIsWhole : Scene → Type 0
 EndTakenIsWhole s =

@@ -19,8 +19,8 @@ use Rattle.ipx_wire.specs.Connection.{IsConnectionPacket}
 use Rattle.ipx_log.specs.Note.{Opened, Accepted, HandsIn, TakesUnit, AsksEnd, Got, Released, Told, Carried, Injected}
 use Rattle.spx_link.specs.declared.received.Received.TheVariants as Receiveds
 use Rattle.ipx_log.specs.Packets.{IsFor, IsOneOn, note_of, notes_of, out_notes}
-use Rattle.ipx_log.specs.Scene.{IsFreeId, Scene, Stand, Stands, linked, noted, put, sent_off}
-use Rattle.spx_units.specs.Packets.{Home, IsRequestFor, IsWritten}
+use Rattle.ipx_log.specs.Scene.{IsFreeId, Scene, Stand, Stands, linked, with_entries, put_end, sent_off}
+use Rattle.spx_units.specs.Packets.{Home, IsRequestFor, IsWrittenPacket}
 
 pub data Deed : Type 0 where
   -- an end is opened, or made by a request
@@ -103,7 +103,7 @@ pub record DoesRead (who parcel : ℕ) (s s' : Scene) : Type 0 where
   pub home : (h : Home) → slice_get s.homes stand.host ≡ Some h
       → IsFor h link.local link.remote packet
   pub read : (receive_link link header body).0 ≢ Receiveds.Stranger
-  pub after : s' ≡ noted (put s who (linked stand (receive_link link header body).1))
+  pub after : s' ≡ with_entries (put_end s who (linked stand (receive_link link header body).1))
       (notes_of (receive_link link header body).0 who parcel)
 
 -- a link changes by one of its functions, and nothing is noted
@@ -111,7 +111,7 @@ pub record DoesSilently (f : LinkView → LinkView) (who : ℕ) (s s' : Scene) :
   pub stand : Stand
   pub link : LinkView
   pub stands : Stands s who stand link
-  pub after : s' ≡ put s who (linked stand (f link))
+  pub after : s' ≡ put_end s who (linked stand (f link))
 
 -- a link is asked, and gives a packet, which is written
 pub record DoesGive (who now : ℕ) (segment : Network) (bytes : List ℕ) (s s' : Scene) : Type 0 where
@@ -123,8 +123,8 @@ pub record DoesGive (who now : ℕ) (segment : Network) (bytes : List ℕ) (s s'
   pub home : Home
   pub home_is : slice_get s.homes stand.host ≡ Some home
   pub segment_is : segment ≡ home.network
-  pub written : IsWritten home link given bytes
-  pub after : s' ≡ sent_off (put s who (linked stand (poll_link link now).1)) segment bytes
+  pub written : IsWrittenPacket home link given bytes
+  pub after : s' ≡ sent_off (put_end s who (linked stand (poll_link link now).1)) segment bytes
       (note_of given.what who (length s.parcels))
 
 -- it gives nothing, and may become another (lost, for one)
@@ -133,7 +133,7 @@ pub record DoesRest (who now : ℕ) (s s' : Scene) : Type 0 where
   pub link : LinkView
   pub stands : Stands s who stand link
   pub gives : (poll_link link now).0 ≡ None
-  pub after : s' ≡ put s who (linked stand (poll_link link now).1)
+  pub after : s' ≡ put_end s who (linked stand (poll_link link now).1)
 
 -- a message is accepted
 pub record DoesSend (who : ℕ) (m : MessageView) (s s' : Scene) : Type 0 where
@@ -143,7 +143,7 @@ pub record DoesSend (who : ℕ) (m : MessageView) (s s' : Scene) : Type 0 where
   pub live : refusal link.state ≡ None
   pub stream : m.stream < end_stream
   pub short : length m.body ≤ most_bytes
-  pub after : s' ≡ noted (put s who (linked stand (offer_link link (cut_of m))))
+  pub after : s' ≡ with_entries (put_end s who (linked stand (offer_link link (cut_of m))))
       (HandsIn who m ∷ [])
 
 -- the end of the connection is asked for
@@ -152,7 +152,7 @@ pub record DoesClose (who : ℕ) (s s' : Scene) : Type 0 where
   pub link : LinkView
   pub stands : Stands s who stand link
   pub live : refusal link.state ≡ None
-  pub after : s' ≡ noted (put s who (linked stand (end_link link))) (AsksEnd who ∷ [])
+  pub after : s' ≡ with_entries (put_end s who (linked stand (end_link link))) (AsksEnd who ∷ [])
 
 -- a unit is taken and joined to what is there
 pub record DoesTake (who : ℕ) (u : Unit) (s s' : Scene) : Type 0 where
@@ -163,8 +163,8 @@ pub record DoesTake (who : ℕ) (u : Unit) (s s' : Scene) : Type 0 where
   pub joins : Joining
   pub joined : joins ≡ join_unit (record { messages = []; rest = stand.rest }) u
   pub short : (u.stream ≢ end_stream) → length (added stand.rest u).body ≤ most_bytes
-  pub after : s' ≡ noted
-      (put s who (record (linked stand (take_link link).1) { rest = joins.rest }))
+  pub after : s' ≡ with_entries
+      (put_end s who (record (linked stand (take_link link).1) { rest = joins.rest }))
       (TakesUnit who u ∷ out_notes who joins.messages)
 
 -- more than 65,535 bytes came: the unit is gone, the message too, and so is the link. Nothing is
@@ -176,7 +176,7 @@ pub record DoesOverrun (who : ℕ) (u : Unit) (s s' : Scene) : Type 0 where
   pub gives : (take_link link).0 ≡ Some u
   pub data' : u.stream ≢ end_stream
   pub long : most_bytes < length (added stand.rest u).body
-  pub after : s' ≡ put s who (record {
+  pub after : s' ≡ put_end s who (record {
     host = stand.host;
     link = Some (lose_link (take_link link).1);
     rest = None;
@@ -188,7 +188,7 @@ pub record DoesRelease (who : ℕ) (s s' : Scene) : Type 0 where
   pub stand : Stand
   pub link : LinkView
   pub stands : Stands s who stand link
-  pub after : s' ≡ noted (put s who (record stand { link = None; rest = None })) (Released who ∷ [])
+  pub after : s' ≡ with_entries (put_end s who (record stand { link = None; rest = None })) (Released who ∷ [])
 
 -- a router carries a parcel one hop further
 pub record DoesCarry (from : ℕ) (network segment : Network) (bytes : List ℕ)
@@ -207,22 +207,22 @@ pub record DoesTell (router : ℕ) (segment : Network) (bytes : List ℕ) (s s' 
   pub after : s' ≡ sent_off s segment bytes (Told router (length s.parcels))
 
 -- a deed makes one scene of another
-abbrev pub Does : Deed → Scene → Scene → Type 0
-Does (Dials host id socket to buffers now) s s' = DoesDial host id socket to buffers now s s'
-Does (Accepts host id socket parcel buffers now) s s' =
+abbrev pub DoesDeed : Deed → Scene → Scene → Type 0
+DoesDeed (Dials host id socket to buffers now) s s' = DoesDial host id socket to buffers now s s'
+DoesDeed (Accepts host id socket parcel buffers now) s s' =
     DoesAccept host id socket parcel buffers now s s'
-Does (Reads who parcel) s s' = DoesRead who parcel s s'
-Does (OwesReply who) s s' = DoesSilently owe_reply_link who s s'
-Does (Gives who now segment bytes) s s' = DoesGive who now segment bytes s s'
-Does (Rests who now) s s' = DoesRest who now s s'
-Does (Sends who m) s s' = DoesSend who m s s'
-Does (Takes who u) s s' = DoesTake who u s s'
-Does (Overruns who u) s s' = DoesOverrun who u s s'
-Does (Closes who) s s' = DoesClose who s s'
-Does (Releases who) s s' = DoesRelease who s s'
-Does (Carries from network segment bytes) s s' = DoesCarry from network segment bytes s s'
-Does (Tells router segment bytes) s s' = DoesTell router segment bytes s s'
-Does (Injects segment bytes) s s' = s' ≡ sent_off s segment bytes (Injected (length s.parcels))
+DoesDeed (Reads who parcel) s s' = DoesRead who parcel s s'
+DoesDeed (OwesReply who) s s' = DoesSilently owe_reply_link who s s'
+DoesDeed (Gives who now segment bytes) s s' = DoesGive who now segment bytes s s'
+DoesDeed (Rests who now) s s' = DoesRest who now s s'
+DoesDeed (Sends who m) s s' = DoesSend who m s s'
+DoesDeed (Takes who u) s s' = DoesTake who u s s'
+DoesDeed (Overruns who u) s s' = DoesOverrun who u s s'
+DoesDeed (Closes who) s s' = DoesClose who s s'
+DoesDeed (Releases who) s s' = DoesRelease who s s'
+DoesDeed (Carries from network segment bytes) s s' = DoesCarry from network segment bytes s s'
+DoesDeed (Tells router segment bytes) s s' = DoesTell router segment bytes s s'
+DoesDeed (Injects segment bytes) s s' = s' ≡ sent_off s segment bytes (Injected (length s.parcels))
 
 -- a scene without ends and parcels, whose hosts' networks are not 0
 pub record IsBegun (s : Scene) : Type 0 where
@@ -236,4 +236,4 @@ pub record IsBegun (s : Scene) : Type 0 where
 pub data Reached : Scene → Type 0 where
   begun : {s : Scene} → IsBegun s → Reached s
   happened : {new : Scene} (old : Scene) (deed : Deed)
-      → Reached old → Does deed old new → Reached new
+      → Reached old → DoesDeed deed old new → Reached new

@@ -7,7 +7,7 @@ use Rattle.ipx_log.specs.Note.{Note}
 use Rattle.ipx_log.specs.Scan.{Scan, Role, is_now, scan}
 use Rattle.ipx_log.specs.Peers.{ArePeersIn}
 use Rattle.ipx_log.specs.Scene.{Scene, Stand, Stands}
-use Rattle.ipx_log.specs.Deeds.{Deed, Does}
+use Rattle.ipx_log.specs.Deeds.{Deed, DoesDeed}
 use Rattle.ipx_log.specs.SentUnits.{sent_by}
 
 -- ends are numbered as their roles are, the next number of each is that of the unit after those
@@ -23,20 +23,20 @@ pub record EndsAreTold (s : Scene) : Type 0 where
 -- where an end has no link after a deed, that deed sent no unit of it: so its last number stands
 abbrev pub GoneSendsNothing : Type 0
 GoneSendsNothing =
-    (s s' : Scene) (deed : Deed) → Does deed s s' → (who : ℕ) (e : Stand)
+    (s s' : Scene) (deed : Deed) → DoesDeed deed s s' → (who : ℕ) (e : Stand)
     → slice_get s'.ends who ≡ Some e → e.link ≡ None
     → sent_by who s'.log ≡ sent_by who s.log
 
 -- an end stays at its host, and one without a link stays as it is
-pub record StaysAt (e f : Stand) : Type 0 where
+pub record StaysAtHost (e f : Stand) : Type 0 where
   pub host : f.host ≡ e.host
   pub gone : e.link ≡ None → f ≡ e
 
 abbrev pub EndsStay : Type 0
 EndsStay =
-    (s s' : Scene) (deed : Deed) → Does deed s s' → (who : ℕ) (e : Stand)
+    (s s' : Scene) (deed : Deed) → DoesDeed deed s s' → (who : ℕ) (e : Stand)
     → slice_get s.ends who ≡ Some e
-    → (f : Stand) × (slice_get s'.ends who ≡ Some f) × StaysAt e f
+    → (f : Stand) × (slice_get s'.ends who ≡ Some f) × StaysAtHost e f
 
 -- ---- the peer of an end
 

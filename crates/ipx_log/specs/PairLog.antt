@@ -95,6 +95,6 @@ abbrev pub new_half : ℕ → Half
 new_half buffers = record { end = new_end buffers; mail = [] }
 
 -- of the ends c and d with a and b buffers
-abbrev pub pair_of : ℕ → ℕ → ℕ → ℕ → List (List ℕ) → List Note → Pair
-pair_of c d a b parcels log =
+abbrev pub pair_between : ℕ → ℕ → ℕ → ℕ → List (List ℕ) → List Note → Pair
+pair_between c d a b parcels log =
     pair_from parcels c d (record { one = new_half a; two = new_half b }) log

@@ -32,12 +32,12 @@ abbrev pub linked : Stand → LinkView → Stand
 linked e l = record e { link = Some l }
 
 -- the end becomes this one
-abbrev pub put : Scene → ℕ → Stand → Scene
-put s who e = record s { ends = set s.ends who e }
+abbrev pub put_end : Scene → ℕ → Stand → Scene
+put_end s who e = record s { ends = set s.ends who e }
 
 -- entries come to the log
-abbrev pub noted : Scene → List Note → Scene
-noted s ns = record s { log = s.log ++ ns }
+abbrev pub with_entries : Scene → List Note → Scene
+with_entries s ns = record s { log = s.log ++ ns }
 
 -- a parcel comes, with its entry
 abbrev pub sent_off : Scene → Network → List ℕ → Note → Scene

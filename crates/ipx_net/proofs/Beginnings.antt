@@ -14,8 +14,8 @@ use Rattle.ipx_hosts.specs.Hosts.{HostsView, world_of}
 use Rattle.ipx_router.specs.NewRouter.{ports_fault}
 use Rattle.ipx_router.specs.declared.fault.NewFault.{NewFault}
 use Rattle.ipx_router.specs.declared.port.Port.{Port}
-use Rattle.ipx_steps.specs.Reach.{CameTo, IsFresh, IsNew}
-use Rattle.ipx_steps.specs.World.{InOrder, Station, World, scene_of}
+use Rattle.ipx_steps.specs.Reach.{CameTo, HasNoLinks, IsNewWorld}
+use Rattle.ipx_steps.specs.World.{InOrder, HostState, World, scene_of}
 use Rattle.ipx_net.specs.BookView.{BookView, blank}
 use Rattle.ipx_net.specs.NetReach.{GoesOn}
 use Rattle.ipx_net.specs.Beginnings.{AreHosts, AreRouters, IsHostOwed, IsStationOf, IsRouterOf, PortLists, first_refusal, router_faults}
@@ -29,7 +29,7 @@ zip_more R (a ∷ xs) [] x y are r = absurd are
 zip_more R (a ∷ xs) (b ∷ ys) x y are r = (are.0, zip_more R xs ys x y are.1 r)
 
 -- one more host behind the others
-pub one_more_host : (hosts : List Host) (i : ℕ) (d : Host) (old new : List Station) → i < length hosts → AreHosts (take i hosts) old
+pub one_more_host : (hosts : List Host) (i : ℕ) (d : Host) (old new : List HostState) → i < length hosts → AreHosts (take i hosts) old
     → AddsHost old new (get_or hosts i d).network (get_or hosts i d).node (get_or hosts i d).router (get_or hosts i d).listen → AreHosts (take (i + 1) hosts) new
 one_more_host hosts i d old new within are adds =
     let h : Host = get_or hosts i d in
@@ -77,7 +77,7 @@ in_range : (listen : Option (Socket × ℕ)) (socket : Socket) (buffers : ℕ) �
 in_range None socket buffers range is = absurd (cc is)
 in_range (Some l) socket buffers range is = subst (λ (n : ℕ). (0 < n) × (n ≤ most_units)) (given_if (l.0.0 == socket.0) l.1 buffers is) range
 
-fresh : (h : Host) (s : Station) → IsHostOwed h → IsStationOf h s → IsFresh s
+fresh : (h : Host) (s : HostState) → IsHostOwed h → IsStationOf h s → HasNoLinks s
 fresh h s owed is =
     record {
       network = λ zero'. owed.not_local (ap (λ (n : Network). n.0) (sym is.network_is) ∙ zero');
@@ -86,18 +86,18 @@ fresh h s owed is =
       range = λ socket buffers at. in_range h.listen socket buffers owed.range (sym (is.buffers socket) ∙ at);
     }
 
-all_fresh : (hosts : List Host) (stations : List Station) → All IsHostOwed hosts → AreHosts hosts stations → (k : ℕ) (s : Station) → slice_get stations k ≡ Some s → IsFresh s
+all_fresh : (hosts : List Host) (stations : List HostState) → All IsHostOwed hosts → AreHosts hosts stations → (k : ℕ) (s : HostState) → slice_get stations k ≡ Some s → HasNoLinks s
 all_fresh [] [] owed are zero s at = absurd (cc at)
 all_fresh [] [] owed are (suc k) s at = absurd (cc at)
 all_fresh [] (t ∷ ts) owed are k s at = absurd are
 all_fresh (h ∷ hs) [] owed are k s at = absurd are
-all_fresh (h ∷ hs) (t ∷ ts) owed are zero s at = subst IsFresh (cc at) (fresh h t (owed zero h (omega arith)) are.0)
+all_fresh (h ∷ hs) (t ∷ ts) owed are zero s at = subst HasNoLinks (cc at) (fresh h t (owed zero h (omega arith)) are.0)
 all_fresh (h ∷ hs) (t ∷ ts) owed are (suc k) s at = all_fresh hs ts (λ j d within. owed (suc j) d (omega (arith, within))) are.1 k s at
 
 pub begun : (hosts : List Host) (v : HostsView) (b : BookView) → ((w : World) → CameTo w → InOrder w × Reached (scene_of w))
     → All IsHostOwed hosts → AreHosts hosts v.stations → v.ends ≡ [] → b ≡ blank → GoesOn (world_of v b.parcels b.log 0)
 begun hosts v b reached owed are ends is =
-    let new : IsNew (world_of v b.parcels b.log 0) =
+    let new : IsNewWorld (world_of v b.parcels b.log 0) =
     record {
       hosts = all_fresh hosts v.stations owed are;
       ends = ends;

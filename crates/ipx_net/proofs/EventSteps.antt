@@ -11,12 +11,12 @@ use Rattle.spx_messages.specs.Taking.{TakenView, overlong}
 use Rattle.ipx_log.specs.Note.{Note}
 use Rattle.ipx_steps.specs.Steps.{TakesOf, said_notes, given_notes, unit_notes, whole_notes}
 use Rattle.ipx_steps.specs.Calls.{RefusesAt}
-use Rattle.ipx_steps.specs.World.{AtHost, ParcelView, Station, World, end_at}
+use Rattle.ipx_steps.specs.World.{AtHost, ParcelView, HostState, World, end_at}
 use Rattle.ipx_hosts.specs.Hosts.{HostsView, LeftAs, Noting, PolledAt, world_of}
 use Rattle.ipx_hosts.specs.Refusing.{PushesTo, TakeIsRefused, end_held, want}
 use Rattle.ipx_hosts.specs.Stations.{given_as, speaker}
 use Rattle.ipx_net.specs.AnswerView.{Parcels, Refused, Taken}
-use Rattle.ipx_net.specs.GrowthView.{GrowthView, Grows}
+use Rattle.ipx_net.specs.GrowthView.{GrowthView, GrowsWorld}
 use Rattle.ipx_net.specs.HostEvents.{DeliversSo, PollingHost, TakingFrom}
 use Rattle.ipx_net.specs.Speaking.{spoken_notes}
 use Rattle.spx_messages.specs.declared.arrived.Arrived.{Arrived}
@@ -33,9 +33,9 @@ if_ok_then (Err e) P Q f has = tt
 pub taking_ok : (old new : HostsView) (first now who : ℕ) (t : TakenView) (u : Option Unit) (r : Result TakenView EndFault) (g : GrowthView) → r ≡ Ok t
     → Noting old new now (unit_notes r u who ++ whole_notes r who) (λ w w'. TakesOf w who r w')
     → g ≡ record { parcels = []; notes = unit_notes (Ok t) u who ++ whole_notes (Ok t) who; answer = Taken t }
-    → Grows old new first now g (TakingFrom who)
+    → GrowsWorld old new first now g (TakingFrom who)
 taking_ok old new first now who t u r g is noting same =
-    subst (λ x. Grows old new first now x (TakingFrom who)) (sym same)
+    subst (λ x. GrowsWorld old new first now x (TakingFrom who)) (sym same)
     (λ parcels log count.
     let W : World = world_of old parcels log now in
     inl (
@@ -54,9 +54,9 @@ pub taking_err : (old new : HostsView) (first now who : ℕ) (f : EndFault) (u :
     → TakeIsRefused f
     → (f ≡ want → PushesTo (end_held old.stations old.ends who))
     → g ≡ record { parcels = []; notes = []; answer = Refused f }
-    → Grows old new first now g (TakingFrom who)
+    → GrowsWorld old new first now g (TakingFrom who)
 taking_err old new first now who f u g takes left why pushes same =
-    subst (λ x. Grows old new first now x (TakingFrom who)) (sym same)
+    subst (λ x. GrowsWorld old new first now x (TakingFrom who)) (sym same)
     (λ parcels log count.
     let W : World = world_of old parcels log now in
     elim why [
@@ -99,7 +99,7 @@ pub polling_some : (old new : HostsView) (host first now : ℕ) (r : Node × ℕ
 polling_some old new host first now r room written segment spoke ps ns numbers p networks speaks letters notes named parcels log count =
     let here : slice_get new.stations host ≡ Some p.after = ap (λ xs. slice_get xs host) p.stations ∙ get_here old.stations host p.before p.after p.there in
     let spoken : spoke ≡ speaker p.after.here p.after.endpoint.said = subst (λ o. IfSome o (λ s. spoke ≡ speaker s.here s.endpoint.said)) here speaks in
-    let both : Some p.before.endpoint.network ≡ Some segment = sym (ap (option_map (λ (s : Station). s.endpoint.network)) p.there) ∙ networks in
+    let both : Some p.before.endpoint.network ≡ Some segment = sym (ap (option_map (λ (s : HostState). s.endpoint.network)) p.there) ∙ networks in
     let segment_is : segment ≡ p.before.endpoint.network = sym (cc both) in (
       Some r,
       record {
@@ -148,7 +148,7 @@ pub polling_grows : (old new : HostsView) (host first now : ℕ) (r : Node × �
     → p ≡ record { segment = segment; next = r.0; bytes = take r.1 written; sent_by = Some (AtHost host) }
     → ns ≡ spoken_notes spoke first
     → g ≡ record { parcels = p ∷ []; notes = ns; answer = Parcels (first ∷ []) }
-    → Grows old new first now g (PollingHost host)
+    → GrowsWorld old new first now g (PollingHost host)
 polling_grows old new host first now r room written segment spoke p ns g polled networks speaks letter notes same =
-    subst (λ x. Grows old new first now x (PollingHost host)) (sym same)
+    subst (λ x. GrowsWorld old new first now x (PollingHost host)) (sym same)
     (λ parcels log count. polling_some old new host first now r room written segment spoke (p ∷ []) ns (first ∷ []) polled networks speaks (ap (λ q. q ∷ []) letter) notes refl parcels log count)

@@ -15,12 +15,12 @@ use Rattle.ipx_router.specs.declared.port.Port.{Port}
 use Rattle.ipx_log.specs.Note.{Note}
 use Rattle.ipx_log.specs.Note as Notes
 use Rattle.ipx_log.specs.Packets.{IsOneOn}
-use Rattle.ipx_steps.specs.Routers.{TellsOf, told_notes}
+use Rattle.ipx_steps.specs.Routers.{GivesOwnLetters, told_notes}
 use Rattle.ipx_steps.specs.World.{ParcelView, World}
 use Rattle.ipx_hosts.specs.Hosts.{HostsView, world_of}
 use Rattle.ipx_net.specs.AnswerView.{AnswerView, Parcels}
 use Rattle.ipx_net.specs.BookView.{BookView}
-use Rattle.ipx_net.specs.GrowthView.{Grows, GrowthView, growth_view}
+use Rattle.ipx_net.specs.GrowthView.{GrowsWorld, GrowthView, growth_view}
 use Rattle.ipx_net.specs.HostEvents.{DeliveringToHost, DeliversSo}
 use Rattle.ipx_net.specs.NetEvents.{BesideRouters}
 use Rattle.ipx_net.specs.NetFaults.{member_fault, network_of_host, network_of_port, place_fault, segment_fault}
@@ -42,7 +42,7 @@ abbrev pub before : HostsView → List RouterNow → BookView → ℕ → NetNow
 before hosts routers b now = net_of hosts routers b.parcels b.log now
 
 pub happened : {E : Type 0} (P : AnswerView → World → World → Type 0) (r : Result Growth E) (old new : HostsView) (routers : List RouterNow) (b : BookView) (first now : ℕ)
-    → length b.parcels ≡ first → IfOk r (λ g. Grows old new first now (growth_view g) P)
+    → length b.parcels ≡ first → IfOk r (λ g. GrowsWorld old new first now (growth_view g) P)
     → IfOk r (λ g. BesideRouters P (growth_view g).answer (before old routers b now) (after new routers b (growth_view g) now))
 happened P (Ok g) old new routers b first now count grows = (grows b.parcels b.log count, refl)
 happened P (Err e) old new routers b first now count grows = tt
@@ -104,7 +104,7 @@ delivered_host old new routers b host parcel now l g at sound d =
 -- ---- routers
 
 tells_of : (hosts : HostsView) (b : BookView) (router now first : ℕ) (ports : List Port) (sent : List SendingView) → length b.parcels ≡ first → AreOwn sent
-    → TellsOf (world_of hosts b.parcels b.log now) router (letters_of router ports sent) (world_of hosts (b.parcels ++ letters_of router ports sent) (b.log ++ told_notes router first (letters_of router ports sent)) now)
+    → GivesOwnLetters (world_of hosts b.parcels b.log now) router (letters_of router ports sent) (world_of hosts (b.parcels ++ letters_of router ports sent) (b.log ++ told_notes router first (letters_of router ports sent)) now)
 tells_of hosts b router now first ports sent count own =
     record {
       own = own_letters router ports sent own;

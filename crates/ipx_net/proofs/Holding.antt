@@ -21,7 +21,7 @@ use Rattle.ipx_log.specs.Scene.{Scene, Stand}
 use Rattle.ipx_log.specs.SentUnits.{LinksSendInOrder, UnitsAreSentInOrder}
 use Rattle.ipx_log.specs.UnitsOfEnds.{UnitsAreCuts}
 use Rattle.ipx_recovery.specs.Stuck.{NoPairIsStuck, NoStateIsStuck, NothingIsStuckByAddresses}
-use Rattle.ipx_steps.specs.World.{EndNow, InOrder, Station, World, bytes_of, held_in, held_of, home_at, scene_of, segment_of, stand_of, stand_with}
+use Rattle.ipx_steps.specs.World.{EndNow, InOrder, HostState, World, bytes_of, held_in, held_of, home_at, scene_of, segment_of, stand_of, stand_with}
 use Rattle.ipx_net.specs.NetReach.{GoesOn, IsKept}
 use Rattle.ipx_net.specs.NetView.{NetView}
 use Rattle.ipx_net.specs.Theorems.{AloneHandsOutNothing, AreNumbered, AreReleasedByLog, AreWhereOpened, LinkTheorems, PeersHandOn, Theorems}
@@ -124,7 +124,7 @@ where_opened w t who host buffers has =
 released_end : (w : World) (n : EndNow) → n.released ≡ true → (stand_of w.hosts n).link ≡ None
 released_end w n is = rw is refl
 
-pub held_there : (w : World) (n : EndNow) {x : Station} {h : Held} → n.released ≡ false → slice_get w.hosts n.host ≡ Some x → held_in (Some x) n.id ≡ Some h → held_of w.hosts n ≡ Some h
+pub held_there : (w : World) (n : EndNow) {x : HostState} {h : Held} → n.released ≡ false → slice_get w.hosts n.host ≡ Some x → held_in (Some x) n.id ≡ Some h → held_of w.hosts n ≡ Some h
 held_there w n is there live = cond-false n.released None (held_in (slice_get w.hosts n.host) n.id) is ∙ (ap (λ o. held_in o n.id) there ∙ live)
 
 unreleased_end : (w : World) → InOrder w → (who : ℕ) (n : EndNow) → slice_get w.ends who ≡ Some n → (b : Bool) → n.released ≡ b → (stand_of w.hosts n).link ≡ None → n.released ≡ true

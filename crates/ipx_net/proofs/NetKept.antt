@@ -2,7 +2,7 @@
 use Rattle.std.proofs.Common.{ℕ, ◌≡◌, ◌++◌, List, Bool, true, false, cond, Option, None, Some, Result, Ok, Err, OnOk, refl, sym, subst}
 use Rattle.std.specs.Result.{is_err}
 use Rattle.ipx_log.specs.Deeds.{Reached}
-use Rattle.ipx_steps.specs.Step.{Step}
+use Rattle.ipx_steps.specs.Step.{WorldStep}
 use Rattle.ipx_steps.specs.World.{InOrder, World, scene_of}
 use Rattle.ipx_hosts.specs.Hosts.{HostsView, world_of}
 use Rattle.ipx_net.specs.BookView.{BookView, written_on}
@@ -32,8 +32,8 @@ kept_going : (w : World) (spent : Bool) → spent ≡ false → IsKept w spent �
 kept_going w spent is kept = subst (IsKept w) is kept
 
 pub goes_on : (hosts hosts' : HostsView) (routers routers' : List RouterNow) (b b' : BookView) (g : GrowthView) (now now' : ℕ) (spent : Bool) (e : Event)
-    → ((old new : World) → InOrder old → Step old new → InOrder new)
-    → ((old new : World) → InOrder old → Reached (scene_of old) → Step old new → Reached (scene_of new))
+    → ((old new : World) → InOrder old → WorldStep old new → InOrder new)
+    → ((old new : World) → InOrder old → Reached (scene_of old) → WorldStep old new → Reached (scene_of new))
     → spent ≡ false → IsKept (world_of hosts b.parcels b.log now) spent
     → Happens e g.answer (net_of hosts routers b.parcels b.log now) (net_of hosts' routers' (b.parcels ++ g.parcels) (b.log ++ g.notes) now')
     → b' ≡ written_on b g.parcels g.notes → IsKept (world_of hosts' b'.parcels b'.log now') spent
@@ -41,7 +41,7 @@ goes_on hosts hosts' routers routers' b b' g now now' spent e order reached goin
     let old : World = world_of hosts b.parcels b.log now in
     let new : World = world_of hosts' (b.parcels ++ g.parcels) (b.log ++ g.notes) now' in
     let was : GoesOn old = kept_going old spent going kept in
-    let step : Step old new = happens_step e g.answer (net_of hosts routers b.parcels b.log now) (net_of hosts' routers' (b.parcels ++ g.parcels) (b.log ++ g.notes) now') happens in
+    let step : WorldStep old new = happens_step e g.answer (net_of hosts routers b.parcels b.log now) (net_of hosts' routers' (b.parcels ++ g.parcels) (b.log ++ g.notes) now') happens in
     let is : GoesOn new = record { order = order old new was.order step; reached = reached old new was.order was.reached step } in
     let there : GoesOn (world_of hosts' b'.parcels b'.log now') = subst (λ (x : BookView). GoesOn (world_of hosts' x.parcels x.log now')) (sym written) is in
     subst (IsKept (world_of hosts' b'.parcels b'.log now')) (sym going) there

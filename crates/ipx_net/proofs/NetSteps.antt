@@ -4,7 +4,7 @@ use Rattle.ipx_router.specs.OutcomeView as Outcomes
 use Rattle.ipx_router.specs.OutcomeView.{OutcomeView}
 use Rattle.ipx_router.specs.declared.port.Port.{Port}
 use Rattle.spx_messages.specs.declared.fault.EndFault.{EndFault}
-use Rattle.ipx_steps.specs.Step.{Step, Delivered, Polled, Taken, Dialled, Sent, Closed, Released, Refused, Injected, Ticked, Told, Carried}
+use Rattle.ipx_steps.specs.Step.{WorldStep, Delivered, Polled, Taken, Dialled, Sent, Closed, Released, Refused, Injected, Ticked, Told, Carried}
 use Rattle.ipx_steps.specs.World.{World}
 use Rattle.spx_messages.specs.Taking.{overlong}
 use Rattle.spx_units.specs.Message.{message_view}
@@ -19,22 +19,22 @@ use Rattle.ipx_net.specs.declared.event.Event.TheVariants as Events
 use Rattle.ipx_net.specs.declared.event.Member.TheVariants as Members
 use Rattle.ipx_net.specs.declared.place.Place.TheVariants as Places
 
-no_change : (old : World) → Step old old
+no_change : (old : World) → WorldStep old old
 no_change old = Ticked old.moment (record { hosts = refl; ends = refl; parcels = refl; log = refl; moment = refl })
 
-same_world : (old new : World) → new ≡ old → Step old new
-same_world old new same = subst (Step old) (sym same) (no_change old)
+same_world : (old new : World) → new ≡ old → WorldStep old new
+same_world old new same = subst (WorldStep old) (sym same) (no_change old)
 
-refusal : (who : ℕ) (f : EndFault) (a : AnswerView) (old new : World) → RefusedOf who f a old new → Step old new
+refusal : (who : ℕ) (f : EndFault) (a : AnswerView) (old new : World) → RefusedOf who f a old new → WorldStep old new
 refusal who f a old new r = Refused _ r.2.1
 
-router_does : (parcel router port : ℕ) (ports : List Port) (outcome : OutcomeView) (a : AnswerView) (old new : World) → RouterDoes parcel router ports outcome a old new → Step old new
+router_does : (parcel router port : ℕ) (ports : List Port) (outcome : OutcomeView) (a : AnswerView) (old new : World) → RouterDoes parcel router ports outcome a old new → WorldStep old new
 router_does parcel router port ports (Outcomes.Forward at next bytes) a old new d = Carried parcel router at (network_of (port_at ports at)) next bytes d.1
 router_does parcel router port ports (Outcomes.Replies sent) a old new d = Told router (letters_of router ports sent) d.1
 router_does parcel router port ports (Outcomes.Heard n) a old new d = same_world old new d.1
 router_does parcel router port ports (Outcomes.Dropped reason) a old new d = same_world old new d.1
 
-pub happens_step : (e : Event) (a : AnswerView) (o n : NetNow) → Happens e a o n → Step o.world n.world
+pub happens_step : (e : Event) (a : AnswerView) (o n : NetNow) → Happens e a o n → WorldStep o.world n.world
 happens_step (Events.Dial host socket to buffers) a o n h = elim h.0 [ inl d ↦ Dialled host socket to buffers d.2 d.3 | inr r ↦ Refused host r.2.1 ]
 happens_step (Events.Send who message) a o n h = elim h.0 [ inl d ↦ Sent who (message_view message) d.2 | inr r ↦ refusal who r.0 a o.world n.world r.2 ]
 happens_step (Events.Take who) a o n h = elim h.0 [

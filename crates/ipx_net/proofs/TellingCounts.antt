@@ -12,7 +12,7 @@ use Rattle.ipx_log.specs.SentUnits.{sent_by}
 use Rattle.ipx_net.specs.Ends.{nobody, told_of}
 use Rattle.ipx_net.specs.Entries.{entry_note, entry_notes}
 use Rattle.ipx_net.specs.Theorems.{AreNumbered}
-use Rattle.ipx_net.specs.Told.{AreCounted, IsCounted, StayAs, Stays, change, one_given, one_out, one_sent, told_with}
+use Rattle.ipx_net.specs.Told.{AreCounted, IsCounted, StayAs, StaysAs, change, one_given, one_out, one_sent, told_with}
 use Rattle.ipx_net.specs.declared.endinfo.EndInfo.{EndInfo}
 use Rattle.ipx_net.specs.declared.entry.Entry.{Entry}
 use Rattle.ipx_net.proofs.Sightings.{seen_all-append}
@@ -135,7 +135,7 @@ counted_on log (Injected parcel) told is old = kept log (Injected parcel) told t
 
 -- ---- what stays
 
-same_stays : (e f : EndInfo) → f ≡ e → Stays e f
+same_stays : (e f : EndInfo) → f ≡ e → StaysAs e f
 same_stays e f is = record { host = ap (λ (x : EndInfo). x.host) is; state = ap (λ (x : EndInfo). x.state) is; peer = ap (λ (x : EndInfo). x.peer) is }
 
 pub stays_then : (a b c : List EndInfo) → StayAs a b → StayAs b c → StayAs a c
@@ -143,14 +143,14 @@ stays_then a b c one two = λ who.
     let x = one who in let y = two who in
     record { host = y.host ∙ x.host; state = y.state ∙ x.state; peer = y.peer ∙ x.peer }
 
-change_stays : (f : EndInfo → EndInfo) (w : ℕ) (told : List EndInfo) → ((e : EndInfo) → Stays e (f e)) → StayAs told (change f w told)
+change_stays : (f : EndInfo → EndInfo) (w : ℕ) (told : List EndInfo) → ((e : EndInfo) → StaysAs e (f e)) → StayAs told (change f w told)
 change_stays f w told keeps who = by_length (ltb w (length told)) refl
   where
-    pick : (b : Bool) → (w == who) ≡ b → w < length told → Stays (told_of told who) (told_of (change f w told) who)
-    pick true same h = subst (λ (e : EndInfo). Stays (told_of told who) e) (sym (change_at f w told who true same h)) (keeps (told_of told who))
+    pick : (b : Bool) → (w == who) ≡ b → w < length told → StaysAs (told_of told who) (told_of (change f w told) who)
+    pick true same h = subst (λ (e : EndInfo). StaysAs (told_of told who) e) (sym (change_at f w told who true same h)) (keeps (told_of told who))
     pick false same h = same_stays (told_of told who) (told_of (change f w told) who) (change_at f w told who false same h)
 
-    by_length : (b : Bool) → ltb w (length told) ≡ b → Stays (told_of told who) (told_of (change f w told) who)
+    by_length : (b : Bool) → ltb w (length told) ≡ b → StaysAs (told_of told who) (told_of (change f w told) who)
     by_length true h = pick (w == who) refl (ltb-true w (length told) h)
     by_length false h = same_stays (told_of told who) (told_of (change f w told) who) (ap (λ (xs : List EndInfo). told_of xs who) (set_past told w (f (told_of told w)) (ltb-false w (length told) h)))
 

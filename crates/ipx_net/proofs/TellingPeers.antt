@@ -12,7 +12,7 @@ use Rattle.ipx_log.specs.Scan.{Maker, Role, Scan, asker, joined_by, mark_of, no_
 use Rattle.ipx_net.specs.Ends.{told_of}
 use Rattle.ipx_net.specs.Entries.{entry_note, entry_notes}
 use Rattle.ipx_net.specs.Theorems.{AreNumbered}
-use Rattle.ipx_net.specs.Told.{StayAlone, StaysBut, change, joins, paired, paired_by, with_peer}
+use Rattle.ipx_net.specs.Told.{StayAlone, StaysBut, change, joins, made_peers, paired_by, with_peer}
 use Rattle.ipx_net.specs.declared.endinfo.EndInfo.{EndInfo}
 use Rattle.ipx_net.specs.declared.entry.Entry.{Entry}
 use Rattle.ipx_net.proofs.Sightings.{seen_all-append}
@@ -217,7 +217,7 @@ for_good found log at c d is =
 -- ---- a pair is told
 
 paired_either : (F : ℕ → Option ℕ) (who : ℕ) (p : Option ℕ) (told : List EndInfo) → F who ≡ p → ((d : ℕ) → F who ≡ Some d → F d ≡ Some who) → (e : ℕ)
-    → ((told_of (paired who p told) e).peer ≡ F e) ⊎ ((told_of (paired who p told) e).peer ≡ (told_of told e).peer)
+    → ((told_of (made_peers who p told) e).peer ≡ F e) ⊎ ((told_of (made_peers who p told) e).peer ≡ (told_of told e).peer)
 paired_either F who None told is both e = elim (change_where (with_peer None) who told e) [
   | inl same ↦ inr (ap (λ (x : EndInfo). x.peer) same)
   | inr here ↦ inl (ap (λ (x : EndInfo). x.peer) here.1 ∙ sym is ∙ ap F here.0)
@@ -232,7 +232,7 @@ paired_either F who (Some d) told is both e =
       | inr here ↦ inl (ap (λ (x : EndInfo). x.peer) here.1 ∙ sym (both d is) ∙ ap F here.0)
     ]
 
-paired_own : (who : ℕ) (p : Option ℕ) (told : List EndInfo) → who < length told → (told_of (paired who p told) who).peer ≡ p
+paired_own : (who : ℕ) (p : Option ℕ) (told : List EndInfo) → who < length told → (told_of (made_peers who p told) who).peer ≡ p
 paired_own who None told h = ap (λ (x : EndInfo). x.peer) (change_own (with_peer None) who told h)
 paired_own who (Some d) told h =
     let one : List EndInfo = change (with_peer (Some d)) who told in
@@ -241,7 +241,7 @@ paired_own who (Some d) told h =
       | inr here ↦ ap (λ (x : EndInfo). x.peer) here.1 ∙ ap Some (sym here.0)
     ]
 
-paired_other : (who d : ℕ) (p : Option ℕ) (told : List EndInfo) → p ≡ Some d → d < length told → (told_of (paired who p told) d).peer ≡ Some who
+paired_other : (who d : ℕ) (p : Option ℕ) (told : List EndInfo) → p ≡ Some d → d < length told → (told_of (made_peers who p told) d).peer ≡ Some who
 paired_other who d None told is h = absurd (cc is)
 paired_other who d (Some q) told is h =
     let same : q ≡ d = same_Some q d is in
@@ -261,13 +261,13 @@ alone_then a b c one two = λ e.
     let x = one e in let y = two e in
     record { host = y.host ∙ x.host; state = y.state ∙ x.state; given = y.given ∙ x.given; out = y.out ∙ x.out; next = y.next ∙ x.next }
 
-paired_alone : (who : ℕ) (p : Option ℕ) (told : List EndInfo) → StayAlone told (paired who p told)
+paired_alone : (who : ℕ) (p : Option ℕ) (told : List EndInfo) → StayAlone told (made_peers who p told)
 paired_alone who None told = peer_alone None who told
 paired_alone who (Some d) told =
     let one : List EndInfo = change (with_peer (Some d)) who told in
     alone_then told one (change (with_peer (Some who)) d one) (peer_alone (Some d) who told) (peer_alone (Some who) d one)
 
-paired_length : (who : ℕ) (p : Option ℕ) (told : List EndInfo) → length (paired who p told) ≡ length told
+paired_length : (who : ℕ) (p : Option ℕ) (told : List EndInfo) → length (made_peers who p told) ≡ length told
 paired_length who None told = length-set told who (with_peer None (told_of told who))
 paired_length who (Some d) told =
     let one : List EndInfo = change (with_peer (Some d)) who told in
@@ -314,7 +314,7 @@ paired_next found log old at entry told new h is numbered made step p =
         }
     by (Some who) some =
         let F : ℕ → Option ℕ = peer_of (entry_notes log) in
-        let next : List EndInfo = paired who (F who) told in
+        let next : List EndInfo = made_peers who (F who) told in
         let either : (e : ℕ) → ((told_of next e).peer ≡ F e) ⊎ ((told_of next e).peer ≡ (told_of told e).peer) = paired_either F who (F who) told refl (λ d. swapped found (scan (entry_notes log)) who d) in
         let inside : (e c : ℕ) → F e ≡ Some c → e < length told = λ e c w. omega (arith, peer_there found (scan (entry_notes log)) e c w, p.count, made) in
         record {

@@ -5,9 +5,9 @@ use Rattle.std.proofs.lemmas.Bool.{cases_eq, cases_lt}
 use Rattle.std.proofs.lemmas.List.{get_or-set_same, get_or-set_other, set_past}
 use Rattle.std.proofs.lemmas.Option.{same_Some}
 use Rattle.spx_link.specs.declared.state.State.{State}
-use Rattle.ipx_steps.specs.World.{IsEndOf, Station, end_at}
+use Rattle.ipx_steps.specs.World.{IsEndOf, HostState, end_at}
 use Rattle.ipx_hosts.specs.Hosts.{FitTogether, HostsView}
-use Rattle.ipx_hosts.specs.Telling.{here_at, here_in, state_at}
+use Rattle.ipx_hosts.specs.Telling.{here_at, here_in, state_on_host}
 use Rattle.ipx_net.specs.Ends.{nobody, told_of}
 use Rattle.ipx_net.specs.Told.{StandsSo, change, logged, settled, standing, state_by, stood}
 use Rattle.ipx_net.specs.declared.endinfo.EndInfo.{EndInfo}
@@ -49,7 +49,7 @@ same_end v host id id' who one two =
 pub one_id : (v : HostsView) (host id id' who : ℕ) → FitTogether v → end_at (here_at v host) id ≡ Some who → end_at (here_at v host) id' ≡ Some who → id ≡ id'
 one_id v host id id' who fit a b = by_station (slice_get v.stations host) refl a b
   where
-    by_station : (o : Option Station) → slice_get v.stations host ≡ o → end_at (here_in o) id ≡ Some who → end_at (here_in o) id' ≡ Some who → id ≡ id'
+    by_station : (o : Option HostState) → slice_get v.stations host ≡ o → end_at (here_in o) id ≡ Some who → end_at (here_in o) id' ≡ Some who → id ≡ id'
     by_station None is x y = absurd (cc x)
     by_station (Some s) is x y = let order = (fit [] [] 0).hosts host s is in same_end v host id id' who (order.names id who x) (order.names id' who y)
 
@@ -59,15 +59,15 @@ pub record SettledTo (v : HostsView) (host : ℕ) (gone : Bool) (old : List EndI
   pub count : length new ≡ length old
   pub log : (who : ℕ) → logged (told_of new who) ≡ logged (told_of old who)
   pub here : (j : ℕ) (x : ℕ × ℕ) (who : ℕ) → j < place → slice_get (here_at v host) j ≡ Some x → end_at (here_at v host) x.0 ≡ Some who → who < length old
-      → StandsSo host (state_by gone (state_at v host x.0)) (told_of new who)
+      → StandsSo host (state_by gone (state_on_host v host x.0)) (told_of new who)
   pub others : (who : ℕ) → ((id : ℕ) → end_at (here_at v host) id ≢ Some who) → told_of new who ≡ told_of old who
 
 pub settled_by : (v : HostsView) (host : ℕ) (gone : Bool) (o : Option (ℕ × ℕ)) (id : ℕ) (told told' : List EndInfo) → Some id ≡ option_map (λ x. x.0) o
-    → told' ≡ stood (end_at (here_at v host) id) host (state_by gone (state_at v host id)) told → told' ≡ settled v host gone o told
+    → told' ≡ stood (end_at (here_at v host) id) host (state_by gone (state_on_host v host id)) told → told' ≡ settled v host gone o told
 settled_by v host gone None id told told' is step = absurd (cc is)
 settled_by v host gone (Some x) id told told' is step =
     let same : id ≡ x.0 = cc in
-    step ∙ ap (λ (i : ℕ). stood (end_at (here_at v host) i) host (state_by gone (state_at v host i)) told) same
+    step ∙ ap (λ (i : ℕ). stood (end_at (here_at v host) i) host (state_by gone (state_on_host v host i)) told) same
 
 pub settled_none : (v : HostsView) (host : ℕ) (gone : Bool) (o : Option (ℕ × ℕ)) (told : List EndInfo) → None ≡ option_map (λ (x : ℕ × ℕ). x.0) o → told ≡ settled v host gone o told
 settled_none v host gone None told is = refl
@@ -90,9 +90,9 @@ skipped v host gone old place cur s none =
 -- an end is told
 told_here : (v : HostsView) (host : ℕ) (gone : Bool) (old : List EndInfo) (place : ℕ) (cur : List EndInfo) (x : ℕ × ℕ) (w : ℕ) → FitTogether v
     → slice_get (here_at v host) place ≡ Some x → end_at (here_at v host) x.0 ≡ Some w → SettledTo v host gone old place cur
-    → SettledTo v host gone old (place + 1) (change (standing host (state_by gone (state_at v host x.0))) w cur)
+    → SettledTo v host gone old (place + 1) (change (standing host (state_by gone (state_on_host v host x.0))) w cur)
 told_here v host gone old place cur x w fit there known s =
-    let st : Option State = state_by gone (state_at v host x.0) in
+    let st : Option State = state_by gone (state_on_host v host x.0) in
     let new : List EndInfo = change (standing host st) w cur in
     record {
       count = length-set cur w (standing host st (told_of cur w)) ∙ s.count;
@@ -109,10 +109,10 @@ told_here v host gone old place cur x w fit there known s =
             let own' : told_of new who ≡ standing host st (told_of cur w) = subst (λ (k : ℕ). told_of new k ≡ standing host st (told_of cur w)) same own in
             record {
               host_is = ap (λ (e : EndInfo). e.host) own';
-              state_is = ap (λ (e : EndInfo). e.state) own' ∙ ap (λ (i : ℕ). state_by gone (state_at v host i)) id;
+              state_is = ap (λ (e : EndInfo). e.state) own' ∙ ap (λ (i : ℕ). state_by gone (state_on_host v host i)) id;
             }
         | inr differ ↦ elim (cases_lt j place) [
-          | inl before ↦ subst (StandsSo host (state_by gone (state_at v host y.0))) (sym (change_other (standing host st) w cur who differ)) (s.here j y who before at is within)
+          | inl before ↦ subst (StandsSo host (state_by gone (state_on_host v host y.0))) (sym (change_other (standing host st) w cur who differ)) (s.here j y who before at is within)
           | inr past ↦
               let one : j ≡ place = omega arith in
               let both : Some y ≡ Some x = sym at ∙ ap (slice_get (here_at v host)) one ∙ there in
@@ -129,7 +129,7 @@ pub settle_next : (v : HostsView) (host : ℕ) (gone : Bool) (old : List EndInfo
 settle_next v host gone old place cur new fit is s = subst (SettledTo v host gone old (place + 1)) (sym is) (by_place (slice_get (here_at v host) place) refl)
   where
     by_end : (x : ℕ × ℕ) (p : Option ℕ) → slice_get (here_at v host) place ≡ Some x → end_at (here_at v host) x.0 ≡ p
-        → SettledTo v host gone old (place + 1) (stood p host (state_by gone (state_at v host x.0)) cur)
+        → SettledTo v host gone old (place + 1) (stood p host (state_by gone (state_on_host v host x.0)) cur)
     by_end x None there known = skipped v host gone old place cur s (λ y who at is.
         let same : y.0 ≡ x.0 = ap (λ (p : ℕ × ℕ). p.0) (same_Some y x (sym at ∙ there)) in
         let no : None ≡ Some who = sym known ∙ ap (end_at (here_at v host)) (sym same) ∙ is in cc)

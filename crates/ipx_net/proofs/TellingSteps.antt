@@ -14,11 +14,11 @@ use Rattle.spx_messages.specs.Taking.{TakenView, overlong}
 use Rattle.spx_link.specs.LinkView.{LinkView}
 use Rattle.ipx_steps.specs.Calls.{ChangesLink, DialsFrom, RefusesAt, ReleasesOf}
 use Rattle.ipx_steps.specs.Steps.{TakesOf, ends_after, marked_over}
-use Rattle.ipx_steps.specs.World.{EndNow, InOrder, IsEndOf, Station, World, end_at, held_in, held_of}
+use Rattle.ipx_steps.specs.World.{EndNow, InOrder, IsEndOf, HostState, World, end_at, held_in, held_of}
 use Rattle.ipx_wire.specs.declared.address.Address.{Address}
 use Rattle.ipx_wire.specs.declared.address.Socket.{Socket}
 use Rattle.ipx_hosts.specs.Hosts.{HostsView}
-use Rattle.ipx_hosts.specs.Telling.{here_at, here_in, state_at, state_of}
+use Rattle.ipx_hosts.specs.Telling.{here_at, here_in, state_on_host, state_of}
 use Rattle.ipx_net.specs.AnswerView.{AnswerView}
 use Rattle.ipx_net.specs.Ends.{TellsLog, TellsStand, TellsStands, told_of}
 use Rattle.ipx_net.specs.HostEvents.{RefusedOf}
@@ -48,13 +48,13 @@ pub record OnlyAt (k : Option ℕ) (o n : World) : Type 0 where
 stay_same : (k : Option ℕ) (o n : World) → n.ends ≡ o.ends → (who : ℕ) (n' : EndNow) → slice_get n.ends who ≡ Some n' → WasSo k o.ends who n'
 stay_same k o n is who n' at = Stayed n' (ap (λ (es : List EndNow). slice_get es who) (sym is) ∙ at) refl refl refl
 
-at_host : (k : Option ℕ) (o n : World) (host : ℕ) (after : Station) → n.hosts ≡ set o.hosts host after → k ≡ Some host
+at_host : (k : Option ℕ) (o n : World) (host : ℕ) (after : HostState) → n.hosts ≡ set o.hosts host after → k ≡ Some host
     → (j id : ℕ) → (k ≡ Some j → ⊥) → held_in (slice_get n.hosts j) id ≡ held_in (slice_get o.hosts j) id
 at_host k o n host after is same j id not =
-    ap (λ (hs : List Station). held_in (slice_get hs j) id) is ∙ ap (λ (s : Option Station). held_in s id) (get_beside o.hosts host j after (λ e. not (same ∙ ap Some e)))
+    ap (λ (hs : List HostState). held_in (slice_get hs j) id) is ∙ ap (λ (s : Option HostState). held_in s id) (get_beside o.hosts host j after (λ e. not (same ∙ ap Some e)))
 
 unmoved : (k : Option ℕ) (o n : World) → n.hosts ≡ o.hosts → n.ends ≡ o.ends → OnlyAt k o n
-unmoved k o n hosts ends = record { elsewhere = λ j id not. ap (λ (hs : List Station). held_in (slice_get hs j) id) hosts; stay = stay_same k o n ends }
+unmoved k o n hosts ends = record { elsewhere = λ j id not. ap (λ (hs : List HostState). held_in (slice_get hs j) id) hosts; stay = stay_same k o n ends }
 
 refused_only : (k : Option ℕ) (host : ℕ) (o n : World) → RefusesAt o host n → OnlyAt k o n
 refused_only k host o n r =
@@ -62,10 +62,10 @@ refused_only k host o n r =
       elsewhere = λ j id not. elim (cases_eq host j) [
         | inl same ↦
             let here : held_in (slice_get n.hosts host) id ≡ held_in (slice_get o.hosts host) id =
-            ap (λ (hs : List Station). held_in (slice_get hs host) id) r.hosts ∙ ap (λ (s : Option Station). held_in s id) (get_written o.hosts host r.before r.after r.there)
-            ∙ r.same.held id ∙ ap (λ (s : Option Station). held_in s id) (sym r.there) in
+            ap (λ (hs : List HostState). held_in (slice_get hs host) id) r.hosts ∙ ap (λ (s : Option HostState). held_in s id) (get_written o.hosts host r.before r.after r.there)
+            ∙ r.same.held id ∙ ap (λ (s : Option HostState). held_in s id) (sym r.there) in
             subst (λ (i : ℕ). held_in (slice_get n.hosts i) id ≡ held_in (slice_get o.hosts i) id) same here
-        | inr differ ↦ ap (λ (hs : List Station). held_in (slice_get hs j) id) r.hosts ∙ ap (λ (s : Option Station). held_in s id) (get_beside o.hosts host j r.after differ)
+        | inr differ ↦ ap (λ (hs : List HostState). held_in (slice_get hs j) id) r.hosts ∙ ap (λ (s : Option HostState). held_in s id) (get_beside o.hosts host j r.after differ)
       ];
       stay = stay_same k o n r.ends;
     }
@@ -189,7 +189,7 @@ restood_log v None gone a b log r t = subst (TellsLog log) (sym r) t
 restood_log v (Some host) gone a b log r t = relog log a b r.count r.log t
 
 restood_here : (v : HostsView) (k : Option ℕ) (gone : Bool) (a b : List EndInfo) → Restood v k gone a b → (h id who : ℕ) → k ≡ Some h → end_at (here_at v h) id ≡ Some who → who < length a
-    → StandsSo h (state_by gone (state_at v h id)) (told_of b who)
+    → StandsSo h (state_by gone (state_on_host v h id)) (told_of b who)
 restood_here v None gone a b r h id who is known within = absurd (cc is)
 restood_here v (Some g) gone a b r h id who is known within =
     let there : Resettled v h gone a b = subst (λ (i : ℕ). Resettled v i gone a b) (same_Some g h is) r in
@@ -203,12 +203,12 @@ restood_others v (Some g) gone a b r who none = r.others who (λ id. none g id r
 known_at : (w : World) → InOrder w → (who : ℕ) (n : EndNow) → slice_get w.ends who ≡ Some n → n.released ≡ false → end_at (here_at (hosts_of w) n.host) n.id ≡ Some who
 known_at w order who n at standing =
     let s = order.ends who n at standing in
-    ap (λ (o : Option Station). end_at (here_in o) n.id) s.there ∙ s.known
+    ap (λ (o : Option HostState). end_at (here_in o) n.id) s.there ∙ s.known
 
 named_at : (w : World) → InOrder w → (h id who : ℕ) → end_at (here_at (hosts_of w) h) id ≡ Some who → IsEndOf w.ends h id who
 named_at w order h id who is = by_station (slice_get w.hosts h) refl is
   where
-    by_station : (o : Option Station) → slice_get w.hosts h ≡ o → end_at (here_in o) id ≡ Some who → IsEndOf w.ends h id who
+    by_station : (o : Option HostState) → slice_get w.hosts h ≡ o → end_at (here_in o) id ≡ Some who → IsEndOf w.ends h id who
     by_station None at e = absurd (cc e)
     by_station (Some s) at e = (order.hosts h s at).names id who e
 
@@ -224,10 +224,10 @@ not_released w order who n at gone h id is =
     let same : n ≡ q.end' = same_Some n q.end' (sym at ∙ q.at) in
     let no : true ≡ false = sym gone ∙ ap (λ (e : EndNow). e.released) same ∙ q.stands in cc
 
-held_standing : (hosts : List Station) (n : EndNow) → n.released ≡ false → held_of hosts n ≡ held_in (slice_get hosts n.host) n.id
+held_standing : (hosts : List HostState) (n : EndNow) → n.released ≡ false → held_of hosts n ≡ held_in (slice_get hosts n.host) n.id
 held_standing hosts n is = ap (λ (b : Bool). cond b None (held_in (slice_get hosts n.host) n.id)) is
 
-held_released : (hosts : List Station) (n : EndNow) → n.released ≡ true → held_of hosts n ≡ None
+held_released : (hosts : List HostState) (n : EndNow) → n.released ≡ true → held_of hosts n ≡ None
 held_released hosts n is = ap (λ (b : Bool). cond b None (held_in (slice_get hosts n.host) n.id)) is
 
 at_or_not : (k : Option ℕ) (h : ℕ) → (k ≡ Some h) ⊎ (k ≡ Some h → ⊥)

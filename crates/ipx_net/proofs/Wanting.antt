@@ -16,7 +16,7 @@ use Rattle.ipx_router.specs.declared.outcome.Reply.{Reply}
 use Rattle.ipx_router.specs.declared.port.Port.{Port}
 use Rattle.ipx_log.specs.Note.{Note}
 use Rattle.ipx_steps.specs.Steps.{TakesOf, arrival_notes, unit_notes, whole_notes}
-use Rattle.ipx_steps.specs.World.{EndNow, ParcelView, Station}
+use Rattle.ipx_steps.specs.World.{EndNow, ParcelView, HostState}
 use Rattle.ipx_hosts.specs.Hosts.{DeliveredAt, HostsView, Noting}
 use Rattle.ipx_hosts.specs.Refusing.{end_held, held_by}
 use Rattle.ipx_net.specs.AnswerView.{AnswerView}
@@ -45,7 +45,7 @@ made_or_refused (Err e) notes a is refused wants made = wants refused
 
 -- ---- a take
 
-end_is_held : (stations : List Station) (ends : List EndNow) (who : ℕ) (e : EndNow) (s : Station) (h : Held) → slice_get ends who ≡ Some e → e.released ≡ false → slice_get stations e.host ≡ Some s → held_at s.endpoint e.id ≡ Some h
+end_is_held : (stations : List HostState) (ends : List EndNow) (who : ℕ) (e : EndNow) (s : HostState) (h : Held) → slice_get ends who ≡ Some e → e.released ≡ false → slice_get stations e.host ≡ Some s → held_at s.endpoint e.id ≡ Some h
     → end_held stations ends who ≡ Some h
 end_is_held stations ends who e s h at standing there holds =
     ap (held_by stations) at ∙ rw (standing, there) holds
@@ -77,7 +77,7 @@ module _ (old : HostsView) (host parcel now : ℕ) (bytes : List ℕ) where
   pub want_of_link_there : host < length old.stations → IfSome (slice_get old.stations host) (λ s. IsAcceptable s.endpoint bytes) → HostWantsMemory old host parcel bytes now
   want_of_link_there lt acceptable =
       let x = get_there old.stations host lt in
-      inl (x.0, x.1, subst (λ (o : Option Station). IfSome o (λ s. IsAcceptable s.endpoint bytes)) x.1 acceptable)
+      inl (x.0, x.1, subst (λ (o : Option HostState). IfSome o (λ s. IsAcceptable s.endpoint bytes)) x.1 acceptable)
 
   module _ (new : HostsView) (r : Arrived) (d : DeliveredAt old host bytes now r new) where
     after_there : slice_get new.stations host ≡ Some d.after
@@ -86,7 +86,7 @@ module _ (old : HostsView) (host parcel now : ℕ) (bytes : List ℕ) where
     pub want_of_entries : {T E : Type 0} (told : Result T E) (who : ℕ) → who ≡ length old.ends → IfSome (slice_get new.stations host) (λ s. OnErr told (0 < length (arrival_notes r s who parcel)))
         → (e : E) → told ≡ Err e → HostWantsMemory old host parcel bytes now
     want_of_entries told who count refused e is =
-        let at_after : OnErr told (0 < length (arrival_notes r d.after who parcel)) = subst (λ (o : Option Station). IfSome o (λ s. OnErr told (0 < length (arrival_notes r s who parcel)))) after_there refused in
+        let at_after : OnErr told (0 < length (arrival_notes r d.after who parcel)) = subst (λ (o : Option HostState). IfSome o (λ s. OnErr told (0 < length (arrival_notes r s who parcel)))) after_there refused in
         let some : 0 < length (arrival_notes r d.after who parcel) = subst (λ t. OnErr t (0 < length (arrival_notes r d.after who parcel))) is at_after in
         inr (r, new, d, subst (λ n. 0 < length (arrival_notes r d.after n parcel)) count some)
 

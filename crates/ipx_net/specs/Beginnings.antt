@@ -8,7 +8,7 @@ use Rattle.ipx_router.specs.NewRouter.{IsOwnNetwork, ports_fault}
 use Rattle.ipx_router.specs.declared.fault.NewFault.{NewFault}
 use Rattle.ipx_router.specs.declared.port.Port.{Port}
 use Rattle.ipx_hosts.specs.Beginnings.{BeginsAt}
-use Rattle.ipx_steps.specs.World.{Station}
+use Rattle.ipx_steps.specs.World.{HostState}
 use Rattle.ipx_net.specs.NetView.{NetView}
 use Rattle.ipx_net.specs.declared.host.Host.{Host}
 use Rattle.ipx_net.specs.declared.routers.RouterNow.{RouterNow}
@@ -30,7 +30,7 @@ ArePortsOwed ports = All IsOwnNetwork ports.items
 
 -- ---- what is made
 
-abbrev pub IsStationOf : Host → Station → Type 0
+abbrev pub IsStationOf : Host → HostState → Type 0
 IsStationOf h s = BeginsAt h.network h.node h.router h.listen s
 
 -- a router that knows nothing and asked nobody yet
@@ -44,7 +44,7 @@ pub record IsRouterOf (ports : Vec Port Global) (r : RouterNow) : Type 0 where
   pub started : r.started ≡ false
 
 -- each in its order
-abbrev pub AreHosts : List Host → List Station → Type 0
+abbrev pub AreHosts : List Host → List HostState → Type 0
 AreHosts hosts stations = AllZip IsStationOf hosts stations
 
 abbrev pub AreRouters : PortLists → List RouterNow → Type 0

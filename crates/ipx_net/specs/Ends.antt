@@ -6,7 +6,7 @@ use Rattle.spx_link.specs.Limits.{end_stream}
 use Rattle.spx_link.specs.LinkView.{LinkView}
 use Rattle.spx_link.specs.Machine.{End}
 use Rattle.spx_link.specs.Marks.{mark}
-use Rattle.ipx_log.specs.Close.{HoldsAll, IsEndOf}
+use Rattle.ipx_log.specs.Close.{HoldsAll, IsEndInMachine}
 use Rattle.ipx_log.specs.EndsTold.{peer_of}
 use Rattle.ipx_log.specs.Handed.{handed_in, handed_out, units_of}
 use Rattle.ipx_log.specs.Note.{AsksEnd, Note, Opened, Released, TakesUnit}
@@ -14,7 +14,7 @@ use Rattle.ipx_log.specs.Peers.{Premises}
 use Rattle.ipx_log.specs.Scan.{scan}
 use Rattle.ipx_log.specs.Scene.{Stand, Stands}
 use Rattle.ipx_log.specs.SentUnits.{sent_by}
-use Rattle.ipx_steps.specs.World.{EndNow, Station, World, held_of, scene_of}
+use Rattle.ipx_steps.specs.World.{EndNow, HostState, World, held_of, scene_of}
 use Rattle.ipx_hosts.specs.Telling.{state_of}
 use Rattle.ipx_net.specs.NetView.{NetView}
 use Rattle.ipx_net.specs.declared.endinfo.EndInfo.{EndInfo}
@@ -41,7 +41,7 @@ pub record TellsLog (log : List Note) (told : List EndInfo) : Type 0 where
 
 -- of an end, where it stands: its host, and the state of its link, which it has until it is
 -- released
-pub record TellsStand (hosts : List Station) (n : EndNow) (e : EndInfo) : Type 0 where
+pub record TellsStand (hosts : List HostState) (n : EndNow) (e : EndInfo) : Type 0 where
   pub host : e.host ≡ n.host
   pub state : e.state ≡ state_of (held_of hosts n)
 
@@ -78,7 +78,7 @@ pub record IsToldClosed (w : World) (told : List EndInfo) (who : ℕ) : Type 0 w
   pub peer_is : (told_of told who).peer ≡ Some peer
   pub asked : Contains w.log (AsksEnd who)
   pub two : End
-  pub is : IsEndOf (scene_of w) peer who two
+  pub is : IsEndInMachine (scene_of w) peer who two
   pub all : two.read ≡ length (units_of who w.log)
   pub holds : HoldsAll (scene_of w) who peer
 

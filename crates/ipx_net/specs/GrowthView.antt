@@ -23,9 +23,9 @@ growth_view g =
 
 -- with so many parcels before, whichever they are, and whatever the log is: a relation of the
 -- worlds before and after
-abbrev pub Grows : HostsView → HostsView → (first now : ℕ) → GrowthView
+abbrev pub GrowsWorld : HostsView → HostsView → (first now : ℕ) → GrowthView
     → (AnswerView → World → World → Type 0) → Type 0
-Grows old new first now g P = (parcels : List ParcelView) (log : List Note)
+GrowsWorld old new first now g P = (parcels : List ParcelView) (log : List Note)
     → length parcels ≡ first
     → P g.answer (world_of old parcels log now)
     (world_of new (parcels ++ g.parcels) (log ++ g.notes) now)

@@ -13,7 +13,7 @@ use Rattle.ipx_hosts.specs.Hosts.{DeliveredAt, HostsView}
 use Rattle.ipx_hosts.specs.Refusing.{CloseIsRefused, DialIsRefused, PushesTo, SendIsRefused, close_fault, dial_fault, end_held, send_fault, want}
 use Rattle.ipx_steps.specs.Calls.{Closes, DialsFrom, RefusesAt, ReleasesOf, SendsTo}
 use Rattle.ipx_steps.specs.Steps.{Delivers, PollsHost, TakesOf, arrival_notes}
-use Rattle.ipx_steps.specs.World.{EndNow, Station, World, end_at}
+use Rattle.ipx_steps.specs.World.{EndNow, HostState, World, end_at}
 use Rattle.ipx_net.specs.AnswerView.{AnswerView, ArrivedAt, Done, End, Parcels, Refused, Taken}
 use Rattle.ipx_net.specs.GrowthView.{GrowthView}
 
@@ -32,9 +32,9 @@ held_under w who = end_held w.hosts w.ends who
 
 -- it was done, where it meets no fault; or an end refused, with the fault that it meets or for want
 -- of memory
-abbrev pub IsDone : (World → World → Type 0) → (World → Option EndFault)
+abbrev pub IsDoneOrRefused : (World → World → Type 0) → (World → Option EndFault)
     → (World → EndFault → Type 0) → ℕ → AnswerView → World → World → Type 0
-IsDone P fault IsRefused who a old new =
+IsDoneOrRefused P fault IsRefused who a old new =
     ((a ≡ Done) × (fault old ≡ None) × P old new)
     ⊎ ((f : EndFault) × IsRefused old f × RefusedOf who f a old new)
 
@@ -45,11 +45,11 @@ Dialling host socket to buffers a old new =
     ⊎ ((f : EndFault) × DialIsRefused (slice_get old.hosts host) f × RefusedAt host f a old new)
 
 abbrev pub Sending : ℕ → MessageView → AnswerView → World → World → Type 0
-Sending who m = IsDone (λ old new. SendsTo old who m new) (λ w. send_fault (held_under w who) m)
+Sending who m = IsDoneOrRefused (λ old new. SendsTo old who m new) (λ w. send_fault (held_under w who) m)
     (λ w. SendIsRefused (held_under w who) m) who
 
 abbrev pub Closing : ℕ → AnswerView → World → World → Type 0
-Closing who = IsDone (λ old new. Closes old who new) (λ w. close_fault (held_under w who))
+Closing who = IsDoneOrRefused (λ old new. Closes old who new) (λ w. close_fault (held_under w who))
     (λ w. CloseIsRefused (held_under w who)) who
 
 -- an end that stands goes, and is not refused
@@ -74,7 +74,7 @@ PollingHost host a old new = (result : Option (Node × ℕ)) × PollsHost old ho
     × (a ≡ Parcels (made_by result (length old.parcels)))
 
 -- the end that a datagram was for: the one that it made, or that of the link that it is for
-abbrev pub end_for : Arrived → Station → ℕ → Option ℕ
+abbrev pub end_for : Arrived → HostState → ℕ → Option ℕ
 end_for (Arriveds.Bad f) s count = None
 end_for Arriveds.NotOurs s count = None
 end_for (Arriveds.BadSpx f) s count = None
@@ -86,7 +86,7 @@ end_for (Arriveds.Link id r) s count = end_at s.here id
 
 -- what a delivery to a host is answered: what the host made of the datagram, and the end that it
 -- was for. The host is the one after it, and so many ends there were before
-abbrev pub arrival_answer : Arrived → Station → ℕ → AnswerView
+abbrev pub arrival_answer : Arrived → HostState → ℕ → AnswerView
 arrival_answer r s count = ArrivedAt (end_for r s count) r
 
 abbrev pub DeliveringToHost : ℕ → ℕ → AnswerView → World → World → Type 0

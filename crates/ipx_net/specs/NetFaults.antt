@@ -1,7 +1,7 @@
 -- The faults that an event meets before anything is done.
 use Rattle.std.specs.Prelude.{ℕ, Bool, ◌==◌, if◌then◌else◌, nat_lt, nat_le, length, Option, Some, None, slice_get, option_map}
 use Rattle.ipx_wire.specs.declared.address.Network.{Network}
-use Rattle.ipx_steps.specs.World.{ParcelView, Station}
+use Rattle.ipx_steps.specs.World.{ParcelView, HostState}
 use Rattle.ipx_hosts.specs.Hosts.{stands_now}
 use Rattle.ipx_net.specs.NetView.{NetNow, NetView}
 use Rattle.ipx_net.specs.RouterMembers.{port_at}
@@ -16,7 +16,7 @@ use Rattle.ipx_net.specs.declared.place.Place.TheVariants as Places
 use Rattle.ipx_net.specs.declared.routers.RouterNow.{RouterNow}
 
 -- the network of a host, and of a router's port
-abbrev pub network_of_host : Option Station → Option Network
+abbrev pub network_of_host : Option HostState → Option Network
 network_of_host s = option_map (λ x. x.endpoint.network) s
 
 abbrev pub network_of_port : Option RouterNow → ℕ → Option Network

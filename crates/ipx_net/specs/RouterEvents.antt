@@ -9,7 +9,7 @@ use Rattle.ipx_router.specs.OutcomeView as Outcomes
 use Rattle.ipx_router.specs.Packets.{AreOwn, SendingView}
 use Rattle.ipx_router.specs.declared.port.Port.{Port}
 use Rattle.ipx_log.specs.Note as Notes
-use Rattle.ipx_steps.specs.Routers.{CarriesOn, TellsOf, told_notes}
+use Rattle.ipx_steps.specs.Routers.{CarriesOn, GivesOwnLetters, told_notes}
 use Rattle.ipx_steps.specs.World.{ParcelView, World}
 use Rattle.ipx_net.specs.AnswerView.{AnswerView, Dropped, Heard, Parcels}
 use Rattle.ipx_net.specs.GrowthView.{GrowthView}
@@ -80,7 +80,7 @@ pub record PollingRouter (router : ℕ) (a : AnswerView) (old new : NetNow) : Ty
   pub after : RouterNow
   pub sent : List SendingView
   pub polled : IsPolled before after old.world.moment sent
-  pub tells : TellsOf old.world router (letters_of router before.router.ports sent) new.world
+  pub tells : GivesOwnLetters old.world router (letters_of router before.router.ports sent) new.world
   pub answer : a ≡ Parcels (numbers (length old.world.parcels) sent)
   pub routers : new.routers ≡ set old.routers router after
 
@@ -91,7 +91,7 @@ RouterDoes parcel router ports (Outcomes.Forward port next bytes) a old new =
     × CarriesOn old parcel router port (network_of (port_at ports port)) next bytes new
 RouterDoes parcel router ports (Outcomes.Replies sent) a old new =
     (a ≡ Parcels (numbers (length old.parcels) sent))
-    × TellsOf old router (letters_of router ports sent) new
+    × GivesOwnLetters old router (letters_of router ports sent) new
 RouterDoes parcel router ports (Outcomes.Heard n) a old new = (a ≡ Heard n) × (new ≡ old)
 RouterDoes parcel router ports (Outcomes.Dropped reason) a old new =
     (a ≡ Dropped reason) × (new ≡ old)

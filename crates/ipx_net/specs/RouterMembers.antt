@@ -3,10 +3,10 @@
 use Rattle.std.specs.Prelude.{ℕ, zero, suc, ◌≡◌, ◌++◌, true, List, [], MatchBool, Option, None, Some, map, slice_get}
 use Rattle.ipx_wire.specs.declared.address.Network.{Network}
 use Rattle.ipx_router.specs.declared.port.Port.{Port}
-use Rattle.ipx_router.specs.Knowledge.{HoldsKnown, KeepsRest, known_at, tables}
+use Rattle.ipx_router.specs.Knowledge.{HoldsKnown, KeepsAllButOffers, known_at, tables}
 use Rattle.ipx_router.specs.Packets.{SendingView}
 use Rattle.ipx_router.specs.Starting.{AreStarts}
-use Rattle.ipx_router.specs.Telling.{Tells}
+use Rattle.ipx_router.specs.Telling.{TellsIfDue}
 use Rattle.ipx_steps.specs.World.{AtPort, ParcelView}
 use Rattle.ipx_net.specs.declared.routers.RouterNow.{RouterNow}
 
@@ -38,7 +38,7 @@ pub record IsPolled (old new : RouterNow) (now : ℕ) (sent : List SendingView) 
   pub told : List SendingView
   pub are : sent ≡ asked ++ told
   pub asks : MatchBool old.started (asked ≡ []) (AreStarts 1 old.router.ports asked)
-  pub tells : Tells (known_at old.router now) old.router.told now told new.router.told
+  pub tells : TellsIfDue (known_at old.router now) old.router.told now told new.router.told
   pub known : HoldsKnown (known_at old.router now) (tables new.router)
-  pub rest : KeepsRest old.router new.router
+  pub rest : KeepsAllButOffers old.router new.router
   pub started : new.started ≡ true

@@ -9,7 +9,7 @@ use Rattle.ipx_log.specs.Scan.{scan}
 use Rattle.ipx_log.specs.SentUnits.{sent_by}
 use Rattle.ipx_steps.specs.World.{World, end_at}
 use Rattle.ipx_hosts.specs.Hosts.{HostsView}
-use Rattle.ipx_hosts.specs.Telling.{here_at, state_at}
+use Rattle.ipx_hosts.specs.Telling.{here_at, state_on_host}
 use Rattle.ipx_net.specs.Ends.{nobody, told_of}
 use Rattle.ipx_net.specs.declared.endinfo.EndInfo.{EndInfo}
 use Rattle.ipx_net.specs.declared.event.Event.{Event}
@@ -53,13 +53,13 @@ pub record AreCounted (log : List Note) (told : List EndInfo) : Type 0 where
   pub each : (who : ℕ) → IsCounted log who (told_of told who)
 
 -- host, state and peer are as they were
-pub record Stays (e f : EndInfo) : Type 0 where
+pub record StaysAs (e f : EndInfo) : Type 0 where
   pub host : f.host ≡ e.host
   pub state : f.state ≡ e.state
   pub peer : f.peer ≡ e.peer
 
 abbrev pub StayAs : List EndInfo → List EndInfo → Type 0
-StayAs old new = (who : ℕ) → Stays (told_of old who) (told_of new who)
+StayAs old new = (who : ℕ) → StaysAs (told_of old who) (told_of new who)
 
 -- ---- peers
 
@@ -67,9 +67,9 @@ abbrev pub with_peer : Option ℕ → EndInfo → EndInfo
 with_peer peer e = record e { peer = peer }
 
 -- an end and its peer are each other's
-abbrev pub paired : ℕ → Option ℕ → List EndInfo → List EndInfo
-paired who None told = change (with_peer None) who told
-paired who (Some peer) told =
+abbrev pub made_peers : ℕ → Option ℕ → List EndInfo → List EndInfo
+made_peers who None told = change (with_peer None) who told
+made_peers who (Some peer) told =
     change (with_peer (Some who)) peer (change (with_peer (Some peer)) who told)
 
 -- all but the peer is as it was
@@ -115,12 +115,12 @@ joins n = None
 abbrev pub settled : HostsView → ℕ → Bool → Option (ℕ × ℕ) → List EndInfo → List EndInfo
 settled v host gone None told = told
 settled v host gone (Some x) told =
-    stood (end_at (here_at v host) x.0) host (state_by gone (state_at v host x.0)) told
+    stood (end_at (here_at v host) x.0) host (state_by gone (state_on_host v host x.0)) told
 
 -- the peers of an end that an entry made or joined, by the whole log
 abbrev pub paired_by : Option ℕ → List Note → List EndInfo → List EndInfo
 paired_by None log told = told
-paired_by (Some who) log told = paired who (peer_of log who) told
+paired_by (Some who) log told = made_peers who (peer_of log who) told
 
 -- ---- the ends of a host, before and after an event
 
@@ -130,7 +130,7 @@ pub record Resettled (v : HostsView) (host : ℕ) (gone : Bool) (old new : List 
   pub count : length new ≡ length old
   pub log : (who : ℕ) → logged (told_of new who) ≡ logged (told_of old who)
   pub here : (id who : ℕ) → end_at (here_at v host) id ≡ Some who → who < length old
-      → StandsSo host (state_by gone (state_at v host id)) (told_of new who)
+      → StandsSo host (state_by gone (state_on_host v host id)) (told_of new who)
   pub others : (who : ℕ) → ((id : ℕ) → end_at (here_at v host) id ≢ Some who)
       → told_of new who ≡ told_of old who
 

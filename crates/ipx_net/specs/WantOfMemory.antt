@@ -19,7 +19,7 @@ use Rattle.ipx_router.specs.Telling.{HasToTell, is_due}
 use Rattle.ipx_router.specs.WantOfMemory.{WantsMemory}
 use Rattle.ipx_log.specs.Note.{Note}
 use Rattle.ipx_steps.specs.Steps.{arrival_notes, unit_notes, whole_notes}
-use Rattle.ipx_steps.specs.World.{ParcelView, Station}
+use Rattle.ipx_steps.specs.World.{ParcelView, HostState}
 use Rattle.ipx_hosts.specs.Hosts.{DeliveredAt, HostsView, PolledAt}
 use Rattle.ipx_hosts.specs.Refusing.{close_fault, dial_fault, send_fault}
 use Rattle.ipx_net.specs.GrowthView.{growth_view}
@@ -53,7 +53,7 @@ ArrivalIsTold v host parcel bytes now = (r : Arrived) × (new : HostsView)
 
 abbrev pub HostWantsMemory : HostsView → ℕ → ℕ → List ℕ → ℕ → Type 0
 HostWantsMemory v host parcel bytes now =
-    ((s : Station) × (slice_get v.stations host ≡ Some s) × IsAcceptable s.endpoint bytes)
+    ((s : HostState) × (slice_get v.stations host ≡ Some s) × IsAcceptable s.endpoint bytes)
     ⊎ ArrivalIsTold v host parcel bytes now
 
 -- a router forwards or replies

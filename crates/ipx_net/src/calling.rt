@@ -9,7 +9,7 @@ ghost use Rattle.ipx_hosts.specs.Refusing.{close_fault, dial_fault, end_held, se
 ghost use Rattle.ipx_steps.specs.Steps.{unit_notes, whole_notes};
 ghost use Rattle.ipx_net.specs.AnswerView as views;
 ghost use Rattle.ipx_net.specs.Entries.{taken_unit};
-ghost use Rattle.ipx_net.specs.GrowthView.{Grows, growth_view};
+ghost use Rattle.ipx_net.specs.GrowthView.{GrowsWorld, growth_view};
 ghost use Rattle.ipx_net.specs.HostEvents.{Closing, Dialling, Releasing, Sending, TakingFrom};
 ghost use Rattle.ipx_net.specs.WantOfMemory.{IsMade, TakeIsTold};
 
@@ -35,7 +35,7 @@ pub fn dial(
 ) -> Result<Growth, OutOfMemory>
     requires there { host < length hosts.old.stations }
     requires range { (0 < buffers) × (buffers ≤ most_units) }
-    ensures grows { IfOk result (λ g. Grows hosts.old hosts.new first now (growth_view g)
+    ensures grows { IfOk result (λ g. GrowsWorld hosts.old hosts.new first now (growth_view g)
         (Dialling host socket to buffers)) }
     ensures memory { IsMade result → dial_fault (slice_get hosts.old.stations host) ≡ None }
     ensures homes { SameHomes hosts.old hosts.new }
@@ -62,7 +62,7 @@ pub fn send(
 ) -> Result<Growth, OutOfMemory>
     requires order { FitTogether hosts.old }
     requires stands { stands hosts.old who ≡ true }
-    ensures grows { IfOk result (λ g. Grows hosts.old hosts.new first now (growth_view g)
+    ensures grows { IfOk result (λ g. GrowsWorld hosts.old hosts.new first now (growth_view g)
         (Sending who (message_view message))) }
     ensures memory { IsMade result → send_fault
         (end_held hosts.old.stations hosts.old.ends who) (message_view message) ≡ None }
@@ -85,7 +85,7 @@ pub fn close(
     requires order { FitTogether hosts.old }
     requires stands { stands hosts.old who ≡ true }
     ensures grows { IfOk result
-        (λ g. Grows hosts.old hosts.new first now (growth_view g) (Closing who)) }
+        (λ g. GrowsWorld hosts.old hosts.new first now (growth_view g) (Closing who)) }
     ensures memory { IsMade result
         → close_fault (end_held hosts.old.stations hosts.old.ends who) ≡ None }
     ensures homes { SameHomes hosts.old hosts.new }
@@ -107,7 +107,7 @@ pub fn release(
     requires order { FitTogether hosts.old }
     requires stands { stands hosts.old who ≡ true }
     ensures grows { IfOk result
-        (λ g. Grows hosts.old hosts.new first now (growth_view g) (Releasing who)) }
+        (λ g. GrowsWorld hosts.old hosts.new first now (growth_view g) (Releasing who)) }
     ensures homes { SameHomes hosts.old hosts.new }
 {
     hosts.release(who, now).unwrap();
@@ -176,7 +176,7 @@ pub fn take(
     requires order { FitTogether hosts.old }
     requires stands { stands hosts.old who ≡ true }
     ensures grows { IfOk result
-        (λ g. Grows hosts.old hosts.new first now (growth_view g) (TakingFrom who)) }
+        (λ g. GrowsWorld hosts.old hosts.new first now (growth_view g) (TakingFrom who)) }
     ensures memory { IsMade result
         → TakeIsTold (end_held hosts.old.stations hosts.old.ends who) who }
     ensures homes { SameHomes hosts.old hosts.new }

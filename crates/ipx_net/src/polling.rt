@@ -6,7 +6,7 @@ ghost use Rattle.ipx_steps.specs.World.{AtHost};
 ghost use Rattle.ipx_hosts.specs.Hosts.{SameHomes};
 ghost use Rattle.ipx_net.specs.AnswerView as views;
 ghost use Rattle.ipx_net.specs.Entries.{entry_note, entry_notes};
-ghost use Rattle.ipx_net.specs.GrowthView.{Grows, growth_view};
+ghost use Rattle.ipx_net.specs.GrowthView.{GrowsWorld, growth_view};
 ghost use Rattle.ipx_net.specs.HostEvents.{PollingHost};
 ghost use Rattle.ipx_net.specs.Parcels.{parcel_view};
 ghost use Rattle.ipx_net.specs.Speaking.{spoken_notes};
@@ -105,7 +105,7 @@ pub fn poll_host(
     now: u64,
 ) -> Result<Growth, OutOfMemory>
     requires { host < length hosts.old.stations }
-    ensures grows { IfOk result (λ g. Grows hosts.old hosts.new first now (growth_view g)
+    ensures grows { IfOk result (λ g. GrowsWorld hosts.old hosts.new first now (growth_view g)
         (PollingHost host)) }
     ensures memory { IsMade result → PollIsSent hosts.old host now }
     ensures homes { SameHomes hosts.old hosts.new }

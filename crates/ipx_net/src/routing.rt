@@ -2,7 +2,7 @@
 
 ghost use Rattle.std.specs.Prelude.{◌≡◌, ◌+◌, ◌<◌, ◌≤◌, IfOk, IfSome, OnErr, length, map, slice_get};
 ghost use Rattle.std.specs.List.{range_with_len};
-ghost use Rattle.ipx_router.specs.OutcomeView.{view};
+ghost use Rattle.ipx_router.specs.OutcomeView.{router_outcome};
 ghost use Rattle.ipx_router.specs.declared.outcome.Outcome.TheVariants as Outcomes;
 ghost use Rattle.ipx_router.specs.Packets.{sending_of, sendings};
 ghost use Rattle.ipx_net.specs.GrowthView.{growth_view};
@@ -69,7 +69,7 @@ fn carried(
 ) -> Result<Growth, OutOfMemory>
     ensures { IfOk result (λ g.
         growth_view g
-        ≡ routed_growth router ports.now parcel first (view (Outcomes.Forward reply))) }
+        ≡ routed_growth router ports.now parcel first (router_outcome (Outcomes.Forward reply))) }
 {
     let mut numbers = Vec::new(alloc);
     numbers.push(first)?;
@@ -118,8 +118,8 @@ fn routed(
     first: usize,
 ) -> Result<Growth, OutOfMemory>
     ensures grows { IfOk result
-        (λ g. growth_view g ≡ routed_growth router ports.now parcel first (view outcome)) }
-    ensures memory { IsMade result → IsSent (view outcome) }
+        (λ g. growth_view g ≡ routed_growth router ports.now parcel first (router_outcome outcome)) }
+    ensures memory { IsMade result → IsSent (router_outcome outcome) }
 {
     match outcome {
         Outcome::Forward(reply) => carried(alloc, router, ports, parcel, reply, first),

@@ -2,14 +2,14 @@
 
 ghost use Rattle.std.specs.Prelude.{◌≡◌, ◌≢◌, ◌<◌, ◌≤◌, ◌+◌, ◌-◌, ◌^◌, ℕ, [], OnErr, OnOk, Some, length, set, slice_get, take, vec_capacity, vec_len};
 ghost use Rattle.ipx_hosts.specs.Hosts.{FitTogether};
-ghost use Rattle.ipx_hosts.specs.Telling.{here_at, state_at};
+ghost use Rattle.ipx_hosts.specs.Telling.{here_at, state_on_host};
 ghost use Rattle.ipx_log.specs.EndsTold.{peer_of};
 ghost use Rattle.ipx_log.specs.Scan.{scan};
 ghost use Rattle.ipx_steps.specs.World.{end_at};
 ghost use Rattle.ipx_net.specs.Ends.{nobody, told_of};
 ghost use Rattle.ipx_net.specs.Entries.{entry_note, entry_notes};
 ghost use Rattle.ipx_net.specs.Theorems.{AreNumbered};
-ghost use Rattle.ipx_net.specs.Told.{AreCounted, StandsSo, StayAlone, StayAs, change, joins, logged, one_given, one_out, one_sent, paired, paired_by, settled, standing, state_by, stood, told_with, with_peer};
+ghost use Rattle.ipx_net.specs.Told.{AreCounted, StandsSo, StayAlone, StayAs, change, joins, logged, one_given, one_out, one_sent, made_peers, paired_by, settled, standing, state_by, stood, told_with, with_peer};
 
 use crate::book::Book;
 use crate::endinfo::EndInfo;
@@ -217,7 +217,7 @@ impl EndsTold {
 
     /// An end has this peer, or none, and its peer has this end.
     fn pair(&mut self, who: usize, peer: Option<usize>)
-        ensures { self.new.infos.items ≡ paired who peer self.old.infos.items }
+        ensures { self.new.infos.items ≡ made_peers who peer self.old.infos.items }
     {
         set_peer(&mut self.infos, who, peer);
         if let Some(other) = peer {
@@ -256,7 +256,7 @@ impl EndsTold {
     /// The end of an id of a host is told as it stands, or as gone.
     fn stand(&mut self, hosts: &Hosts, host: usize, id: u16, gone: bool)
         ensures { self.new.infos.items ≡ stood (end_at (here_at hosts.now host) id) host
-            (state_by gone (state_at hosts.now host id)) self.old.infos.items }
+            (state_by gone (state_on_host hosts.now host id)) self.old.infos.items }
     {
         if let Some(who) = hosts.known(host, id) {
             let state = if gone { None } else { hosts.state(host, id) };
@@ -282,7 +282,7 @@ impl EndsTold {
             ≡ logged (told_of self.old.infos.items who) }
         ensures here { (id who : ℕ) → end_at (here_at hosts.now host) id ≡ Some who
             → who < length self.old.infos.items
-            → StandsSo host (state_by gone (state_at hosts.now host id))
+            → StandsSo host (state_by gone (state_on_host hosts.now host id))
             (told_of self.new.infos.items who) }
         ensures others { (who : ℕ) → ((id : ℕ) → end_at (here_at hosts.now host) id ≢ Some who)
             → told_of self.new.infos.items who ≡ told_of self.old.infos.items who }

@@ -11,10 +11,10 @@ use Rattle.spx_link.specs.LinkView.{LinkView, due, free, is_end}
 use Rattle.spx_link.specs.Units.{unit_in}
 use Rattle.spx_link.specs.Offer.{take_held}
 use Rattle.spx_link.specs.Poll.{OutgoingView, lost, requests, requests_or_lost, poll_request, may_probe, probes_once, probes_or_lost, poll_probe, acknowledges, poll_ack, late_if_working, sends_again, sends_again_or_lost, poll_late, poll_again, may_send, sends, poll_unit, confirms, poll_confirm, replies, poll_reply, poll_at, poll_link}
-use Rattle.spx_link.specs.Receive.{read_numbers, read_system, read_unit, read_packet, is_system, is_own, is_reply, joined, receive_at, receive_link, beyond_expected, put, is_taken, leading, any_end, keep_end, keep_units, settle, keep, in_turn, not_behind, repeated, may_confirm, with_ack_owed}
+use Rattle.spx_link.specs.Receive.{read_numbers, read_system, read_unit, read_packet, is_system, is_own, is_reply, joined_link, receive_at, receive_link, beyond_expected, put, is_taken, leading, any_end, keep_end, keep_units, settle, keep, in_turn, not_behind, repeated, may_confirm, with_ack_owed}
 use Rattle.spx_link.specs.declared.received.Received.TheVariants as R
 use Rattle.spx_link.specs.declared.state.State.TheVariants as S
-use Rattle.ipx_pairs.specs.Allowances.{SameReceived, AfterPoll, HasTaken, JoinsBy, Took, AllowanceLaws}
+use Rattle.ipx_pairs.specs.Allowances.{SameReceived, AfterPoll, HasTakenAndFits, JoinsBy, Took, AllowanceLaws}
 
 -- ---- a poll
 
@@ -118,9 +118,9 @@ put_le (suc k) u [] = omega (arith, put_le k u [])
 put_le (suc k) u (x ∷ xs) = omega (arith, put_le k u xs)
 
 abbrev Keeps : LinkView → Received × LinkView → Type 0
-Keeps l r = ((taken : ℕ) → HasTaken taken l → HasTaken taken r.1) × (r.1.buffers ≡ l.buffers)
+Keeps l r = ((taken : ℕ) → HasTakenAndFits taken l → HasTakenAndFits taken r.1) × (r.1.buffers ≡ l.buffers)
 
-keeps_settle : (l : LinkView) (xs : List (Option Unit)) → ((taken : ℕ) → HasTaken taken l → length l.held + length xs ≤ l.buffers) → Keeps l (settle l xs)
+keeps_settle : (l : LinkView) (xs : List (Option Unit)) → ((taken : ℕ) → HasTakenAndFits taken l → length l.held + length xs ≤ l.buffers) → Keeps l (settle l xs)
 keeps_settle l xs fits =
     let us : List Unit = leading xs in
     let le : length us ≤ length xs = leading_le xs in
@@ -169,7 +169,7 @@ keeps_own : (b : Bool) (l : LinkView) (x : Received × LinkView) → Keeps l x �
 keeps_own true l x k = k
 keeps_own false l x k = (λ taken t. record { expected = t.expected; fits = t.fits }, refl)
 
-keeps_reply : (b : Bool) (l : LinkView) (h : SpxHeader) → Keeps l (cond b (R.Joined, read_numbers (joined l h) h) (R.Stranger, l))
+keeps_reply : (b : Bool) (l : LinkView) (h : SpxHeader) → Keeps l (cond b (R.Joined, read_numbers (joined_link l h) h) (R.Stranger, l))
 keeps_reply true l h = (λ taken t. record { expected = t.expected; fits = t.fits }, refl)
 keeps_reply false l h = (λ taken t. record { expected = t.expected; fits = t.fits }, refl)
 
@@ -181,7 +181,7 @@ keeps_at S.PeerEnded l h body = keeps_own (is_own l h) l (read_packet l h body) 
 keeps_at S.Confirmed l h body = keeps_own (is_own l h) l (read_packet l h body) (keeps_packet l h body)
 keeps_at S.Lost l h body = (λ taken t. record { expected = t.expected; fits = t.fits }, refl)
 
-pub receives_kept : (l : LinkView) (h : SpxHeader) (body : List ℕ) (taken : ℕ) → HasTaken taken l → HasTaken taken (receive_link l h body).1
+pub receives_kept : (l : LinkView) (h : SpxHeader) (body : List ℕ) (taken : ℕ) → HasTakenAndFits taken l → HasTakenAndFits taken (receive_link l h body).1
 receives_kept l h body taken t = (keeps_at l.state l h body).0 taken t
 
 pub receives_buffers : (l : LinkView) (h : SpxHeader) (body : List ℕ) → (receive_link l h body).1.buffers ≡ l.buffers
@@ -189,8 +189,8 @@ receives_buffers l h body = (keeps_at l.state l h body).1
 
 -- ---- what an opening link reads
 
-joins_at : (st : State) (b : Bool) (l : LinkView) (h : SpxHeader) (body : List ℕ) → is_reply l h ≡ b → st ≡ S.Opening → (cond {A = Received × LinkView} b (R.Joined, read_numbers (joined l h) h) (R.Stranger, l)).0 ≢ R.Stranger
-    → JoinsBy l h (cond {A = Received × LinkView} b (R.Joined, read_numbers (joined l h) h) (R.Stranger, l)).1
+joins_at : (st : State) (b : Bool) (l : LinkView) (h : SpxHeader) (body : List ℕ) → is_reply l h ≡ b → st ≡ S.Opening → (cond {A = Received × LinkView} b (R.Joined, read_numbers (joined_link l h) h) (R.Stranger, l)).0 ≢ R.Stranger
+    → JoinsBy l h (cond {A = Received × LinkView} b (R.Joined, read_numbers (joined_link l h) h) (R.Stranger, l)).1
 joins_at st true l h body is opens read = record { same = record { expected = refl; held = refl; ahead = refl; buffers = refl }; room = refl; next = refl; live = refl }
 joins_at st false l h body is opens read = absurd (read refl)
 

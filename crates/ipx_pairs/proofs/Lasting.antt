@@ -11,7 +11,7 @@ use Rattle.spx_link.specs.Units.{unit_in}
 use Rattle.spx_link.specs.LinkView.{LinkView, free, due}
 use Rattle.spx_link.specs.Offer.{take_held, take_link}
 use Rattle.spx_link.specs.Poll.{OutgoingView, lost, requests, requests_or_lost, poll_request, may_probe, probes_once, probes_or_lost, poll_probe, acknowledges, poll_ack, late_if_working, sends_again, sends_again_or_lost, poll_late, poll_again, may_send, sends, poll_unit, confirms, poll_confirm, replies, poll_reply, poll_at, poll_link}
-use Rattle.spx_link.specs.Receive.{read_numbers, read_system, read_unit, read_packet, is_system, is_own, is_reply, joined, receive_joined, receive_at, receive_link, beyond_expected, put, is_taken, leading, any_end, keep_end, keep_units, settle, keep, in_turn, not_behind, repeated, may_confirm, with_ack_owed}
+use Rattle.spx_link.specs.Receive.{read_numbers, read_system, read_unit, read_packet, is_system, is_own, is_reply, joined_link, receive_joined, receive_at, receive_link, beyond_expected, put, is_taken, leading, any_end, keep_end, keep_units, settle, keep, in_turn, not_behind, repeated, may_confirm, with_ack_owed}
 use Rattle.spx_link.specs.declared.received.Received.TheVariants as R
 use Rattle.spx_link.specs.declared.state.State.TheVariants as S
 use Rattle.ipx_pairs.specs.Lasting.{lasting, NextOf, LastingLaws}
@@ -60,7 +60,7 @@ own_lasts : (l : LinkView) (h : SpxHeader) (body : List ℕ) → Lasts l (receiv
 own_lasts l h body = cond_both {A = Received × LinkView} (is_own l h) (read_packet l h body) (R.Stranger, l) (Lasts l) (λ yes. packet_lasts l h body) (λ no. refl)
 
 receive_at_lasts : (s : State) (l : LinkView) (h : SpxHeader) (body : List ℕ) → Lasts l (receive_at s l h body)
-receive_at_lasts S.Opening l h body = cond_both {A = Received × LinkView} (is_reply l h) (R.Joined, read_numbers (joined l h) h) (R.Stranger, l) (Lasts l) (λ yes. refl) (λ no. refl)
+receive_at_lasts S.Opening l h body = cond_both {A = Received × LinkView} (is_reply l h) (R.Joined, read_numbers (joined_link l h) h) (R.Stranger, l) (Lasts l) (λ yes. refl) (λ no. refl)
 receive_at_lasts S.Live l h body = own_lasts l h body
 receive_at_lasts S.Ending l h body = own_lasts l h body
 receive_at_lasts S.PeerEnded l h body = own_lasts l h body

@@ -14,13 +14,13 @@ use Rattle.spx_link.specs.LinkView.{LinkView, free, due}
 use Rattle.spx_link.specs.Units.{unit_in}
 use Rattle.spx_link.specs.Marks.{mark}
 use Rattle.spx_link.specs.Offer.{take_held}
-use Rattle.spx_link.specs.Receive.{read_numbers, read_system, read_unit, read_packet, is_system, is_own, is_reply, joined, receive_at, receive_link, beyond_expected, put, is_taken, leading, any_end, keep_end, keep_units, settle, keep, in_turn, not_behind, repeated, may_confirm, with_ack_owed}
+use Rattle.spx_link.specs.Receive.{read_numbers, read_system, read_unit, read_packet, is_system, is_own, is_reply, joined_link, receive_at, receive_link, beyond_expected, put, is_taken, leading, any_end, keep_end, keep_units, settle, keep, in_turn, not_behind, repeated, may_confirm, with_ack_owed}
 use Rattle.spx_link.specs.Poll.{OutgoingView, plain, with_unit, base, lost, requests, requests_or_lost, poll_request, may_probe, probes_once, probes_or_lost, poll_probe, acknowledges, poll_ack, late_if_working, sends_again, sends_again_or_lost, poll_late, poll_again, may_send, sends, poll_unit, confirms, poll_confirm, replies, poll_reply, poll_at, poll_link}
 use Rattle.ipx_pairs.proofs.ReadingStates.{reading_at}
 use Rattle.spx_link.specs.declared.outgoing.Sent.TheVariants as Sents
 use Rattle.spx_link.specs.declared.state.State.TheVariants as S
 use Rattle.spx_link.specs.declared.received.Received.TheVariants as R
-use Rattle.ipx_pairs.specs.Names.{names, IsOwn, IsReply, ReadNames, is_plain, GaveNames, PollNames, NameLaws}
+use Rattle.ipx_pairs.specs.Names.{names, IsForLink, IsReply, ReadNames, is_plain, GaveNames, PollNames, NameLaws}
 
 -- ---- what a test of a header says
 pub and_left : (a b : Bool) → (a && b) ≡ true → a ≡ true
@@ -37,7 +37,7 @@ eqb_is a b e = grind (arith, nat_tests)
 ltb_is : (a b : ℕ) → nat_lt a b ≡ true → a < b
 ltb_is a b e = grind (arith, nat_tests)
 
-own_is : (l : LinkView) (h : SpxHeader) → is_own l h ≡ true → IsOwn (names l) h
+own_is : (l : LinkView) (h : SpxHeader) → is_own l h ≡ true → IsForLink (names l) h
 own_is l h e =
     record {
       to = eqb_is h.to_id l.own (and_left (h.to_id == l.own) (h.from_id == l.peer) e);
@@ -97,7 +97,7 @@ own_names : (b : Bool) (l : LinkView) (h : SpxHeader) (x : Received × LinkView)
 own_names true l h x own keeps never = record { joins = λ e. absurd (never e); reads = λ not_joined read. (own_is l h own, keeps) }
 own_names false l h x own keeps never = record { joins = λ e. absurd (never e); reads = λ not_joined read. absurd (read refl) }
 
-reply_names : (b : Bool) (l : LinkView) (h : SpxHeader) → is_reply l h ≡ b → ReadNames l h (cond b (R.Joined, read_numbers (joined l h) h) (R.Stranger, l))
+reply_names : (b : Bool) (l : LinkView) (h : SpxHeader) → is_reply l h ≡ b → ReadNames l h (cond b (R.Joined, read_numbers (joined_link l h) h) (R.Stranger, l))
 reply_names true l h reply = record { joins = λ e. (reply_is l h reply, refl); reads = λ not_joined read. absurd (not_joined refl) }
 reply_names false l h reply = record { joins = λ e. absurd (cc e); reads = λ not_joined read. absurd (read refl) }
 

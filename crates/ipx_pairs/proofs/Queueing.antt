@@ -16,7 +16,7 @@ use Rattle.spx_link.specs.Marks.{mark, distance, acknowledged}
 use Rattle.spx_link.specs.LinkView.{LinkView, due, is_end, is_working, free}
 use Rattle.spx_link.specs.Units.{unit_in, unit_of, queued_units}
 use Rattle.spx_link.specs.Offer.{refusal, queued, offer_link, end_link, take_held, take_link, owe_reply_link, lose_link, dialed, accepted_from, the_end}
-use Rattle.spx_link.specs.Receive.{read_numbers, read_system, read_unit, read_packet, is_system, is_own, is_reply, joined, receive_at, receive_link, beyond_expected, put, is_taken, leading, any_end, keep_end, keep_units, settle, keep, in_turn, not_behind, repeated, may_confirm, with_ack_owed}
+use Rattle.spx_link.specs.Receive.{read_numbers, read_system, read_unit, read_packet, is_system, is_own, is_reply, joined_link, receive_at, receive_link, beyond_expected, put, is_taken, leading, any_end, keep_end, keep_units, settle, keep, in_turn, not_behind, repeated, may_confirm, with_ack_owed}
 use Rattle.spx_link.specs.Poll.{OutgoingView, with_unit, lost, requests, requests_or_lost, poll_request, is_waiting, may_probe, probes_once, probes_or_lost, poll_probe, acknowledges, poll_ack, late_if_working, sends_again, sends_again_or_lost, poll_late, poll_again, may_send, sends, poll_unit, confirms, poll_confirm, replies, poll_reply, poll_at, poll_link}
 use Rattle.ipx_pairs.specs.Tracks.{Formed, may_end}
 use Rattle.ipx_pairs.specs.Queues.{SendsFrom, Queues, GivesUnit, PolledFrom, PollsFrom, QueueLaws}
@@ -239,8 +239,8 @@ own_heard : (b : Bool) (l : LinkView) (h : SpxHeader) (body : List ℕ) (units :
 own_heard true l h body units n f = read_heard l h body units n f
 own_heard false l h body units n f = record { from = f; queued = refl }
 
-reply_heard : (b : Bool) (l : LinkView) (h : SpxHeader) (units : List Unit) (n : ℕ) → SendsFrom l units n → Heard l (cond {A = Received × LinkView} b (R.Joined, read_numbers (joined l h) h) (R.Stranger, l)).1 units n
-reply_heard true l h units n f = record { from = numbers_from (joined l h) h units n (from_same l (joined l h) units n refl refl refl f); queued = refl }
+reply_heard : (b : Bool) (l : LinkView) (h : SpxHeader) (units : List Unit) (n : ℕ) → SendsFrom l units n → Heard l (cond {A = Received × LinkView} b (R.Joined, read_numbers (joined_link l h) h) (R.Stranger, l)).1 units n
+reply_heard true l h units n f = record { from = numbers_from (joined_link l h) h units n (from_same l (joined_link l h) units n refl refl refl f); queued = refl }
 reply_heard false l h units n f = record { from = f; queued = refl }
 
 heard_at : (s : State) (l : LinkView) (h : SpxHeader) (body : List ℕ) (units : List Unit) (n : ℕ) → SendsFrom l units n → Heard l (receive_at s l h body).1 units n

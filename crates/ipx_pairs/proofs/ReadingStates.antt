@@ -9,7 +9,7 @@ use Rattle.spx_link.specs.LinkView.{LinkView, free}
 use Rattle.spx_link.specs.Units.{unit_in}
 use Rattle.std.specs.Prelude.{nat_le, nat_lt, ◌==◌, ◌&&◌}
 use Rattle.spx_link.specs.Limits.{end_stream}
-use Rattle.spx_link.specs.Receive.{read_numbers, read_system, read_unit, read_packet, is_system, is_own, is_reply, joined, receive_at, receive_link, beyond_expected, put, is_taken, leading, any_end, keep_end, keep_units, settle, keep, in_turn, not_behind, repeated, may_confirm, with_ack_owed, after_end}
+use Rattle.spx_link.specs.Receive.{read_numbers, read_system, read_unit, read_packet, is_system, is_own, is_reply, joined_link, receive_at, receive_link, beyond_expected, put, is_taken, leading, any_end, keep_end, keep_units, settle, keep, in_turn, not_behind, repeated, may_confirm, with_ack_owed, after_end}
 use Rattle.ipx_pairs.specs.Tracks.{IsOpen, may_end}
 use Rattle.ipx_pairs.specs.States.{is_quiet}
 use Rattle.spx_link.specs.declared.state.State.TheVariants as S
@@ -100,7 +100,7 @@ by_calm s l r not_open loud c =
       quiet = λ e. absurd (cc (sym loud ∙ e));
     }
 
-reply : (b : Bool) (l : LinkView) (h : SpxHeader) → Reading' S.Opening l (cond b (R.Joined, read_numbers (joined l h) h) (R.Stranger, l))
+reply : (b : Bool) (l : LinkView) (h : SpxHeader) → Reading' S.Opening l (cond b (R.Joined, read_numbers (joined_link l h) h) (R.Stranger, l))
 reply true l h = record { open' = λ is o e. o (ap may_end (sym is)); opens = λ is read e. cc; joins = λ e. refl; quiet = λ e read. refl }
 reply false l h = record { open' = λ is o. o; opens = λ is read. absurd (read refl); joins = λ e. refl; quiet = λ e read. absurd (read refl) }
 

@@ -12,12 +12,12 @@ use Rattle.spx_link.specs.Limits.{most_units}
 use Rattle.spx_link.specs.Marks.{mark, distance, acknowledged, room_after}
 use Rattle.spx_link.specs.LinkView.{LinkView, free}
 use Rattle.spx_link.specs.Units.{unit_in, unit_of}
-use Rattle.spx_link.specs.Receive.{read_ack, read_limit, read_numbers, read_system, read_unit, read_packet, is_system, is_own, is_reply, joined, receive_at, receive_link, beyond_expected, put, is_taken, leading, any_end, keep_end, keep_units, settle}
-use Rattle.spx_link.specs.Fresh.{IsFresh}
+use Rattle.spx_link.specs.Receive.{read_ack, read_limit, read_numbers, read_system, read_unit, read_packet, is_system, is_own, is_reply, joined_link, receive_at, receive_link, beyond_expected, put, is_taken, leading, any_end, keep_end, keep_units, settle}
+use Rattle.spx_link.specs.Fresh.{IsRecentPacket}
 use Rattle.spx_link.specs.Machine.{End, Packet, IsChain, IsWithin, WasSent, got, learned, risen, put_mark, is_marked, lead, is_wanted, AreSound}
 use Rattle.ipx_pairs.specs.Tracks.{Tracks, Formed, core}
 use Rattle.ipx_pairs.specs.Spelling.{Spells, Carries}
-use Rattle.ipx_pairs.specs.Steps.{IsRead}
+use Rattle.ipx_pairs.specs.Steps.{IsReadNow}
 use Rattle.ipx_pairs.proofs.Slots.{length-put_mark, Fill, FormedUnits, lead-drop, map-put, marked-map, fill_put, fill_drop, leading_units, leading_end, lead_leading}
 use Rattle.spx_link.specs.declared.state.State.TheVariants as S
 use Rattle.spx_link.specs.declared.received.Received.TheVariants as R
@@ -101,7 +101,7 @@ limit_tracks l c d allows number t e high near =
       formed = t.formed;
     }
 
-pub hears : (l : LinkView) (h : SpxHeader) (c d : End) (p : Packet) → Tracks (core l) c d → IsChain c d → WasSent d c p → d.buffers ≤ most_units → IsFresh c d p → Spells p h
+pub hears : (l : LinkView) (h : SpxHeader) (c d : End) (p : Packet) → Tracks (core l) c d → IsChain c d → WasSent d c p → d.buffers ≤ most_units → IsRecentPacket c d p → Spells p h
     → Tracks (core (read_numbers l h)) (learned p c) d
 hears l h c d p t chain was small fresh says =
     let one : Tracks (core (read_ack h.ack l)) (based p.read c) d = ack_tracks l c d p.read h.ack t says.ack (omega (arith, was.reads_sent, was.receiver_sent)) (omega (arith, was.spread, was.allows_sent, was.reads_sent, fresh.receiver, small)) in
@@ -247,7 +247,7 @@ reads_rest l h body (Some n) own c d closed t shut chain within peer small small
     (reads_unit l h body n c d closed t shut (omega (arith, within.kept, peer.sent)) has (omega (arith, chain.read, past, fresh, close, small'))
     (omega (arith, b, past, chain.sent, chain.limit, within.taken, small')))
 
-pub reads_all : (l : LinkView) (h : SpxHeader) (body : List ℕ) (q : Packet) (c d : End) → IsRead l h body q c d → (t : Tracks (core l) c d) → Tracks (core (read_packet l h body).1) (got q c) d
+pub reads_all : (l : LinkView) (h : SpxHeader) (body : List ℕ) (q : Packet) (c d : End) → IsReadNow l h body q c d → (t : Tracks (core l) c d) → Tracks (core (read_packet l h body).1) (got q c) d
 reads_all l h body q c d r t =
     let now : Tracks (core (read_numbers l h)) (learned q c) d = hears l h c d q t r.line.there r.was r.small r.fresh r.spells in
     let chain : IsChain d (learned q c) = record { base = r.line.back.base; read = r.line.back.read; sent = r.line.back.sent; limit = r.line.back.limit } in
@@ -256,11 +256,11 @@ reads_all l h body q c d r t =
     reads_rest (read_numbers l h) h body q.position q.sender_sent (learned q c) d r.formed.0 now r.formed.1 chain within peer r.small t.counts.small
     r.carries r.was.sender_sent r.fresh.sender r.was.position r.was.outstanding
 
-pub joins_all : (l : LinkView) (h : SpxHeader) (body : List ℕ) (q : Packet) (c d : End) → IsRead l h body q c d → is_reply l h ≡ true → Tracks (core (read_numbers (joined l h) h)) (got q c) d
+pub joins_all : (l : LinkView) (h : SpxHeader) (body : List ℕ) (q : Packet) (c d : End) → IsReadNow l h body q c d → is_reply l h ≡ true → Tracks (core (read_numbers (joined_link l h) h)) (got q c) d
 joins_all l h body q c d r j =
-    let t : Tracks (core (joined l h)) c d = r.follows.tracks in
-    let now : Tracks (core (read_numbers (joined l h) h)) (learned q c) d = hears (joined l h) h c d q t r.line.there r.was r.small r.fresh r.spells in
-    subst (λ x. Tracks (core (read_numbers (joined l h) h)) x d) (sym (plain_got h body d.units q.position (learned q c) r.carries (reply_system l h j))) now
+    let t : Tracks (core (joined_link l h)) c d = r.follows.tracks in
+    let now : Tracks (core (read_numbers (joined_link l h) h)) (learned q c) d = hears (joined_link l h) h c d q t r.line.there r.was r.small r.fresh r.spells in
+    subst (λ x. Tracks (core (read_numbers (joined_link l h) h)) x d) (sym (plain_got h body d.units q.position (learned q c) r.carries (reply_system l h j))) now
   where
     reply_system : (m : LinkView) (k : SpxHeader) → is_reply m k ≡ true → is_system k ≡ true
     reply_system m k is = grind (arith, nat_tests)
@@ -269,15 +269,15 @@ where_read : (P : Received × LinkView → Type 0) (b : Bool) (x : Received × L
 where_read P true x l read holds = holds refl
 where_read P false x l read holds = absurd (read refl)
 
-pub receives_at : (s : State) (l : LinkView) (h : SpxHeader) (body : List ℕ) (q : Packet) (c d : End) → IsRead l h body q c d
+pub receives_at : (s : State) (l : LinkView) (h : SpxHeader) (body : List ℕ) (q : Packet) (c d : End) → IsReadNow l h body q c d
     → ((receive_at s l h body).0 ≡ R.Stranger → ⊥) → Tracks (core (receive_at s l h body).1) (got q c) d
-receives_at S.Opening l h body q c d r read = where_read (λ x. Tracks (core x.1) (got q c) d) (is_reply l h) (R.Joined, read_numbers (joined l h) h) l read (λ j. joins_all l h body q c d r j)
+receives_at S.Opening l h body q c d r read = where_read (λ x. Tracks (core x.1) (got q c) d) (is_reply l h) (R.Joined, read_numbers (joined_link l h) h) l read (λ j. joins_all l h body q c d r j)
 receives_at S.Live l h body q c d r read = where_read (λ x. Tracks (core x.1) (got q c) d) (is_own l h) (read_packet l h body) l read (λ o. reads_all l h body q c d r r.follows.tracks)
 receives_at S.Ending l h body q c d r read = where_read (λ x. Tracks (core x.1) (got q c) d) (is_own l h) (read_packet l h body) l read (λ o. reads_all l h body q c d r r.follows.tracks)
 receives_at S.PeerEnded l h body q c d r read = where_read (λ x. Tracks (core x.1) (got q c) d) (is_own l h) (read_packet l h body) l read (λ o. reads_all l h body q c d r r.follows.tracks)
 receives_at S.Confirmed l h body q c d r read = where_read (λ x. Tracks (core x.1) (got q c) d) (is_own l h) (read_packet l h body) l read (λ o. reads_all l h body q c d r r.follows.tracks)
 receives_at S.Lost l h body q c d r read = absurd (read refl)
 
-pub receives_tracks : (l : LinkView) (h : SpxHeader) (body : List ℕ) (q : Packet) (c d : End) → IsRead l h body q c d
+pub receives_tracks : (l : LinkView) (h : SpxHeader) (body : List ℕ) (q : Packet) (c d : End) → IsReadNow l h body q c d
     → (receive_link l h body).0 ≢ R.Stranger → Tracks (core (receive_link l h body).1) (got q c) d
 receives_tracks l h body q c d r read = receives_at l.state l h body q c d r read

@@ -40,7 +40,7 @@ pub record AfterPoll (l : LinkView) (r : Option OutgoingView × LinkView) : Type
   pub gives : GivesAs l r.0 r.1
 
 -- so many units were taken: the next one that is expected stands behind those and the ones held
-pub record HasTaken (taken : ℕ) (l : LinkView) : Type 0 where
+pub record HasTakenAndFits (taken : ℕ) (l : LinkView) : Type 0 where
   pub expected : l.expected ≡ mark (taken + length l.held)
   pub fits : length l.held + length l.ahead ≤ l.buffers
 
@@ -62,7 +62,7 @@ pub record Took (l : LinkView) (u : Unit) (k : LinkView) : Type 0 where
 pub record AllowanceLaws : Type 0 where
   pub polls : (l : LinkView) (now : ℕ) → AfterPoll l (poll_link l now)
   pub receives : (l : LinkView) (h : SpxHeader) (body : List ℕ) (taken : ℕ)
-      → HasTaken taken l → HasTaken taken (receive_link l h body).1
+      → HasTakenAndFits taken l → HasTakenAndFits taken (receive_link l h body).1
   pub buffers : (l : LinkView) (h : SpxHeader) (body : List ℕ)
       → (receive_link l h body).1.buffers ≡ l.buffers
   pub joins : (l : LinkView) (h : SpxHeader) (body : List ℕ)

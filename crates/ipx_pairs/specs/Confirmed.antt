@@ -13,34 +13,34 @@ use Rattle.spx_link.specs.Poll.{poll_link}
 use Rattle.spx_link.specs.Receive.{receive_link}
 
 -- its end is queued, and all that it sent is acknowledged
-abbrev pub IsDone : LinkView → Type 0
-IsDone l = (l.end_queued ≡ true) × (length l.queue ≡ 0)
+abbrev pub HasAllAcknowledged : LinkView → Type 0
+HasAllAcknowledged l = (l.end_queued ≡ true) × (length l.queue ≡ 0)
 
 -- confirmed, it is done
-abbrev pub IsRight : LinkView → Type 0
-IsRight l = l.state ≡ States.Confirmed → IsDone l
+abbrev pub ConfirmedIsDone : LinkView → Type 0
+ConfirmedIsDone l = l.state ≡ States.Confirmed → HasAllAcknowledged l
 
 -- what a poll leaves
-pub record Stays (l k : LinkView) : Type 0 where
+pub record PollLeaves (l k : LinkView) : Type 0 where
   pub held : k.held ≡ l.held
   pub queued : k.end_queued ≡ l.end_queued
   pub queue : length k.queue ≡ length l.queue
   pub state : (k.state ≡ l.state) ⊎ (k.state ≡ States.Lost)
 
 -- what a read leaves: a reply that joins brings no unit
-pub record Goes (l : LinkView) (r : Received × LinkView) : Type 0 where
+pub record ReadLeaves (l : LinkView) (r : Received × LinkView) : Type 0 where
   pub queued : r.1.end_queued ≡ l.end_queued
-  pub right : IsRight l → IsRight r.1
+  pub right : ConfirmedIsDone l → ConfirmedIsDone r.1
   pub joins : r.0 ≡ Joined → (r.1.held ≡ l.held) × (r.1.state ≡ States.Live)
 
 -- what a take leaves
-pub record Taken (l : LinkView) (r : Option Unit × LinkView) : Type 0 where
+pub record TakeLeaves (l : LinkView) (r : Option Unit × LinkView) : Type 0 where
   pub queued : r.1.end_queued ≡ l.end_queued
   pub queue : r.1.queue ≡ l.queue
   pub state : r.1.state ≡ l.state
 
 pub record CloseLaws : Type 0 where
-  pub polls : (l : LinkView) (now : ℕ) → Stays l (poll_link l now).1
-  pub receives : (l : LinkView) (h : SpxHeader) (body : List ℕ) → Goes l (receive_link l h body)
-  pub takes : (l : LinkView) → Taken l (take_link l)
+  pub polls : (l : LinkView) (now : ℕ) → PollLeaves l (poll_link l now).1
+  pub receives : (l : LinkView) (h : SpxHeader) (body : List ℕ) → ReadLeaves l (receive_link l h body)
+  pub takes : (l : LinkView) → TakeLeaves l (take_link l)
   pub takes_held : (l : LinkView) (u : Unit) → (take_link l).0 ≡ Some u → l.held ≢ []

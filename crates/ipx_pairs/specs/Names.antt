@@ -27,7 +27,7 @@ abbrev pub names : LinkView → Names
 names l = record { own = l.own; peer = l.peer; local = l.local; remote = l.remote }
 
 -- a packet for this link from its peer
-pub record IsOwn (n : Names) (h : SpxHeader) : Type 0 where
+pub record IsForLink (n : Names) (h : SpxHeader) : Type 0 where
   pub to : h.to_id ≡ n.own
   pub from : h.from_id ≡ n.peer
 
@@ -41,7 +41,7 @@ pub record IsReply (n : Names) (h : SpxHeader) : Type 0 where
 pub record ReadNames (l : LinkView) (h : SpxHeader) (r : Received × LinkView) : Type 0 where
   pub joins : r.0 ≡ Joined
       → IsReply (names l) h × (names r.1 ≡ record (names l) { peer = h.from_id })
-  pub reads : r.0 ≢ Joined → r.0 ≢ Stranger → IsOwn (names l) h × (names r.1 ≡ names l)
+  pub reads : r.0 ≢ Joined → r.0 ≢ Stranger → IsForLink (names l) h × (names r.1 ≡ names l)
 
 -- packets without a unit
 abbrev pub is_plain : Sent → Bool

@@ -42,19 +42,19 @@ pub record GivesUnit (g : OutgoingView) (units : List Unit) (k : ℕ) : Type 0 w
   pub number : g.header.seq ≡ mark k
 
 -- what is given as the link becomes m
-abbrev pub Given : Sent → OutgoingView → LinkView → List Unit → ℕ → Type 0
-Given Sents.Request g m units n = SendsFrom m units n
-Given Sents.Reply g m units n = SendsFrom m units n
-Given Sents.Confirm g m units n = SendsFrom m units n
-Given Sents.Unit g m units n = SendsFrom m units (n + 1) × GivesUnit g units n
-Given Sents.Again g m units n =
+abbrev pub IsGivenOut : Sent → OutgoingView → LinkView → List Unit → ℕ → Type 0
+IsGivenOut Sents.Request g m units n = SendsFrom m units n
+IsGivenOut Sents.Reply g m units n = SendsFrom m units n
+IsGivenOut Sents.Confirm g m units n = SendsFrom m units n
+IsGivenOut Sents.Unit g m units n = SendsFrom m units (n + 1) × GivesUnit g units n
+IsGivenOut Sents.Again g m units n =
     SendsFrom m units n × ((k : ℕ) × (k < n) × (n ≤ k + most_units) × GivesUnit g units k)
-Given Sents.Ack g m units n = SendsFrom m units n
-Given Sents.Probe g m units n = SendsFrom m units n
+IsGivenOut Sents.Ack g m units n = SendsFrom m units n
+IsGivenOut Sents.Probe g m units n = SendsFrom m units n
 
 abbrev pub PolledFrom : Option OutgoingView → LinkView → List Unit → ℕ → Type 0
 PolledFrom None m units n = SendsFrom m units n
-PolledFrom (Some g) m units n = Given g.what g m units n
+PolledFrom (Some g) m units n = IsGivenOut g.what g m units n
 
 pub record PollsFrom (units : List Unit) (n : ℕ) (l : LinkView) (now : ℕ) : Type 0 where
   pub to : PolledFrom (poll_link l now).0 (poll_link l now).1 units n

@@ -10,17 +10,17 @@ use Rattle.spx_link.specs.Poll.{poll_link}
 use Rattle.spx_link.specs.Receive.{receive_link}
 use Rattle.spx_link.specs.Offer.{refusal, offer_link, end_link, take_link, the_end}
 use Rattle.spx_link.specs.Machine.{End, Packet, WasSent, AreSound, got}
-use Rattle.spx_link.specs.Fresh.{IsFresh}
+use Rattle.spx_link.specs.Fresh.{IsRecentPacket}
 use Rattle.ipx_pairs.specs.Tracks.{Formed, Follows, IsOpen, core}
 use Rattle.ipx_pairs.specs.Spelling.{Spells, Carries, PolledTo}
 
 -- the packet q of d, which c reads now: it is fresh, and the header and body say what it says
-pub record IsRead (l : LinkView) (h : SpxHeader) (body : List ℕ) (q : Packet)
+pub record IsReadNow (l : LinkView) (h : SpxHeader) (body : List ℕ) (q : Packet)
     (c d : End) : Type 0 where
   pub follows : Follows l c d
   pub line : AreSound c d
   pub was : WasSent d c q
-  pub fresh : IsFresh c d q
+  pub fresh : IsRecentPacket c d q
   pub small : d.buffers ≤ most_units
   pub formed : (closed : Bool) × Formed d.units closed
   pub spells : Spells q h
@@ -38,7 +38,7 @@ pub record TakesTo (l : LinkView) (u : Unit) (c d : End) : Type 0 where
 -- the link that follows its end goes on to follow it
 pub record StepLaws : Type 0 where
   pub receives : (l : LinkView) (h : SpxHeader) (body : List ℕ) (q : Packet) (c d : End)
-      → IsRead l h body q c d → (receive_link l h body).0 ≢ Stranger
+      → IsReadNow l h body q c d → (receive_link l h body).0 ≢ Stranger
       → Follows (receive_link l h body).1 (got q c) d
   pub polls : (l : LinkView) (now : ℕ) (c d : End)
       → Follows l c d → AreSound c d → Polled l now c d

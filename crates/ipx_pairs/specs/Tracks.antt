@@ -40,7 +40,7 @@ core l =
     }
 
 -- the numbers of the link are those of the end, in 16 bits
-pub record Counts (l : Core) (c : End) : Type 0 where
+pub record AgreesWith (l : Core) (c : End) : Type 0 where
   pub next : l.next ≡ mark c.sent
   pub expected : l.expected ≡ mark c.read
   pub out : c.base + l.out ≡ c.sent
@@ -61,7 +61,7 @@ pub record Formed (units : List Unit) (closed : Bool) : Type 0 where
 -- the link is the end c, whose peer is d: it queues c's units from the base on, holds those of d
 -- that are read and not taken, and keeps those of d that the machine keeps
 pub record Tracks (l : Core) (c d : End) : Type 0 where
-  pub counts : Counts l c
+  pub counts : AgreesWith l c
   pub queue : l.queue ≡ drop c.base c.units
   pub held : l.held ≡ drop c.taken (take c.read d.units)
   pub kept : c.kept ≡ map is_some l.ahead

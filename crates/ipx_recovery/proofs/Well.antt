@@ -14,7 +14,7 @@ use Rattle.spx_link.specs.declared.state.State.TheVariants as S
 use Rattle.spx_link.specs.LinkView.{LinkView, is_end}
 use Rattle.spx_link.specs.Offer.{take_held, take_link, end_link, offer_link, owe_reply_link, lose_link, dialed, accepted_from}
 use Rattle.spx_link.specs.Poll.{poll_link}
-use Rattle.spx_link.specs.Receive.{any_end, after_end, is_own, is_reply, joined, read_numbers, read_packet, receive_joined, receive_at, receive_link}
+use Rattle.spx_link.specs.Receive.{any_end, after_end, is_own, is_reply, joined_link, read_numbers, read_packet, receive_joined, receive_at, receive_link}
 use Rattle.spx_units.specs.Message.{MessageView}
 use Rattle.spx_units.specs.Cut.{cut_of}
 use Rattle.ipx_pairs.specs.Tracks.{may_end}
@@ -22,7 +22,7 @@ use Rattle.ipx_log.specs.Note.{Note, Opened, Accepted, Got, HandsIn, AsksEnd, Ta
 use Rattle.ipx_log.specs.Handed.{taken_by, taken_of}
 use Rattle.ipx_log.specs.Scene.{Scene, Stand, Stands, linked}
 use Rattle.ipx_log.specs.Packets.{note_of, notes_of, out_notes}
-use Rattle.ipx_log.specs.Deeds.{Deed, Does, Dials, Accepts, Reads, OwesReply, Gives, Rests, Sends, Takes, Overruns, Closes, Releases, Carries, Tells, Injects, Reached, begun, happened}
+use Rattle.ipx_log.specs.Deeds.{Deed, DoesDeed, Dials, Accepts, Reads, OwesReply, Gives, Rests, Sends, Takes, Overruns, Closes, Releases, Carries, Tells, Injects, Reached, begun, happened}
 use Rattle.ipx_recovery.specs.LinkLaws.{LinkLaws}
 use Rattle.ipx_recovery.proofs.Hearing as Hearing
 use Rattle.ipx_recovery.proofs.Lists.{get_last, get_set, or_false, or_first, or_second}
@@ -97,7 +97,7 @@ joined_keeps l h body buffers =
 
 receive_keeps_at : (st : State) (l : LinkView) (h : SpxHeader) (body : List ℕ) → l.state ≡ st → (receive_at st l h body).1.buffers ≡ l.buffers → Keeps l (receive_at st l h body).1
 receive_keeps_at S.Opening l h body is buffers =
-    cond_both {A = Received × LinkView} (is_reply l h) (R.Joined, read_numbers (joined l h) h) (R.Stranger, l) (λ r. Keeps l r.1)
+    cond_both {A = Received × LinkView} (is_reply l h) (R.Joined, read_numbers (joined_link l h) h) (R.Stranger, l) (λ r. Keeps l r.1)
     (λ joins. record {
       well = λ w. record { buffers = w.buffers; open' = λ may. w.open' (ap may_end is); held = w.held };
       before = λ e. e;
@@ -235,7 +235,7 @@ outs_none who (m ∷ ms) j = outs_none who ms j
 silent : (s s' : Scene) → s'.log ≡ s.log → s'.log ≡ s.log ++ []
 silent s s' is = is ∙ sym (append-nil s.log)
 
-next_well : (laws : LinkLaws) (s s' : Scene) (deed : Deed) → Does deed s s' → Wells s → Wells s'
+next_well : (laws : LinkLaws) (s s' : Scene) (deed : Deed) → DoesDeed deed s s' → Wells s → Wells s'
 next_well laws s s' (Dials host id socket to buffers now) does f =
     more_well s s' _ (dialed id socket to buffers now) (Opened (length s.ends) host buffers ∷ []) (ap log_of does.after) (ap ends_of does.after) refl (λ j. refl)
     (record { buffers = does.range.0; open' = λ may. refl; held = λ e. refl }) f

@@ -32,14 +32,14 @@ use Rattle.ipx_router.specs.declared.reason.Reason.TheVariants.{Bad, BadControl}
 use Rattle.ipx_router.specs.RouterView.{RouterView}
 use Rattle.ipx_router.specs.Knowledge.{HoldsKnown, HoldsRoutes, HoldsServices, Known, Routes, Services, Tables}
 use Rattle.ipx_router.specs.Ports.{AreOnPorts, IsPortNumber}
-use Rattle.ipx_router.specs.Packets.{AreOwn, IsOwn, SendingView, all_nodes, asker}
-use Rattle.ipx_router.specs.OutcomeView.{OutcomeView, Forward, Replies, Heard, Dropped, IsOnPort, replies_of, view}
+use Rattle.ipx_router.specs.Packets.{AreOwn, IsOwn, SendingView, all_nodes, recipient_at}
+use Rattle.ipx_router.specs.OutcomeView.{OutcomeView, Forward, Replies, Heard, Dropped, IsOnPort, replies_of, router_outcome}
 use Rattle.ipx_router.specs.Classify.{concern_of}
 use Rattle.ipx_router.specs.Hearing.{source_of}
-use Rattle.ipx_router.specs.Forward.{IsFate, by_route}
+use Rattle.ipx_router.specs.Forward.{IsForwardingAnswer, by_route}
 use Rattle.ipx_router.specs.Answer.{AnswersByConcern, AnswersPacket, AnswersRip, AnswersRipMessage, AnswersSap, AnswersSapMessage, HearsRoutes, HearsServices, Receives}
 use Rattle.ipx_router.specs.Starting.{AreAsked, AreStarts, all_asked}
-use Rattle.ipx_router.specs.Telling.{AreTellings, AreTold, Tells, is_due}
+use Rattle.ipx_router.specs.Telling.{AreTellings, AreTold, TellsIfDue, is_due}
 use Rattle.ipx_router.proofs.Cuts.{rip_packet_own, route_packets_own, route_packets_port, sap_packet_own, service_packets_own, service_packets_port}
 
 -- a fact of answers that holds of what is heard and dropped, and of replies of the router's own by the port that was asked on
@@ -60,7 +60,7 @@ module _ (at : PortNow) (d : PacketView) (Q : OutcomeView → Type 0) (heard : (
   module _ (ports : List Port) (routes : Routes) (a : OutcomeView) (new : Table Network RouteMetric) where
     rip_message_fits : (m : RipView) → AnswersRipMessage ports routes at d.header m a new → Q a
     rip_message_fits (rip.Request asked) h =
-        subst Q (sym h.1) (replies h.0 (route_packets_port (asker at d.header) _ h.0 h.2.packets) (route_packets_own (asker at d.header) _ h.0 h.2.packets))
+        subst Q (sym h.1) (replies h.0 (route_packets_port (recipient_at at d.header) _ h.0 h.2.packets) (route_packets_own (recipient_at at d.header) _ h.0 h.2.packets))
     rip_message_fits (rip.Response entries) h = heard_fits ports routes (source_of at d.header) entries a new h
 
     rip_fits_by : (f : Option ControlFault) → MatchOption f ((m : RipView) × (tail : List ℕ) × IsRip m d.body tail × AnswersRipMessage ports routes at d.header m a new) (λ f. (a ≡ Dropped (BadControl f)) × HoldsRoutes new routes) → Q a
@@ -73,7 +73,7 @@ module _ (at : PortNow) (d : PacketView) (Q : OutcomeView → Type 0) (heard : (
   module _ (services : Services) (a : OutcomeView) (new : Table ServiceKey ServiceMetric) where
     sap_message_fits : (m : SapView) → AnswersSapMessage services at d.header m a new → Q a
     sap_message_fits (sap.Query nearest kind) h =
-        subst Q (sym h.1) (replies h.0 (service_packets_port (asker at d.header) nearest _ h.0 h.2.packets) (service_packets_own (asker at d.header) nearest _ h.0 h.2.packets))
+        subst Q (sym h.1) (replies h.0 (service_packets_port (recipient_at at d.header) nearest _ h.0 h.2.packets) (service_packets_own (recipient_at at d.header) nearest _ h.0 h.2.packets))
     sap_message_fits (sap.Response nearest entries) h = services_fit services (source_of at d.header) entries a new h
 
     sap_fits_by : (f : Option ControlFault) → MatchOption f ((m : SapView) × (tail : List ℕ) × IsSap m d.body tail × AnswersSapMessage services at d.header m a new) (λ f. (a ≡ Dropped (BadControl f)) × HoldsServices new services) → Q a
@@ -89,15 +89,15 @@ on_ports : (count number : ℕ) (sent : List SendingView) → IsPortNumber count
 on_ports count number sent is all = All-weaker (λ (s : SendingView). s.port ≡ number) (λ (s : SendingView). IsPortNumber count s.port) (λ s e. (omega (arith, e, is.0), omega (arith, e, is.1))) sent all
 
 pub rip_there_ok : (count : ℕ) (ports : List Port) (routes : Routes) (at : PortNow) (is : IsPortNumber count at.number) (d : PacketView) (new : Table Network RouteMetric) (o : Result Outcome OutOfMemory)
-    → IfOk o (λ x. AnswersRip ports routes at d (view x) new) → IfOk o (λ x. IsOnPort count (view x))
+    → IfOk o (λ x. AnswersRip ports routes at d (router_outcome x) new) → IfOk o (λ x. IsOnPort count (router_outcome x))
 rip_there_ok count ports routes at is d new (Ok x) h =
-    rip_fits at d (IsOnPort count) (λ n. tt) (λ r. tt) (λ sent by own. on_ports count at.number sent is by) ports routes (view x) new h
+    rip_fits at d (IsOnPort count) (λ n. tt) (λ r. tt) (λ sent by own. on_ports count at.number sent is by) ports routes (router_outcome x) new h
 rip_there_ok count ports routes at is d new (Err e) h = tt
 
 pub sap_there_ok : (count : ℕ) (services : Services) (at : PortNow) (is : IsPortNumber count at.number) (d : PacketView) (new : Table ServiceKey ServiceMetric) (o : Result Outcome OutOfMemory)
-    → IfOk o (λ x. AnswersSap services at d (view x) new) → IfOk o (λ x. IsOnPort count (view x))
+    → IfOk o (λ x. AnswersSap services at d (router_outcome x) new) → IfOk o (λ x. IsOnPort count (router_outcome x))
 sap_there_ok count services at is d new (Ok x) h =
-    sap_fits at d (IsOnPort count) (λ n. tt) (λ r. tt) (λ sent by own. on_ports count at.number sent is by) services (view x) new h
+    sap_fits at d (IsOnPort count) (λ n. tt) (λ r. tt) (λ sent by own. on_ports count at.number sent is by) services (router_outcome x) new h
 sap_there_ok count services at is d new (Err e) h = tt
 
 -- ---- replies are no SPX
@@ -105,7 +105,7 @@ sap_there_ok count services at is d new (Err e) h = tt
 abbrev RepliesOwn : OutcomeView → Type 0
 RepliesOwn a = AreOwn (replies_of a)
 
-fate_own : (arrived : Port) (d : PacketView) (f : Fate) (a : OutcomeView) → IsFate arrived d f a → RepliesOwn a
+fate_own : (arrived : Port) (d : PacketView) (f : Fate) (a : OutcomeView) → IsForwardingAnswer arrived d f a → RepliesOwn a
 fate_own arrived d (fates.Dropped reason) a h = subst RepliesOwn (sym h) (All-nil IsOwn)
 fate_own arrived d (fates.Forward port next) a h = subst RepliesOwn (sym h.1) (All-nil IsOwn)
 
@@ -123,8 +123,8 @@ module _ (k : Known) (at : PortNow) (a : OutcomeView) (new : Tables) where
   bytes_own bytes (Some f) h = subst RepliesOwn (sym h.0) (All-nil IsOwn)
 
 pub receives_own : (old : RouterView) (port : ℕ) (bytes : List ℕ) (now : ℕ) (new : RouterView) (o : Result Outcome OutOfMemory)
-    → IfOk o (λ x. Receives old port bytes now (view x) new) → IfOk o (λ x. AreOwn (replies_of (view x)))
-receives_own old port bytes now new (Ok x) r = bytes_own _ _ (view x) _ bytes (ipx_fault bytes) r.answers.2
+    → IfOk o (λ x. Receives old port bytes now (router_outcome x) new) → IfOk o (λ x. AreOwn (replies_of (router_outcome x)))
+receives_own old port bytes now new (Ok x) r = bytes_own _ _ (router_outcome x) _ bytes (ipx_fault bytes) r.answers.2
 receives_own old port bytes now new (Err e) r = tt
 
 -- ---- and so is what the router asks and tells
@@ -155,13 +155,13 @@ tells_own_by : (k : Known) (last : Option ℕ) (now : ℕ) (sent : List SendingV
 tells_own_by k last now sent told true h = tellings_own k.ports k.routes k.services now 1 k.ports sent h.0
 tells_own_by k last now sent told false h = subst AreOwn (sym h.0) (All-nil IsOwn)
 
-tells_own : (k : Known) (last : Option ℕ) (now : ℕ) (sent : List SendingView) (told : Option ℕ) → Tells k last now sent told → AreOwn sent
+tells_own : (k : Known) (last : Option ℕ) (now : ℕ) (sent : List SendingView) (told : Option ℕ) → TellsIfDue k last now sent told → AreOwn sent
 tells_own k last now sent told h = tells_own_by k last now sent told (is_due last now) h
 
 pub starts_own_ok : {V X : Type 0} (sent : V → List SendingView) (ports : List Port) (o : Result V X) → IfOk o (λ v. AreStarts 1 ports (sent v)) → IfOk o (λ v. AreOwn (sent v))
 starts_own_ok sent ports (Ok v) h = starts_own 1 ports (sent v) h
 starts_own_ok sent ports (Err e) h = tt
 
-pub tells_own_ok : {V X : Type 0} (sent : V → List SendingView) (k : Known) (last : Option ℕ) (now : ℕ) (told : Option ℕ) (o : Result V X) → IfOk o (λ v. Tells k last now (sent v) told) → IfOk o (λ v. AreOwn (sent v))
+pub tells_own_ok : {V X : Type 0} (sent : V → List SendingView) (k : Known) (last : Option ℕ) (now : ℕ) (told : Option ℕ) (o : Result V X) → IfOk o (λ v. TellsIfDue k last now (sent v) told) → IfOk o (λ v. AreOwn (sent v))
 tells_own_ok sent k last now told (Ok v) h = tells_own k last now (sent v) told h
 tells_own_ok sent k last now told (Err e) h = tt

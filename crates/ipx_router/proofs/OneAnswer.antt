@@ -41,7 +41,7 @@ use Rattle.ipx_router.specs.Knowledge.{AreTables, HoldsKnown, HoldsRoutes, Holds
 use Rattle.ipx_router.specs.Packets.{AreRoutePackets, AreServicePackets, IsRipPacket, IsSapPacket, SendingView}
 use Rattle.ipx_router.specs.Classify.{concern_of}
 use Rattle.ipx_router.specs.Route.{IsHeardRoute, IsRouteOrNone, IsRouteTo, direct_route, over_neighbour, over_port}
-use Rattle.ipx_router.specs.Forward.{Forwards, IsFate, by_route, forward_header}
+use Rattle.ipx_router.specs.Forward.{Forwards, IsForwardingAnswer, by_route, forward_header}
 use Rattle.ipx_router.specs.Told.{AreToldRoutes, IsToldRoute, IsToldService, key_of_service, route_key, told_route}
 use Rattle.ipx_router.specs.Replying.{AreNearest, AreRoutesAsked, AreServicesAsked, AreToldOf, IsNearest, RepliesRoutes, RepliesServices, asks_all, nearness}
 use Rattle.ipx_router.specs.Hearing.{AtEntry, HeardRoutes, HeardServices, IsFullForRoute, IsFullForService, after_route, after_service, route_metric, service_metric, source_of}
@@ -93,7 +93,7 @@ route_or_none_one f ports routes now network None (Some s) x y = absurd (none_or
 route_or_none_one f ports routes now network (Some r) None x y = absurd (none_or_some ports routes now network r y x)
 route_or_none_one f ports routes now network (Some r) (Some s) x y = ap Some (route_to_one f ports routes now network r s x y)
 
-fate_one : Facts → (arrived : Port) (d : PacketView) (fate : Fate) (a b : OutcomeView) → IsFate arrived d fate a → IsFate arrived d fate b → a ≡ b
+fate_one : Facts → (arrived : Port) (d : PacketView) (fate : Fate) (a b : OutcomeView) → IsForwardingAnswer arrived d fate a → IsForwardingAnswer arrived d fate b → a ≡ b
 fate_one f arrived d (fates.Dropped reason) a b x y = x ∙ sym y
 fate_one f arrived d (fates.Forward port next) a b x y =
     x.1 ∙ ap (Forward port next) (bytes_one f.ipx_bytes (record d { header = forward_header arrived d.header }) x.0 y.0 x.2 y.2) ∙ sym y.1
@@ -101,7 +101,7 @@ fate_one f arrived d (fates.Forward port next) a b x y =
 forwards_one : Facts → (ports : List Port) (routes : Routes) (at : PortNow) (d : PacketView) (a b : OutcomeView) → Forwards ports routes at d a → Forwards ports routes at d b → a ≡ b
 forwards_one f ports routes at d a b x y =
     let route = route_or_none_one f ports routes at.now d.header.to.network x.0 y.0 x.1 y.1 in
-    let moved = subst (λ (r : Option Route). IsFate at.port d (by_route d.header r) a) route x.2 in
+    let moved = subst (λ (r : Option Route). IsForwardingAnswer at.port d (by_route d.header r) a) route x.2 in
     fate_one f at.port d (by_route d.header y.0) a b moved y.2
 
 -- what is told of a network is one

@@ -24,10 +24,10 @@ use Rattle.ipx_router.specs.declared.port.Port.{Port}
 use Rattle.ipx_router.specs.declared.port.PortNow.{PortNow}
 use Rattle.ipx_router.specs.declared.reason.Reason.TheVariants.{BadControl, TableFull}
 use Rattle.ipx_router.specs.RouterView.{RouterView}
-use Rattle.ipx_router.specs.Knowledge.{AreTables, KeepsRest, Routes, Services, HoldsRoutes, HoldsServices, known_aged, known_at, known_in, routes_in, services_in, tables}
+use Rattle.ipx_router.specs.Knowledge.{AreTables, KeepsAllButOffers, Routes, Services, HoldsRoutes, HoldsServices, known_aged, known_at, known_in, routes_in, services_in, tables}
 use Rattle.ipx_router.specs.Hearing.{AtEntry, GrowsByRoute, GrowsByService, HeardRoutes, HeardServices, IsFullForRoute, IsFullForService, is_heard, source_of}
 use Rattle.ipx_router.specs.Ports.{IsPort}
-use Rattle.ipx_router.specs.OutcomeView.{OutcomeView, Heard, Dropped, view}
+use Rattle.ipx_router.specs.OutcomeView.{OutcomeView, Heard, Dropped, router_outcome}
 use Rattle.ipx_router.specs.Answer.{AnswersBytes, AnswersRip, AnswersRipMessage, AnswersSap, AnswersSapMessage, HearsRoutes, HearsServices, Receives}
 use Rattle.ipx_router.specs.WantOfMemory.{BytesWantMemory, HearingRoutesWantsMemory, HearingServicesWantsMemory, RipWantsMemory, SapWantsMemory, WantsMemory}
 use Rattle.ipx_router.specs.Forwarded.{ForwardsEachReading, ForwardsOneHopOn, ForwardsPacket}
@@ -41,9 +41,9 @@ known_same ports now old_routes routes old_services services r s = λ i. record 
 -- ---- on the port of a number
 
 module _ (old : RouterView) (port now : ℕ) (bytes : List ℕ) (arrived : Port) (is : IsPort old.ports port arrived) where
-  pub receives_on : (new : RouterView) → KeepsRest old new → new.told ≡ old.told → AreTables (tables new)
-      → (o : Result Outcome OutOfMemory) → IfOk o (λ x. AnswersBytes (known_at old now) (record { number = port; port = arrived; now = now }) bytes (view x) (tables new))
-      → IfOk o (λ x. Receives old port bytes now (view x) new)
+  pub receives_on : (new : RouterView) → KeepsAllButOffers old new → new.told ≡ old.told → AreTables (tables new)
+      → (o : Result Outcome OutOfMemory) → IfOk o (λ x. AnswersBytes (known_at old now) (record { number = port; port = arrived; now = now }) bytes (router_outcome x) (tables new))
+      → IfOk o (λ x. Receives old port bytes now (router_outcome x) new)
   receives_on new rest told valid (Ok x) a = record { answers = (arrived, is, a); rest = rest; told = told; valid = valid }
   receives_on new rest told valid (Err e) a = tt
 
@@ -52,8 +52,8 @@ module _ (old : RouterView) (port now : ℕ) (bytes : List ℕ) (arrived : Port)
   wants_on new (Ok x) a = tt
   wants_on new (Err e) a = (arrived, is, a)
 
-  pub forwards_on : (o : Result Outcome OutOfMemory) → IfOk o (λ x. ForwardsPacket bytes (view x)) → IfOk o (λ x. ForwardsEachReading arrived bytes (view x))
-      → IfOk o (λ x. ForwardsOneHopOn old port bytes (view x))
+  pub forwards_on : (o : Result Outcome OutOfMemory) → IfOk o (λ x. ForwardsPacket bytes (router_outcome x)) → IfOk o (λ x. ForwardsEachReading arrived bytes (router_outcome x))
+      → IfOk o (λ x. ForwardsOneHopOn old port bytes (router_outcome x))
   forwards_on (Ok x) found one_hop_on = (arrived, is, found, one_hop_on)
   forwards_on (Err e) found one_hop_on = tt
 
@@ -69,8 +69,8 @@ module _ (ports : List Port) (routes : Routes) (at : PortNow) (d : PacketView) (
   pub rip_heard : (heard : Result ℕ TableFault) (o : Result Outcome OutOfMemory)
       → IfOk heard (λ n. (n ≡ count_by (is_heard ports) entries) × HeardRoutes ports source at.now entries routes (length entries) new)
       → IfErr heard (λ f. (n : ℕ) × HeardRoutes ports source at.now entries routes n new × (f ≡ Full → AtEntry entries n (IsFullForRoute ports source new)) × (f ≡ out_of_memory → AtEntry entries n (GrowsByRoute ports source new)))
-      → IfOk o (λ x. MatchResult heard (λ n. view x ≡ Heard n) (λ f. (f ≡ Full) × (view x ≡ Dropped TableFull)))
-      → IfOk o (λ x. AnswersRip ports routes at d (view x) new)
+      → IfOk o (λ x. MatchResult heard (λ n. router_outcome x ≡ Heard n) (λ f. (f ≡ Full) × (router_outcome x ≡ Dropped TableFull)))
+      → IfOk o (λ x. AnswersRip ports routes at d (router_outcome x) new)
   rip_heard (Ok n) (Ok x) ok err says = subst (λ (a : OutcomeView). AnswersRip ports routes at d a new) (sym says) (rip_answer (Heard n) ok)
   rip_heard (Err f) (Ok x) ok err says = subst (λ (a : OutcomeView). AnswersRip ports routes at d a new) (sym says.1) (rip_answer (Dropped TableFull) (refl, err.0, err.1, err.2 says.0))
   rip_heard (Ok n) (Err e) ok err says = tt
@@ -95,8 +95,8 @@ module _ (services : Services) (at : PortNow) (d : PacketView) (tail : List ℕ)
   pub sap_heard : (heard : Result ℕ TableFault) (o : Result Outcome OutOfMemory)
       → IfOk heard (λ n. (n ≡ length entries) × HeardServices source at.now entries services (length entries) new)
       → IfErr heard (λ f. (n : ℕ) × HeardServices source at.now entries services n new × (f ≡ Full → AtEntry entries n (IsFullForService source new)) × (f ≡ out_of_memory → AtEntry entries n (GrowsByService source new)))
-      → IfOk o (λ x. MatchResult heard (λ n. view x ≡ Heard n) (λ f. (f ≡ Full) × (view x ≡ Dropped TableFull)))
-      → IfOk o (λ x. AnswersSap services at d (view x) new)
+      → IfOk o (λ x. MatchResult heard (λ n. router_outcome x ≡ Heard n) (λ f. (f ≡ Full) × (router_outcome x ≡ Dropped TableFull)))
+      → IfOk o (λ x. AnswersSap services at d (router_outcome x) new)
   sap_heard (Ok n) (Ok x) ok err says = subst (λ (a : OutcomeView). AnswersSap services at d a new) (sym says) (sap_answer (Heard n) ok)
   sap_heard (Err f) (Ok x) ok err says = subst (λ (a : OutcomeView). AnswersSap services at d a new) (sym says.1) (sap_answer (Dropped TableFull) (refl, err.0, err.1, err.2 says.0))
   sap_heard (Ok n) (Err e) ok err says = tt

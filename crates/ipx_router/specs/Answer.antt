@@ -23,9 +23,9 @@ use Rattle.ipx_router.specs.declared.port.PortNow.{PortNow}
 use Rattle.ipx_router.specs.declared.reason.Reason.TheVariants.{Bad, BadControl, TableFull}
 use Rattle.ipx_router.specs.RouterView.{RouterView}
 use Rattle.ipx_router.specs.OutcomeView.{OutcomeView, Forward, Replies, Heard, Dropped}
-use Rattle.ipx_router.specs.Knowledge.{AreTables, HoldsKnown, HoldsRoutes, HoldsServices, KeepsRest, Known, Routes, Services, Tables, known_at, tables}
+use Rattle.ipx_router.specs.Knowledge.{AreTables, HoldsKnown, HoldsRoutes, HoldsServices, KeepsAllButOffers, Known, Routes, Services, Tables, known_at, tables}
 use Rattle.ipx_router.specs.Ports.{IsPort}
-use Rattle.ipx_router.specs.Packets.{SendingView, asker}
+use Rattle.ipx_router.specs.Packets.{SendingView, recipient_at}
 use Rattle.ipx_router.specs.Classify.{concern_of}
 use Rattle.ipx_router.specs.Forward.{Forwards}
 use Rattle.ipx_router.specs.Replying.{RepliesRoutes, RepliesServices}
@@ -56,7 +56,7 @@ abbrev pub AnswersRipMessage : List Port → Routes → PortNow → IpxHeader �
     → OutcomeView → Table Network RouteMetric → Type 0
 AnswersRipMessage ports routes at h (rip.Request asked) a new =
     (sent : List SendingView) × (a ≡ Replies sent)
-    × RepliesRoutes ports routes at (asker at h) asked sent × HoldsRoutes new routes
+    × RepliesRoutes ports routes at (recipient_at at h) asked sent × HoldsRoutes new routes
 AnswersRipMessage ports routes at h (rip.Response entries) a new =
     HearsRoutes ports routes (source_of at h) at.now entries a new
 
@@ -64,7 +64,7 @@ abbrev pub AnswersSapMessage : Services → PortNow → IpxHeader → SapView �
     → Table ServiceKey ServiceMetric → Type 0
 AnswersSapMessage services at h (sap.Query nearest kind) a new =
     (sent : List SendingView) × (a ≡ Replies sent)
-    × RepliesServices services at (asker at h) nearest kind sent × HoldsServices new services
+    × RepliesServices services at (recipient_at at h) nearest kind sent × HoldsServices new services
 AnswersSapMessage services at h (sap.Response nearest entries) a new =
     HearsServices services (source_of at h) at.now entries a new
 
@@ -105,8 +105,8 @@ AnswersBytes k at bytes a new = MatchOption (ipx_fault bytes)
 
 -- what a router answers to bytes that come in on its port of a number at a moment, and the offers
 -- that it holds then
-abbrev pub Answers : RouterView → ℕ → List ℕ → ℕ → OutcomeView → RouterView → Type 0
-Answers old port bytes now a new = (arrived : Port) × IsPort old.ports port arrived
+abbrev pub RouterAnswers : RouterView → ℕ → List ℕ → ℕ → OutcomeView → RouterView → Type 0
+RouterAnswers old port bytes now a new = (arrived : Port) × IsPort old.ports port arrived
     × AnswersBytes (known_at old now) (record { number = port; port = arrived; now = now })
     bytes a (tables new)
 
@@ -114,7 +114,7 @@ Answers old port bytes now a new = (arrived : Port) × IsPort old.ports port arr
 -- What the answer sends is packets, of numbers under 256.
 pub record Receives (old : RouterView) (port : ℕ) (bytes : List ℕ) (now : ℕ) (a : OutcomeView)
     (new : RouterView) : Type 0 where
-  pub answers : Answers old port bytes now a new
-  pub rest : KeepsRest old new
+  pub answers : RouterAnswers old port bytes now a new
+  pub rest : KeepsAllButOffers old new
   pub told : new.told ≡ old.told
   pub valid : AreTables (tables new)

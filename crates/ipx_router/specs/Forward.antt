@@ -41,16 +41,16 @@ abbrev pub IsForwarded : Port → PacketView → List ℕ → Type 0
 IsForwarded arrived d = AreBytesOf (forward_packet arrived d)
 
 -- the answer is what the fate says
-abbrev pub IsFate : Port → PacketView → Fate → OutcomeView → Type 0
-IsFate arrived d (fates.Dropped reason) a = a ≡ Dropped reason
-IsFate arrived d (fates.Forward port next) a =
+abbrev pub IsForwardingAnswer : Port → PacketView → Fate → OutcomeView → Type 0
+IsForwardingAnswer arrived d (fates.Dropped reason) a = a ≡ Dropped reason
+IsForwardingAnswer arrived d (fates.Forward port next) a =
     (bytes : List ℕ) × (a ≡ Forward port next bytes) × IsForwarded arrived d bytes
 
 -- a packet for another network is answered by its route
 abbrev pub Forwards : List Port → Routes → PortNow → PacketView → OutcomeView → Type 0
 Forwards ports routes at d a = (route : Option Route)
     × IsRouteOrNone ports routes at.now d.header.to.network route
-    × IsFate at.port d (by_route d.header route) a
+    × IsForwardingAnswer at.port d (by_route d.header route) a
 
 -- a fact of the port that a fate forwards by
 abbrev pub IfForward : Fate → (ℕ → Type 0) → Type 0

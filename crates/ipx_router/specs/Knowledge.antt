@@ -72,7 +72,7 @@ pub record HoldsKnown (k : Known) (new : Tables) : Type 0 where
   pub services : HoldsServices new.1 k.services
 
 -- all that a router's calls leave as it was, but for the offers that it holds
-pub record KeepsRest (old new : RouterView) : Type 0 where
+pub record KeepsAllButOffers (old new : RouterView) : Type 0 where
   pub ports : new.ports ≡ old.ports
   pub most_routes : new.routes.most ≡ old.routes.most
   pub most_services : new.services.most ≡ old.services.most

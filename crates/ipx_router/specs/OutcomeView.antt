@@ -13,11 +13,11 @@ pub data OutcomeView : Type 0 where
   Heard : ℕ → OutcomeView
   Dropped : Reason → OutcomeView
 
-abbrev pub view : Outcome → OutcomeView
-view (outcomes.Forward r) = Forward r.port r.next r.bytes.items
-view (outcomes.Replies rs) = Replies (sendings rs.items)
-view (outcomes.Heard n) = Heard n
-view (outcomes.Dropped reason) = Dropped reason
+abbrev pub router_outcome : Outcome → OutcomeView
+router_outcome (outcomes.Forward r) = Forward r.port r.next r.bytes.items
+router_outcome (outcomes.Replies rs) = Replies (sendings rs.items)
+router_outcome (outcomes.Heard n) = Heard n
+router_outcome (outcomes.Dropped reason) = Dropped reason
 
 -- the packets that the router made itself: the replies, and not a packet that it forwards
 abbrev pub replies_of : OutcomeView → List SendingView

@@ -42,8 +42,8 @@ abbrev pub AreOwn : List SendingView → Type 0
 AreOwn = All IsOwn
 
 -- whom a request or query is answered
-abbrev pub asker : PortNow → IpxHeader → Recipient
-asker at h =
+abbrev pub recipient_at : PortNow → IpxHeader → Recipient
+recipient_at at h =
     record { number = at.number; port = at.port; node = h.from.node; socket = h.from.socket }
 
 -- node FFFFFFFFFFFF is all nodes of a network

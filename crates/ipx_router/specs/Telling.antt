@@ -46,8 +46,8 @@ IsNextTelling last None = (now : ℕ) → now < 2 ^ 64 → is_due last now ≡ f
 IsNextTelling last (Some t) = (now : ℕ) → is_due last now ≡ nat_le t now
 
 -- the packets by which a router tells what it knows, if it is time, and when it told last then
-abbrev pub Tells : Known → Option ℕ → ℕ → List SendingView → Option ℕ → Type 0
-Tells k last now sent told = MatchBool (is_due last now)
+abbrev pub TellsIfDue : Known → Option ℕ → ℕ → List SendingView → Option ℕ → Type 0
+TellsIfDue k last now sent told = MatchBool (is_due last now)
     (AreTellings k.ports k.routes k.services now 1 k.ports sent × (told ≡ Some now))
     ((sent ≡ []) × (told ≡ last))
 

@@ -1,7 +1,7 @@
 //! What a router answers to a datagram.
 
 ghost use Rattle.std.specs.Prelude.{◌≡◌, ◌≤◌, ℕ, length, IfOk, OnErr, Err, MatchResult};
-ghost use Rattle.ipx_wire.specs.Ipx.{BeginsWith, view as packet_view};
+ghost use Rattle.ipx_wire.specs.Ipx.{BeginsWith, packet_view};
 ghost use Rattle.ipx_tables.specs.Content.{IsTable};
 ghost use Rattle.ipx_tables.specs.Route.{network_cmp};
 ghost use Rattle.ipx_tables.specs.Service.{service_key_cmp};
@@ -9,7 +9,7 @@ ghost use Rattle.ipx_router.specs.Knowledge.{known_aged, known_in, routes_in, se
 ghost use Rattle.ipx_router.specs.Ports.{AreFromPorts, IsPortNumber, IsSound};
 ghost use Rattle.ipx_router.specs.Classify.{concern_of};
 ghost use Rattle.ipx_router.specs.Protocols.{concern_of_protocol};
-ghost use Rattle.ipx_router.specs.OutcomeView.{Dropped, Heard, IsOnPort, view};
+ghost use Rattle.ipx_router.specs.OutcomeView.{Dropped, Heard, IsOnPort, router_outcome};
 ghost use Rattle.ipx_router.specs.Answer.{AnswersByConcern, AnswersBytes, AnswersRip, AnswersSap};
 ghost use Rattle.ipx_router.specs.WantOfMemory.{BytesWantMemory, ConcernWantsMemory, RipWantsMemory, SapWantsMemory};
 ghost use Rattle.ipx_router.specs.Forwarded.{ForwardsEachReading, ForwardsPacket, IsForwardOf};
@@ -34,8 +34,8 @@ enum Protocol {
 }
 
 fn outcome_of_hearing(heard: Result<u16, TableFault>) -> Result<Outcome, OutOfMemory>
-    ensures answer { IfOk result (λ o. MatchResult heard (λ n. view o ≡ Heard n)
-        (λ f. (f ≡ TableFault.Full) × (view o ≡ Dropped Reason.TableFull))) }
+    ensures answer { IfOk result (λ o. MatchResult heard (λ n. router_outcome o ≡ Heard n)
+        (λ f. (f ≡ TableFault.Full) × (router_outcome o ≡ Dropped Reason.TableFull))) }
     ensures refused { OnErr result (heard ≡ Err TableFault.OutOfMemory) }
 {
     match heard {
@@ -56,7 +56,7 @@ fn answer_rip(
     requires ports { length ports.now ≤ 16 }
     requires table { IsTable network_cmp routes.old }
     ensures answer { IfOk result (λ o.
-        AnswersRip ports.now (routes_in routes.old) at (packet_view packet.entry) (view o)
+        AnswersRip ports.now (routes_in routes.old) at (packet_view packet.entry) (router_outcome o)
         routes.new) }
     ensures refused { OnErr result
         (RipWantsMemory ports.now (routes_in routes.old) at (packet_view packet.entry) routes.new) }
@@ -89,7 +89,7 @@ fn answer_sap(
 ) -> Result<Outcome, OutOfMemory>
     requires { IsTable service_key_cmp services.old }
     ensures answer { IfOk result (λ o.
-        AnswersSap (services_in services.old) at (packet_view packet.entry) (view o)
+        AnswersSap (services_in services.old) at (packet_view packet.entry) (router_outcome o)
         services.new) }
     ensures refused { OnErr result
         (SapWantsMemory (services_in services.old) at (packet_view packet.entry) services.new) }
@@ -134,14 +134,14 @@ fn answer_control(
     requires port { IsPortNumber (length ports.now) at.number }
     ensures answer { IfOk result (λ o.
         AnswersByConcern (known_in ports.now routes.old services.old) at (packet_view packet.entry)
-        (view o) (routes.new, services.new) (concern_of_protocol protocol)) }
+        (router_outcome o) (routes.new, services.new) (concern_of_protocol protocol)) }
     ensures refused { OnErr result
         (ConcernWantsMemory (known_in ports.now routes.old services.old) at
         (packet_view packet.entry) (routes.new, services.new)
         (concern_of_protocol protocol)) }
     ensures one_hop_on { IfOk result (λ o.
-        IsForwardOf at.port (packet_view packet.entry) (view o)) }
-    ensures there { IfOk result (λ o. IsOnPort (length ports.now) (view o)) }
+        IsForwardOf at.port (packet_view packet.entry) (router_outcome o)) }
+    ensures there { IfOk result (λ o. IsOnPort (length ports.now) (router_outcome o)) }
     ensures most { (routes.new.most ≡ routes.old.most) × (services.new.most ≡ services.old.most) }
     ensures sound { IsSound ports.now (routes.new, services.new) }
 {
@@ -165,14 +165,14 @@ fn answer_packet(
     requires port { IsPortNumber (length ports.now) at.number }
     ensures answer { IfOk result (λ o.
         AnswersByConcern (known_in ports.now routes.old services.old) at (packet_view packet.entry)
-        (view o) (routes.new, services.new) (concern_of at.port packet.entry.header)) }
+        (router_outcome o) (routes.new, services.new) (concern_of at.port packet.entry.header)) }
     ensures refused { OnErr result
         (ConcernWantsMemory (known_in ports.now routes.old services.old) at
         (packet_view packet.entry) (routes.new, services.new)
         (concern_of at.port packet.entry.header)) }
     ensures one_hop_on { IfOk result (λ o.
-        IsForwardOf at.port (packet_view packet.entry) (view o)) }
-    ensures there { IfOk result (λ o. IsOnPort (length ports.now) (view o)) }
+        IsForwardOf at.port (packet_view packet.entry) (router_outcome o)) }
+    ensures there { IfOk result (λ o. IsOnPort (length ports.now) (router_outcome o)) }
     ensures most { (routes.new.most ≡ routes.old.most) × (services.new.most ≡ services.old.most) }
     ensures sound { IsSound ports.now (routes.new, services.new) }
 {
@@ -200,14 +200,14 @@ fn answer_to(
     requires sound { IsSound ports.now (routes.old, services.old) }
     requires port { IsPortNumber (length ports.now) at.number }
     ensures answer { IfOk result (λ o.
-        AnswersBytes (known_in ports.now routes.old services.old) at bytes.now (view o)
+        AnswersBytes (known_in ports.now routes.old services.old) at bytes.now (router_outcome o)
         (routes.new, services.new)) }
     ensures refused { OnErr result
         (BytesWantMemory (known_in ports.now routes.old services.old) at bytes.now
         (routes.new, services.new)) }
-    ensures packet { IfOk result (λ o. ForwardsPacket bytes.now (view o)) }
-    ensures one_hop_on { IfOk result (λ o. ForwardsEachReading at.port bytes.now (view o)) }
-    ensures there { IfOk result (λ o. IsOnPort (length ports.now) (view o)) }
+    ensures packet { IfOk result (λ o. ForwardsPacket bytes.now (router_outcome o)) }
+    ensures one_hop_on { IfOk result (λ o. ForwardsEachReading at.port bytes.now (router_outcome o)) }
+    ensures there { IfOk result (λ o. IsOnPort (length ports.now) (router_outcome o)) }
     ensures most { (routes.new.most ≡ routes.old.most) × (services.new.most ≡ services.old.most) }
     ensures sound { IsSound ports.now (routes.new, services.new) }
 {
@@ -229,14 +229,14 @@ pub fn receive_at(
     requires sound { IsSound ports.now (routes.old, services.old) }
     requires port { IsPortNumber (length ports.now) at.number }
     ensures answer { IfOk result (λ o.
-        AnswersBytes (known_aged ports.now routes.old services.old at.now) at bytes.now (view o)
+        AnswersBytes (known_aged ports.now routes.old services.old at.now) at bytes.now (router_outcome o)
         (routes.new, services.new)) }
     ensures refused { OnErr result
         (BytesWantMemory (known_aged ports.now routes.old services.old at.now) at bytes.now
         (routes.new, services.new)) }
-    ensures packet { IfOk result (λ o. ForwardsPacket bytes.now (view o)) }
-    ensures one_hop_on { IfOk result (λ o. ForwardsEachReading at.port bytes.now (view o)) }
-    ensures there { IfOk result (λ o. IsOnPort (length ports.now) (view o)) }
+    ensures packet { IfOk result (λ o. ForwardsPacket bytes.now (router_outcome o)) }
+    ensures one_hop_on { IfOk result (λ o. ForwardsEachReading at.port bytes.now (router_outcome o)) }
+    ensures there { IfOk result (λ o. IsOnPort (length ports.now) (router_outcome o)) }
     ensures most { (routes.new.most ≡ routes.old.most) × (services.new.most ≡ services.old.most) }
     ensures sound { IsSound ports.now (routes.new, services.new) }
 {

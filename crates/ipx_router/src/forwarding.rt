@@ -1,12 +1,12 @@
 //! Forwarding: what becomes of a packet for another network.
 
 ghost use Rattle.std.specs.Prelude.{◌≡◌, ◌≤◌, ◌<◌, ℕ, List, [], length, IfOk, IfSome, OnErr};
-ghost use Rattle.ipx_wire.specs.Ipx.{BeginsWith, IsIpx, view as packet_view};
+ghost use Rattle.ipx_wire.specs.Ipx.{BeginsWith, IsIpx, packet_view};
 ghost use Rattle.ipx_router.specs.Knowledge.{routes_in};
 ghost use Rattle.ipx_router.specs.Ports.{AreFromPorts, IsPortNumber};
 ghost use Rattle.ipx_router.specs.Forward.{Forwards, IfForward, IsForwarded, by_route, forward_header, forward_packet};
 ghost use Rattle.ipx_router.specs.Forwarded.{IsForwardOf};
-ghost use Rattle.ipx_router.specs.OutcomeView.{IsOnPort, view};
+ghost use Rattle.ipx_router.specs.OutcomeView.{IsOnPort, router_outcome};
 ghost use Rattle.ipx_router.specs.WantOfMemory.{HasToForward};
 
 use crate::outcome::{Outcome, Reply};
@@ -105,12 +105,12 @@ pub fn forward(
     requires reading { BeginsWith datagram.now (packet_view packet) }
     requires sources { AreFromPorts (length ports.now) (routes_in routes.now) }
     ensures forwards { IfOk result (λ o.
-        Forwards ports.now (routes_in routes.now) at (packet_view packet.entry) (view o)) }
+        Forwards ports.now (routes_in routes.now) at (packet_view packet.entry) (router_outcome o)) }
     ensures refused { OnErr result
         (HasToForward ports.now (routes_in routes.now) at packet.entry.header) }
     ensures one_hop_on { IfOk result (λ o.
-        IsForwardOf at.port (packet_view packet.entry) (view o)) }
-    ensures there { IfOk result (λ o. IsOnPort (length ports.now) (view o)) }
+        IsForwardOf at.port (packet_view packet.entry) (router_outcome o)) }
+    ensures there { IfOk result (λ o. IsOnPort (length ports.now) (router_outcome o)) }
 {
     let route = route_to(ports, routes, packet.header.to.network, at.now);
     match fate_by_route(packet.header, route) {

@@ -2,15 +2,15 @@
 
 ghost use Rattle.std.specs.Prelude.{◌≡◌, ◌≤◌, [], length, true, All, IfOk, IfErr, OnOk, OnErr, Some, None};
 ghost use Rattle.ipx_router.specs.NewRouter.{IsOwnNetwork, ports_fault};
-ghost use Rattle.ipx_router.specs.Knowledge.{AreTables, HoldsKnown, KeepsRest, known_at, tables};
+ghost use Rattle.ipx_router.specs.Knowledge.{AreTables, HoldsKnown, KeepsAllButOffers, known_at, tables};
 ghost use Rattle.ipx_router.specs.Packets.{AreOwn, sendings};
 ghost use Rattle.ipx_router.specs.Ports.{AreOnPorts};
-ghost use Rattle.ipx_router.specs.OutcomeView.{IsOnPort, replies_of, view};
+ghost use Rattle.ipx_router.specs.OutcomeView.{IsOnPort, replies_of, router_outcome};
 ghost use Rattle.ipx_router.specs.Answer.{Receives};
 ghost use Rattle.ipx_router.specs.WantOfMemory.{WantsMemory};
 ghost use Rattle.ipx_router.specs.Forwarded.{ForwardsOneHopOn};
 ghost use Rattle.ipx_router.specs.Starting.{AreStarts};
-ghost use Rattle.ipx_router.specs.Telling.{HasToTell, IsNextTelling, Tells, is_due};
+ghost use Rattle.ipx_router.specs.Telling.{HasToTell, IsNextTelling, TellsIfDue, is_due};
 
 use crate::answering::receive_at;
 use crate::fault::NewFault;
@@ -39,7 +39,7 @@ impl Model for Router {
 
     ghost Value = { RouterView };
 
-    ghost view = { λ r. record {
+    ghost router_outcome = { λ r. record {
       ports = r.ports.items;
       routes = r.routes;
       services = r.services;
@@ -107,13 +107,13 @@ impl Router {
     ) -> Result<Outcome, OutOfMemory>
         requires first { 1 ≤ port }
         requires last { port ≤ length self.old.ports }
-        ensures answer { IfOk result (λ o. Receives self.old port bytes.now now (view o) self.new) }
+        ensures answer { IfOk result (λ o. Receives self.old port bytes.now now (router_outcome o) self.new) }
         ensures refused { OnErr result (WantsMemory self.old port bytes.now now self.new) }
-        ensures one_hop_on { IfOk result (λ o. ForwardsOneHopOn self.old port bytes.now (view o)) }
-        ensures there { IfOk result (λ o. IsOnPort (length self.old.ports) (view o)) }
+        ensures one_hop_on { IfOk result (λ o. ForwardsOneHopOn self.old port bytes.now (router_outcome o)) }
+        ensures there { IfOk result (λ o. IsOnPort (length self.old.ports) (router_outcome o)) }
         // What the router makes itself is no packet of SPX.
-        ensures own { IfOk result (λ o. AreOwn (replies_of (view o))) }
-        ensures rest { KeepsRest self.old self.new }
+        ensures own { IfOk result (λ o. AreOwn (replies_of (router_outcome o))) }
+        ensures rest { KeepsAllButOffers self.old self.new }
         ensures valid { AreTables (tables self.new) }
         ensures networks { All IsOwnNetwork self.new.ports }
         ensures told { self.new.told ≡ self.old.told }
@@ -152,13 +152,13 @@ impl Router {
     /// only where it is time and something is to be told, and then it is still time.
     pub fn tell(&mut self, alloc: Global, now: u64) -> Result<Vec<Reply>, OutOfMemory>
         ensures tells { IfOk result (λ v.
-            Tells (known_at self.old now) self.old.told now (sendings v.items) self.new.told) }
+            TellsIfDue (known_at self.old now) self.old.told now (sendings v.items) self.new.told) }
         ensures refused { OnErr result ((is_due self.old.told now ≡ true)
             × HasToTell (known_at self.old now) now × (self.new.told ≡ self.old.told)) }
         ensures known { HoldsKnown (known_at self.old now) (tables self.new) }
         ensures there { IfOk result (λ v. AreOnPorts (length self.old.ports) (sendings v.items)) }
         ensures own { IfOk result (λ v. AreOwn (sendings v.items)) }
-        ensures rest { KeepsRest self.old self.new }
+        ensures rest { KeepsAllButOffers self.old self.new }
         ensures valid { AreTables (tables self.new) }
         ensures networks { All IsOwnNetwork self.new.ports }
     {

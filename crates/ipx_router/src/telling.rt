@@ -4,7 +4,7 @@ ghost use Rattle.std.specs.Prelude.{◌≡◌, ◌≤◌, true, length, OnErr, O
 ghost use Rattle.ipx_tables.specs.Listing.{IsListing};
 ghost use Rattle.ipx_tables.specs.Route.{network_cmp, route_before};
 ghost use Rattle.ipx_tables.specs.Service.{service_before, service_key_cmp};
-ghost use Rattle.ipx_router.specs.Telling.{AreTellings, AreTold, HasToTell, IsNextTelling, Tells, is_due};
+ghost use Rattle.ipx_router.specs.Telling.{AreTellings, AreTold, HasToTell, IsNextTelling, TellsIfDue, is_due};
 ghost use Rattle.ipx_router.specs.Knowledge.{HoldsKnown, Routes, Services, known_aged, known_in, routes_in, services_in};
 ghost use Rattle.ipx_router.specs.Ports.{AreOnPorts, IsSound};
 ghost use Rattle.ipx_router.specs.Packets.{sendings};
@@ -128,7 +128,7 @@ pub fn tell_at(
 ) -> Result<Vec<Reply>, OutOfMemory>
     requires { IsSound ports.now (routes.old, services.old) }
     ensures tells { IfOk result (λ v.
-        Tells (known_aged ports.now routes.old services.old now) told.old now
+        TellsIfDue (known_aged ports.now routes.old services.old now) told.old now
         (sendings v.items) told.new) }
     ensures refused { OnErr result ((is_due told.old now ≡ true)
         × HasToTell (known_aged ports.now routes.old services.old now) now

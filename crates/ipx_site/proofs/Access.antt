@@ -6,11 +6,11 @@ use Rattle.ipx_site.specs.declared.fault.FileFault.{FileFault}
 use Rattle.ipx_site.specs.declared.key.Key.TheVariants as Key
 use Rattle.ipx_site.specs.Fields.{Holds, HoldsIf, IsWrong}
 use Rattle.ipx_site.specs.Port.{IsAccessFault}
-use Rattle.ipx_site.specs.Values.{ArePeers, AreRouterPeers, IsAccept}
+use Rattle.ipx_site.specs.Values.{AreAddressesOf, AreRouterPeers, IsAccept}
 use Rattle.ipx_site.proofs.Faults.{right_if}
 
 module _ (seen : List (List ℕ)) (peers : Vec (List ℕ) Global) (same : seen ≡ peers.items) (ms : Members) (table : ℕ) (f : FileFault)
-    (there : Holds ArePeers Key.Peers ms peers) where
+    (there : Holds AreAddressesOf Key.Peers ms peers) where
   pub routers_fault : IsWrong (AreRouterPeers seen) Key.Routers ms table f → IsAccessFault ms table f
   routers_fault wrong = let now = rw same at wrong in (peers, there, inl now)
 

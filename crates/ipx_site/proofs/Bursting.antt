@@ -8,7 +8,7 @@ use Rattle.ipx_carrier.specs.declared.report.Report.{Report}
 use Rattle.ipx_carrier.specs.Turns.{Given, Peers}
 use Rattle.ipx_carrier.specs.Runs.{EndsEarly, Runs}
 use Rattle.ipx_site.specs.declared.turns.Burst.{Burst}
-use Rattle.ipx_site.specs.Bursts.{AreBusy, Bursts, CanBegin, Chain, Counts, Ends, IsIdle, Stops, Taken, counted, no_turns, refused}
+use Rattle.ipx_site.specs.Bursts.{AreBusy, Bursts, CanBegin, Chain, CountsTurns, Ends, IsIdle, Stops, Taken, counted, no_turns, refused}
 
 -- a turn can be begun over the same as before
 pub begins_again : {ports ports_now device device_now lists failed failed_now : ℕ} → ports_now ≡ ports
@@ -63,7 +63,7 @@ abbrev pub CountsOne : Report → Burst → Burst → Type 0
 CountsOne r b c = (c.heard ≡ counted (b.heard + r.heard)) × (c.sent ≡ counted (b.sent + r.sent))
     × (c.unmapped ≡ counted (b.unmapped + r.unmapped))
 
-more_counts : (ts : List Taken) (t : Taken) (x y : Burst) → Counts ts x → CountsOne t.report x y → Counts (ts ++ t ∷ []) y
+more_counts : (ts : List Taken) (t : Taken) (x y : Burst) → CountsTurns ts x → CountsOne t.report x y → CountsTurns (ts ++ t ∷ []) y
 more_counts ts t x y h counts = (
   more_counted (λ t. t.report.heard) ts t x.heard y.heard h.0 counts.0,
   more_counted (λ t. t.report.sent) ts t x.sent y.sent h.1 counts.1,
@@ -81,7 +81,7 @@ module _ {C K : Type 0} (hears : C → ℕ → List ℕ → ℕ → C → Type 0
   abbrev pub Goes : ℕ → Burst → ℕ → ℕ → K → K → C → C → Type 0
   Goes count b kept kept_after clock clock_after old new = (turns : List Taken) × (length turns ≡ count)
       × Chain hears gives tells ports peers turns kept kept_after clock clock_after old new
-      × Counts turns b × AreBusy turns
+      × CountsTurns turns b × AreBusy turns
 
   chain_on : (ts : List Taken) (t : Taken) (i j : ℕ) (k l m : K) (a b c : C) → Chain hears gives tells ports peers ts i j k l a b
       → t.before ≡ j → j ≤ t.after → Runs hears gives tells ports peers 1 None None l m b c t.report
@@ -97,7 +97,7 @@ module _ {C K : Type 0} (hears : C → ℕ → List ℕ → ℕ → C → Type 0
       )
   chain_on (s ∷ ss) t i j k l m a b c h e le ran = (h.0, h.1, h.2, h.3, h.4, chain_on ss t s.after j h.0 l m h.1 b c h.5 e le ran)
 
-  pub goes_nowhere : (i : ℕ) (k : K) (a : C) (burst : Burst) → Counts [] burst → Goes 0 burst i i k k a a
+  pub goes_nowhere : (i : ℕ) (k : K) (a : C) (burst : Burst) → CountsTurns [] burst → Goes 0 burst i i k k a a
   goes_nowhere i k a burst counts = ([], refl, (refl, refl, refl), counts, All-nil (λ t. IsIdle t → ⊥))
 
   -- one more turn, idle or not

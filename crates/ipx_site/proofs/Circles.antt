@@ -11,19 +11,19 @@ use Rattle.toml.specs.View.{items_view}
 use Rattle.toml.specs.declared.value.Value.{Value}
 use Rattle.ipx_site.specs.Neighbours.{AreAmong, AreNeighbours, ReadsList}
 use Rattle.ipx_site.specs.Peers.{is_peer}
-use Rattle.ipx_site.specs.Values.{AreEach, IsAddress, ReadsAddresses}
+use Rattle.ipx_site.specs.Values.{AreEach, IsIpAddress, ReadsAddresses}
 use Rattle.ipx_site.proofs.Each.{as_many}
 
 dotted_once : (text a b : List ℕ) → IsDotted text a → IsDotted text b → a ≡ b
 dotted_once text a b one other =
     ap (λ it. it.octets) (IsIpv4Text_unique text (record { octets = a }) (record { octets = b }) one other)
 
-address_once : (d : Data) (a b : List ℕ) → IsAddress d a → IsAddress d b → a ≡ b
+address_once : (d : Data) (a b : List ℕ) → IsIpAddress d a → IsIpAddress d b → a ≡ b
 address_once d a b (s, is_s, one, set) (t, is_t, other, set') =
     let same : s ≡ t = same_Some s t (sym is_s ∙ is_t) in
     dotted_once t a b (subst (λ (l : List ℕ). IsDotted l a) same one) other
 
-addresses_once : (ds : Items) (a b : List (List ℕ)) → AreEach IsAddress ds a → AreEach IsAddress ds b → a ≡ b
+addresses_once : (ds : Items) (a b : List (List ℕ)) → AreEach IsIpAddress ds a → AreEach IsIpAddress ds b → a ≡ b
 addresses_once no_items a b one other = one ∙ sym other
 addresses_once (item d ds) a b (x, xs, is, means, more) (y, ys, is', means', more') =
     is ∙ ap (λ it. it ∷ xs) (address_once d x y means means') ∙ ap (λ it. y ∷ it) (addresses_once ds xs ys more more') ∙ sym is'
@@ -31,14 +31,14 @@ addresses_once (item d ds) a b (x, xs, is, means, more) (y, ys, is', means', mor
 neighbours_once : (d : Data) (a b : List (List ℕ)) → AreNeighbours d a → AreNeighbours d b → a ≡ b
 neighbours_once d a b (ds, is, one, few) (es, is', other, few') =
     let same : ds ≡ es = same_Some ds es (sym is ∙ is') in
-    addresses_once es a b (subst (λ (it : Items). AreEach IsAddress it a) same one) other
+    addresses_once es a b (subst (λ (it : Items). AreEach IsIpAddress it a) same one) other
 
 -- a list of addresses is one, where there are 256 at most
 pub too_many : (d : Data) (values : List Value) → as_array d ≡ Some (items_view values) → 256 < length values
     → (ips : List (List ℕ)) → AreNeighbours d ips → ⊥
 too_many d values is many ips are =
     let same : are.0 ≡ items_view values = same_Some are.0 (items_view values) (sym are.1 ∙ is) in
-    let all = as_many IsAddress values ips (subst (λ (ds : Items). AreEach IsAddress ds ips) same are.2) in
+    let all = as_many IsIpAddress values ips (subst (λ (ds : Items). AreEach IsIpAddress ds ips) same are.2) in
     absurd (omega (arith, all, many, are.3))
 
 pub listed : {E : Type 0} (d : Data) (values : List Value) → as_array d ≡ Some (items_view values) → length values ≤ 256
@@ -46,9 +46,9 @@ pub listed : {E : Type 0} (d : Data) (values : List Value) → as_array d ≡ So
 listed d values is few (Err e) reads = tt
 listed d values is few (Ok None) reads = λ ips are.
     let same : are.0 ≡ items_view values = same_Some are.0 (items_view values) (sym are.1 ∙ is) in
-    reads ips (subst (λ (ds : Items). AreEach IsAddress ds ips) same are.2)
+    reads ips (subst (λ (ds : Items). AreEach IsIpAddress ds ips) same are.2)
 listed d values is few (Ok (Some v)) reads =
-    (items_view values, is, reads, omega (arith, as_many IsAddress values v.items reads, few))
+    (items_view values, is, reads, omega (arith, as_many IsIpAddress values v.items reads, few))
 
 -- one that is not among the peers has no other reading that is
 pub not_among : (peers : List (List ℕ)) (d : Data) (ips : List (List ℕ)) → AreNeighbours d ips

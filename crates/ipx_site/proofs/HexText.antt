@@ -5,7 +5,7 @@ use Rattle.std.specs.Result.{result_ok}
 use Rattle.std.specs.Str.Parse.{ParsesUnsigned, digits_value, without_leading_plus}
 use Rattle.std.proofs.lemmas.Int.Digits.{digits_value-lt}
 use Rattle.std.proofs.Math.Nat.{pow-le-pow_right}
-use Rattle.ipx_site.specs.Values.{Spells}
+use Rattle.ipx_site.specs.Values.{SpellsHexNumber}
 
 -- where no sign stands first, none is left out
 pub plain : (text : List ℕ) → (slice_index text 0 ≡ 43 → ⊥) → without_leading_plus text ≡ text
@@ -17,7 +17,7 @@ fits digits n few less =
     let most : 16 ^ digits ≤ 16 ^ 8 = pow-le-pow_right (omega arith) few in omega arith
 
 pub spells : {E : Type 0} (digits : ℕ) (text : List ℕ) (r : Result ℕ E) → length text ≡ digits → digits ≤ 8
-    → (slice_index text 0 ≡ 43 → ⊥) → ParsesUnsigned 32 16 text r → Spells digits text (result_ok r)
+    → (slice_index text 0 ≡ 43 → ⊥) → ParsesUnsigned 32 16 text r → SpellsHexNumber digits text (result_ok r)
 spells digits text (Ok n) len few unsigned parses =
     let (fit, value) = rw (plain text unsigned) at parses in
     (len, fit.0, sym value)

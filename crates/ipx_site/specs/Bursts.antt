@@ -53,8 +53,8 @@ EndsIdle turns = (busy : List Taken) × (last : Taken) × (turns ≡ busy ++ las
     × AreBusy busy × IsIdle last
 
 -- a burst counts what its whole turns report
-abbrev pub Counts : List Taken → Burst → Type 0
-Counts turns b = (b.heard ≡ counted (sum_by (λ t. t.report.heard) turns))
+abbrev pub CountsTurns : List Taken → Burst → Type 0
+CountsTurns turns b = (b.heard ≡ counted (sum_by (λ t. t.report.heard) turns))
     × (b.sent ≡ counted (sum_by (λ t. t.report.sent) turns))
     × (b.unmapped ≡ counted (sum_by (λ t. t.report.unmapped) turns))
 
@@ -94,4 +94,4 @@ module _ {C : Type 0} (hears misses : C → ℕ → List ℕ → ℕ → C → T
       × (kept_then : ℕ) × (tick : K) × (mid : C)
       × Chain hears gives tells ports peers turns kept kept_then clock tick old mid
       × Ends b.fault kept_then kept_after tick clock_after mid new
-      × Counts turns b × Stops most turns b.fault b.quiet
+      × CountsTurns turns b × Stops most turns b.fault b.quiet

@@ -10,15 +10,15 @@ use Rattle.ipx_site.specs.declared.site.Accept.TheVariants as Accept
 use Rattle.ipx_site.specs.Keys.{first_unknown, host_keys}
 use Rattle.ipx_site.specs.Neighbours.{AreAmong, AreNeighbours}
 use Rattle.ipx_site.specs.Origins.{AreOrigins}
-use Rattle.ipx_site.specs.Values.{IsAccept, IsAddress, IsCount, IsNetwork, IsSocket}
+use Rattle.ipx_site.specs.Values.{IsAccept, IsIpAddress, IsCount, IsNetwork, IsSocket}
 use Rattle.ipx_site.specs.Fields.{Holds, HoldsIf, HoldsOr, IsFault, IsNoToml, IsRight, IsRightOr, IsUnknown, IsWrong}
 
 -- a table is that of a host
 pub record IsHost (ms : Members) (h : HostFile) : Type 0 where
   pub known : first_unknown host_keys ms ≡ None
   pub network : Holds IsNetwork Key.Network ms h.network
-  pub address : Holds IsAddress Key.Address ms h.address
-  pub router : Holds IsAddress Key.Router ms h.router
+  pub address : Holds IsIpAddress Key.Address ms h.address
+  pub router : Holds IsIpAddress Key.Router ms h.router
   pub udp_port : HoldsOr (IsCount 65535) Key.UdpPort ms usual_port h.udp_port
   pub socket : Holds IsSocket Key.Socket ms h.socket
   pub buffers : HoldsOr (IsCount 8192) Key.Buffers ms 64 h.buffers
@@ -40,9 +40,9 @@ abbrev pub IsHostFault : Members → FileFault → Type 0
 IsHostFault ms f =
     IsUnknown host_keys ms 0 f
     ⊎ ((first_unknown host_keys ms ≡ None) × (IsFault IsNetwork Key.Network ms 0 f
-    ⊎ (IsRight IsNetwork Key.Network ms × (IsFault IsAddress Key.Address ms 0 f
-    ⊎ (IsRight IsAddress Key.Address ms × (IsFault IsAddress Key.Router ms 0 f
-    ⊎ (IsRight IsAddress Key.Router ms × (IsWrong (IsCount 65535) Key.UdpPort ms 0 f
+    ⊎ (IsRight IsNetwork Key.Network ms × (IsFault IsIpAddress Key.Address ms 0 f
+    ⊎ (IsRight IsIpAddress Key.Address ms × (IsFault IsIpAddress Key.Router ms 0 f
+    ⊎ (IsRight IsIpAddress Key.Router ms × (IsWrong (IsCount 65535) Key.UdpPort ms 0 f
     ⊎ (IsRightOr (IsCount 65535) Key.UdpPort ms × (IsFault IsSocket Key.Socket ms 0 f
     ⊎ (IsRight IsSocket Key.Socket ms × (IsWrong (IsCount 8192) Key.Buffers ms 0 f
     ⊎ (IsRightOr (IsCount 8192) Key.Buffers ms × IsCircleFault ms f)))))))))))))

@@ -8,23 +8,23 @@ use Rattle.ipx_site.specs.declared.key.Key.TheVariants as Key
 use Rattle.ipx_site.specs.declared.site.Accept.TheVariants as Accept
 use Rattle.ipx_site.specs.declared.site.SitePort.{SitePort}
 use Rattle.ipx_site.specs.Keys.{first_unknown, port_keys}
-use Rattle.ipx_site.specs.Values.{ArePeers, AreRouterPeers, IsAccept, IsAddress, IsCount, IsNetwork}
+use Rattle.ipx_site.specs.Values.{AreAddressesOf, AreRouterPeers, IsAccept, IsIpAddress, IsCount, IsNetwork}
 use Rattle.ipx_site.specs.Fields.{Holds, HoldsIf, HoldsOr, IsFault, IsRight, IsRightOr, IsUnknown, IsWrong}
 
 -- a table is that of a port
-pub record IsPort (ms : Members) (p : SitePort) : Type 0 where
+pub record IsPortTable (ms : Members) (p : SitePort) : Type 0 where
   pub known : first_unknown port_keys ms ≡ None
   pub network : Holds IsNetwork Key.Network ms p.network
-  pub address : Holds IsAddress Key.Address ms p.address
+  pub address : Holds IsIpAddress Key.Address ms p.address
   pub udp_port : HoldsOr (IsCount 65535) Key.UdpPort ms usual_port p.udp_port
   pub cost : HoldsOr (IsCount 65535) Key.Cost ms 1 p.cost
-  pub peers : Holds ArePeers Key.Peers ms p.peers
+  pub peers : Holds AreAddressesOf Key.Peers ms p.peers
   pub routers : HoldsIf (AreRouterPeers p.peers.items) Key.Routers ms p.routers
   pub accept : HoldsOr IsAccept Key.Accept ms Accept.Peers p.accept
 
 -- the first fault of the keys behind its peers, which say who of them is a router and who is heard
 abbrev pub IsAccessFault : Members → ℕ → FileFault → Type 0
-IsAccessFault ms table f = (peers : Vec (List ℕ) Global) × Holds ArePeers Key.Peers ms peers
+IsAccessFault ms table f = (peers : Vec (List ℕ) Global) × Holds AreAddressesOf Key.Peers ms peers
     × (IsWrong (AreRouterPeers peers.items) Key.Routers ms table f
     ⊎ (IsRightOr (AreRouterPeers peers.items) Key.Routers ms × IsWrong IsAccept Key.Accept ms table f))
 
@@ -33,8 +33,8 @@ abbrev pub IsPortFault : ℕ → Members → FileFault → Type 0
 IsPortFault table ms f =
     IsUnknown port_keys ms table f
     ⊎ ((first_unknown port_keys ms ≡ None) × (IsFault IsNetwork Key.Network ms table f
-    ⊎ (IsRight IsNetwork Key.Network ms × (IsFault IsAddress Key.Address ms table f
-    ⊎ (IsRight IsAddress Key.Address ms × (IsWrong (IsCount 65535) Key.UdpPort ms table f
+    ⊎ (IsRight IsNetwork Key.Network ms × (IsFault IsIpAddress Key.Address ms table f
+    ⊎ (IsRight IsIpAddress Key.Address ms × (IsWrong (IsCount 65535) Key.UdpPort ms table f
     ⊎ (IsRightOr (IsCount 65535) Key.UdpPort ms × (IsWrong (IsCount 65535) Key.Cost ms table f
-    ⊎ (IsRightOr (IsCount 65535) Key.Cost ms × (IsFault ArePeers Key.Peers ms table f
+    ⊎ (IsRightOr (IsCount 65535) Key.Cost ms × (IsFault AreAddressesOf Key.Peers ms table f
     ⊎ IsAccessFault ms table f))))))))))

@@ -2,7 +2,7 @@
 -- of it is own.
 use Rattle.std.specs.Prelude.{◌≡◌, ◌⊎◌, ℕ, ◌+◌, length, Bool, false, true, Option, Some, None}
 use Rattle.ipx_carrier.specs.declared.fault.RunFault.{RunFault}
-use Rattle.ipx_carrier.specs.RouterCore.{CoreView, Gives, Hears, Misses, Withholds}
+use Rattle.ipx_carrier.specs.RouterCore.{CoreView, RouterGives, RouterHears, Misses, Withholds}
 use Rattle.ipx_carrier.specs.Turns.{Peers}
 use Rattle.ipx_site.specs.declared.turns.Burst.{Burst}
 use Rattle.ipx_site.specs.Bursts.{Bursts}
@@ -24,7 +24,7 @@ abbrev pub IsRound : {K : Type 0} → K → K → (K → ℕ → K → Type 0) �
 IsRound {K} clock clock_after tells peers kept kept_after times times_after old new b = (now : ℕ) × (tick : K)
     × (mid : SparingView CoreView) × tells clock now tick
     × AsksAgain now times times_after old mid
-    × Bursts (HearsSparingly Hears) (MissesBelow Misses) (GivesBelow Gives) (WithholdsBelow Withholds) tells
+    × Bursts (HearsSparingly RouterHears) (MissesBelow Misses) (GivesBelow RouterGives) (WithholdsBelow Withholds) tells
     (length old.core.router.ports) peers 256 b kept kept_after tick clock_after mid new
 
 -- how long it waits then, and when: 100 ms behind a fault; not at all behind a burst that was not quiet;

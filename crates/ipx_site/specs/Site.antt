@@ -9,7 +9,7 @@ use Rattle.ipx_site.specs.declared.site.SiteFile.{SiteFile}
 use Rattle.ipx_site.specs.declared.site.SitePort.{SitePort}
 use Rattle.ipx_site.specs.Keys.{first_unknown, key_text, site_keys}
 use Rattle.ipx_site.specs.Values.{IsText}
-use Rattle.ipx_site.specs.Port.{IsPort, IsPortFault}
+use Rattle.ipx_site.specs.Port.{IsPortTable, IsPortFault}
 use Rattle.ipx_site.specs.Fields.{Holds, IsFault, IsNoToml, IsRightOr, IsUnknown, IsWrong}
 
 abbrev pub item_count : Items → ℕ
@@ -30,7 +30,7 @@ twin_place earlier p = position (λ q. q.network.0 == p.network.0) earlier
 
 -- a port, by what stands in the array
 abbrev pub IsPortItem : Data → SitePort → Type 0
-IsPortItem d p = (ms : Members) × (as_table d ≡ Some ms) × IsPort ms p
+IsPortItem d p = (ms : Members) × (as_table d ≡ Some ms) × IsPortTable ms p
 
 abbrev pub IsPortItemFault : ℕ → Data → FileFault → Type 0
 IsPortItemFault table d f = ((f ≡ Wrong table Key.Port) × (as_table d ≡ None))

@@ -17,8 +17,8 @@ abbrev pub IsHex : ℕ → List ℕ → ℕ → Type 0
 IsHex digits text n = (length text ≡ digits) × IsNumeral 16 text × (digits_value 16 text ≡ n)
 
 -- the number that they write, or that they write none
-abbrev pub Spells : ℕ → List ℕ → Option ℕ → Type 0
-Spells digits text found = MatchOption found ((n : ℕ) → IsHex digits text n → ⊥) (IsHex digits text)
+abbrev pub SpellsHexNumber : ℕ → List ℕ → Option ℕ → Type 0
+SpellsHexNumber digits text found = MatchOption found ((n : ℕ) → IsHex digits text n → ⊥) (IsHex digits text)
 
 -- a string of eight hex digits: a network other than 0, which is the one at hand, and FFFFFFFF,
 -- which is all of them
@@ -32,8 +32,8 @@ IsSocket d s = (text : List ℕ) × (as_str d ≡ Some text) × IsHex 4 text s.0
 
 -- a string that is an IP address: four decimal numbers below 256, with dots between them. 0.0.0.0,
 -- which names none of the machines, is none
-abbrev pub IsAddress : Data → List ℕ → Type 0
-IsAddress d ip = (text : List ℕ) × (as_str d ≡ Some text) × IsDotted text ip
+abbrev pub IsIpAddress : Data → List ℕ → Type 0
+IsIpAddress d ip = (text : List ℕ) × (as_str d ≡ Some text) × IsDotted text ip
     × (text ≢ codes "0.0.0.0")
 
 -- an integer from 1 to a greatest one
@@ -60,15 +60,15 @@ AreEach {A} Means (item d ds) all = (first : A) × (rest : List A) × (all ≡ f
 
 -- these IP addresses
 abbrev pub AreAddresses : Items → List (List ℕ) → Type 0
-AreAddresses ds ips = AreEach IsAddress ds ips
+AreAddresses ds ips = AreEach IsIpAddress ds ips
 
 -- an array of strings that are IP addresses
-abbrev pub ArePeers : Data → Vec (List ℕ) Global → Type 0
-ArePeers d ips = (ds : Items) × (as_array d ≡ Some ds) × AreAddresses ds ips.items
+abbrev pub AreAddressesOf : Data → Vec (List ℕ) Global → Type 0
+AreAddressesOf d ips = (ds : Items) × (as_array d ≡ Some ds) × AreAddresses ds ips.items
 
 -- so, and each of them is one of these peers
 abbrev pub AreRouterPeers : List (List ℕ) → Data → Vec (List ℕ) Global → Type 0
-AreRouterPeers peers d ips = ArePeers d ips × (list_all (is_peer peers) ips.items ≡ true)
+AreRouterPeers peers d ips = AreAddressesOf d ips × (list_all (is_peer peers) ips.items ≡ true)
 
 -- ---- words of the private functions
 

@@ -7,7 +7,7 @@ ghost use Rattle.toml.specs.View.{table_view, view};
 ghost use Rattle.ipx_site.specs.Keys.{first_unknown, key_text};
 ghost use Rattle.ipx_site.specs.Neighbours.{AreAmong, AreNeighbours};
 ghost use Rattle.ipx_site.specs.Origins.{AreOrigins};
-ghost use Rattle.ipx_site.specs.Values.{ArePeers, AreRouterPeers, IsAccept, IsAddress, IsCount, IsNetwork, IsSocket, IsText};
+ghost use Rattle.ipx_site.specs.Values.{AreAddressesOf, AreRouterPeers, IsAccept, IsIpAddress, IsCount, IsNetwork, IsSocket, IsText};
 ghost use Rattle.ipx_site.specs.Fields.{Gives, GivesIf, GivesOr, Holds, HoldsOr, IsMissing, IsUnknown, IsWrong};
 
 use crate::fault::FileFault;
@@ -81,7 +81,7 @@ pub fn network_in(table: &Table, number: usize) -> Result<Network, FileFault>
 
 /// An IP address.
 pub fn address_in(table: &Table, number: usize, key: Key) -> Result<[u8; 4], FileFault>
-    ensures { Gives IsAddress key (table_view table.now) number result }
+    ensures { Gives IsIpAddress key (table_view table.now) number result }
 {
     match address_of(required(table, number, key)?) {
         Some(ip) => Ok(ip),
@@ -110,7 +110,7 @@ pub fn count_in(
 
 /// The peers of a port.
 pub fn peers_in(alloc: Global, table: &Table, number: usize) -> Result<Vec<[u8; 4]>, FileFault>
-    ensures { Gives ArePeers Key.Peers (table_view table.now) number result }
+    ensures { Gives AreAddressesOf Key.Peers (table_view table.now) number result }
 {
     match peers_of(alloc, required(table, number, Key::Peers)?)? {
         Some(peers) => Ok(peers),

@@ -1,7 +1,7 @@
 //! Whether a packet names the node that sent it, passed a router, or tells of routes and services.
 
 ghost use Rattle.std.specs.Prelude.{◌≡◌};
-ghost use Rattle.ipx_wire.specs.Ipx.{view};
+ghost use Rattle.ipx_wire.specs.Ipx.{packet_view};
 ghost use Rattle.ipx_site.specs.Peers.{is_node_of, is_own_word, is_response, is_straight};
 
 use byteorder::{BigEndian, ByteOrder};
@@ -46,7 +46,7 @@ pub fn is_own_word(network: Network, from: Option<[u8; 4]>, header: &IpxHeader) 
 
 /// Whether a packet is a response, by which routes or services are told.
 pub fn is_response(packet: &Packet<'_>) -> bool
-    ensures { result ≡ is_response (view packet.now) }
+    ensures { result ≡ is_response (packet_view packet.now) }
 {
     if packet.body.len() < 2 {
         return false;

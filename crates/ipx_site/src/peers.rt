@@ -1,7 +1,7 @@
 //! A device that hears its peers alone, and sends to them alone.
 
 ghost use Rattle.std.specs.Prelude.{◌≡◌, ◌<◌, ◌≤◌, ◌+◌, ◌^◌, [], ◌∷◌, ℕ, true, false, Ok, Option, Some, OnErr, OnOk, IfOk, IfSome, is_err, length, map, slice_get};
-ghost use Rattle.ipx_wire.specs.Ipx.{view};
+ghost use Rattle.ipx_wire.specs.Ipx.{packet_view};
 ghost use Rattle.ipx_carrier.specs.Device.{Passes, received_in};
 ghost use Rattle.ipx_carrier.specs.Fates.{raised};
 ghost use Rattle.ipx_carrier.specs.Fault.{device_failures};
@@ -119,7 +119,7 @@ fn is_listed(ips: &Option<Vec<[u8; 4]>>, ip: Option<[u8; 4]>) -> bool
 
 /// Whether it is a sender's to send a packet: a router passes on and tells, others do neither.
 fn may_say(guard: &Guard, from: Option<[u8; 4]>, packet: &Packet<'_>) -> bool
-    ensures { result ≡ may_say guard.now.network guard.now.routers from (view packet.now) }
+    ensures { result ≡ may_say guard.now.network guard.now.routers from (packet_view packet.now) }
 {
     is_listed(&guard.routers, from)
         || (is_straight(guard.network, &packet.header) && !is_response(packet))

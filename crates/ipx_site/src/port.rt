@@ -2,7 +2,7 @@
 
 ghost use Rattle.std.specs.Prelude.{◌≡◌, ◌⊎◌, IfErr, IfOk};
 ghost use Rattle.toml.specs.View.{table_view};
-ghost use Rattle.ipx_site.specs.Port.{IsPort, IsPortFault};
+ghost use Rattle.ipx_site.specs.Port.{IsPortTable, IsPortFault};
 
 use crate::fault::FileFault;
 use crate::fields::{
@@ -27,7 +27,7 @@ const KEYS: [Key; 7] = [
 
 /// The port of a table with this number.
 pub fn port_of(alloc: Global, table: &Table, number: usize) -> Result<SitePort, FileFault>
-    ensures port { IfOk result (IsPort (table_view table.now)) }
+    ensures port { IfOk result (IsPortTable (table_view table.now)) }
     ensures fault { IfErr result (λ f.
         (f ≡ FileFault.OutOfMemory) ⊎ IsPortFault number (table_view table.now) f) }
 {

@@ -3,7 +3,7 @@
 ghost use Rattle.std.specs.Prelude.{◌≡◌, ◌≤◌, ◌<◌, ◌^◌, IfOk, IfSome};
 ghost use Rattle.std.specs.List.{list_all};
 ghost use Rattle.toml.specs.View.{items_view, view};
-ghost use Rattle.ipx_site.specs.Values.{AreAddresses, ArePeers, AreRouterPeers, IsAccept, IsAddress, IsCount, IsHex, IsNetwork, IsSocket, IsText, ReadsAddresses, Spells};
+ghost use Rattle.ipx_site.specs.Values.{AreAddresses, AreAddressesOf, AreRouterPeers, IsAccept, IsIpAddress, IsCount, IsHex, IsNetwork, IsSocket, IsText, ReadsAddresses, SpellsHexNumber};
 ghost use Rattle.ipx_site.specs.Fields.{Reads};
 ghost use Rattle.ipx_site.specs.Peers.{is_peer};
 
@@ -18,7 +18,7 @@ use toml::Value;
 fn hex_number(text: &str, digits: usize) -> Option<u32>
     requires some { 1 ≤ digits }
     requires few { digits ≤ 8 }
-    ensures number { Spells digits text.now result }
+    ensures number { SpellsHexNumber digits text.now result }
     ensures fits { IfSome result (λ n. n < 16 ^ digits) }
 {
     if text.len() != digits || text.as_bytes()[0] == b'+' {
@@ -41,7 +41,7 @@ pub fn network_of(value: &Value) -> Option<Network>
 
 /// The IP address that a value writes. 0.0.0.0 is none.
 pub fn address_of(value: &Value) -> Option<[u8; 4]>
-    ensures { Reads IsAddress (view value.now) result }
+    ensures { Reads IsIpAddress (view value.now) result }
 {
     let text = value.as_str()?;
     if text == "0.0.0.0" {
@@ -112,7 +112,7 @@ pub fn addresses_of(alloc: Global, values: &[Value]) -> Result<Option<Vec<[u8; 4
 
 /// The peers that a value lists.
 pub fn peers_of(alloc: Global, value: &Value) -> Result<Option<Vec<[u8; 4]>>, OutOfMemory>
-    ensures { IfOk result (Reads ArePeers (view value.now)) }
+    ensures { IfOk result (Reads AreAddressesOf (view value.now)) }
 {
     match value.as_array() {
         Some(values) => addresses_of(alloc, values),

@@ -4,16 +4,16 @@ use Rattle.std.specs.Prelude.{slice_get}
 use Rattle.spx_units.specs.Packets.{Home}
 use Rattle.ipx_log.specs.Deeds.{IsBegun, Reached, begun}
 use Rattle.ipx_steps.specs.World.{World, EndNow, end_at, stand_of, home_at, bytes_of, segment_of, scene_of, InOrder}
-use Rattle.ipx_steps.specs.Reach.{IsFresh, IsNew, CameTo, new, stepped}
+use Rattle.ipx_steps.specs.Reach.{HasNoLinks, IsNewWorld, CameTo, new, stepped}
 use Rattle.ipx_steps.proofs.Places.{map_got}
 use Rattle.ipx_steps.proofs.Stepping.{step_kept, step_reaches}
 
-new_in_order : (w : World) → IsNew w → InOrder w
+new_in_order : (w : World) → IsNewWorld w → InOrder w
 new_in_order w n =
     record {
       ends = λ who e at stands. absurd (no_end who e (ap (λ es. slice_get es who) (sym n.ends) ∙ at));
       hosts = λ k s at.
-          let f : IsFresh s = n.hosts k s at in
+          let f : HasNoLinks s = n.hosts k s at in
           record {
             names = λ id who is. absurd (no_name id who (ap (λ xs. end_at xs id) (sym f.here) ∙ is));
             named = λ id h is. absurd (cc (sym (f.none id) ∙ is));
@@ -27,7 +27,7 @@ new_in_order w n =
     no_name : (id who : ℕ) → end_at [] id ≡ Some who → ⊥
     no_name id who is = cc
 
-new_is_begun : (w : World) → IsNew w → IsBegun (scene_of w)
+new_is_begun : (w : World) → IsNewWorld w → IsBegun (scene_of w)
 new_is_begun w n =
     record {
       homes = λ k h at.

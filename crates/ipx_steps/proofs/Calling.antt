@@ -10,10 +10,10 @@ use Rattle.spx_link.specs.Offer.{offer_link, end_link, dialed}
 use Rattle.spx_units.specs.Message.{MessageView}
 use Rattle.spx_units.specs.Cut.{cut_of}
 use Rattle.ipx_log.specs.Note.{Note}
-use Rattle.ipx_log.specs.Scene.{Stands, linked, noted, put}
-use Rattle.ipx_log.specs.Deeds.{Deed, Does}
+use Rattle.ipx_log.specs.Scene.{Stands, linked, with_entries, put_end}
+use Rattle.ipx_log.specs.Deeds.{Deed, DoesDeed}
 use Rattle.spx_messages.specs.EndpointView.{Held, held_at}
-use Rattle.ipx_steps.specs.World.{World, Station, EndNow, ParcelView, stand_with, stand_of, home_at, bytes_of, segment_of, scene_of, InOrder, StandsAt, IsHostInOrder}
+use Rattle.ipx_steps.specs.World.{World, HostState, EndNow, ParcelView, stand_with, stand_of, home_at, bytes_of, segment_of, scene_of, InOrder, StandsAt, IsHostInOrder}
 use Rattle.ipx_steps.specs.Calls.{DialsFrom, ChangesLink, SendsTo, Closes, InjectsInto, Ticks}
 use Rattle.ipx_steps.specs.Deeds.{Deeds}
 use Rattle.ipx_steps.proofs.Places.{get_map, get_set_here, map_more, map_same, map_length}
@@ -31,7 +31,7 @@ pub dials_deeds : (old new : World) (host : ℕ) (socket : Socket) (to : Address
 dials_deeds old new host socket to buffers id o d =
     let l : LinkView = dialed id socket to buffers old.moment in
     let e : EndNow = record { host = host; id = id; released = false; overlong = false } in
-    let hosts' : List Station = set old.hosts host d.after in
+    let hosts' : List HostState = set old.hosts host d.after in
     let none : held_at d.before.endpoint id ≡ None = none_held d.before.endpoint id d.free.free in
     let olds : map (stand_of hosts') old.ends ≡ map (stand_of old.hosts) old.ends =
     map_same (stand_of old.hosts) (stand_of hosts') old.ends
@@ -66,7 +66,7 @@ changed_stands : (old new : World) (who : ℕ) (f : LinkView → LinkView) (n : 
 changed_stands old new who f n c = record { there = stands_there old.hosts old.ends who c.end' c.before c.held c.at c.stands c.there c.holds; link = refl }
 
 changed_scene : (old new : World) (who : ℕ) (f : LinkView → LinkView) (n : Note) → InOrder old → (c : ChangesLink old who f n new)
-    → scene_of new ≡ noted (put (scene_of old) who (linked (stand_with c.end' (Some c.held)) (f c.held.link))) (n ∷ [])
+    → scene_of new ≡ with_entries (put_end (scene_of old) who (linked (stand_with c.end' (Some c.held)) (f c.held.link))) (n ∷ [])
 changed_scene old new who f n o c =
     let after : Held = record c.held { link = f c.held.link } in
     scene_after old new c.end'.host c.before c.after (set (map (stand_of old.hosts) old.ends) who (stand_with c.end' (Some after))) (n ∷ []) c.there c.hosts c.changes.self

@@ -17,7 +17,7 @@ use Rattle.spx_messages.specs.Changes.{SameBut}
 use Rattle.spx_messages.specs.EndpointView.{Held, EndpointView, held_at}
 use Rattle.spx_messages.specs.declared.arrived.Arrived.{Arrived}
 use Rattle.spx_messages.specs.Arrives.{IsOurs, IsAccepted, IsAskedAgain, IsHeard}
-use Rattle.ipx_steps.specs.World.{World, Station, EndNow, stand_with, stand_of, home_at, bytes_of, segment_of, scene_of, InOrder}
+use Rattle.ipx_steps.specs.World.{World, HostState, EndNow, stand_with, stand_of, home_at, bytes_of, segment_of, scene_of, InOrder}
 use Rattle.ipx_steps.specs.Steps.{Delivers, heard_notes, read_notes, arrival_notes, buffers_of}
 use Rattle.ipx_steps.specs.Deeds.{Deeds}
 use Rattle.ipx_steps.proofs.Places.{get_map, get_set_here, map_more, map_same, map_length}
@@ -28,7 +28,7 @@ use Rattle.ipx_log.specs.Note as Notes
 use Rattle.spx_messages.specs.declared.arrived.Arrived.TheVariants as Arriveds
 
 -- nothing changes that a scene shows
-pub left_alone : (old new : World) (host : ℕ) (s s' : Station) → slice_get old.hosts host ≡ Some s → new.hosts ≡ set old.hosts host s' → SameBut s.endpoint s'.endpoint
+pub left_alone : (old new : World) (host : ℕ) (s s' : HostState) → slice_get old.hosts host ≡ Some s → new.hosts ≡ set old.hosts host s' → SameBut s.endpoint s'.endpoint
     → new.ends ≡ old.ends → new.parcels ≡ old.parcels → new.log ≡ old.log ++ [] → Deeds (scene_of old) (scene_of new)
 left_alone old new host s s' there hosts same ends parcels log =
     no_deed (scene_of old) (scene_of new)
@@ -93,7 +93,7 @@ accepted old new parcel host id o d a =
     let socket : Socket = a.packet.header.to.socket in
     let l : LinkView = accepted_from id socket a.packet.header.from a.header a.buffers old.moment in
     let e : EndNow = record { host = host; id = id; released = false; overlong = false } in
-    let hosts' : List Station = set old.hosts host d.after in
+    let hosts' : List HostState = set old.hosts host d.after in
     let none : held_at d.before.endpoint id ≡ None = none_held d.before.endpoint id a.free.free in
     let olds : map (stand_of hosts') old.ends ≡ map (stand_of old.hosts) old.ends =
     map_same (stand_of old.hosts) (stand_of hosts') old.ends

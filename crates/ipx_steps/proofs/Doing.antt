@@ -4,14 +4,14 @@ use Rattle.std.specs.Prelude.{slice_get}
 use Rattle.spx_link.specs.LinkView.{LinkView}
 use Rattle.spx_link.specs.Poll.{poll_link}
 use Rattle.ipx_log.specs.Scene.{Scene, Stand, linked}
-use Rattle.ipx_log.specs.Deeds.{Deed, Does, Rests, Reached, happened}
+use Rattle.ipx_log.specs.Deeds.{Deed, DoesDeed, Rests, Reached, happened}
 use Rattle.ipx_steps.specs.Deeds.{DoesAll, Deeds}
 use Rattle.ipx_steps.proofs.Places.{get_past, set_past}
 
 pub no_deed : (old new : Scene) → new ≡ old → Deeds old new
 no_deed old new e = ([], e)
 
-pub one_deed : (d : Deed) (old new : Scene) → Does d old new → Deeds old new
+pub one_deed : (d : Deed) (old new : Scene) → DoesDeed d old new → Deeds old new
 one_deed d old new does = (d ∷ [], (new, does, refl))
 
 does_more : (ds es : List Deed) (a b c : Scene) → DoesAll ds a b → DoesAll es b c → DoesAll (ds ++ es) a c

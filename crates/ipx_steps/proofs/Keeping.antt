@@ -5,7 +5,7 @@ use Rattle.std.proofs.lemmas.Bool.{cases_eq, cases_Bool, cond-true, cond-false}
 use Rattle.std.proofs.lemmas.Bool.Decides.{Decides-eqb}
 use Rattle.spx_messages.specs.Changes.{SameSelf}
 use Rattle.spx_messages.specs.EndpointView.{Held, EndpointView, held_at}
-use Rattle.ipx_steps.specs.World.{World, Station, EndNow, end_at, StandsAt, IsEndOf, IsHostInOrder, InOrder}
+use Rattle.ipx_steps.specs.World.{World, HostState, EndNow, end_at, StandsAt, IsEndOf, IsHostInOrder, InOrder}
 use Rattle.ipx_steps.proofs.Places.{one_of_it, same_some, get_set_here, get_set_other, get_past}
 use Rattle.ipx_steps.proofs.Lists.{get_set, get_last, get_before}
 
@@ -50,7 +50,7 @@ pub record SameIds (s s' : EndpointView) : Type 0 where
   pub on : (q : ℕ) (h : Held) → held_at s q ≡ Some h → (h' : Held) × (held_at s' q ≡ Some h')
   pub back : (q : ℕ) (h' : Held) → held_at s' q ≡ Some h' → (h : Held) × (held_at s q ≡ Some h)
 
-module _ (old new : World) (o : InOrder old) (k : ℕ) (s s' : Station) (there : slice_get old.hosts k ≡ Some s) (hosts : new.hosts ≡ set old.hosts k s') (self : SameSelf s.endpoint s'.endpoint) where
+module _ (old new : World) (o : InOrder old) (k : ℕ) (s s' : HostState) (there : slice_get old.hosts k ≡ Some s) (hosts : new.hosts ≡ set old.hosts k s') (self : SameSelf s.endpoint s'.endpoint) where
   pub ids_kept : s'.here ≡ s.here → SameIds s.endpoint s'.endpoint → SameEnds old.ends new.ends → InOrder new
   ids_kept here ids ends =
       record {
@@ -61,11 +61,11 @@ module _ (old new : World) (o : InOrder old) (k : ℕ) (s s' : Station) (there :
             let done : StandsAt (set old.hosts k s') who e' = elim (cases_eq e.host k) [
               | inl on ↦
                   let same : was.station ≡ s = one_of_it (slice_get old.hosts e.host) was.station s was.there (ap (slice_get old.hosts) on ∙ there) in
-                  let live : (h' : Held) × (held_at s'.endpoint e.id ≡ Some h') = ids.on e.id was.held (ap (λ (z : Station). held_at z.endpoint e.id) (sym same) ∙ was.live) in
+                  let live : (h' : Held) × (held_at s'.endpoint e.id ≡ Some h') = ids.on e.id was.held (ap (λ (z : HostState). held_at z.endpoint e.id) (sym same) ∙ was.live) in
                   record {
                     station = s';
                     there = ap (slice_get (set old.hosts k s')) (from.2.host ∙ on) ∙ get_set_here old.hosts k s s' there;
-                    known = ap (end_at s'.here) from.2.id ∙ ap (λ xs. end_at xs e.id) here ∙ ap (λ (z : Station). end_at z.here e.id) (sym same) ∙ was.known;
+                    known = ap (end_at s'.here) from.2.id ∙ ap (λ xs. end_at xs e.id) here ∙ ap (λ (z : HostState). end_at z.here e.id) (sym same) ∙ was.known;
                     held = live.0;
                     live = ap (held_at s'.endpoint) from.2.id ∙ live.1;
                   }
@@ -132,7 +132,7 @@ end_at_one id who q y is = elim (cases_Bool (id == q)) [
 more_end : (olds more : List EndNow) (k id who : ℕ) → IsEndOf olds k id who → IsEndOf (olds ++ more) k id who
 more_end olds more k id who it = record { end' = it.end'; at = get_before olds more it.end' who it.at; host_is = it.host_is; id_is = it.id_is; stands = it.stands }
 
-module _ (old new : World) (o : InOrder old) (k : ℕ) (s s' : Station) (there : slice_get old.hosts k ≡ Some s) (hosts : new.hosts ≡ set old.hosts k s') (self : SameSelf s.endpoint s'.endpoint)
+module _ (old new : World) (o : InOrder old) (k : ℕ) (s s' : HostState) (there : slice_get old.hosts k ≡ Some s) (hosts : new.hosts ≡ set old.hosts k s') (self : SameSelf s.endpoint s'.endpoint)
     (id : ℕ) (e : EndNow) (on_host : e.host ≡ k) (has_id : e.id ≡ id) (is_live : e.released ≡ false)
     (free : held_at s.endpoint id ≡ None) (h : Held) (holds : held_at s'.endpoint id ≡ Some h) (others : (q : ℕ) → q ≢ id → held_at s'.endpoint q ≡ held_at s.endpoint q)
     (here : s'.here ≡ s.here ++ (id, length old.ends) ∷ []) (ends : new.ends ≡ old.ends ++ e ∷ []) where
@@ -144,7 +144,7 @@ module _ (old new : World) (o : InOrder old) (k : ℕ) (s s' : Station) (there :
         let it : IsEndOf old.ends k id some.0 = (o.hosts k s there).names id some.0 some.1 in
         let was : StandsAt old.hosts some.0 it.end' = o.ends some.0 it.end' it.at it.stands in
         let same : was.station ≡ s = one_of_it (slice_get old.hosts it.end'.host) was.station s was.there (ap (slice_get old.hosts) it.host_is ∙ there) in
-        let live : held_at s.endpoint id ≡ Some was.held = ap (held_at s.endpoint) (sym it.id_is) ∙ ap (λ (z : Station). held_at z.endpoint it.end'.id) (sym same) ∙ was.live in
+        let live : held_at s.endpoint id ≡ Some was.held = ap (held_at s.endpoint) (sym it.id_is) ∙ ap (λ (z : HostState). held_at z.endpoint it.end'.id) (sym same) ∙ was.live in
         absurd (cc (sym free ∙ live))
   ]
 
@@ -160,11 +160,11 @@ module _ (old new : World) (o : InOrder old) (k : ℕ) (s s' : Station) (there :
       elim (cases_eq x.host k) [
         | inl on ↦
             let same : was.station ≡ s = one_of_it (slice_get old.hosts x.host) was.station s was.there (ap (slice_get old.hosts) on ∙ there) in
-            let live : held_at s.endpoint x.id ≡ Some was.held = ap (λ (z : Station). held_at z.endpoint x.id) (sym same) ∙ was.live in
+            let live : held_at s.endpoint x.id ≡ Some was.held = ap (λ (z : HostState). held_at z.endpoint x.id) (sym same) ∙ was.live in
             record {
               station = s';
               there = ap (slice_get (set old.hosts k s')) on ∙ there_now;
-              known = ap (λ xs. end_at xs x.id) here ∙ end_at_more s.here ((id, length old.ends) ∷ []) x.id who (ap (λ (z : Station). end_at z.here x.id) (sym same) ∙ was.known);
+              known = ap (λ xs. end_at xs x.id) here ∙ end_at_more s.here ((id, length old.ends) ∷ []) x.id who (ap (λ (z : HostState). end_at z.here x.id) (sym same) ∙ was.known);
               held = was.held;
               live = others x.id (λ own. absurd (cc (sym (ap (held_at s.endpoint) own ∙ free) ∙ live))) ∙ live;
             }

@@ -12,7 +12,7 @@ use Rattle.spx_messages.specs.Arrives.{IsAccepted}
 use Rattle.spx_messages.specs.Polls.{RestsAt, polled_held, GivesNothing, Polls}
 use Rattle.spx_messages.specs.declared.fault.EndFault.{EndFault}
 use Rattle.spx_messages.specs.Taking.{TakenView, take_end}
-use Rattle.ipx_steps.specs.World.{World, Station, InOrder}
+use Rattle.ipx_steps.specs.World.{World, HostState, InOrder}
 use Rattle.ipx_steps.specs.Steps.{Delivers, PollsHost, TakesOf, marked_over}
 use Rattle.ipx_steps.proofs.Standing.{none_held}
 use Rattle.ipx_steps.proofs.Keeping.{SameIds, SameEnds, same_ends, set_ends, ids_kept, id_comes, cases_option}
@@ -32,7 +32,7 @@ ids_same old new same = record { on = λ q x is. (x, same.held q ∙ is); back =
 
 -- ---- a delivery
 
-pub left_kept : (old new : World) (host : ℕ) (s s' : Station) → InOrder old → slice_get old.hosts host ≡ Some s → new.hosts ≡ set old.hosts host s' → SameBut s.endpoint s'.endpoint
+pub left_kept : (old new : World) (host : ℕ) (s s' : HostState) → InOrder old → slice_get old.hosts host ≡ Some s → new.hosts ≡ set old.hosts host s' → SameBut s.endpoint s'.endpoint
     → s'.here ≡ s.here → new.ends ≡ old.ends → InOrder new
 left_kept old new host s s' o there hosts same here ends = ids_kept old new o host s s' there hosts same.self here (ids_same s.endpoint s'.endpoint same) (same_ends old.ends new.ends ends)
 
@@ -76,7 +76,7 @@ ids_polled old new now None room written p =
     let g : GivesNothing old now room written new = p.gives in
     record { on = λ q h is. rests_on old new now q h (g.each q) is; back = λ q h is. rests_back old new now q h (g.each q) is }
 ids_polled old new now (Some r) room written p =
-    let g : Polled.Gives old now r.0 r.1 room written new = p.gives in
+    let g : Polled.FirstLinkGives old now r.0 r.1 room written new = p.gives in
     record {
       on = λ q h is. elim (cases_lt q g.id) [
         | inl below ↦ rests_on old new now q h (g.below q below) is

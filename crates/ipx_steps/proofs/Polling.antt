@@ -5,12 +5,12 @@ use Rattle.std.proofs.lemmas.List.{append-nil}
 use Rattle.std.proofs.lemmas.Bool.{cases_eq, cases_lt, cases_Bool}
 use Rattle.ipx_wire.specs.declared.address.Node.{Node}
 use Rattle.spx_link.specs.Poll.{poll_link}
-use Rattle.ipx_log.specs.Scene.{Stand, linked, sent_off, put}
+use Rattle.ipx_log.specs.Scene.{Stand, linked, sent_off, put_end}
 use Rattle.ipx_log.specs.Deeds.{Gives}
 use Rattle.ipx_log.specs.Packets.{note_of}
 use Rattle.spx_messages.specs.EndpointView.{Held, held_at}
 use Rattle.spx_messages.specs.Polls.{RestsAt, polled_held, GivesNothing, Polls, home_of}
-use Rattle.ipx_steps.specs.World.{World, Station, EndNow, stand_with, stand_of, home_at, bytes_of, segment_of, scene_of, InOrder}
+use Rattle.ipx_steps.specs.World.{World, HostState, EndNow, stand_with, stand_of, home_at, bytes_of, segment_of, scene_of, InOrder}
 use Rattle.ipx_steps.specs.Steps.{PollsHost, said_notes, given_notes, sent_letters}
 use Rattle.ipx_steps.specs.Deeds.{Deeds}
 use Rattle.ipx_steps.proofs.Places.{one_of_it, get_map, map_got, get_set_here, map_more, map_length, set_back}
@@ -21,7 +21,7 @@ use Rattle.ipx_steps.proofs.Lists.{get_set}
 use Rattle.spx_messages.specs.Polls as Polled
 
 -- the end rests if its id did, where it is of this host; and stays as it is elsewhere
-rests_or : (w : World) → InOrder w → (k : ℕ) (s s' : Station) → slice_get w.hosts k ≡ Some s → (j : ℕ) (x : EndNow) → slice_get w.ends j ≡ Some x
+rests_or : (w : World) → InOrder w → (k : ℕ) (s s' : HostState) → slice_get w.hosts k ≡ Some s → (j : ℕ) (x : EndNow) → slice_get w.ends j ≡ Some x
     → (x.released ≡ false → x.host ≡ k → RestsAt s.endpoint s'.endpoint w.moment x.id ⊎ (held_at s'.endpoint x.id ≡ held_at s.endpoint x.id))
     → RestsOr w.moment (stand_of w.hosts x) (stand_of (set w.hosts k s') x)
 rests_or w o k s s' there j x at each = elim (cases_Bool x.released) [
@@ -41,7 +41,7 @@ rests_or w o k s s' there j x at each = elim (cases_Bool x.released) [
   ]
 ]
 
-same_length : (hosts hosts' : List Station) (ends : List EndNow) → length (map (stand_of hosts) ends) ≡ length (map (stand_of hosts') ends)
+same_length : (hosts hosts' : List HostState) (ends : List EndNow) → length (map (stand_of hosts) ends) ≡ length (map (stand_of hosts') ends)
 same_length hosts hosts' ends = map_length (stand_of hosts) ends ∙ sym (map_length (stand_of hosts') ends)
 
 -- each of the host's ends rests
@@ -68,9 +68,9 @@ gives_nothing old new host o d =
 -- those below the one that gives rest, and then it gives
 gives_one : (old new : World) (host : ℕ) (r : Node × ℕ) (o : InOrder old) (d : PollsHost old host (Some r) new) → Deeds (scene_of old) (scene_of new)
 gives_one old new host r o d =
-    let g : Polled.Gives d.before.endpoint old.moment r.0 r.1 d.room d.written d.after.endpoint = d.polls.gives in
+    let g : Polled.FirstLinkGives d.before.endpoint old.moment r.0 r.1 d.room d.written d.after.endpoint = d.polls.gives in
     let f : Found old host d.before g.id g.held = found old o host d.before g.id g.held d.there g.at in
-    let hosts' : List Station = set old.hosts host d.after in
+    let hosts' : List HostState = set old.hosts host d.after in
     let x0 : Stand = stand_with f.end' (Some g.held) in
     let z0 : Stand = stand_with f.end' (Some (polled_held g.held old.moment)) in
     let news : List Stand = map (stand_of hosts') old.ends in
@@ -100,7 +100,7 @@ gives_one old new host r o d =
     let notes : said_notes d.before.here d.after.endpoint.said (length old.parcels) ≡ note_of g.given.what f.who count ∷ [] =
     ap (λ x. said_notes d.before.here x (length old.parcels)) g.said ∙ ap (λ x. given_notes x g.given.what (length old.parcels)) f.known
     ∙ ap (λ n. note_of g.given.what f.who n ∷ []) (sym (map_length bytes_of old.parcels)) in
-    let is : scene_of new ≡ sent_off (put (with_ends (scene_of old) mids) f.who z0) d.before.endpoint.network bytes (note_of g.given.what f.who count) =
+    let is : scene_of new ≡ sent_off (put_end (with_ends (scene_of old) mids) f.who z0) d.before.endpoint.network bytes (note_of g.given.what f.who count) =
     made_same (map home_at new.hosts) (map home_at old.hosts) (map (stand_of new.hosts) new.ends) (set mids f.who z0) (map bytes_of new.parcels) (map bytes_of old.parcels ++ bytes ∷ [])
     (map segment_of new.parcels) (map segment_of old.parcels ++ d.before.endpoint.network ∷ []) new.log (old.log ++ note_of g.given.what f.who count ∷ [])
     (ap (map home_at) d.hosts ∙ homes_same old.hosts host d.before d.after d.there d.polls.self)

@@ -5,7 +5,7 @@ use Rattle.std.proofs.lemmas.List.{map-set}
 use Rattle.std.proofs.lemmas.Bool.{cases_eq}
 use Rattle.ipx_steps.proofs.Lists.{get_set}
 use Rattle.spx_messages.specs.EndpointView.{Held, held_at}
-use Rattle.ipx_steps.specs.World.{World, Station, EndNow, end_at, stand_with, stand_of, scene_of, InOrder, StandsAt, IsEndOf, IsHostInOrder}
+use Rattle.ipx_steps.specs.World.{World, HostState, EndNow, end_at, stand_with, stand_of, scene_of, InOrder, StandsAt, IsEndOf, IsHostInOrder}
 use Rattle.ipx_steps.specs.Calls.{ReleasesOf}
 use Rattle.ipx_steps.specs.Deeds.{Deeds}
 use Rattle.ipx_steps.proofs.Places.{one_of_it, get_set_here, get_set_other, map_to_set}
@@ -22,7 +22,7 @@ module _ (old new : World) (who : ℕ) (o : InOrder old) (d : ReleasesOf old who
   abbrev e' : EndNow
   e' = record d.end' { released = true }
 
-  abbrev hosts' : List Station
+  abbrev hosts' : List HostState
   hosts' = set old.hosts d.end'.host d.after
 
   pub releases_deeds : Deeds (scene_of old) (scene_of new)
@@ -58,9 +58,9 @@ module _ (old new : World) (who : ℕ) (o : InOrder old) (d : ReleasesOf old who
             record {
               station = d.after;
               there = ap (slice_get hosts') on ∙ get_set_here old.hosts d.end'.host d.before d.after d.there;
-              known = d.known x.id differ ∙ ap (λ (z : Station). end_at z.here x.id) (sym same) ∙ was.known;
+              known = d.known x.id differ ∙ ap (λ (z : HostState). end_at z.here x.id) (sym same) ∙ was.known;
               held = was.held;
-              live = d.releases.others x.id differ ∙ ap (λ (z : Station). held_at z.endpoint x.id) (sym same) ∙ was.live;
+              live = d.releases.others x.id differ ∙ ap (λ (z : HostState). held_at z.endpoint x.id) (sym same) ∙ was.live;
             }
         | inr other ↦ record { station = was.station; there = get_set_other old.hosts d.end'.host x.host d.after other ∙ was.there; known = was.known; held = was.held; live = was.live }
       ]

@@ -7,7 +7,7 @@ use Rattle.ipx_log.specs.Note.{Note}
 use Rattle.ipx_log.specs.Scan.{Each}
 use Rattle.ipx_log.specs.Scene.{Scene, sent_off}
 use Rattle.ipx_steps.specs.World.{World, ParcelView, AtPort, stand_of, home_at, bytes_of, segment_of, scene_of}
-use Rattle.ipx_steps.specs.Routers.{IsOwnLetter, told_notes, TellsOf, CarriesOn}
+use Rattle.ipx_steps.specs.Routers.{IsOwnLetter, told_notes, GivesOwnLetters, CarriesOn}
 use Rattle.ipx_steps.specs.Deeds.{Deeds}
 use Rattle.ipx_steps.proofs.Places.{get_map, map_more, map_length}
 use Rattle.ipx_steps.proofs.Doing.{no_deed, one_deed, then}
@@ -37,7 +37,7 @@ tells_all s router (l ∷ ls) each =
     ∙ ap (λ n. s.log ++ Notes.Told router (length s.parcels) ∷ told_notes router n ls) (length-append s.parcels (l.bytes ∷ []))) in
     then s one (all_told s router (l ∷ ls)) first (subst (Deeds one) is later)
 
-pub tells_deeds : (old new : World) (router : ℕ) (letters : List ParcelView) → TellsOf old router letters new → Deeds (scene_of old) (scene_of new)
+pub tells_deeds : (old new : World) (router : ℕ) (letters : List ParcelView) → GivesOwnLetters old router letters new → Deeds (scene_of old) (scene_of new)
 tells_deeds old new router letters d =
     let is : scene_of new ≡ all_told (scene_of old) router letters =
     made_same (map home_at new.hosts) (map home_at old.hosts) (map (stand_of new.hosts) new.ends) (map (stand_of old.hosts) old.ends) (map bytes_of new.parcels) (map bytes_of old.parcels ++ map bytes_of letters)

@@ -12,7 +12,7 @@ use Rattle.spx_units.specs.Packets.{Home}
 use Rattle.spx_messages.specs.Changes.{SameSelf}
 use Rattle.spx_messages.specs.EndpointView.{Held, EndpointView, rest_in, held_with, held_at}
 use Rattle.spx_messages.specs.Polls.{home_of}
-use Rattle.ipx_steps.specs.World.{World, Station, EndNow, end_at, held_in, held_of, stand_with, stand_of, home_at, bytes_of, segment_of, scene_of, StandsAt, InOrder}
+use Rattle.ipx_steps.specs.World.{World, HostState, EndNow, end_at, held_in, held_of, stand_with, stand_of, home_at, bytes_of, segment_of, scene_of, StandsAt, InOrder}
 use Rattle.ipx_steps.proofs.Places.{one_of_it, same_some, get_map, get_set_here, get_set_other, map_to_set, map_same, map_set_same}
 
 -- ---- a link and its rest
@@ -29,11 +29,11 @@ none_held e id none = ap (λ o. held_with o (rest_in e.parts id)) none
 
 -- ---- what an end has
 
-pub held_stands : (hosts : List Station) (e : EndNow) (s : Station) → e.released ≡ false → slice_get hosts e.host ≡ Some s → held_of hosts e ≡ held_at s.endpoint e.id
+pub held_stands : (hosts : List HostState) (e : EndNow) (s : HostState) → e.released ≡ false → slice_get hosts e.host ≡ Some s → held_of hosts e ≡ held_at s.endpoint e.id
 held_stands hosts e s stands there = cond-false e.released None (held_in (slice_get hosts e.host) e.id) stands ∙ ap (λ o. held_in o e.id) there
 
 -- one host changes, but not what it holds for this end
-pub held_same : (hosts : List Station) (k : ℕ) (s s' : Station) (e : EndNow) → slice_get hosts k ≡ Some s
+pub held_same : (hosts : List HostState) (k : ℕ) (s s' : HostState) (e : EndNow) → slice_get hosts k ≡ Some s
     → (e.released ≡ false → e.host ≡ k → held_at s'.endpoint e.id ≡ held_at s.endpoint e.id) → held_of (set hosts k s') e ≡ held_of hosts e
 held_same hosts k s s' e there same = elim (cases_Bool e.released) [
   | inl gone ↦ cond-true e.released None (held_in (slice_get (set hosts k s') e.host) e.id) gone ∙ sym (cond-true e.released None (held_in (slice_get hosts e.host) e.id) gone)
@@ -53,19 +53,19 @@ the_only w o j who x e at stands at' stands' host id =
     let a : StandsAt w.hosts j x = o.ends j x at stands in
     let b : StandsAt w.hosts who e = o.ends who e at' stands' in
     let same : a.station ≡ b.station = one_of_it (slice_get w.hosts x.host) a.station b.station a.there (ap (slice_get w.hosts) host ∙ b.there) in
-    let known : end_at b.station.here e.id ≡ Some j = ap (end_at b.station.here) (sym id) ∙ ap (λ (s : Station). end_at s.here x.id) (sym same) ∙ a.known in
+    let known : end_at b.station.here e.id ≡ Some j = ap (end_at b.station.here) (sym id) ∙ ap (λ (s : HostState). end_at s.here x.id) (sym same) ∙ a.known in
     one_of_it (end_at b.station.here e.id) j who known b.known
 
 -- the station that an end stands at
-pub held_there : (w : World) → InOrder w → (who : ℕ) (e : EndNow) (s : Station) (k : ℕ) → slice_get w.ends who ≡ Some e → e.released ≡ false → e.host ≡ k → slice_get w.hosts k ≡ Some s
+pub held_there : (w : World) → InOrder w → (who : ℕ) (e : EndNow) (s : HostState) (k : ℕ) → slice_get w.ends who ≡ Some e → e.released ≡ false → e.host ≡ k → slice_get w.hosts k ≡ Some s
     → (h : Held) × (held_at s.endpoint e.id ≡ Some h)
 held_there w o who e s k at stands host there =
     let a : StandsAt w.hosts who e = o.ends who e at stands in
     let same : a.station ≡ s = one_of_it (slice_get w.hosts e.host) a.station s a.there (ap (slice_get w.hosts) host ∙ there) in
-    (a.held, ap (λ (z : Station). held_at z.endpoint e.id) (sym same) ∙ a.live)
+    (a.held, ap (λ (z : HostState). held_at z.endpoint e.id) (sym same) ∙ a.live)
 
 -- an end as it stands in the scene
-pub stands_there : (hosts : List Station) (ends : List EndNow) (who : ℕ) (e : EndNow) (s : Station) (h : Held) → slice_get ends who ≡ Some e → e.released ≡ false
+pub stands_there : (hosts : List HostState) (ends : List EndNow) (who : ℕ) (e : EndNow) (s : HostState) (h : Held) → slice_get ends who ≡ Some e → e.released ≡ false
     → slice_get hosts e.host ≡ Some s → held_at s.endpoint e.id ≡ Some h → slice_get (map (stand_of hosts) ends) who ≡ Some (stand_with e (Some h))
 stands_there hosts ends who e s h at stands there holds =
     get_map (stand_of hosts) ends who e at ∙ ap (λ o. Some (stand_with e o)) (held_stands hosts e s stands there ∙ holds)
@@ -73,13 +73,13 @@ stands_there hosts ends who e s h at stands there holds =
 -- ---- what changes
 
 -- a host holds what it held
-pub ends_same : (hosts : List Station) (ends : List EndNow) (k : ℕ) (s s' : Station) → slice_get hosts k ≡ Some s → ((q : ℕ) → held_at s'.endpoint q ≡ held_at s.endpoint q)
+pub ends_same : (hosts : List HostState) (ends : List EndNow) (k : ℕ) (s s' : HostState) → slice_get hosts k ≡ Some s → ((q : ℕ) → held_at s'.endpoint q ≡ held_at s.endpoint q)
     → map (stand_of (set hosts k s')) ends ≡ map (stand_of hosts) ends
 ends_same hosts ends k s s' there same =
     map_same (stand_of hosts) (stand_of (set hosts k s')) ends (λ j e at. ap (stand_with e) (held_same hosts k s s' e there (λ stands here. same e.id)))
 
 -- one end of a host changes
-pub ends_changed : (w : World) → InOrder w → (k : ℕ) (s s' : Station) (who : ℕ) (e : EndNow) (after : Held) → slice_get w.hosts k ≡ Some s
+pub ends_changed : (w : World) → InOrder w → (k : ℕ) (s s' : HostState) (who : ℕ) (e : EndNow) (after : Held) → slice_get w.hosts k ≡ Some s
     → slice_get w.ends who ≡ Some e → e.released ≡ false → e.host ≡ k → held_at s'.endpoint e.id ≡ Some after → ((q : ℕ) → q ≢ e.id → held_at s'.endpoint q ≡ held_at s.endpoint q)
     → map (stand_of (set w.hosts k s')) w.ends ≡ set (map (stand_of w.hosts) w.ends) who (stand_with e (Some after))
 ends_changed w o k s s' who e after there at stands host holds others =
@@ -104,11 +104,11 @@ made_same h h' e e' p p' g g' l l' eh ee ep eg el =
 same_home : (old new : EndpointView) → SameSelf old new → home_of new ≡ home_of old
 same_home old new self = ap (λ n. record { network = n; node = new.node }) self.network ∙ ap (λ n. record { network = old.network; node = n }) self.node
 
-pub homes_same : (hosts : List Station) (k : ℕ) (s s' : Station) → slice_get hosts k ≡ Some s → SameSelf s.endpoint s'.endpoint → map home_at (set hosts k s') ≡ map home_at hosts
+pub homes_same : (hosts : List HostState) (k : ℕ) (s s' : HostState) → slice_get hosts k ≡ Some s → SameSelf s.endpoint s'.endpoint → map home_at (set hosts k s') ≡ map home_at hosts
 homes_same hosts k s s' there self = map_set_same home_at hosts k s s' there (same_home s.endpoint s'.endpoint self)
 
 -- the scene of a world in which a host changed and nothing was sent
-pub scene_after : (old new : World) (k : ℕ) (s s' : Station) (ends : List Stand) (ns : List Note) → slice_get old.hosts k ≡ Some s → new.hosts ≡ set old.hosts k s' → SameSelf s.endpoint s'.endpoint
+pub scene_after : (old new : World) (k : ℕ) (s s' : HostState) (ends : List Stand) (ns : List Note) → slice_get old.hosts k ≡ Some s → new.hosts ≡ set old.hosts k s' → SameSelf s.endpoint s'.endpoint
     → map (stand_of (set old.hosts k s')) new.ends ≡ ends → new.parcels ≡ old.parcels → new.log ≡ old.log ++ ns
     → scene_of new ≡ made (map home_at old.hosts) ends (map bytes_of old.parcels) (map segment_of old.parcels) (old.log ++ ns)
 scene_after old new k s s' ends ns there hosts self are parcels log =

@@ -4,7 +4,7 @@ use Rattle.std.proofs.lemmas.List.{append-nil}
 use Rattle.ipx_log.specs.Deeds.{Reached}
 use Rattle.ipx_steps.specs.World.{World, scene_of, InOrder}
 use Rattle.ipx_steps.specs.Deeds.{Deeds}
-use Rattle.ipx_steps.specs.Step.{Step, Delivered, Polled, Taken, Dialled, Sent, Closed, Released, Refused, Injected, Ticked, Told, Carried}
+use Rattle.ipx_steps.specs.Step.{WorldStep, Delivered, Polled, Taken, Dialled, Sent, Closed, Released, Refused, Injected, Ticked, Told, Carried}
 use Rattle.ipx_steps.proofs.Doing.{reached_after}
 use Rattle.ipx_steps.proofs.Delivering.{delivers_deeds, left_alone}
 use Rattle.ipx_steps.proofs.Polling.{polls_deeds}
@@ -14,7 +14,7 @@ use Rattle.ipx_steps.proofs.Releasing.{releases_deeds, releases_kept}
 use Rattle.ipx_steps.proofs.Routing.{tells_deeds, carries_deeds}
 use Rattle.ipx_steps.proofs.KeptBy.{delivers_kept, left_kept, polls_kept, takes_kept}
 
-pub step_deeds : (old new : World) → InOrder old → Step old new → Deeds (scene_of old) (scene_of new)
+pub step_deeds : (old new : World) → InOrder old → WorldStep old new → Deeds (scene_of old) (scene_of new)
 step_deeds old new o (Delivered parcel host answer d) = delivers_deeds old new parcel host answer o d
 step_deeds old new o (Polled host result d) = polls_deeds old new host result o d
 step_deeds old new o (Taken who answer d) = takes_deeds old new who answer o d
@@ -28,7 +28,7 @@ step_deeds old new o (Ticked now d) = ticks_deeds old new now d
 step_deeds old new o (Told router letters d) = tells_deeds old new router letters d
 step_deeds old new o (Carried parcel router port segment next bytes d) = carries_deeds old new parcel router port segment next bytes d
 
-pub step_kept : (old new : World) → InOrder old → Step old new → InOrder new
+pub step_kept : (old new : World) → InOrder old → WorldStep old new → InOrder new
 step_kept old new o (Delivered parcel host answer d) = delivers_kept old new parcel host answer o d
 step_kept old new o (Polled host result d) = polls_kept old new host result o d
 step_kept old new o (Taken who answer d) = takes_kept old new who answer o d
@@ -43,5 +43,5 @@ step_kept old new o (Told router letters d) = order_of_same old new d.hosts d.en
 step_kept old new o (Carried parcel router port segment next bytes d) = order_of_same old new d.hosts d.ends o
 
 -- so the scene of a world stays one that is reached
-pub step_reaches : (old new : World) → InOrder old → Reached (scene_of old) → Step old new → Reached (scene_of new)
+pub step_reaches : (old new : World) → InOrder old → Reached (scene_of old) → WorldStep old new → Reached (scene_of new)
 step_reaches old new o r d = reached_after (scene_of old) (scene_of new) r (step_deeds old new o d)

@@ -11,12 +11,12 @@ use Rattle.spx_link.specs.LinkView.{LinkView, is_end}
 use Rattle.spx_link.specs.Offer.{take_link, take_held, first_of}
 use Rattle.spx_units.specs.Joining.{Joining, added, is_overlong}
 use Rattle.ipx_log.specs.Note.{Note}
-use Rattle.ipx_log.specs.Scene.{Scene, Stands, noted, put}
+use Rattle.ipx_log.specs.Scene.{Scene, Stands, with_entries, put_end}
 use Rattle.ipx_log.specs.Deeds.{Takes, Overruns}
 use Rattle.spx_messages.specs.EndpointView.{Held, held_at}
 use Rattle.spx_messages.specs.declared.fault.EndFault.{EndFault}
 use Rattle.spx_messages.specs.Taking.{TakenView, Nothing, Part, Whole, PeerEnd, overlong, taken_held, overrun, joins_on, takes_data, takes_first, take_end}
-use Rattle.ipx_steps.specs.World.{World, Station, EndNow, stand_with, stand_of, home_at, bytes_of, segment_of, scene_of, InOrder}
+use Rattle.ipx_steps.specs.World.{World, HostState, EndNow, stand_with, stand_of, home_at, bytes_of, segment_of, scene_of, InOrder}
 use Rattle.ipx_steps.specs.Steps.{TakesOf, unit_notes, whole_notes, marked_over}
 use Rattle.ipx_steps.specs.Deeds.{Deeds}
 use Rattle.ipx_steps.proofs.Places.{get_set_here}
@@ -57,13 +57,13 @@ notes_for a u who = unit_notes a u who ++ whole_notes a who
 
 module _ (old new : World) (who : ℕ) (answer : Result TakenView EndFault) (o : InOrder old) (t : TakesOf old who answer new) where
   abbrev scene_taken_as : Result TakenView EndFault → Held → List Note → Scene
-  scene_taken_as a after ns = noted (put (scene_of old) who (stand_with (marked_over a t.end') (Some after))) ns
+  scene_taken_as a after ns = with_entries (put_end (scene_of old) who (stand_with (marked_over a t.end') (Some after))) ns
 
   -- the scene, once it is known what the take came to
   scene_taken : (a : Result TakenView EndFault) (after : Held) (u : Option Unit) → take_end t.held ≡ (a, after) → first_of t.held.link.held ≡ u → scene_of new ≡ scene_taken_as a after (notes_for a u who)
   scene_taken a after u is first =
       let e' : EndNow = marked_over a t.end' in
-      let hosts' : List Station = set old.hosts t.end'.host t.after in
+      let hosts' : List HostState = set old.hosts t.end'.host t.after in
       let same : answer ≡ a = t.answers ∙ ap (λ (p : Result TakenView EndFault × Held). p.0) is in
       let holds : held_at t.after.endpoint t.end'.id ≡ Some after = t.changes.held ∙ ap (λ (p : Result TakenView EndFault × Held). Some p.1) is in
       let there : slice_get hosts' e'.host ≡ Some t.after = ap (slice_get hosts') (marked_host a t.end') ∙ get_set_here old.hosts t.end'.host t.before t.after t.there in

@@ -13,16 +13,16 @@ use Rattle.spx_units.specs.Cut.{cut_of}
 use Rattle.ipx_log.specs.Note.{Note}
 use Rattle.spx_messages.specs.Changes.{AddsEnd, ChangesEnd, ReleasesEnd, SameBut}
 use Rattle.spx_messages.specs.EndpointView.{Held, held_at}
-use Rattle.ipx_steps.specs.World.{World, Station, EndNow, end_at}
+use Rattle.ipx_steps.specs.World.{World, HostState, EndNow, end_at}
 use Rattle.ipx_log.specs.Note as Notes
 
 pub record DialsFrom (old : World) (host : ℕ) (socket : Socket) (to : Address) (buffers id : ℕ)
     (new : World) : Type 0 where
   -- owed by the caller
   pub range : (0 < buffers) × (buffers ≤ most_units)
-  pub before : Station
+  pub before : HostState
   pub there : slice_get old.hosts host ≡ Some before
-  pub after : Station
+  pub after : HostState
   pub room : count_of before.endpoint.links ≢ most_links
   pub free : IsNextFree before.endpoint.links id
   pub adds : AddsEnd before.endpoint after.endpoint id (dialed id socket to buffers old.moment)
@@ -40,9 +40,9 @@ pub record ChangesLink (old : World) (who : ℕ) (f : LinkView → LinkView) (no
   pub end' : EndNow
   pub at : slice_get old.ends who ≡ Some end'
   pub stands : end'.released ≡ false
-  pub before : Station
+  pub before : HostState
   pub there : slice_get old.hosts end'.host ≡ Some before
-  pub after : Station
+  pub after : HostState
   pub held : Held
   pub holds : held_at before.endpoint end'.id ≡ Some held
   pub live : refusal held.link.state ≡ None
@@ -67,9 +67,9 @@ pub record ReleasesOf (old : World) (who : ℕ) (new : World) : Type 0 where
   pub end' : EndNow
   pub at : slice_get old.ends who ≡ Some end'
   pub stands : end'.released ≡ false
-  pub before : Station
+  pub before : HostState
   pub there : slice_get old.hosts end'.host ≡ Some before
-  pub after : Station
+  pub after : HostState
   pub releases : ReleasesEnd before.endpoint after.endpoint end'.id
   pub forgotten : end_at after.here end'.id ≡ None
   pub known : (q : ℕ) → q ≢ end'.id → end_at after.here q ≡ end_at before.here q
@@ -81,9 +81,9 @@ pub record ReleasesOf (old : World) (who : ℕ) (new : World) : Type 0 where
 
 -- a call on a host, or on an end of it, is refused: nothing changes
 pub record RefusesAt (old : World) (host : ℕ) (new : World) : Type 0 where
-  pub before : Station
+  pub before : HostState
   pub there : slice_get old.hosts host ≡ Some before
-  pub after : Station
+  pub after : HostState
   pub same : SameBut before.endpoint after.endpoint
   pub said : after.endpoint.said ≡ before.endpoint.said
   pub heard : after.endpoint.heard ≡ before.endpoint.heard

@@ -1,11 +1,11 @@
 -- Deeds one after another.
 use Rattle.std.specs.Prelude.{◌≡◌, List, [], ◌∷◌}
 use Rattle.ipx_log.specs.Scene.{Scene}
-use Rattle.ipx_log.specs.Deeds.{Deed, Does}
+use Rattle.ipx_log.specs.Deeds.{Deed, DoesDeed}
 
 abbrev pub DoesAll : List Deed → Scene → Scene → Type 0
 DoesAll [] old new = new ≡ old
-DoesAll (d ∷ ds) old new = (between : Scene) × Does d old between × DoesAll ds between new
+DoesAll (d ∷ ds) old new = (between : Scene) × DoesDeed d old between × DoesAll ds between new
 
 -- some deeds make one scene of another
 abbrev pub Deeds : Scene → Scene → Type 0

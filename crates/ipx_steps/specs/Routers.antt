@@ -21,7 +21,7 @@ told_notes router count [] = []
 told_notes router count (l ∷ ls) = Notes.Told router count ∷ told_notes router (count + 1) ls
 
 -- it gives packets of its own: replies to a parcel, or what it tells when it is polled
-pub record TellsOf (old : World) (router : ℕ) (letters : List ParcelView)
+pub record GivesOwnLetters (old : World) (router : ℕ) (letters : List ParcelView)
     (new : World) : Type 0 where
   pub own : Each IsOwnLetter letters
   pub hosts : new.hosts ≡ old.hosts

@@ -11,22 +11,22 @@ use Rattle.spx_messages.specs.Taking.{TakenView}
 use Rattle.ipx_steps.specs.World.{World, ParcelView}
 use Rattle.ipx_steps.specs.Steps.{Delivers, PollsHost, TakesOf}
 use Rattle.ipx_steps.specs.Calls.{DialsFrom, SendsTo, Closes, ReleasesOf, RefusesAt, InjectsInto, Ticks}
-use Rattle.ipx_steps.specs.Routers.{TellsOf, CarriesOn}
+use Rattle.ipx_steps.specs.Routers.{GivesOwnLetters, CarriesOn}
 
-pub data Step (old new : World) : Type 0 where
+pub data WorldStep (old new : World) : Type 0 where
   Delivered : (parcel host : ℕ) (answer : Arrived)
-      → Delivers old parcel host answer new → Step old new
-  Polled : (host : ℕ) (result : Option (Node × ℕ)) → PollsHost old host result new → Step old new
-  Taken : (who : ℕ) (answer : Result TakenView EndFault) → TakesOf old who answer new → Step old new
+      → Delivers old parcel host answer new → WorldStep old new
+  Polled : (host : ℕ) (result : Option (Node × ℕ)) → PollsHost old host result new → WorldStep old new
+  Taken : (who : ℕ) (answer : Result TakenView EndFault) → TakesOf old who answer new → WorldStep old new
   Dialled : (host : ℕ) (socket : Socket) (to : Address) (buffers id : ℕ)
-      → DialsFrom old host socket to buffers id new → Step old new
-  Sent : (who : ℕ) (m : MessageView) → SendsTo old who m new → Step old new
-  Closed : (who : ℕ) → Closes old who new → Step old new
-  Released : (who : ℕ) → ReleasesOf old who new → Step old new
-  Refused : (host : ℕ) → RefusesAt old host new → Step old new
+      → DialsFrom old host socket to buffers id new → WorldStep old new
+  Sent : (who : ℕ) (m : MessageView) → SendsTo old who m new → WorldStep old new
+  Closed : (who : ℕ) → Closes old who new → WorldStep old new
+  Released : (who : ℕ) → ReleasesOf old who new → WorldStep old new
+  Refused : (host : ℕ) → RefusesAt old host new → WorldStep old new
   Injected : (segment : Network) (next : Node) (bytes : List ℕ)
-      → InjectsInto old segment next bytes new → Step old new
-  Ticked : (now : ℕ) → Ticks old now new → Step old new
-  Told : (router : ℕ) (letters : List ParcelView) → TellsOf old router letters new → Step old new
+      → InjectsInto old segment next bytes new → WorldStep old new
+  Ticked : (now : ℕ) → Ticks old now new → WorldStep old new
+  Told : (router : ℕ) (letters : List ParcelView) → GivesOwnLetters old router letters new → WorldStep old new
   Carried : (parcel router port : ℕ) (segment : Network) (next : Node) (bytes : List ℕ)
-      → CarriesOn old parcel router port segment next bytes new → Step old new
+      → CarriesOn old parcel router port segment next bytes new → WorldStep old new

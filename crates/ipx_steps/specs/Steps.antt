@@ -14,7 +14,7 @@ use Rattle.spx_messages.specs.Arrives.{Arrives}
 use Rattle.spx_messages.specs.Polls.{Polls}
 use Rattle.spx_messages.specs.declared.fault.EndFault.{EndFault}
 use Rattle.spx_messages.specs.Taking.{TakenView, take_end, Nothing, Part, Whole, PeerEnd}
-use Rattle.ipx_steps.specs.World.{World, Station, EndNow, ParcelView, AtHost, end_at}
+use Rattle.ipx_steps.specs.World.{World, HostState, EndNow, ParcelView, AtHost, end_at}
 use Rattle.ipx_log.specs.Note as Notes
 use Rattle.spx_messages.specs.declared.arrived.Arrived.TheVariants as Arriveds
 
@@ -34,7 +34,7 @@ heard_notes here None r parcel = []
 heard_notes here (Some id) r parcel = read_notes (end_at here id) r parcel
 
 -- an answer, the host after it, and how many ends there were
-abbrev pub arrival_notes : Arrived → Station → ℕ → ℕ → List Note
+abbrev pub arrival_notes : Arrived → HostState → ℕ → ℕ → List Note
 arrival_notes (Arriveds.Bad f) s count parcel = []
 arrival_notes Arriveds.NotOurs s count parcel = []
 arrival_notes (Arriveds.BadSpx f) s count parcel = []
@@ -70,10 +70,10 @@ here_after (Arriveds.Link id r) count here = here
 pub record Delivers (old : World) (parcel host : ℕ) (answer : Arrived) (new : World) : Type 0 where
   pub letter : ParcelView
   pub comes : slice_get old.parcels parcel ≡ Some letter
-  pub before : Station
+  pub before : HostState
   pub there : slice_get old.hosts host ≡ Some before
   pub segment : letter.segment ≡ before.endpoint.network
-  pub after : Station
+  pub after : HostState
   pub arrives : Arrives before.endpoint letter.bytes old.moment answer after.endpoint
   pub here : after.here ≡ here_after answer (length old.ends) before.here
   pub hosts : new.hosts ≡ set old.hosts host after
@@ -92,7 +92,7 @@ abbrev pub said_notes : List (ℕ × ℕ) → Option (ℕ × Sent) → ℕ → L
 said_notes here None parcel = []
 said_notes here (Some s) parcel = given_notes (end_at here s.0) s.1 parcel
 
-abbrev pub sent_letters : Option (Node × ℕ) → Station → ℕ → List ℕ → List ParcelView
+abbrev pub sent_letters : Option (Node × ℕ) → HostState → ℕ → List ℕ → List ParcelView
 sent_letters None s host written = []
 sent_letters (Some r) s host written =
     record {
@@ -104,9 +104,9 @@ sent_letters (Some r) s host written =
 
 pub record PollsHost (old : World) (host : ℕ) (result : Option (Node × ℕ))
     (new : World) : Type 0 where
-  pub before : Station
+  pub before : HostState
   pub there : slice_get old.hosts host ≡ Some before
-  pub after : Station
+  pub after : HostState
   pub room : List ℕ
   pub written : List ℕ
   pub polls : Polls before.endpoint old.moment result room written after.endpoint
@@ -142,9 +142,9 @@ pub record TakesOf (old : World) (who : ℕ) (answer : Result TakenView EndFault
   pub end' : EndNow
   pub at : slice_get old.ends who ≡ Some end'
   pub stands : end'.released ≡ false
-  pub before : Station
+  pub before : HostState
   pub there : slice_get old.hosts end'.host ≡ Some before
-  pub after : Station
+  pub after : HostState
   pub held : Held
   pub holds : held_at before.endpoint end'.id ≡ Some held
   pub answers : answer ≡ (take_end held).0

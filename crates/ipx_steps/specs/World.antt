@@ -11,7 +11,7 @@ use Rattle.spx_messages.specs.EndpointView.{Held, EndpointView, held_at, buffers
 use Rattle.spx_messages.specs.Polls.{home_of}
 
 -- a host: what it holds, and which end each of its ids is
-pub record Station : Type 0 where
+pub record HostState : Type 0 where
   pub endpoint : EndpointView
   pub here : List (ℕ × ℕ)
 
@@ -36,7 +36,7 @@ pub record ParcelView : Type 0 where
   pub sent_by : Option Place
 
 pub record World : Type 0 where
-  pub hosts : List Station
+  pub hosts : List HostState
   pub ends : List EndNow
   pub parcels : List ParcelView
   pub log : List Note
@@ -48,12 +48,12 @@ end_at (x ∷ xs) id = if x.0 == id then Some x.1 else end_at xs id
 
 -- ---- the scene
 
-abbrev pub held_in : Option Station → ℕ → Option Held
+abbrev pub held_in : Option HostState → ℕ → Option Held
 held_in None id = None
 held_in (Some s) id = held_at s.endpoint id
 
 -- what an end has: nothing once it is released
-abbrev pub held_of : List Station → EndNow → Option Held
+abbrev pub held_of : List HostState → EndNow → Option Held
 held_of hosts e = if e.released then None else held_in (slice_get hosts e.host) e.id
 
 abbrev pub stand_with : EndNow → Option Held → Stand
@@ -61,10 +61,10 @@ stand_with e None = record { host = e.host; link = None; rest = None; overlong =
 stand_with e (Some h) =
     record { host = e.host; link = Some h.link; rest = h.rest; overlong = e.overlong }
 
-abbrev pub stand_of : List Station → EndNow → Stand
+abbrev pub stand_of : List HostState → EndNow → Stand
 stand_of hosts e = stand_with e (held_of hosts e)
 
-abbrev pub home_at : Station → Home
+abbrev pub home_at : HostState → Home
 home_at s = home_of s.endpoint
 
 abbrev pub bytes_of : ParcelView → List ℕ
@@ -86,8 +86,8 @@ scene_of w =
 -- ---- what is always so
 
 -- an end that is not released: its host knows it by its id, and holds a link of that id
-pub record StandsAt (hosts : List Station) (who : ℕ) (e : EndNow) : Type 0 where
-  pub station : Station
+pub record StandsAt (hosts : List HostState) (who : ℕ) (e : EndNow) : Type 0 where
+  pub station : HostState
   pub there : slice_get hosts e.host ≡ Some station
   pub known : end_at station.here e.id ≡ Some who
   pub held : Held
@@ -102,7 +102,7 @@ pub record IsEndOf (ends : List EndNow) (host id who : ℕ) : Type 0 where
   pub stands : end'.released ≡ false
 
 -- of one host: what it knows by an id is an end of its own, and each of its links has an end
-pub record IsHostInOrder (ends : List EndNow) (host : ℕ) (s : Station) : Type 0 where
+pub record IsHostInOrder (ends : List EndNow) (host : ℕ) (s : HostState) : Type 0 where
   pub names : (id who : ℕ) → end_at s.here id ≡ Some who → IsEndOf ends host id who
   pub named : (id : ℕ) (h : Held) → held_at s.endpoint id ≡ Some h
       → (who : ℕ) × (end_at s.here id ≡ Some who)
@@ -112,4 +112,4 @@ pub record IsHostInOrder (ends : List EndNow) (host : ℕ) (s : Station) : Type 
 pub record InOrder (w : World) : Type 0 where
   pub ends : (who : ℕ) (e : EndNow) → slice_get w.ends who ≡ Some e → e.released ≡ false
       → StandsAt w.hosts who e
-  pub hosts : (k : ℕ) (s : Station) → slice_get w.hosts k ≡ Some s → IsHostInOrder w.ends k s
+  pub hosts : (k : ℕ) (s : HostState) → slice_get w.hosts k ≡ Some s → IsHostInOrder w.ends k s

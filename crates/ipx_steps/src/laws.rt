@@ -2,7 +2,7 @@
 
 ghost use Rattle.ipx_log.specs.Deeds.{Reached};
 ghost use Rattle.ipx_steps.specs.World.{World, InOrder, scene_of};
-ghost use Rattle.ipx_steps.specs.Step.{Step};
+ghost use Rattle.ipx_steps.specs.Step.{WorldStep};
 ghost use Rattle.ipx_steps.specs.Deeds.{Deeds};
 ghost use Rattle.ipx_steps.specs.Reach.{CameTo};
 ghost use Rattle.ipx_log.specs.InStep.{PeersAreInStep};
@@ -12,11 +12,11 @@ use ipx_log::peers_are_in_step;
 /// Each step of a network makes of its scene another one by deeds, and leaves the world in order;
 /// so its scene stays one that is reached.
 pub fn steps_are_deeds()
-    ensures deeds { (old new : World) → InOrder old → Step old new
+    ensures deeds { (old new : World) → InOrder old → WorldStep old new
         → Deeds (scene_of old) (scene_of new) }
-    ensures order { (old new : World) → InOrder old → Step old new → InOrder new }
+    ensures order { (old new : World) → InOrder old → WorldStep old new → InOrder new }
     ensures reached { (old new : World)
-        → InOrder old → Reached (scene_of old) → Step old new → Reached (scene_of new) }
+        → InOrder old → Reached (scene_of old) → WorldStep old new → Reached (scene_of new) }
 {}
 
 /// A law of scenes is one of worlds: whatever events a network took, its peers are in step.

@@ -14,7 +14,7 @@ use Rattle.ipx_tables.specs.declared.offer.Offer.{Offer}
 use Rattle.ipx_tables.specs.Order.{IsStrictTotal}
 use Rattle.ipx_tables.specs.Content.{content, said_of, IsApart, pair_of, is_young, is_same, source_cmp}
 use Rattle.ipx_tables.specs.Best.{metric_cmp, rank_cmp, is_better, IsBest, NoneCounts}
-use Rattle.ipx_tables.specs.Scan.{is_candidate, told_of, offer_beats, better_of, best_from}
+use Rattle.ipx_tables.specs.Scan.{is_candidate, source_and_metric, offer_beats, better_of, best_from}
 use Rattle.ipx_tables.proofs.Lists.{source_total, same_equiv, found_same}
 
 -- of some item of the list it holds
@@ -40,7 +40,7 @@ module _ {M : Type 0} {before : M → M → Bool} (strict : IsStrictTotal before
   rank_total = then_total (on_total (λ (a : Source × M). a.1) metric_total) (on_total (λ (a : Source × M). a.0) source_total)
 
   pub better_order : {K : Type 0} → IsStrictWeakOrder (offer_beats {K = K} before)
-  better_order {K} = ranks_by rank_total (λ (o : Offer K M). told_of o)
+  better_order {K} = ranks_by rank_total (λ (o : Offer K M). source_and_metric o)
 
 -- the best of those that pass
 module _ {X : Type 0} (test : X → Bool) (beats : X → X → Bool) where
@@ -142,16 +142,16 @@ module _ {K M : Type 0} {cmp : K → K → Ordering} (o : IsTotalOrder cmp) {bef
   as_good s u m r h = ap is_lt ((rank_total strict).congr (s, m) (u, m) r (ap (λ v. ordering_then v (source_cmp s u)) (tied_itself (metric_total strict) m) ∙ h))
 
   -- what is found is a candidate
-  pub beats_found : (os : List (Offer K M)) (r : Offer K M) → Beats (is_candidate cmp key now) (offer_beats before) r os → (s : Source) (m : M) (t : ℕ) → content cmp os (key, s) ≡ Some (m, t) → is_young now t ≡ true → is_better before (s, m) (told_of r) ≡ false
+  pub beats_found : (os : List (Offer K M)) (r : Offer K M) → Beats (is_candidate cmp key now) (offer_beats before) r os → (s : Source) (m : M) (t : ℕ) → content cmp os (key, s) ≡ Some (m, t) → is_young now t ≡ true → is_better before (s, m) (source_and_metric r) ≡ false
   beats_found [] r b s m t h y = cc
-  beats_found (x ∷ os) r b s m t h y = elim (is_same cmp (pair_of x) (key, s)) as (λ v. is_same cmp (pair_of x) (key, s) ≡ v → cond v (Some (x.metric, x.heard)) (content cmp os (key, s)) ≡ Some (m, t) → is_better before (s, m) (told_of r) ≡ false) [
+  beats_found (x ∷ os) r b s m t h y = elim (is_same cmp (pair_of x) (key, s)) as (λ v. is_same cmp (pair_of x) (key, s) ≡ v → cond v (Some (x.metric, x.heard)) (content cmp os (key, s)) ≡ Some (m, t) → is_better before (s, m) (source_and_metric r) ≡ false) [
     | true ↦ λ e g.
         let both = parts (cmp x.key key) (source_cmp x.source s) e in
         let same_metric = (some_pair (x.metric, x.heard) (m, t) g).0 in
         let same_moment = (some_pair (x.metric, x.heard) (m, t) g).1 in
         let counts : is_young now x.heard ≡ true = ap (is_young now) same_moment ∙ y in
         let candidate : is_candidate cmp key now x ≡ true = both_true _ _ both.0 counts in
-        ap (λ v. is_better before (s, v) (told_of r)) (sym same_metric) ∙ sym (as_good x.source s x.metric (told_of r) both.1) ∙ b.0 candidate
+        ap (λ v. is_better before (s, v) (source_and_metric r)) (sym same_metric) ∙ sym (as_good x.source s x.metric (source_and_metric r) both.1) ∙ b.0 candidate
     | false ↦ λ e g. beats_found os r b.1 s m t g y
   ] refl h
 
@@ -185,7 +185,7 @@ module _ {K M : Type 0} {cmp : K → K → Ordering} (o : IsTotalOrder cmp) {bef
   ] refl h
 
   -- what a scan gives is the best
-  pub scanned : (os : List (Offer K M)) → IsApart (is_same cmp) os → (r : Option (Offer K M)) → r ≡ best_from (is_candidate cmp key now) (offer_beats before) None os → IfSome r (λ v. IsBest before (content cmp os) key now (told_of v)) × IfNone r (NoneCounts (content cmp os) key now)
+  pub scanned : (os : List (Offer K M)) → IsApart (is_same cmp) os → (r : Option (Offer K M)) → r ≡ best_from (is_candidate cmp key now) (offer_beats before) None os → IfSome r (λ v. IsBest before (content cmp os) key now (source_and_metric v)) × IfNone r (NoneCounts (content cmp os) key now)
   scanned os a None h = (tt, none_found os (best_none (is_candidate cmp key now) (offer_beats before) w os None (sym h)).1)
   scanned os a (Some r) h = elim (best_is_from (is_candidate cmp key now) (offer_beats before) w os None r (sym h)) [
     | inl none ↦ cc

@@ -16,7 +16,7 @@ use Rattle.ipx_tables.specs.declared.offer.Offer.{Offer}
 use Rattle.ipx_tables.specs.declared.mark.Mark.{Mark}
 use Rattle.ipx_tables.specs.Content.{content, said_of, is_same, pair_of, pair_cmp}
 use Rattle.ipx_tables.specs.Expiry.{IsOldest}
-use Rattle.ipx_tables.specs.Marks.{mark_at, mark_cmp, mark_itself, mark_of, is_marked, is_heard_at, AreAlike, IsPaired}
+use Rattle.ipx_tables.specs.Marks.{mark_at, mark_cmp, mark_itself, expiry_key_of, has_expiry_key, is_heard_at, AreAlike, IsPaired}
 use Rattle.ipx_tables.specs.Sorted.{IsRising, IsAtKey, IsGapFor}
 use Rattle.ipx_tables.proofs.Lists.{same_equiv, pair_total, found_same, found_set, found_insert, found_remove}
 use Rattle.ipx_tables.proofs.Places.{at_read, insert_rising, remove_rising, set_rising}
@@ -82,14 +82,14 @@ module _ {K M : Type 0} {cmp : K → K → Ordering} (o : IsTotalOrder cmp) wher
 
   module _ (os new_os : List (Offer K M)) (ms new_ms : List (Mark K)) (alike : AreAlike cmp os ms) (p : K × Source) (v w : Option (M × ℕ)) (stood : content cmp os p ≡ v) (offers : (q : K × Source) → content cmp new_os q ≡ cond (is_same cmp p q) w (content cmp os q)) where
     -- what was said of a key and source gives way to what is said now
-    pub alike_changed : ((m : Mark K) → is_marked cmp new_ms m ≡ (marks_said p w m || (is_marked cmp ms m && not (marks_said p v m)))) → AreAlike cmp new_os new_ms
+    pub alike_changed : ((m : Mark K) → has_expiry_key cmp new_ms m ≡ (marks_said p w m || (has_expiry_key cmp ms m && not (marks_said p v m)))) → AreAlike cmp new_os new_ms
     alike_changed marks m =
         let q : K × Source = (m.key, m.source) in
         let heard : Option (M × ℕ) → Bool = is_heard_at m.moment in
-        let start : is_marked cmp new_ms m ≡ ((heard w && is_same cmp p q) || (heard (content cmp os q) && not (heard v && is_same cmp p q))) =
+        let start : has_expiry_key cmp new_ms m ≡ ((heard w && is_same cmp p q) || (heard (content cmp os q) && not (heard v && is_same cmp p q))) =
         marks m
-        ∙ ap (λ b. b || (is_marked cmp ms m && not (marks_said p v m))) (said_parts p w m)
-        ∙ ap (λ b. (heard w && is_same cmp p q) || (is_marked cmp ms m && not b)) (said_parts p v m)
+        ∙ ap (λ b. b || (has_expiry_key cmp ms m && not (marks_said p v m))) (said_parts p w m)
+        ∙ ap (λ b. (heard w && is_same cmp p q) || (has_expiry_key cmp ms m && not b)) (said_parts p v m)
         ∙ ap (λ b. (heard w && is_same cmp p q) || (b && not (heard v && is_same cmp p q))) (alike m) in
         let rest : ((heard w && is_same cmp p q) || (heard (content cmp os q) && not (heard v && is_same cmp p q))) ≡ heard (cond (is_same cmp p q) w (content cmp os q)) =
         elim (is_same cmp p q) as (λ b. is_same cmp p q ≡ b → ((heard w && b) || (heard (content cmp os q) && not (heard v && b))) ≡ heard (cond b w (content cmp os q))) [
@@ -112,11 +112,11 @@ module _ {K M : Type 0} {cmp : K → K → Ordering} (o : IsTotalOrder cmp) wher
 
   module _ (os : List (Offer K M)) (ms : List (Mark K)) (paired : IsPaired cmp os ms) where
     -- each offer has its mark
-    pub marked_at : (i : ℕ) (x : Offer K M) → i < length os → x ≡ get_or os i x → is_marked cmp ms (mark_of x) ≡ true
-    marked_at i x within read = paired.alike (mark_of x) ∙ ap (is_heard_at x.heard) (said_at o os paired.by_pair i x within read) ∙ eq-eqb x.heard x.heard refl
+    pub marked_at : (i : ℕ) (x : Offer K M) → i < length os → x ≡ get_or os i x → has_expiry_key cmp ms (expiry_key_of x) ≡ true
+    marked_at i x within read = paired.alike (expiry_key_of x) ∙ ap (is_heard_at x.heard) (said_at o os paired.by_pair i x within read) ∙ eq-eqb x.heard x.heard refl
 
     -- where nothing is said of a key and source it has no mark
-    pub unmarked : (p : K × Source) (t : ℕ) → content cmp os p ≡ None → is_marked cmp ms (mark_at t p) ≡ false
+    pub unmarked : (p : K × Source) (t : ℕ) → content cmp os p ≡ None → has_expiry_key cmp ms (mark_at t p) ≡ false
     unmarked p t none = paired.alike (mark_at t p) ∙ ap (is_heard_at t) none
 
     -- the first mark is that of an offer
@@ -127,7 +127,7 @@ module _ {K M : Type 0} {cmp : K → K → Ordering} (o : IsTotalOrder cmp) wher
     heard_then v w t is heard = eqb-true w.1 t (ap (is_heard_at t) (sym is) ∙ heard)
 
     -- the first mark is no later than the mark of an offer
-    no_later : (x y : Mark K) → 0 < length ms → x ≡ get_or ms 0 x → is_marked cmp ms y ≡ true → x.moment ≤ y.moment
+    no_later : (x y : Mark K) → 0 < length ms → x ≡ get_or ms 0 x → has_expiry_key cmp ms y ≡ true → x.moment ≤ y.moment
     no_later x y some read there =
         let at = Any-from_list_any (λ v. is_eq (mark_cmp cmp v y)) ms there in
         let tie : mark_cmp cmp at.1 y ≡ Equal = is_equal _ at.4 in
@@ -154,7 +154,7 @@ module _ {K M : Type 0} {cmp : K → K → Ordering} (o : IsTotalOrder cmp) wher
           heard_then _ (said_of y) x.moment said (first_heard x some read);
       first = λ j d lt.
           let y = get_or os j d in
-          no_later x (mark_of y) some read (marked_at j y lt (get_or_default os j d y lt));
+          no_later x (expiry_key_of y) some read (marked_at j y lt (get_or_default os j d y lt));
     }
 
     -- where there is no mark there is no offer
@@ -166,11 +166,11 @@ module _ {K M : Type 0} {cmp : K → K → Ordering} (o : IsTotalOrder cmp) wher
           let read : x ≡ get_or os 0 x = rw e refl in
           let there = marked_at 0 x within read in
           let gone : ms ≡ [] = nil_from_length ms none in
-          absurd (true≢false (sym there ∙ ap (λ l. is_marked cmp l (mark_of x)) gone))
+          absurd (true≢false (sym there ∙ ap (λ l. has_expiry_key cmp l (expiry_key_of x)) gone))
     ] refl
 
     -- an offer and its mark go
-    pub paired_removed : (new_ms : List (Mark K)) (i : ℕ) (x : Offer K M) → i < length os → x ≡ get_or os i x → IsRising (mark_cmp cmp) mark_itself new_ms → ((m : Mark K) → is_marked cmp new_ms m ≡ (is_marked cmp ms m && not (is_eq (mark_cmp cmp (mark_of x) m)))) → IsPaired cmp (remove os i) new_ms
+    pub paired_removed : (new_ms : List (Mark K)) (i : ℕ) (x : Offer K M) → i < length os → x ≡ get_or os i x → IsRising (mark_cmp cmp) mark_itself new_ms → ((m : Mark K) → has_expiry_key cmp new_ms m ≡ (has_expiry_key cmp ms m && not (is_eq (mark_cmp cmp (expiry_key_of x) m)))) → IsPaired cmp (remove os i) new_ms
     paired_removed new_ms i x within read up marks = record {
       by_pair = remove_rising (pair_total o) pair_of os paired.by_pair i within;
       by_moment = up;
@@ -178,13 +178,13 @@ module _ {K M : Type 0} {cmp : K → K → Ordering} (o : IsTotalOrder cmp) wher
     }
 
     -- a new offer comes with its mark
-    pub paired_inserted : (new_ms : List (Mark K)) (i : ℕ) (x : Offer K M) → IsGapFor (pair_cmp cmp) pair_of os (pair_of x) i → IsRising (mark_cmp cmp) mark_itself new_ms → ((m : Mark K) → is_marked cmp new_ms m ≡ (is_eq (mark_cmp cmp (mark_of x) m) || is_marked cmp ms m)) → IsPaired cmp (insert os i x) new_ms
+    pub paired_inserted : (new_ms : List (Mark K)) (i : ℕ) (x : Offer K M) → IsGapFor (pair_cmp cmp) pair_of os (pair_of x) i → IsRising (mark_cmp cmp) mark_itself new_ms → ((m : Mark K) → has_expiry_key cmp new_ms m ≡ (is_eq (mark_cmp cmp (expiry_key_of x) m) || has_expiry_key cmp ms m)) → IsPaired cmp (insert os i x) new_ms
     paired_inserted new_ms i x gap up marks =
         let none = unsaid o os (pair_of x) i gap in
         record {
           by_pair = insert_rising (pair_total o) pair_of os paired.by_pair x i gap;
           by_moment = up;
-          alike = alike_changed os (insert os i x) ms new_ms paired.alike (pair_of x) None (Some (said_of x)) none (found_insert (same_equiv o) said_of os x i none) (λ m. marks m ∙ ap (λ b. is_eq (mark_cmp cmp (mark_of x) m) || b) (and_true (is_marked cmp ms m)));
+          alike = alike_changed os (insert os i x) ms new_ms paired.alike (pair_of x) None (Some (said_of x)) none (found_insert (same_equiv o) said_of os x i none) (λ m. marks m ∙ ap (λ b. is_eq (mark_cmp cmp (expiry_key_of x) m) || b) (and_true (has_expiry_key cmp ms m)));
         }
 
     module _ (i : ℕ) (before after : Offer K M) (read : before ≡ get_or os i before) (at : IsAtKey (pair_cmp cmp) pair_of os (pair_of after) i) where
@@ -197,18 +197,18 @@ module _ {K M : Type 0} {cmp : K → K → Ordering} (o : IsTotalOrder cmp) wher
       said_after : (q : K × Source) → content cmp (set os i after) q ≡ cond (is_same cmp (pair_of after) q) (Some (said_of after)) (content cmp os q)
       said_after = found_set (same_equiv o) said_of os (pair_of after) after i (apart_rising o os paired.by_pair) (at_same o os (pair_of after) i at) ((same_equiv o).refl (pair_of after))
 
-      tied_before : (m : Mark K) → is_eq (mark_cmp cmp (mark_of before) m) ≡ marks_said (pair_of after) (Some (said_of before)) m
+      tied_before : (m : Mark K) → is_eq (mark_cmp cmp (expiry_key_of before) m) ≡ marks_said (pair_of after) (Some (said_of before)) m
       tied_before m =
           said_parts (pair_of before) (Some (said_of before)) m
           ∙ ap (λ b. eqb before.heard m.moment && b) ((same_equiv o).congr (pair_of before) (pair_of after) (m.key, m.source) same_pair)
           ∙ sym (said_parts (pair_of after) (Some (said_of before)) m)
 
       -- an offer that is heard at another moment moves its mark
-      pub paired_moved : (new_ms : List (Mark K)) → IsRising (mark_cmp cmp) mark_itself new_ms → ((m : Mark K) → is_marked cmp new_ms m ≡ (is_eq (mark_cmp cmp (mark_of after) m) || (is_marked cmp ms m && not (is_eq (mark_cmp cmp (mark_of before) m))))) → IsPaired cmp (set os i after) new_ms
+      pub paired_moved : (new_ms : List (Mark K)) → IsRising (mark_cmp cmp) mark_itself new_ms → ((m : Mark K) → has_expiry_key cmp new_ms m ≡ (is_eq (mark_cmp cmp (expiry_key_of after) m) || (has_expiry_key cmp ms m && not (is_eq (mark_cmp cmp (expiry_key_of before) m))))) → IsPaired cmp (set os i after) new_ms
       paired_moved new_ms up marks = record {
         by_pair = set_rising (pair_total o) pair_of os paired.by_pair after i at;
         by_moment = up;
-        alike = alike_changed os (set os i after) ms new_ms paired.alike (pair_of after) (Some (said_of before)) (Some (said_of after)) said_before said_after (λ m. marks m ∙ ap (λ b. is_eq (mark_cmp cmp (mark_of after) m) || (is_marked cmp ms m && not b)) (tied_before m));
+        alike = alike_changed os (set os i after) ms new_ms paired.alike (pair_of after) (Some (said_of before)) (Some (said_of after)) said_before said_after (λ m. marks m ∙ ap (λ b. is_eq (mark_cmp cmp (expiry_key_of after) m) || (has_expiry_key cmp ms m && not b)) (tied_before m));
       }
 
       -- one that is heard at the same moment keeps it
@@ -220,7 +220,7 @@ module _ {K M : Type 0} {cmp : K → K → Ordering} (o : IsTotalOrder cmp) wher
       }
 
       -- the mark of another moment is not there
-      pub unmarked_after : (new_ms : List (Mark K)) → (before.heard ≡ after.heard → ⊥) → ((m : Mark K) → is_marked cmp new_ms m ≡ (is_marked cmp ms m && not (is_eq (mark_cmp cmp (mark_of before) m)))) → is_marked cmp new_ms (mark_of after) ≡ false
+      pub unmarked_after : (new_ms : List (Mark K)) → (before.heard ≡ after.heard → ⊥) → ((m : Mark K) → has_expiry_key cmp new_ms m ≡ (has_expiry_key cmp ms m && not (is_eq (mark_cmp cmp (expiry_key_of before) m)))) → has_expiry_key cmp new_ms (expiry_key_of after) ≡ false
       unmarked_after new_ms other marks =
-          let none : is_marked cmp ms (mark_of after) ≡ false = paired.alike (mark_of after) ∙ ap (is_heard_at after.heard) said_before ∙ ne_eqb before.heard after.heard other in
-          marks (mark_of after) ∙ ap (λ b. b && not (is_eq (mark_cmp cmp (mark_of before) (mark_of after)))) none
+          let none : has_expiry_key cmp ms (expiry_key_of after) ≡ false = paired.alike (expiry_key_of after) ∙ ap (is_heard_at after.heard) said_before ∙ ne_eqb before.heard after.heard other in
+          marks (expiry_key_of after) ∙ ap (λ b. b && not (is_eq (mark_cmp cmp (expiry_key_of before) (expiry_key_of after)))) none

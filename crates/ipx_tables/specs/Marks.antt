@@ -15,8 +15,8 @@ abbrev pub mark_at : {K : Type 0} → ℕ → K × Source → Mark K
 mark_at moment p = record { moment = moment; key = p.0; source = p.1 }
 
 -- the mark of an offer
-abbrev pub mark_of : {K M : Type 0} → Offer K M → Mark K
-mark_of o = record { moment = o.heard; key = o.key; source = o.source }
+abbrev pub expiry_key_of : {K M : Type 0} → Offer K M → Mark K
+expiry_key_of o = record { moment = o.heard; key = o.key; source = o.source }
 
 -- marks are in order by themselves
 abbrev pub mark_itself : {K : Type 0} → Mark K → Mark K
@@ -35,13 +35,13 @@ module _ {K : Type 0} (cmp : K → K → Ordering) where
       (ordering_then (cmp x.key y.key) (source_cmp x.source y.source))
 
   -- a mark ties with one of the list
-  abbrev pub is_marked : List (Mark K) → Mark K → Bool
-  is_marked ms m = list_any (λ x. is_eq (mark_cmp x m)) ms
+  abbrev pub has_expiry_key : List (Mark K) → Mark K → Bool
+  has_expiry_key ms m = list_any (λ x. is_eq (mark_cmp x m)) ms
 
   -- a key and source is marked with a moment just where its offer was heard then
   abbrev pub AreAlike : {M : Type 0} → List (Offer K M) → List (Mark K) → Type 0
   AreAlike os ms = (m : Mark K)
-      → is_marked ms m ≡ is_heard_at m.moment (content cmp os (m.key, m.source))
+      → has_expiry_key ms m ≡ is_heard_at m.moment (content cmp os (m.key, m.source))
 
   -- both rise, and are alike
   pub record IsPaired {M : Type 0} (os : List (Offer K M)) (ms : List (Mark K)) : Type 0 where

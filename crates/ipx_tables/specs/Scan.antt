@@ -18,12 +18,12 @@ abbrev pub is_candidate : {K M : Type 0} → (K → K → Ordering) → K → �
 is_candidate cmp key now o = is_eq (cmp o.key key) && is_young now o.heard
 
 -- what is told of an offer of a key
-abbrev pub told_of : {K M : Type 0} → Offer K M → Source × M
-told_of o = (o.source, o.metric)
+abbrev pub source_and_metric : {K M : Type 0} → Offer K M → Source × M
+source_and_metric o = (o.source, o.metric)
 
 -- the first offer of a key is the better one
 abbrev pub offer_beats : {K M : Type 0} → (M → M → Bool) → Offer K M → Offer K M → Bool
-offer_beats before a b = is_better before (told_of a) (told_of b)
+offer_beats before a b = is_better before (source_and_metric a) (source_and_metric b)
 
 -- the better of an item and the one that is held, if there is one
 abbrev pub better_of : {X : Type 0} → (X → X → Bool) → Option X → X → X

@@ -1,7 +1,7 @@
 //! When an offer was heard.
 
 ghost use Rattle.std.specs.Prelude.{◌≡◌};
-ghost use Rattle.ipx_tables.specs.Marks.{mark_of};
+ghost use Rattle.ipx_tables.specs.Marks.{expiry_key_of};
 
 use crate::offer::Offer;
 use crate::source::Source;
@@ -17,7 +17,7 @@ pub struct Mark<K> {
 
 /// The mark of an offer.
 pub fn mark_by<K: Copy, M: Copy>(offer: Offer<K, M>) -> Mark<K>
-    ensures { result ≡ mark_of offer }
+    ensures { result ≡ expiry_key_of offer }
 {
     Mark {
         moment: offer.heard,

@@ -3,7 +3,7 @@
 ghost use Rattle.std.specs.Prelude.{◌≡◌, ◌+◌, ◌<◌, ◌&&◌, ◌||◌, true, false, not, IfOk, IfErr, IfSome, MatchResult};
 ghost use Rattle.std.specs.Ordering.{is_eq};
 ghost use Rattle.std.specs.VecDeque.{deque_len, deque_capacity};
-ghost use Rattle.ipx_tables.specs.Marks.{is_marked, mark_cmp, mark_itself};
+ghost use Rattle.ipx_tables.specs.Marks.{has_expiry_key, mark_cmp, mark_itself};
 ghost use Rattle.ipx_tables.specs.Sorted.{IsAtKey, IsGapFor, IsRising};
 
 use crate::mark::Mark;
@@ -51,10 +51,10 @@ fn place_of_mark<K: Ord + Copy>(marks: &VecDeque<Mark<K>>, mark: Mark<K>) -> Res
 /// Takes a mark out.
 pub fn unmark<K: Ord + Copy>(marks: &mut VecDeque<Mark<K>>, mark: Mark<K>)
     requires rising { IsRising (mark_cmp K.cmp) mark_itself marks.old.items }
-    requires there { is_marked K.cmp marks.old.items mark ≡ true }
+    requires there { has_expiry_key K.cmp marks.old.items mark ≡ true }
     ensures rising { IsRising (mark_cmp K.cmp) mark_itself marks.new.items }
-    ensures marked { (m : Mark K) → is_marked K.cmp marks.new.items m
-        ≡ (is_marked K.cmp marks.old.items m && not (is_eq (mark_cmp K.cmp mark m))) }
+    ensures marked { (m : Mark K) → has_expiry_key K.cmp marks.new.items m
+        ≡ (has_expiry_key K.cmp marks.old.items m && not (is_eq (mark_cmp K.cmp mark m))) }
     ensures len { deque_len marks.new + 1 ≡ deque_len marks.old }
     ensures room { deque_capacity marks.new ≡ deque_capacity marks.old }
 {
@@ -66,11 +66,11 @@ pub fn unmark<K: Ord + Copy>(marks: &mut VecDeque<Mark<K>>, mark: Mark<K>)
 /// Puts a mark in, for which there is room.
 pub fn put_mark<K: Ord + Copy>(marks: &mut VecDeque<Mark<K>>, mark: Mark<K>)
     requires rising { IsRising (mark_cmp K.cmp) mark_itself marks.old.items }
-    requires absent { is_marked K.cmp marks.old.items mark ≡ false }
+    requires absent { has_expiry_key K.cmp marks.old.items mark ≡ false }
     requires room { deque_len marks.old < deque_capacity marks.old }
     ensures rising { IsRising (mark_cmp K.cmp) mark_itself marks.new.items }
-    ensures marked { (m : Mark K) → is_marked K.cmp marks.new.items m
-        ≡ (is_eq (mark_cmp K.cmp mark m) || is_marked K.cmp marks.old.items m) }
+    ensures marked { (m : Mark K) → has_expiry_key K.cmp marks.new.items m
+        ≡ (is_eq (mark_cmp K.cmp mark m) || has_expiry_key K.cmp marks.old.items m) }
 {
     if let Err(at) = place_of_mark(marks, mark) {
         let _put = marks.insert(at, mark);

@@ -5,7 +5,7 @@ use Rattle.std.specs.Str.Parse.{digits_value, without_leading_plus}
 use Rattle.std.specs.Str.Pattern.{FindsTextPrefix, StripsPrefix}
 use Rattle.ipx_tool.specs.declared.words.Task.{Task}
 use Rattle.ipx_tool.specs.declared.words.Task.TheVariants.{Hop, Show, Check, Sim, Udp, Route, CheckSite, Listen, CheckHost, Send}
-use Rattle.ipx_tool.specs.Words.{AskForOne, AsksFor, Finds, IsPlain, IsPort, IsSame}
+use Rattle.ipx_tool.specs.Words.{AskForOne, AsksFor, Finds, IsPlain, IsUdpPort, IsSame}
 
 -- what begins with `-` is an option
 pub not_plain : (word rest : List ℕ) → word ≡ 45 ∷ rest → IsPlain word → ⊥
@@ -76,10 +76,10 @@ found_joined command text word (Some task) is asks =
     subst (λ w. AsksFor (command ∷ w ∷ []) task) (sym is) (joined command text task asks)
 
 -- no port is written `--once`
-not_once : (port : ℕ) → IsPort (codes "--once") port → ⊥
+not_once : (port : ℕ) → IsUdpPort (codes "--once") port → ⊥
 not_once port is = let digit = is.0.1.0 in omega arith
 
-not_check : (port : ℕ) → IsPort (codes "--check") port → ⊥
+not_check : (port : ℕ) → IsUdpPort (codes "--check") port → ⊥
 not_check port is = let digit = is.0.1.0 in omega arith
 
 -- before the word or behind it `--once` asks for the same
@@ -103,7 +103,7 @@ pub before : (command file : List ℕ) (task : Task) → AsksFor (command ∷ fi
     → AsksFor (command ∷ codes "--once" ∷ file ∷ []) task
 before command file (Udp port) (inl asks) = absurd (cc)
 before command file (Udp port) (inr (text, is, inl e)) =
-    let once : text ≡ codes "--once" = cc in absurd (not_once port (subst (λ t. IsPort t port) once is))
+    let once : text ≡ codes "--once" = cc in absurd (not_once port (subst (λ t. IsUdpPort t port) once is))
 before command file (Udp port) (inr (text, is, inr e)) = absurd (cc)
 before command file (Listen other true) (inl e, plain) =
     let option : other.now ≡ codes "--once" = cc in absurd (not_plain other.now _ option plain)
@@ -142,7 +142,7 @@ check_before : (command file : List ℕ) (task : Task) → AsksFor (command ∷ 
     → AsksFor (command ∷ codes "--check" ∷ file ∷ []) task
 check_before command file (Udp port) (inl asks) = absurd (cc)
 check_before command file (Udp port) (inr (text, is, inl e)) =
-    let check : text ≡ codes "--check" = cc in absurd (not_check port (subst (λ t. IsPort t port) check is))
+    let check : text ≡ codes "--check" = cc in absurd (not_check port (subst (λ t. IsUdpPort t port) check is))
 check_before command file (Udp port) (inr (text, is, inr e)) = absurd (cc)
 check_before command file (Listen other true) (inl e, plain) =
     let option : other.now ≡ codes "--check" = cc in absurd (not_plain other.now _ option plain)
@@ -251,7 +251,7 @@ named words (CheckHost file) (inl e, plain) = ap (λ ws. get_or ws 0 []) e
 named words (CheckHost file) (inr e, plain) = ap (λ ws. get_or ws 0 []) e
 named words (Send file target) asks = ap (λ ws. get_or ws 0 []) asks.0
 
-one_value : (text next : List ℕ) (port other : ℕ) → text ≡ next → IsPort text port → IsPort next other → port ≡ other
+one_value : (text next : List ℕ) (port other : ℕ) → text ≡ next → IsUdpPort text port → IsUdpPort next other → port ≡ other
 one_value text next port other same is too =
     sym is.1 ∙ ap (λ t. digits_value 10 (without_leading_plus t)) same ∙ too.1
 

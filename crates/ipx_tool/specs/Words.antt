@@ -11,8 +11,8 @@ abbrev pub IsPlain : List ℕ → Type 0
 IsPlain word = starts_with nat_eq word (codes "-") ≡ false
 
 -- a text writes a port from 1 to 65,535: decimal digits, maybe behind a `+`
-abbrev pub IsPort : List ℕ → ℕ → Type 0
-IsPort text port = IsNumeral 10 (without_leading_plus text)
+abbrev pub IsUdpPort : List ℕ → ℕ → Type 0
+IsUdpPort text port = IsNumeral 10 (without_leading_plus text)
     × (digits_value 10 (without_leading_plus text) ≡ port) × (1 ≤ port) × (port ≤ 65535)
 
 -- the words behind the program's own name ask for this command. `udp` stands alone, and the port is
@@ -25,7 +25,7 @@ AsksFor words (Show packet) = (words ≡ codes "show" ∷ packet.now ∷ []) × 
 AsksFor words Check = words ≡ codes "check" ∷ []
 AsksFor words Sim = words ≡ codes "sim" ∷ []
 AsksFor words (Udp port) = ((words ≡ codes "udp" ∷ []) × (port ≡ usual_port))
-    ⊎ ((text : List ℕ) × IsPort text port
+    ⊎ ((text : List ℕ) × IsUdpPort text port
     × ((words ≡ codes "udp" ∷ codes "--port" ∷ text ∷ []) ⊎ (words ≡ codes "udp" ∷ (codes "--port=" ++ text) ∷ [])))
 AsksFor words (Route file) = (words ≡ codes "route" ∷ file.now ∷ []) × IsPlain file.now
 AsksFor words (CheckSite file) = ((words ≡ codes "route" ∷ codes "--check" ∷ file.now ∷ [])

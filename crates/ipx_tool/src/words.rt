@@ -2,7 +2,7 @@
 
 ghost use Rattle.std.specs.Prelude.{◌≡◌, ◌∷◌, [], codes, drop, map, nat_eq, string_bytes};
 ghost use Rattle.std.specs.List.{starts_with};
-ghost use Rattle.ipx_tool.specs.Words.{AskForOne, AsksFor, Finds, IsPlain, IsPort};
+ghost use Rattle.ipx_tool.specs.Words.{AskForOne, AsksFor, Finds, IsPlain, IsUdpPort};
 
 use crate::help::whole_command;
 use clap::Error;
@@ -132,7 +132,7 @@ fn send_task<'a>(command: &str, file: &'a str, target: Target<'a>) -> Option<Tas
 
 /// A port from 1 to 65,535 in decimal digits.
 fn port_of(text: &str) -> Option<u16>
-    ensures { Finds (IsPort text.now) result }
+    ensures { Finds (IsUdpPort text.now) result }
 {
     let port = text.parse::<u16>().ok()?;
     if port == 0 { None } else { Some(port) }

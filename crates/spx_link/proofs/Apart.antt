@@ -8,7 +8,7 @@ use Rattle.std.proofs.Math.Seq.{map-set_same}
 use Rattle.spx_link.specs.Limits.{most_links, no_id}
 use Rattle.spx_link.specs.LinkView.{LinkView}
 use Rattle.spx_link.specs.Links.{LinksView, link_of, link_at, Releases}
-use Rattle.spx_link.specs.Sound.{own_of, ids_of, is_among, is_id, IsApart, IsSound}
+use Rattle.spx_link.specs.Sound.{own_of, ids_of, is_among, is_id, AreIdsApart, AreIdsSound}
 use Rattle.spx_link.proofs.Found.{has, eq_true, eq_from, eq_false}
 
 -- ---- without an id
@@ -73,11 +73,11 @@ among_others id m (n ∷ ns) h =
     let both = or_neither (n == m) (is_among ns m) h in
     among_step id m n ns (n == id) both.0 (among_others id m ns both.1)
 
-apart_step : (id n : ℕ) (ns : List ℕ) (b : Bool) → is_among (others_of id ns) n ≡ false → IsApart (others_of id ns) → IsApart (cond (not b) (n ∷ others_of id ns) (others_of id ns))
+apart_step : (id n : ℕ) (ns : List ℕ) (b : Bool) → is_among (others_of id ns) n ≡ false → AreIdsApart (others_of id ns) → AreIdsApart (cond (not b) (n ∷ others_of id ns) (others_of id ns))
 apart_step id n ns true here below = below
 apart_step id n ns false here below = (here, below)
 
-apart_others : (id : ℕ) (ns : List ℕ) → IsApart ns → IsApart (others_of id ns)
+apart_others : (id : ℕ) (ns : List ℕ) → AreIdsApart ns → AreIdsApart (others_of id ns)
 apart_others id [] h = tt
 apart_others id (n ∷ ns) h = apart_step id n ns (n == id) (among_others id n ns h.0) (apart_others id ns h.1)
 
@@ -92,7 +92,7 @@ whole id (n ∷ ns) h =
     whole_step id n ns both.0 (whole id ns both.1)
 
 -- one goes
-fewer_step : (id n : ℕ) (ns : List ℕ) (b : Bool) → (n == id) ≡ b → IsApart (n ∷ ns) → (b || is_among ns id) ≡ true → (is_among ns id ≡ true → length (others_of id ns) + 1 ≡ length ns) → length (cond (not b) (n ∷ others_of id ns) (others_of id ns)) + 1 ≡ length (n ∷ ns)
+fewer_step : (id n : ℕ) (ns : List ℕ) (b : Bool) → (n == id) ≡ b → AreIdsApart (n ∷ ns) → (b || is_among ns id) ≡ true → (is_among ns id ≡ true → length (others_of id ns) + 1 ≡ length ns) → length (cond (not b) (n ∷ others_of id ns) (others_of id ns)) + 1 ≡ length (n ∷ ns)
 fewer_step id n ns true e apart among below =
     let same : n ≡ id = eq_from n id e in
     let none : is_among ns id ≡ false = subst (λ m. is_among ns m ≡ false) same apart.0 in
@@ -102,7 +102,7 @@ fewer_step id n ns false e apart among below =
     let one : length (others_of id ns) + 1 ≡ length ns = below among in
     omega (arith, one)
 
-fewer : (id : ℕ) (ns : List ℕ) → IsApart ns → is_among ns id ≡ true → length (others_of id ns) + 1 ≡ length ns
+fewer : (id : ℕ) (ns : List ℕ) → AreIdsApart ns → is_among ns id ≡ true → length (others_of id ns) + 1 ≡ length ns
 fewer id [] apart among = cc
 fewer id (n ∷ ns) apart among = fewer_step id n ns (n == id) refl apart among (fewer id ns apart.1)
 
@@ -135,7 +135,7 @@ among_in_range (n ∷ ns) id all among =
     let both = and_both (is_id n) (list_all is_id ns) all in
     among_in_range_step n id ns (n == id) refl both.0 among (among_in_range ns id both.1)
 
-pub live_in_range : (last : ℕ) (ls : List LinkView) (id : ℕ) (l : LinkView) → IsSound last (ids_of ls) → link_of ls id ≡ Some l → (0 < id) × (id < no_id)
+pub live_in_range : (last : ℕ) (ls : List LinkView) (id : ℕ) (l : LinkView) → AreIdsSound last (ids_of ls) → link_of ls id ≡ Some l → (0 < id) × (id < no_id)
 live_in_range last ls id l sound e =
     let is : is_id id ≡ true = among_in_range (ids_of ls) id sound.in_range (among_ids ls id l e) in
     let both = and_both (nat_lt 0 id) (nat_lt id no_id) is in
@@ -145,14 +145,14 @@ live_in_range last ls id l sound e =
 
 -- ---- what holds of the ids stays
 
-pub sound_set : (last : ℕ) (ls : List LinkView) (k : ℕ) (x y : LinkView) → x ≡ get_or ls k x → y.own ≡ x.own → IsSound last (ids_of ls) → IsSound last (ids_of (set ls k y))
+pub sound_set : (last : ℕ) (ls : List LinkView) (k : ℕ) (x y : LinkView) → x ≡ get_or ls k x → y.own ≡ x.own → AreIdsSound last (ids_of ls) → AreIdsSound last (ids_of (set ls k y))
 sound_set last ls k x y read same sound =
-    subst (IsSound last) (sym (map-set_same own_of ls k y x (same ∙ ap own_of read))) sound
+    subst (AreIdsSound last) (sym (map-set_same own_of ls k y x (same ∙ ap own_of read))) sound
 
-pub few_links : (last : ℕ) (ls : List LinkView) → IsSound last (ids_of ls) → length ls ≤ most_links
+pub few_links : (last : ℕ) (ls : List LinkView) → AreIdsSound last (ids_of ls) → length ls ≤ most_links
 few_links last ls sound = omega (arith, sound.few, length-map ls own_of)
 
-push_apart : (ns : List ℕ) (id : ℕ) → IsApart ns → is_among ns id ≡ false → IsApart (ns ++ id ∷ [])
+push_apart : (ns : List ℕ) (id : ℕ) → AreIdsApart ns → is_among ns id ≡ false → AreIdsApart (ns ++ id ∷ [])
 push_apart [] id apart free = (refl, tt)
 push_apart (n ∷ ns) id apart free =
     let both = or_neither (n == id) (is_among ns id) free in
@@ -161,11 +161,11 @@ push_apart (n ∷ ns) id apart free =
       push_apart ns id apart.1 both.1,
     )
 
-pub sound_push : (last : ℕ) (ls : List LinkView) (y : LinkView) → IsSound last (ids_of ls) → length ls < most_links → link_of ls y.own ≡ None → is_id y.own ≡ true → IsSound y.own (ids_of (ls ++ y ∷ []))
+pub sound_push : (last : ℕ) (ls : List LinkView) (y : LinkView) → AreIdsSound last (ids_of ls) → length ls < most_links → link_of ls y.own ≡ None → is_id y.own ≡ true → AreIdsSound y.own (ids_of (ls ++ y ∷ []))
 sound_push last ls y sound room free id =
     let both = and_both (nat_lt 0 y.own) (nat_lt y.own no_id) id in
     let below = both.1 in
-    subst (IsSound y.own) (sym (map-append own_of ls (y ∷ []))) record {
+    subst (AreIdsSound y.own) (sym (map-append own_of ls (y ∷ []))) record {
       apart = push_apart (ids_of ls) y.own sound.apart (not_among_ids ls y.own free);
       in_range = list_all-append is_id (ids_of ls) (y.own ∷ []) ∙ ap (λ b. b && (is_id y.own && true)) sound.in_range ∙ ap (λ b. b && true) id;
       few = omega (arith, length-append (ids_of ls) (y.own ∷ []), length-map ls own_of);
@@ -180,16 +180,16 @@ length_others : (id : ℕ) (ns : List ℕ) → length (others_of id ns) ≤ leng
 length_others id [] = omega arith
 length_others id (n ∷ ns) = length_others_step id n ns (n == id) (length_others id ns)
 
-pub sound_without : (last : ℕ) (ls : List LinkView) (id : ℕ) → IsSound last (ids_of ls) → IsSound last (ids_of (without id ls))
+pub sound_without : (last : ℕ) (ls : List LinkView) (id : ℕ) → AreIdsSound last (ids_of ls) → AreIdsSound last (ids_of (without id ls))
 sound_without last ls id sound =
-    subst (IsSound last) (sym (ids_of-without id ls)) record {
+    subst (AreIdsSound last) (sym (ids_of-without id ls)) record {
       apart = apart_others id (ids_of ls) sound.apart;
       in_range = all_others id (ids_of ls) sound.in_range;
       few = omega (arith, length_others id (ids_of ls), sound.few);
       last = sound.last;
     }
 
-pub releases : (s : LinksView) (id : ℕ) (l : LinkView) → IsSound s.last (ids_of s.links) → link_at s id ≡ Some l → Releases s (record { last = s.last; links = without id s.links }) id
+pub releases : (s : LinksView) (id : ℕ) (l : LinkView) → AreIdsSound s.last (ids_of s.links) → link_at s id ≡ Some l → Releases s (record { last = s.last; links = without id s.links }) id
 releases s id l sound live =
     let one : length (others_of id (ids_of s.links)) + 1 ≡ length (ids_of s.links) = fewer id (ids_of s.links) sound.apart (among_ids s.links id l live) in
     let left : length (ids_of (without id s.links)) ≡ length (others_of id (ids_of s.links)) = ap length (ids_of-without id s.links) in
@@ -202,7 +202,7 @@ releases s id l sound live =
 
 -- ---- the least id
 
-stands_step : (l x : LinkView) (ls : List LinkView) (k : ℕ) (b : Bool) → (l.own == x.own) ≡ b → IsApart (ids_of (l ∷ ls)) → link_of ls x.own ≡ Some x → cond b (Some l) (link_of ls x.own) ≡ Some x
+stands_step : (l x : LinkView) (ls : List LinkView) (k : ℕ) (b : Bool) → (l.own == x.own) ≡ b → AreIdsApart (ids_of (l ∷ ls)) → link_of ls x.own ≡ Some x → cond b (Some l) (link_of ls x.own) ≡ Some x
 stands_step l x ls k true e apart below =
     let same : x.own ≡ l.own = sym (eq_from l.own x.own e) in
     let among : is_among (ids_of ls) l.own ≡ true = subst (λ n. is_among (ids_of ls) n ≡ true) same (among_ids ls x.own x below) in
@@ -210,7 +210,7 @@ stands_step l x ls k true e apart below =
 stands_step l x ls k false e apart below = below
 
 -- the link at a place is the one that is found by its id
-pub stands : (ls : List LinkView) (k : ℕ) (x : LinkView) → IsApart (ids_of ls) → k < length ls → slice_index_or ls k x ≡ x → link_of ls x.own ≡ Some x
+pub stands : (ls : List LinkView) (k : ℕ) (x : LinkView) → AreIdsApart (ids_of ls) → k < length ls → slice_index_or ls k x ≡ x → link_of ls x.own ≡ Some x
 stands [] k x apart within read = absurd (omega arith)
 stands (l ∷ ls) zero x apart within read = ap (λ b. cond b (Some l) (link_of ls x.own)) (eq_true l.own x.own (ap own_of read)) ∙ ap Some read
 stands (l ∷ ls) (suc k) x apart within read =

@@ -6,7 +6,7 @@ use Rattle.spx_link.specs.LinkView.{LinkView}
 use Rattle.spx_link.specs.Links.{LinksView, link_of, link_at, polled, ChangesOnly, Adds, Releases, IsNextFree, id_after}
 use Rattle.spx_link.specs.Picked.{carried_in, body_in}
 use Rattle.spx_link.specs.Poll.{OutgoingView, poll_link}
-use Rattle.spx_link.specs.Sound.{own_of, ids_of, is_id, IsSound}
+use Rattle.spx_link.specs.Sound.{own_of, ids_of, is_id, AreIdsSound}
 use Rattle.spx_link.specs.declared.outgoing.Chosen.{Chosen}
 use Rattle.spx_link.proofs.Apart.{live_in_range, sound_push, releases, sound_without, without}
 use Rattle.spx_link.proofs.Found.{has, adds, changed, if_found, link_of_place, place_of_position}
@@ -87,14 +87,14 @@ within_after ls cut k y same within =
 pub fits_id : (last steps id : ℕ) → id ≡ id_after last steps → is_id id ≡ true
 fits_id last steps id e = grind (arith, nat_tests)
 
-pub sound_made : (last id : ℕ) (ls cut after : List LinkView) (y z : LinkView) → cut ≡ ls → IsSound last (ids_of ls) → length ls < most_links → IsNextFree (view_of last cut) id → y ≡ z → z.own ≡ id → after ≡ ls ++ y ∷ [] → IsSound id (ids_of after)
+pub sound_made : (last id : ℕ) (ls cut after : List LinkView) (y z : LinkView) → cut ≡ ls → AreIdsSound last (ids_of ls) → length ls < most_links → IsNextFree (view_of last cut) id → y ≡ z → z.own ≡ id → after ≡ ls ++ y ∷ [] → AreIdsSound id (ids_of after)
 sound_made last id ls cut after y z same sound room next made own is =
     let mine : y.own ≡ id = ap own_of made ∙ own in
     let F : List LinkView → Type 0 = λ xs. link_of xs id ≡ None in
     let free : link_of ls y.own ≡ None = ap (link_of ls) mine ∙ subst F same next.free in
     let range : is_id y.own ≡ true = ap is_id mine ∙ fits_id last next.steps id next.is in
-    let P : List LinkView → Type 0 = λ xs. IsSound id (ids_of xs) in
-    let Q : ℕ → Type 0 = λ n. IsSound n (ids_of (ls ++ y ∷ [])) in
+    let P : List LinkView → Type 0 = λ xs. AreIdsSound id (ids_of xs) in
+    let Q : ℕ → Type 0 = λ n. AreIdsSound n (ids_of (ls ++ y ∷ [])) in
     subst P (sym is) (subst Q mine (sound_push last ls y sound room free range))
 
 pub adds_made : (now : LinksView) (last id : ℕ) (ls cut after : List LinkView) (y z : LinkView) → view_of last ls ≡ now → cut ≡ ls → IsNextFree (view_of last cut) id → y ≡ z → z.own ≡ id → after ≡ ls ++ y ∷ [] → Adds now (view_of id after) id z
@@ -107,21 +107,21 @@ adds_made now last id ls cut after y z view same next made own is =
 
 -- ---- links that go
 
-pub released : (now : LinksView) (last : ℕ) (ls after : List LinkView) (id : ℕ) → view_of last ls ≡ now → IsSound last (ids_of ls) → is_some (link_of ls id) ≡ true → after ≡ without id ls → Releases now (view_of last after) id
+pub released : (now : LinksView) (last : ℕ) (ls after : List LinkView) (id : ℕ) → view_of last ls ≡ now → AreIdsSound last (ids_of ls) → is_some (link_of ls id) ≡ true → after ≡ without id ls → Releases now (view_of last after) id
 released now last ls after id view sound live is =
     let l = some_of (link_of ls id) live in
     let P : LinksView → Type 0 = λ s. Releases s (view_of last after) id in
     let Q : List LinkView → Type 0 = λ xs. Releases (view_of last ls) (view_of last xs) id in
     subst P view (subst Q (sym is) (releases (view_of last ls) id l.0 sound l.1))
 
-pub sound_released : (last : ℕ) (ls after : List LinkView) (id : ℕ) → IsSound last (ids_of ls) → after ≡ without id ls → IsSound last (ids_of after)
+pub sound_released : (last : ℕ) (ls after : List LinkView) (id : ℕ) → AreIdsSound last (ids_of ls) → after ≡ without id ls → AreIdsSound last (ids_of after)
 sound_released last ls after id sound is =
-    let P : List LinkView → Type 0 = λ xs. IsSound last (ids_of xs) in
+    let P : List LinkView → Type 0 = λ xs. AreIdsSound last (ids_of xs) in
     subst P (sym is) (sound_without last ls id sound)
 
 -- ---- look-ups
 
-pub range_of_found : (last : ℕ) (ls cut : List LinkView) (id : ℕ) (r : Option (Bor LinkView)) → cut ≡ ls → IsSound last (ids_of ls) → option_copied r ≡ link_of cut id → IfSome r (λ _. (0 < id) × (id < no_id))
+pub range_of_found : (last : ℕ) (ls cut : List LinkView) (id : ℕ) (r : Option (Bor LinkView)) → cut ≡ ls → AreIdsSound last (ids_of ls) → option_copied r ≡ link_of cut id → IfSome r (λ _. (0 < id) × (id < no_id))
 range_of_found last ls cut id None same sound e = tt
 range_of_found last ls cut id (Some b) same sound e =
     let P : List LinkView → Type 0 = λ xs. Some b.now ≡ link_of xs id in

@@ -17,7 +17,7 @@ use Rattle.spx_link.specs.Offer.{the_end}
 use Rattle.spx_link.specs.Poll as P
 use Rattle.spx_link.specs.Poll.{OutgoingView, poll_link, poll_at}
 use Rattle.spx_link.specs.Units.{unit_of, queued_units, as_sent, SameUnits, SameEndings}
-use Rattle.spx_link.specs.Given.{Carries, IsGiven, StaysOrIsLost}
+use Rattle.spx_link.specs.Given.{CarriesToPeer, IsGiven, StaysOrIsLost}
 
 -- what holds of both sides holds of the choice, and may rest on the test
 pub by_test : {A : Type 0} (P : A → Type 0) (b : Bool) (x y : A) → (b ≡ true → P x) → (b ≡ false → P y) → P (if b then x else y)
@@ -59,7 +59,7 @@ other_says l m o given queue held ahead queued ended state =
 
 -- ---- a unit
 
-carries : (l : LinkView) (u : Unit) (seq : ℕ) → Carries l u (P.with_unit l Sents.Unit u seq)
+carries : (l : LinkView) (u : Unit) (seq : ℕ) → CarriesToPeer l u (P.with_unit l Sents.Unit u seq)
 carries l u seq = record { to = refl; unit = refl; body = refl; system = refl }
 
 -- a unit that is stamped is the same unit

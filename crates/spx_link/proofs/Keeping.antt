@@ -192,12 +192,12 @@ pub record ReceiveKeeps (l : LinkView) (h : SpxHeader) (body : List ℕ) (r : Re
 of_read : (l : LinkView) (h : SpxHeader) (body : List ℕ) (r : Received × LinkView) → ReadKeeps l h body r → ReceiveKeeps l h body r
 of_read l h body r k = record { numbers = k.numbers; ends = k.same.ends; peer = λ _. k.same.peer; joins = λ e. absurd (k.not_joined e) }
 
-joins_so : (l : LinkView) (h : SpxHeader) → l.state ≡ States.Opening → R.is_reply l h ≡ true → Joins l (R.read_numbers (R.joined l h) h) h
+joins_so : (l : LinkView) (h : SpxHeader) → l.state ≡ States.Opening → R.is_reply l h ≡ true → Joins l (R.read_numbers (R.joined_link l h) h) h
 joins_so l h opening reply = record { before = opening; after = refl; to = grind (arith, nat_tests); peer = refl; above = grind (arith, nat_tests); below = grind (arith, nat_tests); unit = grind (arith, nat_tests) }
 
 reply_receive_keeps : (l : LinkView) (h : SpxHeader) (body : List ℕ) → l.state ≡ States.Opening → ReceiveKeeps l h body (R.receive_reply l h)
 reply_receive_keeps l h body opening =
-    either_by (ReceiveKeeps l h body) (R.is_reply l h) (Joined, R.read_numbers (R.joined l h) h) (Stranger, l)
+    either_by (ReceiveKeeps l h body) (R.is_reply l h) (Joined, R.read_numbers (R.joined_link l h) h) (Stranger, l)
     (λ reply. record { numbers = refl; ends = record { own = refl; local = refl; remote = refl; accepted = refl }; peer = λ n. absurd (n refl); joins = λ _. joins_so l h opening reply })
     (of_read l h body (Stranger, l) (stranger_keeps l h body))
 

@@ -6,7 +6,7 @@ use Rattle.std.proofs.lemmas.List.{take-append-drop, length-take-le, length-map,
 use Rattle.spx_link.specs.declared.unit.Unit.{Unit}
 use Rattle.spx_link.specs.LinkView.{is_end}
 use Rattle.spx_link.specs.Receive.{put, is_taken, leading, any_end}
-use Rattle.spx_link.specs.Buffers.{BuffersView, IsLaid, there, unit_there, left, settled}
+use Rattle.spx_link.specs.Buffers.{BuffersView, IsLaid, there, unit_there, left, held_in_order}
 
 -- ---- a ring that is laid
 
@@ -308,9 +308,9 @@ if_cut xs true e = refl
 if_cut xs false e = cc
 
 -- so many units became held, and no end
-pub open_becomes : (items : List (Option Unit)) (capacity count size more : ℕ) (b : BuffersView) → IsLaid items capacity count size → seen items count size ≡ b → more ≡ length (leading (drop count items)) → any_end (leading (drop count items)) ≡ false → Becomes items capacity (count + more) size (settled b)
+pub open_becomes : (items : List (Option Unit)) (capacity count size more : ℕ) (b : BuffersView) → IsLaid items capacity count size → seen items count size ≡ b → more ≡ length (leading (drop count items)) → any_end (leading (drop count items)) ≡ false → Becomes items capacity (count + more) size (held_in_order b)
 open_becomes items capacity count size more b laid view is goes =
-    let P : BuffersView → Type 0 = λ v. Becomes items capacity (count + more) size (settled v) in
+    let P : BuffersView → Type 0 = λ v. Becomes items capacity (count + more) size (held_in_order v) in
     let us : List Unit = there (take count items) in
     let xs : List (Option Unit) = drop count items in
     let vs : List Unit = leading xs in
@@ -325,9 +325,9 @@ open_becomes items capacity count size more b laid view is goes =
     })
 
 -- so many units became held, the last of them an end
-pub cut_becomes : (items after : List (Option Unit)) (capacity same count size more : ℕ) (b : BuffersView) → IsLaid items capacity count size → seen items count size ≡ b → more ≡ length (leading (drop count items)) → any_end (leading (drop count items)) ≡ true → after ≡ take (count + more) items → same ≡ capacity → Becomes after same (count + more) size (settled b)
+pub cut_becomes : (items after : List (Option Unit)) (capacity same count size more : ℕ) (b : BuffersView) → IsLaid items capacity count size → seen items count size ≡ b → more ≡ length (leading (drop count items)) → any_end (leading (drop count items)) ≡ true → after ≡ take (count + more) items → same ≡ capacity → Becomes after same (count + more) size (held_in_order b)
 cut_becomes items after capacity same count size more b laid view is ends cut cap =
-    let P : BuffersView → Type 0 = λ v. Becomes after same (count + more) size (settled v) in
+    let P : BuffersView → Type 0 = λ v. Becomes after same (count + more) size (held_in_order v) in
     let us : List Unit = there (take count items) in
     let xs : List (Option Unit) = drop count items in
     let vs : List Unit = leading xs in

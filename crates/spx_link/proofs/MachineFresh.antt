@@ -4,7 +4,7 @@ use Rattle.std.specs.Prelude.{Contains}
 use Rattle.std.proofs.lemmas.List.Elements.{All-contains}
 use Rattle.spx_link.specs.Marks.{mark, distance}
 use Rattle.spx_link.specs.Machine.{Packet, End, Machine, Step, IsRun, WasSent, AreSound, start}
-use Rattle.spx_link.specs.Fresh.{IsFresh, Tells}
+use Rattle.spx_link.specs.Fresh.{IsRecentPacket, TellsPositions}
 use Rattle.spx_link.proofs.Distances.{acknowledgement_read, allocation_read, sequence_current, sequence_next, sequence_window}
 use Rattle.spx_link.proofs.MachineSound.{swapped, reached}
 use Rattle.spx_link.proofs.MachineGrowth.{run_grows}
@@ -13,7 +13,7 @@ use Rattle.spx_link.proofs.MachineGrowth.{run_grows}
 not_behind : (read n free beyond : ℕ) → n < read + free → (beyond < free) ↔ ((read ≤ n) × (n < read + free)) → (beyond < free) ↔ (read ≤ n)
 not_behind read n free beyond h both = (λ lt. (both.0 lt).0, λ le. both.1 (le, h))
 
-pub tells : (c d : End) (p : Packet) → c.buffers ≤ 16383 → d.buffers ≤ 16383 → AreSound c d → WasSent d c p → IsFresh c d p → Tells c p
+pub tells : (c d : End) (p : Packet) → c.buffers ≤ 16383 → d.buffers ≤ 16383 → AreSound c d → WasSent d c p → IsRecentPacket c d p → TellsPositions c p
 tells c d p small peer_small s was fresh = record {
   acknowledgement = λ out e.
       acknowledgement_read 16383 c.base out c.sent p.read p.receiver_sent (omega arith) e
@@ -38,13 +38,13 @@ tells c d p small peer_small s was fresh = record {
       (omega (arith, was.outstanding n e)) fresh.sender);
 }
 
-pub one_tells : (steps : List Step) (a b : ℕ) (m : Machine) (p : Packet) → a ≤ 16383 → b ≤ 16383 → IsRun steps (start a b) m → Contains m.two.bag p → IsFresh m.one m.two p → Tells m.one p
+pub one_tells : (steps : List Step) (a b : ℕ) (m : Machine) (p : Packet) → a ≤ 16383 → b ≤ 16383 → IsRun steps (start a b) m → Contains m.two.bag p → IsRecentPacket m.one m.two p → TellsPositions m.one p
 one_tells steps a b m p small peer_small run there fresh =
     let s = reached steps a b m run in
     let grown = run_grows steps (start a b) m run in
     tells m.one m.two p (omega (arith, grown.0.buffers)) (omega (arith, grown.1.buffers)) s (All-contains (WasSent m.two m.one) m.two.bag p s.peer_bag there) fresh
 
-pub two_tells : (steps : List Step) (a b : ℕ) (m : Machine) (p : Packet) → a ≤ 16383 → b ≤ 16383 → IsRun steps (start a b) m → Contains m.one.bag p → IsFresh m.two m.one p → Tells m.two p
+pub two_tells : (steps : List Step) (a b : ℕ) (m : Machine) (p : Packet) → a ≤ 16383 → b ≤ 16383 → IsRun steps (start a b) m → Contains m.one.bag p → IsRecentPacket m.two m.one p → TellsPositions m.two p
 two_tells steps a b m p small peer_small run there fresh =
     let s = reached steps a b m run in
     let grown = run_grows steps (start a b) m run in

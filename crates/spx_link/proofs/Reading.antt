@@ -16,7 +16,7 @@ use Rattle.spx_link.specs.Marks.{acknowledged, distance}
 use Rattle.spx_link.specs.Offer.{queued, first_of, take_link, take_held}
 use Rattle.spx_link.specs.Receive as R
 use Rattle.spx_link.specs.Receive.{is_kept, is_own, is_system, receive_link, receive_at}
-use Rattle.spx_link.specs.Turns.{is_joined, IsInTurn, state_after, ended_after, IsDone, kept_with, newly_held}
+use Rattle.spx_link.specs.Turns.{is_joined, IsInTurn, state_after, ended_after, ConfirmsWhole, kept_with, newly_held}
 use Rattle.spx_link.specs.Units.{unit_of, queued_units, SameEndings}
 use Rattle.spx_link.proofs.Carrying.{by_test}
 
@@ -91,7 +91,7 @@ pub record Course (l : LinkView) (h : SpxHeader) (r : Received × LinkView) : Ty
   pub peer_ended : r.1.peer_ended ≡ ended_after r.0 l.peer_ended
   pub queue : (r.0 ≡ Stranger → ⊥) → r.1.queue ≡ drop (acknowledged l.next l.out h.ack) l.queue
   pub stranger : r.0 ≡ Stranger → r.1 ≡ l
-  pub done : r.0 ≡ Confirmed → IsDone l r.1
+  pub done : r.0 ≡ Confirmed → ConfirmsWhole l r.1
 
 both_tests : (b : Bool) → b ≡ true → b ≡ false → ⊥
 both_tests true e f = cc
@@ -323,7 +323,7 @@ stranger_receives l h body e =
 
 reply_receives : (l : LinkView) (h : SpxHeader) (body : List ℕ) → is_joined l.state ≡ false → ReceiveSays l h body (R.receive_reply l h)
 reply_receives l h body e =
-    by_test (ReceiveSays l h body) (R.is_reply l h) (Joined, R.read_numbers (R.joined l h) h) (Stranger, l)
+    by_test (ReceiveSays l h body) (R.is_reply l h) (Joined, R.read_numbers (R.joined_link l h) h) (Stranger, l)
     (λ _. record {
       course = record { state = refl; end_queued = refl; peer_ended = refl; queue = λ _. refl; stranger = λ x. cc; done = λ x. cc };
       turns = not_joined l h e;

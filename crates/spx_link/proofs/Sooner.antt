@@ -8,7 +8,7 @@ use Rattle.spx_link.specs.Due.{IsQuiet, IsNextDue, IsNextDueOfAll, earliest, aga
 use Rattle.spx_link.specs.LinkView.{LinkView, is_working}
 use Rattle.spx_link.specs.Links.{LinksView, link_at}
 use Rattle.spx_link.specs.Poll as P
-use Rattle.spx_link.specs.Sound.{ids_of, IsApart}
+use Rattle.spx_link.specs.Sound.{ids_of, AreIdsApart}
 use Rattle.spx_link.proofs.Apart.{stands}
 use Rattle.spx_link.proofs.Carrying.{by_test}
 use Rattle.spx_link.proofs.Found.{place_of_found}
@@ -141,7 +141,7 @@ some_stands (l ∷ ls) t e = some_stands_at l ls t (due_link l) (soonest ls) (λ
 acts_from : (l : LinkView) (t : ℕ) → due_link l ≡ Some t → (now : ℕ) → t ≤ now → IsQuiet l now → ⊥
 acts_from l t is = let P : Option ℕ → Type 0 = λ o. IsNextDue l o in (subst P is (next_due l)).1
 
-all_by : (s : LinksView) (o : Option ℕ) → IsApart (ids_of s.links) → soonest s.links ≡ o → IsNextDueOfAll s o
+all_by : (s : LinksView) (o : Option ℕ) → AreIdsApart (ids_of s.links) → soonest s.links ≡ o → IsNextDueOfAll s o
 all_by s None apart is =
     λ id now l at less.
     let P : Option ℕ → Type 0 = λ o. Before now o in
@@ -154,5 +154,5 @@ all_by s (Some t) apart is =
       (one.link.own, one.link, stands s.links one.place one.link apart one.within one.read, acts_from one.link t one.due),
     )
 
-pub next_due_of_all : (s : LinksView) → IsApart (ids_of s.links) → IsNextDueOfAll s (soonest s.links)
+pub next_due_of_all : (s : LinksView) → AreIdsApart (ids_of s.links) → IsNextDueOfAll s (soonest s.links)
 next_due_of_all s apart = all_by s (soonest s.links) apart refl

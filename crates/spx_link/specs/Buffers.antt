@@ -34,8 +34,8 @@ abbrev pub left : BuffersView → ℕ
 left b = b.size - length b.held
 
 -- once these units are held, which stood first of those ahead. Behind an end nothing is kept
-abbrev pub held_with : BuffersView → List Unit → BuffersView
-held_with b us =
+abbrev pub with_units_held : BuffersView → List Unit → BuffersView
+with_units_held b us =
     record {
       held = b.held ++ us;
       ahead = if any_end us then [] else drop (length us) b.ahead;
@@ -43,5 +43,5 @@ held_with b us =
     }
 
 -- once the units that stand in order are held
-abbrev pub settled : BuffersView → BuffersView
-settled b = held_with b (leading b.ahead)
+abbrev pub held_in_order : BuffersView → BuffersView
+held_in_order b = with_units_held b (leading b.ahead)

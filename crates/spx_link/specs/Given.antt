@@ -20,7 +20,7 @@ pub record IsWithoutUnit (l : LinkView) (id : ℕ) (o : OutgoingView) : Type 0 w
   pub body : o.body ≡ []
 
 -- it carries a unit to the peer, which reads it as one unless its stream is that of a confirmation
-pub record Carries (l : LinkView) (u : Unit) (o : OutgoingView) : Type 0 where
+pub record CarriesToPeer (l : LinkView) (u : Unit) (o : OutgoingView) : Type 0 where
   pub to : o.header.to_id ≡ l.peer
   pub unit : unit_in o.header o.body ≡ as_sent u
   pub body : o.body ≡ u.body.items
@@ -31,7 +31,7 @@ pub record Carries (l : LinkView) (u : Unit) (o : OutgoingView) : Type 0 where
 pub record IsNextUnit (l : LinkView) (o : OutgoingView) : Type 0 where
   pub unit : Unit
   pub queued : slice_get (queued_units l) l.out ≡ Some unit
-  pub carries : Carries l unit o
+  pub carries : CarriesToPeer l unit o
   pub number : o.header.seq ≡ l.next
   pub room : 0 < l.room
   pub window : l.out < most_units
@@ -43,7 +43,7 @@ pub record IsOutstandingUnit (l : LinkView) (o : OutgoingView) : Type 0 where
   pub place : ℕ
   pub outstanding : place < l.out
   pub queued : slice_get (queued_units l) place ≡ Some unit
-  pub carries : Carries l unit o
+  pub carries : CarriesToPeer l unit o
   pub number : o.header.seq ≡ mark (base l + place)
   pub working : is_working l.state ≡ true
 

@@ -8,8 +8,8 @@ abbrev pub IsLeastId : (LinkView → Type 0) → List LinkView → Option ℕ �
 IsLeastId P ls None = All (λ l. ¬ P l) ls
 IsLeastId P ls (Some id) = Any (λ l. P l × (l.own ≡ id)) ls × All (λ l. P l → id ≤ l.own) ls
 
-abbrev pub IsOver : ℕ → LinkView → Type 0
-IsOver id l = id < l.own
+abbrev pub HasGreaterId : ℕ → LinkView → Type 0
+HasGreaterId id l = id < l.own
 
 pub record IsFrom (address : Address) (peer_id : ℕ) (l : LinkView) : Type 0 where
   pub accepted : l.accepted ≡ true

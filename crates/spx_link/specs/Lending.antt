@@ -5,5 +5,5 @@ use Rattle.std.specs.Borrow.{follows_so, MutBor, Fml}
 use Rattle.spx_link.specs.LinkView.{LinkView}
 use Rattle.spx_link.specs.contracts.link.Link.{the_row}
 
-abbrev pub Rests : MutBor LinkView → LinkView → Fml
-Rests s after = follows_so the_row the_row s.ghost_name none (λ _ _. ⊤) (λ n. n ≡ after)
+abbrev pub LoanEndsAs : MutBor LinkView → LinkView → Fml
+LoanEndsAs s after = follows_so the_row the_row s.ghost_name none (λ _ _. ⊤) (λ n. n ≡ after)

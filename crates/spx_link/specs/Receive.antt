@@ -178,11 +178,11 @@ is_reply l h =
     && (not h.wants_ack
     && ((h.to_id == l.own) && (nat_lt 0 h.from_id && nat_lt h.from_id no_id))))
 
-abbrev pub joined : LinkView → SpxHeader → LinkView
-joined l h = record l { state = States.Live; peer = h.from_id }
+abbrev pub joined_link : LinkView → SpxHeader → LinkView
+joined_link l h = record l { state = States.Live; peer = h.from_id }
 
 abbrev pub receive_reply : LinkView → SpxHeader → Received × LinkView
-receive_reply l h = if is_reply l h then (Joined, read_numbers (joined l h) h) else (Stranger, l)
+receive_reply l h = if is_reply l h then (Joined, read_numbers (joined_link l h) h) else (Stranger, l)
 
 abbrev pub receive_at : State → LinkView → SpxHeader → List ℕ → Received × LinkView
 receive_at States.Opening l h body = receive_reply l h

@@ -70,6 +70,6 @@ ended_after Confirmed ended = ended
 ended_after Stranger ended = ended
 
 -- a link that is confirmed had queued its end, and nothing of its own is left to acknowledge
-pub record IsDone (old new : LinkView) : Type 0 where
+pub record ConfirmsWhole (old new : LinkView) : Type 0 where
   pub end_queued : old.end_queued ≡ true
   pub queue : new.queue ≡ []

@@ -111,7 +111,7 @@ impl Buffers {
     pub fn settle(&mut self) -> Risen
         ensures count { result.count ≡ length (R.leading self.old.ahead) }
         ensures ended { result.ended ≡ R.any_end (R.leading self.old.ahead) }
-        ensures leaves { self.new ≡ spec.settled self.old }
+        ensures leaves { self.new ≡ spec.held_in_order self.old }
     {
         let risen = leading(&self.ring, usize::from(self.count));
         self.count += risen.count;

@@ -22,7 +22,7 @@ ghost use Rattle.spx_link.specs.Offer.{accepted_from, dialed, end_link, first_of
 ghost use Rattle.spx_link.specs.Offer.{offer_link, owe_reply_link, take_link, the_end};
 ghost use Rattle.spx_link.specs.Poll.{poll_link};
 ghost use Rattle.spx_link.specs.Receive.{any_end, is_kept, is_own, receive_link};
-ghost use Rattle.spx_link.specs.Turns.{IsDone, IsInTurn, ended_after, is_joined, kept, kept_with};
+ghost use Rattle.spx_link.specs.Turns.{ConfirmsWhole, IsInTurn, ended_after, is_joined, kept, kept_with};
 ghost use Rattle.spx_link.specs.Turns.{newly_held, state_after};
 ghost use Rattle.spx_link.specs.Units.{IsEmpty, SameEndings, SameUnits, as_sent, queued_units};
 ghost use Rattle.spx_link.specs.Units.{unit_in};
@@ -134,7 +134,7 @@ pub fn receive_changes_states()
         → (receive_link l h body).1.peer_ended
         ≡ ended_after (receive_link l h body).0 l.peer_ended }
     ensures confirmed { (l : LinkView) (h : SpxHeader) (body : List ℕ)
-        → (receive_link l h body).0 ≡ Confirmed → IsDone l (receive_link l h body).1 }
+        → (receive_link l h body).0 ≡ Confirmed → ConfirmsWhole l (receive_link l h body).1 }
 {}
 
 /// A take changes how many units are held, and no end.

@@ -8,7 +8,7 @@ ghost use Rattle.spx_link.specs.Limits.{most_links};
 ghost use Rattle.spx_link.specs.Links.{Adds, IsAbove, IsAcceptedFrom, IsBetween, IsLeast, IsLive};
 ghost use Rattle.spx_link.specs.Links.{IsNextFree, LinksView, Releases, count_of, link_at};
 ghost use Rattle.spx_link.specs.Offer.{accepted_from, dialed};
-ghost use Rattle.spx_link.specs.Sound.{IsSound, ids_of};
+ghost use Rattle.spx_link.specs.Sound.{AreIdsSound, ids_of};
 ghost use Rattle.spx_link.specs.declared.fault.LinksFault.TheVariants as LinksFaults;
 
 mod by_id;
@@ -35,7 +35,7 @@ impl Model for Links {
 
     ghost view = { λ s. record { last = s.last; links = s.links.items } };
 
-    ghost invariant = { λ s. IsSound s.last (ids_of s.links.items) };
+    ghost invariant = { λ s. AreIdsSound s.last (ids_of s.links.items) };
 }
 
 impl Links {

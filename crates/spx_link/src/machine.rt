@@ -7,7 +7,7 @@ ghost use Rattle.spx_link.specs.Machine.{AreSound, End, Grows, IsChain, IsRun, I
 ghost use Rattle.spx_link.specs.Machine.{Machine, Packet, Step, WasSent, got, new_end, start};
 ghost use Rattle.spx_link.specs.Machine.Act.{Gets};
 ghost use Rattle.spx_link.specs.Machine.Step.{One, Two};
-ghost use Rattle.spx_link.specs.Fresh.{IsFresh, Tells};
+ghost use Rattle.spx_link.specs.Fresh.{IsRecentPacket, TellsPositions};
 
 /// What an end takes as acknowledged was read by its peer, what was read was sent, and what was
 /// sent was allowed.
@@ -65,9 +65,9 @@ pub fn allowances()
 /// 16,383 buffers.
 pub fn fresh_packets()
     ensures one { (steps : List Step) (a b : ℕ) (m : Machine) (p : Packet) → a ≤ most_room
-        → b ≤ most_room → IsRun steps (start a b) m → Contains m.two.bag p → IsFresh m.one m.two p
-        → Tells m.one p }
+        → b ≤ most_room → IsRun steps (start a b) m → Contains m.two.bag p → IsRecentPacket m.one m.two p
+        → TellsPositions m.one p }
     ensures two { (steps : List Step) (a b : ℕ) (m : Machine) (p : Packet) → a ≤ most_room
-        → b ≤ most_room → IsRun steps (start a b) m → Contains m.one.bag p → IsFresh m.two m.one p
-        → Tells m.two p }
+        → b ≤ most_room → IsRun steps (start a b) m → Contains m.one.bag p → IsRecentPacket m.two m.one p
+        → TellsPositions m.two p }
 {}

@@ -4,7 +4,7 @@ ghost use Rattle.std.specs.Prelude.{◌≡◌, ◌≤◌, ◌<◌, IfSome, IsTru
 ghost use Rattle.std.specs.Prelude.{Some, ℕ};
 ghost use Rattle.std.specs.Borrow.{sem};
 ghost use Rattle.spx_link.specs.LinkView.{LinkView};
-ghost use Rattle.spx_link.specs.Lending.{Rests};
+ghost use Rattle.spx_link.specs.Lending.{LoanEndsAs};
 ghost use Rattle.spx_link.specs.Poll as spec;
 ghost use Rattle.spx_link.specs.Chosen.{carried};
 
@@ -21,7 +21,7 @@ impl Link {
     ///
     /// It takes no memory. A link whose request, unit or probe was sent ten times in vain is lost.
     pub fn poll(&mut self, now: u64) -> Option<Outgoing<'_>>
-        ensures* leaves { sem 𝓛 (Rests self.entry (spec.poll_link self.old now).1) }
+        ensures* leaves { sem 𝓛 (LoanEndsAs self.entry (spec.poll_link self.old now).1) }
         ensures gives { option_map spec.outgoing_view result ≡ (spec.poll_link self.old now).0 }
         ensures fits { IfSome result (λ o. length o.body.now ≤ 534) }
     {

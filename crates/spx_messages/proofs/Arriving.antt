@@ -14,7 +14,7 @@ use Rattle.spx_messages.specs.Arrives.{Answers, Arrives, Comes, IsAcceptable, Is
 use Rattle.spx_messages.specs.Changes.{AddsEnd, ChangesEnd, SameBut, SameSelf}
 use Rattle.spx_messages.specs.EndpointView.{EndpointView, buffers_at, buffers_in, held_with, rest_in}
 use Rattle.spx_messages.specs.Polls.{home_of}
-use Rattle.spx_messages.specs.Readings.{Accepts, AsksAgain, Forgets, Hears, IsAsked, IsDeafTo, IsFullFor, IsNew, IsOfNobody, IsOpenTo, IsRead, IsTo, SameLinks, Unasked}
+use Rattle.spx_messages.specs.Readings.{Accepts, OwesReplyAgain, Forgets, IsReadBy, IsAsked, IsDeafTo, IsFullFor, IsNew, IsOfNobody, IsOpenTo, IsRead, IsTo, SameLinks, Unasked}
 use Rattle.spx_messages.specs.declared.arrived.Arrived.{Arrived}
 use Rattle.spx_messages.specs.declared.arrived.Arrived.TheVariants as Arriveds
 use Rattle.spx_messages.specs.declared.listening.Listener.{Listener}
@@ -91,7 +91,7 @@ adds_end e links parts heard id l a f = record {
 
 -- ---- a request
 
-again : (e : EndpointView) (bytes : List ℕ) (r : Reading) (links : LinksView) (id : ℕ) → IsRead (home_of e) bytes r → IsRequestFor r.header → AsksAgain e.links links r id → IsAskedAgain e bytes id (heard_with e links e.parts None)
+again : (e : EndpointView) (bytes : List ℕ) (r : Reading) (links : LinksView) (id : ℕ) → IsRead (home_of e) bytes r → IsRequestFor r.header → OwesReplyAgain e.links links r id → IsAskedAgain e bytes id (heard_with e links e.parts None)
 again e bytes r links id x request a =
     let P : Address → Type 0 = λ b. IsLeast (IsAcceptedFrom e.links b r.header.from_id) id in
     record {
@@ -155,7 +155,7 @@ acceptable e bytes r x request o = record {
   room = o.room;
 }
 
-again_with : (e : EndpointView) (bytes : List ℕ) (r : Reading) (links : LinksView) (parts : List Part) (id : ℕ) → IsRead (home_of e) bytes r → IsRequestFor r.header → AsksAgain e.links links r id → parts ≡ e.parts → IsAskedAgain e bytes id (heard_with e links parts None)
+again_with : (e : EndpointView) (bytes : List ℕ) (r : Reading) (links : LinksView) (parts : List Part) (id : ℕ) → IsRead (home_of e) bytes r → IsRequestFor r.header → OwesReplyAgain e.links links r id → parts ≡ e.parts → IsAskedAgain e bytes id (heard_with e links parts None)
 again_with e bytes r links parts id x request a same =
     let P : List Part → Type 0 = λ ps. IsAskedAgain e bytes id (heard_with e links ps None) in
     subst P (sym same) (again e bytes r links id x request a)
@@ -194,7 +194,7 @@ acceptable_if {A} {E} old e view bytes r listening result same x request open' =
 -- ---- another packet
 
 -- the link of an id read it
-pub heard_arrives : (old e : EndpointView) → e ≡ old → (bytes : List ℕ) (r : Reading) (now : ℕ) (links : LinksView) (id : ℕ) (answer : Received) → IsRead (home_of e) bytes r → ¬ IsRequestFor r.header → Hears e.links links r id answer → Arrives old bytes now (Arriveds.Link id answer) (heard_with e links e.parts (Some id))
+pub heard_arrives : (old e : EndpointView) → e ≡ old → (bytes : List ℕ) (r : Reading) (now : ℕ) (links : LinksView) (id : ℕ) (answer : Received) → IsRead (home_of e) bytes r → ¬ IsRequestFor r.header → IsReadBy e.links links r id answer → Arrives old bytes now (Arriveds.Link id answer) (heard_with e links e.parts (Some id))
 heard_arrives old e view bytes r now links id answer x other h =
     let there : IsHeard e bytes id answer (heard_with e links e.parts (Some id)) = record {
       packet = x.packet;

@@ -5,7 +5,7 @@ use Rattle.spx_link.specs.Links.{LinksView, link_at}
 use Rattle.spx_link.specs.Poll.{OutgoingView, poll_link}
 use Rattle.spx_link.specs.declared.outgoing.Sent.{Sent}
 use Rattle.spx_units.specs.Message.{MessageView}
-use Rattle.spx_units.specs.Packets.{IsWritten}
+use Rattle.spx_units.specs.Packets.{IsWrittenPacket}
 use Rattle.spx_messages.specs.Changes.{SameSelf}
 use Rattle.spx_messages.specs.EndpointView.{EndpointView, Held, held_at, held_with, rest_in}
 use Rattle.spx_messages.specs.Polls.{Polls, RestsAt, home_of}
@@ -61,7 +61,7 @@ gives_nothing e links now room written all same = record {
   heard = refl;
 }
 
-is_written : (e : EndpointView) (l : LinkView) (g : OutgoingView) (bytes : List ℕ) → IsPacketBetween (address_at (place_of e) l.local) l.remote g bytes → IsWritten (home_of e) l g bytes
+is_written : (e : EndpointView) (l : LinkView) (g : OutgoingView) (bytes : List ℕ) → IsPacketBetween (address_at (place_of e) l.local) l.remote g bytes → IsWrittenPacket (home_of e) l g bytes
 is_written e l g bytes b = record {
   packet = record { header = record { hops = 0; kind = 5; to = l.remote; from = address_at (place_of e) l.local }; body = b.body };
   is = b.ipx;

@@ -43,12 +43,12 @@ abbrev pub held_with : Option LinkView → Option MessageView → Option Held
 held_with None rest = None
 held_with (Some l) rest = Some (record { link = l; rest = rest })
 
-abbrev pub held_in : LinksView → List Part → ℕ → Option Held
-held_in links parts id = held_with (link_at links id) (rest_in parts id)
+abbrev pub held_among : LinksView → List Part → ℕ → Option Held
+held_among links parts id = held_with (link_at links id) (rest_in parts id)
 
 -- what is held under an id
 abbrev pub held_at : EndpointView → ℕ → Option Held
-held_at e id = held_in e.links e.parts id
+held_at e id = held_among e.links e.parts id
 
 abbrev pub listener_in : List Listener → ℕ → Option Listener
 listener_in listening socket = find (λ l. l.socket.0 == socket) listening

@@ -7,7 +7,7 @@ use Rattle.ipx_wire.specs.declared.address.Node.{Node}
 use Rattle.ipx_wire.specs.declared.address.Address.{Address}
 use Rattle.spx_link.specs.Links.{count_of}
 use Rattle.spx_link.specs.Poll.{OutgoingView, poll_link}
-use Rattle.spx_units.specs.Packets.{Home, IsWritten}
+use Rattle.spx_units.specs.Packets.{Home, IsWrittenPacket}
 use Rattle.spx_messages.specs.Changes.{SameSelf}
 use Rattle.spx_messages.specs.EndpointView.{EndpointView, Held, held_at}
 
@@ -29,7 +29,7 @@ next_node e to = if (to.network.0 == e.network.0) || (to.network.0 == 0) then to
 
 -- the link of the first id that has something to give gives it; the free bits of the control byte
 -- are 0
-pub record Gives (old : EndpointView) (now : ℕ) (node : Node) (n : ℕ) (room written : List ℕ)
+pub record FirstLinkGives (old : EndpointView) (now : ℕ) (node : Node) (n : ℕ) (room written : List ℕ)
     (new : EndpointView) : Type 0 where
   pub id : ℕ
   pub held : Held
@@ -41,7 +41,7 @@ pub record Gives (old : EndpointView) (now : ℕ) (node : Node) (n : ℕ) (room 
   pub above : (q : ℕ) → id < q → held_at new q ≡ held_at old q
   pub said : new.said ≡ Some (id, given.what)
   pub short : n ≤ spx_max_packet_size
-  pub is : IsWritten (home_of old) held.link given (take n written)
+  pub is : IsWrittenPacket (home_of old) held.link given (take n written)
   pub clear : HasFreeBitsClear is.packet.body
   pub behind : drop n written ≡ drop n room
   pub next : node ≡ next_node old held.link.remote
@@ -55,7 +55,7 @@ pub record GivesNothing (old : EndpointView) (now : ℕ) (room written : List �
 abbrev pub PollGives : EndpointView → ℕ → Option (Node × ℕ) → List ℕ → List ℕ
     → EndpointView → Type 0
 PollGives old now None room written new = GivesNothing old now room written new
-PollGives old now (Some r) room written new = Gives old now r.0 r.1 room written new
+PollGives old now (Some r) room written new = FirstLinkGives old now r.0 r.1 room written new
 
 pub record Polls (old : EndpointView) (now : ℕ) (result : Option (Node × ℕ))
     (room written : List ℕ) (new : EndpointView) : Type 0 where

@@ -23,9 +23,9 @@ pub record Pushes (rest : Option MessageView) (u : Unit)
   pub unchanged : result ≡ Err MessageFaults.OutOfMemory → after ≡ rest
 
 -- what is taken where a unit was pushed
-abbrev pub taken_of : Option MessageView → TakenView
-taken_of None = OnePart
-taken_of (Some m) = Whole m
+abbrev pub taken_by_push : Option MessageView → TakenView
+taken_by_push None = OnePart
+taken_by_push (Some m) = Whole m
 
 -- under an id the link and the part become these, and nothing else changes
 pub record ChangesHeld (links links' : LinksView) (parts parts' : List Part) (id : ℕ)

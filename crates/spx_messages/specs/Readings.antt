@@ -67,7 +67,7 @@ pub record SameLinks (old new : LinksView) : Type 0 where
   pub count : count_of new ≡ count_of old
 
 -- the link of the id, between that socket and that address, read it
-pub record Hears (old new : LinksView) (r : Reading) (id : ℕ) (answer : Received) : Type 0 where
+pub record IsReadBy (old new : LinksView) (r : Reading) (id : ℕ) (answer : Received) : Type 0 where
   pub to : r.header.to_id ≡ id
   pub link : LinkView
   pub at : link_at old id ≡ Some link
@@ -93,7 +93,7 @@ pub record Forgets (old new : List Part) (id : ℕ) : Type 0 where
   pub others : (q : ℕ) → q ≢ id → rest_in new q ≡ rest_in old q
 
 -- a request came again: the link that it made owes its reply once more
-pub record AsksAgain (old new : LinksView) (r : Reading) (id : ℕ) : Type 0 where
+pub record OwesReplyAgain (old new : LinksView) (r : Reading) (id : ℕ) : Type 0 where
   pub least : IsLeast (IsAcceptedFrom old r.from r.header.from_id) id
   pub link : LinkView
   pub at : link_at old id ≡ Some link
@@ -145,4 +145,4 @@ IsAsked listening old new before after r now Arriveds.Stranger = ⊥
 IsAsked listening old new before after r now (Arriveds.Accepted id) =
     Accepts listening old new before after r now id
 IsAsked listening old new before after r now (Arriveds.Link id answer) =
-    AsksAgain old new r id × (answer ≡ Receiveds.Repeat) × (after ≡ before)
+    OwesReplyAgain old new r id × (answer ≡ Receiveds.Repeat) × (after ≡ before)

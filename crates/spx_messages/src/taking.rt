@@ -5,8 +5,8 @@ ghost use Rattle.spx_link.specs.Links.{ChangesOnly, IsLive, link_at};
 ghost use Rattle.spx_link.specs.Offer.{first_of, lose_link, take_link};
 ghost use Rattle.spx_units.specs.Message.{message_view};
 ghost use Rattle.spx_units.specs.declared.fault.MessageFault.TheVariants as MessageFaults;
-ghost use Rattle.spx_messages.specs.EndpointView.{held_in, rest_in};
-ghost use Rattle.spx_messages.specs.Pushing.{ChangesHeld, taken_of};
+ghost use Rattle.spx_messages.specs.EndpointView.{held_among, rest_in};
+ghost use Rattle.spx_messages.specs.Pushing.{ChangesHeld, taken_by_push};
 ghost use Rattle.spx_messages.specs.Taking.{IsPushed, result_view, take_end};
 ghost use Rattle.spx_messages.specs.declared.fault.EndFault.TheVariants as EndFaults;
 
@@ -29,11 +29,11 @@ pub fn take_from(
     id: u16,
 ) -> Result<Taken, EndFault>
     ensures unknown { (result ≡ Err EndFaults.NoSuchEnd) ↔ (link_at links.old id ≡ None) }
-    ensures takes { IfSome (held_in links.old parts.old.items id) (λ h.
+    ensures takes { IfSome (held_among links.old parts.old.items id) (λ h.
         result ≢ Err (EndFaults.Message MessageFaults.OutOfMemory)
         → (result_view result ≡ (take_end h).0)
         × ChangesHeld links.old links.new parts.old.items parts.new.items id (take_end h).1) }
-    ensures memory { IfSome (held_in links.old parts.old.items id) (λ h.
+    ensures memory { IfSome (held_among links.old parts.old.items id) (λ h.
         result ≡ Err (EndFaults.Message MessageFaults.OutOfMemory) → IsPushed h) }
     ensures unchanged { result ≡ Err (EndFaults.Message MessageFaults.OutOfMemory)
         → (links.new ≡ links.old)
@@ -63,7 +63,7 @@ fn take_pushed(
 ) -> Result<Taken, EndFault>
     requires { IsLive links.old id }
     ensures took { IfOk pushed (λ m.
-        result_view result ≡ Ok (taken_of (option_map message_view m))) }
+        result_view result ≡ Ok (taken_by_push (option_map message_view m))) }
     ensures leaves { IfOk pushed (λ _. IfSome (link_at links.old id) (λ l.
         ChangesOnly links.old links.new id (take_link l).1)) }
     ensures overlong { pushed ≡ Err MessageFaults.Overlong

@@ -8,8 +8,8 @@ use Rattle.spx_link.specs.declared.unit.Unit.{Unit}
 use Rattle.spx_link.specs.LinkView.{is_end}
 use Rattle.spx_link.specs.Offer.{the_end}
 use Rattle.spx_units.specs.Message.{MessageView, length_of}
-use Rattle.spx_units.specs.Cut.{bytes_of, cut_of, pieces, unit_with}
-use Rattle.spx_units.specs.Joining.{AreSendable, IsSendable, Joining, added, is_overlong, join_all, join_unit, joined, units_of}
+use Rattle.spx_units.specs.Cut.{unit_bytes, cut_of, pieces, unit_with}
+use Rattle.spx_units.specs.Joining.{AreSendable, IsSendable, Joining, added, is_overlong, join_all, join_unit, joined, units_of_messages}
 use Rattle.spx_units.proofs.Pieces.{All-head, All-tail, cut_more, more_pieces, one_piece}
 
 abbrev so_far : List MessageView → Option MessageView → Joining
@@ -70,19 +70,19 @@ cut_join ms m low = cases (cases_lt 534 (length m.body))
         ∙ ap (λ bs. so_far (ms ++ record { stream = m.stream; body = bs } ∷ []) None) (take-append-drop 534 m.body)
     cases (inr short) = ap (join_all (so_far ms None)) (one_piece (length m.body) m.stream m.body short) ∙ join_last ms None m.stream m.body low
 
-units_join : (before ms : List MessageView) → AreSendable ms → join_all (so_far before None) (units_of ms) ≡ so_far (before ++ ms) None
+units_join : (before ms : List MessageView) → AreSendable ms → join_all (so_far before None) (units_of_messages ms) ≡ so_far (before ++ ms) None
 units_join before [] all = ap (λ ms. so_far ms None) (sym (append-nil before))
 units_join before (m ∷ ms) all =
-    join_all-append (so_far before None) (cut_of m) (units_of ms)
-    ∙ ap (λ j. join_all j (units_of ms)) (cut_join before m (All-head IsSendable m ms all).stream)
+    join_all-append (so_far before None) (cut_of m) (units_of_messages ms)
+    ∙ ap (λ j. join_all j (units_of_messages ms)) (cut_join before m (All-head IsSendable m ms all).stream)
     ∙ units_join (before ++ m ∷ []) ms (All-tail IsSendable m ms all)
     ∙ ap (λ ms'. so_far ms' None) (append_assoc before (m ∷ []) ms)
 
-pub all_join : (ms : List MessageView) → AreSendable ms → joined (units_of ms) ≡ so_far ms None
+pub all_join : (ms : List MessageView) → AreSendable ms → joined (units_of_messages ms) ≡ so_far ms None
 all_join ms all = units_join [] ms all
 
-pub all_join_ended : (ms : List MessageView) → AreSendable ms → joined (units_of ms ++ the_end ∷ []) ≡ so_far ms None
-all_join_ended ms all = join_all-append (so_far [] None) (units_of ms) (the_end ∷ []) ∙ ap (λ j. join_unit j the_end) (all_join ms all)
+pub all_join_ended : (ms : List MessageView) → AreSendable ms → joined (units_of_messages ms ++ the_end ∷ []) ≡ so_far ms None
+all_join_ended ms all = join_all-append (so_far [] None) (units_of_messages ms) (the_end ∷ []) ∙ ap (λ j. join_unit j the_end) (all_join ms all)
 
 -- ---- a beginning of the units
 
@@ -111,9 +111,9 @@ first_messages us count ms whole =
 
 -- ---- no message is overlong
 
-added_length : (o : Option MessageView) (u : Unit) → length (added o u).body ≡ length_of o + length (bytes_of u)
+added_length : (o : Option MessageView) (u : Unit) → length (added o u).body ≡ length_of o + length (unit_bytes u)
 added_length None u = omega arith
-added_length (Some m) u = length-append m.body (bytes_of u)
+added_length (Some m) u = length-append m.body (unit_bytes u)
 
 abbrev Fits : List MessageView → Option MessageView → List Unit → ℕ → ℕ → Type 0
 Fits ms o us k most = (u : Unit) → slice_get us k ≡ Some u → length (added (join_all (so_far ms o) (take k us)).rest u).body ≤ most
@@ -121,9 +121,9 @@ Fits ms o us k most = (u : Unit) → slice_get us k ≡ Some u → length (added
 no_unit : (u : Unit) → None ≡ Some u → ⊥
 no_unit u is = cc
 
-one_fits : (ms : List MessageView) (o : Option MessageView) (v : Unit) (k most : ℕ) → length_of o + length (bytes_of v) ≤ most → Fits ms o (v ∷ []) k most
+one_fits : (ms : List MessageView) (o : Option MessageView) (v : Unit) (k most : ℕ) → length_of o + length (unit_bytes v) ≤ most → Fits ms o (v ∷ []) k most
 one_fits ms o v zero most within u is =
-    let same : v ≡ u = cc is in omega (arith, within, added_length o u, ap (λ (w : Unit). length (bytes_of w)) same)
+    let same : v ≡ u = cc is in omega (arith, within, added_length o u, ap (λ (w : Unit). length (unit_bytes w)) same)
 one_fits ms o v (suc k) most within u is = absurd (no_unit u is)
 
 pieces_fit : (ms : List MessageView) (o : Option MessageView) (more stream : ℕ) (bytes : List ℕ) (k : ℕ) → stream < 254
@@ -139,7 +139,7 @@ pieces_fit ms o (suc more) stream bytes k low =
         → Fits ms o (unit_with stream false (take 534 bytes) ∷ pieces more stream (drop 534 bytes)) i (length_of o + length bytes)
     later_fits zero long later u is =
         let same : unit_with stream false (take 534 bytes) ≡ u = cc is in
-        omega (arith, long, added_length o u, ap (λ (w : Unit). length (bytes_of w)) same, length-take 534 bytes)
+        omega (arith, long, added_length o u, ap (λ (w : Unit). length (unit_bytes w)) same, length-take 534 bytes)
     later_fits (suc i) long later u is =
         let step : join_unit (so_far ms o) (unit_with stream false (take 534 bytes)) ≡ so_far ms (Some (added o (unit_with stream false (take 534 bytes)))) = join_full ms o stream (take 534 bytes) low in
         let fits = later i u is in
@@ -169,7 +169,7 @@ take_behind [] ys k i is = ap (λ n. take n ys) (omega (arith, is))
 take_behind (x ∷ xs) ys zero i is = absurd (omega (arith, is))
 take_behind (x ∷ xs) ys (suc k) i is = ap (λ zs. x ∷ zs) (take_behind xs ys k i (omega (arith, is)))
 
-units_fit : (before ms : List MessageView) (k : ℕ) → AreSendable ms → Fits before None (units_of ms) k 65535
+units_fit : (before ms : List MessageView) (k : ℕ) → AreSendable ms → Fits before None (units_of_messages ms) k 65535
 units_fit before [] k all u is = absurd (no_unit u is)
 units_fit before (m ∷ ms) k all u is =
     cases (cases_lt k (length (cut_of m))) (λ i. units_fit (before ++ m ∷ []) ms i (All-tail IsSendable m ms all) u)
@@ -177,23 +177,23 @@ units_fit before (m ∷ ms) k all u is =
     first : IsSendable m
     first = All-head IsSendable m ms all
 
-    cases : (k < length (cut_of m)) ⊎ (length (cut_of m) ≤ k) → ((i : ℕ) → slice_get (units_of ms) i ≡ Some u → length (added (join_all (so_far (before ++ m ∷ []) None) (take i (units_of ms))).rest u).body ≤ 65535)
-        → length (added (join_all (so_far before None) (take k (cut_of m ++ units_of ms))).rest u).body ≤ 65535
+    cases : (k < length (cut_of m)) ⊎ (length (cut_of m) ≤ k) → ((i : ℕ) → slice_get (units_of_messages ms) i ≡ Some u → length (added (join_all (so_far (before ++ m ∷ []) None) (take i (units_of_messages ms))).rest u).body ≤ 65535)
+        → length (added (join_all (so_far before None) (take k (cut_of m ++ units_of_messages ms))).rest u).body ≤ 65535
     cases (inl within) later =
-        let here : slice_get (cut_of m) k ≡ Some u = sym (get_front (cut_of m) (units_of ms) k within) ∙ is in
+        let here : slice_get (cut_of m) k ≡ Some u = sym (get_front (cut_of m) (units_of_messages ms) k within) ∙ is in
         let fits = pieces_fit before None (length m.body) m.stream m.body k (All-head IsSendable m ms all).stream u here in
         let short : length (added (join_all (so_far before None) (take k (cut_of m))).rest u).body ≤ 65535 = omega (arith, fits, (All-head IsSendable m ms all).bytes) in
-        subst (λ us. length (added (join_all (so_far before None) us).rest u).body ≤ 65535) (sym (take-append-le k (cut_of m) (units_of ms) (omega (arith, within)))) short
+        subst (λ us. length (added (join_all (so_far before None) us).rest u).body ≤ 65535) (sym (take-append-le k (cut_of m) (units_of_messages ms) (omega (arith, within)))) short
     cases (inr behind) later =
         let place : k ≡ length (cut_of m) + (k - length (cut_of m)) = omega (arith, behind) in
         let i : ℕ = k - length (cut_of m) in
-        let there : slice_get (units_of ms) i ≡ Some u = sym (get_behind (cut_of m) (units_of ms) k i place) ∙ is in
-        let joins : join_all (so_far before None) (take k (cut_of m ++ units_of ms)) ≡ join_all (so_far (before ++ m ∷ []) None) (take i (units_of ms)) =
-        ap (join_all (so_far before None)) (take_behind (cut_of m) (units_of ms) k i place)
-        ∙ join_all-append (so_far before None) (cut_of m) (take i (units_of ms))
-        ∙ ap (λ j. join_all j (take i (units_of ms))) (cut_join before m (All-head IsSendable m ms all).stream) in
+        let there : slice_get (units_of_messages ms) i ≡ Some u = sym (get_behind (cut_of m) (units_of_messages ms) k i place) ∙ is in
+        let joins : join_all (so_far before None) (take k (cut_of m ++ units_of_messages ms)) ≡ join_all (so_far (before ++ m ∷ []) None) (take i (units_of_messages ms)) =
+        ap (join_all (so_far before None)) (take_behind (cut_of m) (units_of_messages ms) k i place)
+        ∙ join_all-append (so_far before None) (cut_of m) (take i (units_of_messages ms))
+        ∙ ap (λ j. join_all j (take i (units_of_messages ms))) (cut_join before m (All-head IsSendable m ms all).stream) in
         subst (λ (j : Joining). length (added j.rest u).body ≤ 65535) (sym joins) (later i there)
 
-pub none_overlong : (ms : List MessageView) (k : ℕ) (u : Unit) → AreSendable ms → slice_get (units_of ms) k ≡ Some u
-    → is_overlong (joined (take k (units_of ms))).rest u ≡ false
-none_overlong ms k u all is = le-ltb 65535 (length (added (joined (take k (units_of ms))).rest u).body) (units_fit [] ms k all u is)
+pub none_overlong : (ms : List MessageView) (k : ℕ) (u : Unit) → AreSendable ms → slice_get (units_of_messages ms) k ≡ Some u
+    → is_overlong (joined (take k (units_of_messages ms))).rest u ≡ false
+none_overlong ms k u all is = le-ltb 65535 (length (added (joined (take k (units_of_messages ms))).rest u).body) (units_fit [] ms k all u is)

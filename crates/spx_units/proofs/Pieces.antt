@@ -6,7 +6,7 @@ use Rattle.std.proofs.lemmas.List.{append-nil, append_assoc, take_at, drop_at, t
 use Rattle.std.proofs.lemmas.Bool.{cases_lt, cond-true, cond-false, le-leb, lt-leb}
 use Rattle.spx_link.specs.declared.unit.Unit.{Unit}
 use Rattle.spx_units.specs.Message.{MessageView}
-use Rattle.spx_units.specs.Cut.{IsCut, IsFull, bytes_of, cut_of, pieces, unit_with}
+use Rattle.spx_units.specs.Cut.{IsCut, IsFull, unit_bytes, cut_of, pieces, unit_with}
 
 pub All-head : {E : Type 0} (P : E → Type 0) (e : E) (es : List E) → All P (e ∷ es) → P e
 All-head P e es all = all 0 e (omega arith)
@@ -61,34 +61,34 @@ cut_more stream bytes long = fuel (length bytes) refl
 
 module _ (stream : ℕ) where
   -- these units of a stream are the pieces of their bytes
-  are_pieces : (before : List Unit) (final : Unit) (bytes : List ℕ) → All (λ u. u.stream ≡ stream) (before ++ final ∷ []) → flat_map bytes_of (before ++ final ∷ []) ≡ bytes
-      → All IsFull before → final.last ≡ true → length (bytes_of final) ≤ 534 → (0 < length before → 0 < length (bytes_of final))
+  are_pieces : (before : List Unit) (final : Unit) (bytes : List ℕ) → All (λ u. u.stream ≡ stream) (before ++ final ∷ []) → flat_map unit_bytes (before ++ final ∷ []) ≡ bytes
+      → All IsFull before → final.last ≡ true → length (unit_bytes final) ≤ 534 → (0 < length before → 0 < length (unit_bytes final))
       → before ++ final ∷ [] ≡ cut_of (record { stream = stream; body = bytes })
   are_pieces [] final bytes streams whole full ends short rest =
-      let same : bytes_of final ≡ bytes = sym (append-nil (bytes_of final)) ∙ whole in
+      let same : unit_bytes final ≡ bytes = sym (append-nil (unit_bytes final)) ∙ whole in
       let s : final.stream ≡ stream = All-head (λ (u : Unit). u.stream ≡ stream) final [] streams in
       let is : final ≡ unit_with stream true bytes = rw (sym s, sym ends, sym same) refl in
       ap (λ u. u ∷ []) is ∙ sym (one_piece (length bytes) stream bytes (subst (λ (bs : List ℕ). length bs ≤ 534) same short))
   are_pieces (u ∷ us) final bytes streams whole full ends short rest =
       let is_full = All-head IsFull u us full in
       let s : u.stream ≡ stream = All-head (λ (v : Unit). v.stream ≡ stream) u (us ++ final ∷ []) streams in
-      let later : List ℕ = flat_map bytes_of (us ++ final ∷ []) in
+      let later : List ℕ = flat_map unit_bytes (us ++ final ∷ []) in
       let left : 0 < length later = some_left us (rest (omega arith)) in
-      let front : take 534 bytes ≡ bytes_of u = ap (take 534) (sym whole) ∙ take_at (bytes_of u) later 534 is_full.bytes in
-      let back : drop 534 bytes ≡ later = ap (drop 534) (sym whole) ∙ drop_at (bytes_of u) later 534 is_full.bytes in
-      let long : 534 < length bytes = omega (arith, ap length whole, length-append (bytes_of u) later, is_full.bytes, left) in
+      let front : take 534 bytes ≡ unit_bytes u = ap (take 534) (sym whole) ∙ take_at (unit_bytes u) later 534 is_full.bytes in
+      let back : drop 534 bytes ≡ later = ap (drop 534) (sym whole) ∙ drop_at (unit_bytes u) later 534 is_full.bytes in
+      let long : 534 < length bytes = omega (arith, ap length whole, length-append (unit_bytes u) later, is_full.bytes, left) in
       let first : u ≡ unit_with stream false (take 534 bytes) = rw (front, sym s, sym is_full.last) refl in
       let others = are_pieces us final later (All-tail (λ (v : Unit). v.stream ≡ stream) u (us ++ final ∷ []) streams) refl (All-tail IsFull u us full) ends short (λ some. rest (omega arith)) in
       ap (λ v. v ∷ us ++ final ∷ []) first ∙ ap (λ vs. unit_with stream false (take 534 bytes) ∷ vs) (others ∙ ap (λ bs. cut_of (record { stream = stream; body = bs })) (sym back)) ∙ sym (cut_more stream bytes long)
     where
-      some_left : (vs : List Unit) → 0 < length (bytes_of final) → 0 < length (flat_map bytes_of (vs ++ final ∷ []))
-      some_left [] some = omega (arith, some, length-append (bytes_of final) [])
-      some_left (v ∷ vs) some = omega (arith, some_left vs some, length-append (bytes_of v) (flat_map bytes_of (vs ++ final ∷ [])))
+      some_left : (vs : List Unit) → 0 < length (unit_bytes final) → 0 < length (flat_map unit_bytes (vs ++ final ∷ []))
+      some_left [] some = omega (arith, some, length-append (unit_bytes final) [])
+      some_left (v ∷ vs) some = omega (arith, some_left vs some, length-append (unit_bytes v) (flat_map unit_bytes (vs ++ final ∷ [])))
 
 pub is_cut : (m : MessageView) (units : List Unit) → IsCut m units → units ≡ cut_of m
 is_cut m units c =
     let streams : All (λ (u : Unit). u.stream ≡ m.stream) (c.before ++ c.final ∷ []) = subst (All (λ (u : Unit). u.stream ≡ m.stream)) c.are c.streams in
-    c.are ∙ are_pieces m.stream c.before c.final m.body streams (ap (flat_map bytes_of) (sym c.are) ∙ c.whole) c.full c.ends c.short c.rest
+    c.are ∙ are_pieces m.stream c.before c.final m.body streams (ap (flat_map unit_bytes) (sym c.are) ∙ c.whole) c.full c.ends c.short c.rest
 
 one_cut : (stream : ℕ) (bytes : List ℕ) → length bytes ≤ 534 → IsCut (record { stream = stream; body = bytes }) (unit_with stream true bytes ∷ [])
 one_cut stream bytes short = record {
@@ -116,11 +116,11 @@ more_cut stream bytes us long c =
       full = All-cons IsFull first c.before (record { bytes = length-take-le 534 bytes (omega (arith, long)); last = refl }) c.full;
       ends = c.ends;
       short = c.short;
-      rest = λ some. left c.before (ap (flat_map bytes_of) (sym c.are) ∙ c.whole) c.rest;
+      rest = λ some. left c.before (ap (flat_map unit_bytes) (sym c.are) ∙ c.whole) c.rest;
     }
   where
-    left : (before : List Unit) → flat_map bytes_of (before ++ c.final ∷ []) ≡ drop 534 bytes → (0 < length before → 0 < length (bytes_of c.final)) → 0 < length (bytes_of c.final)
-    left [] whole rest = omega (arith, long, ap length whole, length-append (bytes_of c.final) [], length-drop 534 bytes)
+    left : (before : List Unit) → flat_map unit_bytes (before ++ c.final ∷ []) ≡ drop 534 bytes → (0 < length before → 0 < length (unit_bytes c.final)) → 0 < length (unit_bytes c.final)
+    left [] whole rest = omega (arith, long, ap length whole, length-append (unit_bytes c.final) [], length-drop 534 bytes)
     left (v ∷ vs) whole rest = rest (omega arith)
 
 pieces_cut : (more stream : ℕ) (bytes : List ℕ) → length bytes ≤ more → IsCut (record { stream = stream; body = bytes }) (pieces more stream bytes)

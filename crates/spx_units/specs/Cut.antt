@@ -4,12 +4,12 @@ use Rattle.std.specs.List.{flat_map}
 use Rattle.spx_link.specs.declared.unit.Unit.{Unit}
 use Rattle.spx_units.specs.Message.{MessageView, most_unit}
 
-abbrev pub bytes_of : Unit → List ℕ
-bytes_of u = u.body.items
+abbrev pub unit_bytes : Unit → List ℕ
+unit_bytes u = u.body.items
 
 -- a unit of 534 bytes that ends no message
 pub record IsFull (u : Unit) : Type 0 where
-  pub bytes : length (bytes_of u) ≡ most_unit
+  pub bytes : length (unit_bytes u) ≡ most_unit
   pub last : u.last ≡ false
 
 -- the units of a message: together they are its body, and each has its stream; the last one alone
@@ -19,11 +19,11 @@ pub record IsCut (m : MessageView) (units : List Unit) : Type 0 where
   pub final : Unit
   pub are : units ≡ before ++ final ∷ []
   pub streams : All (λ u. u.stream ≡ m.stream) units
-  pub whole : flat_map bytes_of units ≡ m.body
+  pub whole : flat_map unit_bytes units ≡ m.body
   pub full : All IsFull before
   pub ends : final.last ≡ true
-  pub short : length (bytes_of final) ≤ most_unit
-  pub rest : 0 < length before → 0 < length (bytes_of final)
+  pub short : length (unit_bytes final) ≤ most_unit
+  pub rest : 0 < length before → 0 < length (unit_bytes final)
 
 abbrev pub unit_with : ℕ → Bool → List ℕ → Unit
 unit_with stream last bytes =

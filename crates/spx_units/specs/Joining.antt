@@ -6,7 +6,7 @@ use Rattle.spx_link.specs.declared.unit.Unit.{Unit}
 use Rattle.spx_link.specs.Limits.{end_stream}
 use Rattle.spx_link.specs.LinkView.{is_end}
 use Rattle.spx_units.specs.Message.{MessageView, most_bytes}
-use Rattle.spx_units.specs.Cut.{bytes_of, cut_of}
+use Rattle.spx_units.specs.Cut.{unit_bytes, cut_of}
 
 -- the messages that units came to, and the beginning of one that has not ended
 pub record Joining : Type 0 where
@@ -15,8 +15,8 @@ pub record Joining : Type 0 where
 
 -- a unit's bytes behind what there is of its message, whose stream is that of its first unit
 abbrev pub added : Option MessageView → Unit → MessageView
-added None u = record { stream = u.stream; body = bytes_of u }
-added (Some m) u = record m { body = m.body ++ bytes_of u }
+added None u = record { stream = u.stream; body = unit_bytes u }
+added (Some m) u = record m { body = m.body ++ unit_bytes u }
 
 abbrev pub join_unit : Joining → Unit → Joining
 join_unit j u =
@@ -35,8 +35,8 @@ abbrev pub is_overlong : Option MessageView → Unit → Bool
 is_overlong rest u = nat_lt most_bytes (length (added rest u).body)
 
 -- the units of messages, one after another
-abbrev pub units_of : List MessageView → List Unit
-units_of = flat_map cut_of
+abbrev pub units_of_messages : List MessageView → List Unit
+units_of_messages = flat_map cut_of
 
 -- a message that can be sent
 pub record IsSendable (m : MessageView) : Type 0 where

@@ -25,7 +25,7 @@ pub record IsRequestFor (h : SpxHeader) : Type 0 where
   pub below : h.from_id < no_id
 
 -- the bytes are what a link gave, as an IPX packet from its host and socket to the far address
-pub record IsWritten (home : Home) (l : LinkView) (g : OutgoingView) (bytes : List ℕ) : Type 0 where
+pub record IsWrittenPacket (home : Home) (l : LinkView) (g : OutgoingView) (bytes : List ℕ) : Type 0 where
   pub packet : PacketView
   pub is : IsIpx packet bytes []
   pub kind : packet.header.kind ≡ spx_type

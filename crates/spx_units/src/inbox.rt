@@ -3,7 +3,7 @@
 ghost use Rattle.std.specs.Prelude.{◌≡◌, ◌≢◌, ◌≤◌, ◌+◌, Err, IfOk, IsOkUnless, None, OnErr, OnOk, Some, false, true, length, option_map};
 ghost use Rattle.spx_link.specs.Limits.{end_stream};
 ghost use Rattle.spx_units.specs.Joining.{added, is_overlong};
-ghost use Rattle.spx_units.specs.Cut.{bytes_of};
+ghost use Rattle.spx_units.specs.Cut.{unit_bytes};
 ghost use Rattle.spx_units.specs.Message.{length_of, message_view};
 ghost use Rattle.spx_units.specs.declared.fault.MessageFault.TheVariants as MessageFaults;
 
@@ -85,7 +85,7 @@ impl Inbox {
 
     /// Adds the bytes of a unit.
     fn add(&mut self, alloc: Global, unit: &Unit) -> Result<(), AllocError>
-        requires { length_of self.old + length (bytes_of unit.now) ≤ 65535 }
+        requires { length_of self.old + length (unit_bytes unit.now) ≤ 65535 }
         ensures ok { OnOk result (self.new ≡ Some (added self.old unit.now)) }
         ensures unchanged { OnErr result (self.new ≡ self.old) }
     {

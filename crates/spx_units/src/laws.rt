@@ -4,7 +4,7 @@ ghost use Rattle.std.specs.Prelude.{◌≡◌, ◌↔◌, ◌++◌, ℕ, List, [
 ghost use Rattle.spx_link.specs.Offer.{the_end};
 ghost use Rattle.spx_link.specs.declared.unit.Unit.{Unit};
 ghost use Rattle.spx_units.specs.Cut.{IsCut, cut_of};
-ghost use Rattle.spx_units.specs.Joining.{AreSendable, is_overlong, joined, units_of};
+ghost use Rattle.spx_units.specs.Joining.{AreSendable, is_overlong, joined, units_of_messages};
 ghost use Rattle.spx_units.specs.Message.{MessageView};
 
 /// A message is cut in one way.
@@ -16,9 +16,9 @@ pub fn one_cut()
 /// connection behind them too.
 pub fn units_join_to_their_messages()
     ensures all { (ms : List MessageView) → AreSendable ms
-        → joined (units_of ms) ≡ record { messages = ms; rest = None } }
+        → joined (units_of_messages ms) ≡ record { messages = ms; rest = None } }
     ensures ended { (ms : List MessageView) → AreSendable ms
-        → joined (units_of ms ++ the_end ∷ []) ≡ record { messages = ms; rest = None } }
+        → joined (units_of_messages ms ++ the_end ∷ []) ≡ record { messages = ms; rest = None } }
 {}
 
 /// The first units of messages, however many, are joined to a beginning of these messages, with the
@@ -26,15 +26,15 @@ pub fn units_join_to_their_messages()
 pub fn first_units_join_to_first_messages()
     ensures units { (ms : List MessageView) (count : ℕ) → AreSendable ms
         → (later : List MessageView)
-        × ((joined (take count (units_of ms))).messages ++ later ≡ ms) }
+        × ((joined (take count (units_of_messages ms))).messages ++ later ≡ ms) }
     ensures ended { (ms : List MessageView) (count : ℕ) → AreSendable ms
         → (later : List MessageView)
-        × ((joined (take count (units_of ms ++ the_end ∷ []))).messages ++ later ≡ ms) }
+        × ((joined (take count (units_of_messages ms ++ the_end ∷ []))).messages ++ later ≡ ms) }
 {}
 
 /// No unit of messages that can be sent makes one of them overlong.
 pub fn no_message_is_overlong()
     ensures { (ms : List MessageView) (count : ℕ) (u : Unit) → AreSendable ms
-        → slice_get (units_of ms) count ≡ Some u
-        → is_overlong (joined (take count (units_of ms))).rest u ≡ false }
+        → slice_get (units_of_messages ms) count ≡ Some u
+        → is_overlong (joined (take count (units_of_messages ms))).rest u ≡ false }
 {}

@@ -2,7 +2,7 @@
 
 ghost use Rattle.std.specs.Prelude.{◌≡◌, ◌≤◌, ◌<◌, ◌∷◌, [], List, ℕ, length, take, IfSome, IfNone};
 ghost use Rattle.ipx_control.specs.Entries.{AreEntries};
-ghost use Rattle.ipx_control.specs.Lent.{services_in};
+ghost use Rattle.ipx_control.specs.Lent.{service_entries_in};
 ghost use Rattle.ipx_control.specs.Sap.{IsServiceEntry, service_size};
 
 use crate::sap::packet::{SERVICE_SIZE, ServiceEntry};
@@ -19,11 +19,11 @@ pub struct ServiceEntries<'a> {
 impl<'a> Model for ServiceEntries<'a> {
     ghost use Rattle.std.specs.Prelude.{List};
     ghost use Rattle.ipx_control.specs.declared.sap.packet.ServiceEntry.{ServiceEntry};
-    ghost use Rattle.ipx_control.specs.Lent.{services_in};
+    ghost use Rattle.ipx_control.specs.Lent.{service_entries_in};
 
     ghost Value = { List ServiceEntry };
 
-    ghost view = { λ e. services_in e.bytes.now };
+    ghost view = { λ e. service_entries_in e.bytes.now };
 }
 
 impl<'a> ServiceEntries<'a> {
@@ -82,8 +82,8 @@ fn service_at(bytes: &[u8]) -> ServiceEntry
 
 /// The first service, and the bytes behind it.
 fn first_service(bytes: &[u8]) -> Option<(ServiceEntry, &[u8])>
-    ensures some { IfSome result (λ r. services_in bytes.now ≡ r.0 ∷ services_in r.1.now) }
-    ensures none { IfNone result (services_in bytes.now ≡ []) }
+    ensures some { IfSome result (λ r. service_entries_in bytes.now ≡ r.0 ∷ service_entries_in r.1.now) }
+    ensures none { IfNone result (service_entries_in bytes.now ≡ []) }
 {
     // Laws for the proof of `some`: they do nothing.
     field_laws();

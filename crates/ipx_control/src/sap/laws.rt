@@ -2,7 +2,7 @@
 
 ghost use Rattle.std.specs.Prelude.{◌≡◌, ◌++◌, ℕ, List, [], None, All};
 ghost use Rattle.ipx_wire.specs.Ipx.{IsBytes};
-ghost use Rattle.ipx_control.specs.Sap.{HoldsBytes, IsSap, IsSapInRange, IsSapTail, SapView, sap_fault, sap_services};
+ghost use Rattle.ipx_control.specs.Sap.{ServiceHoldsBytes, IsSap, IsSapInRange, IsSapTail, SapView, sap_fault, sap_services};
 
 use ipx_wire::field_laws;
 
@@ -18,7 +18,7 @@ pub fn bytes_are_one_sap()
 pub fn sap_has_bytes()
     ensures { (m : SapView) → IsSapInRange m → (bytes : List ℕ)
         × ((tail : List ℕ) → IsSapTail m tail → IsSap m (bytes ++ tail) tail)
-        × (All HoldsBytes (sap_services m) → IsBytes bytes) }
+        × (All ServiceHoldsBytes (sap_services m) → IsBytes bytes) }
 {
     field_laws();
 }

@@ -3,7 +3,7 @@
 ghost use Rattle.std.specs.Prelude.{◌≡◌, ◌≤◌, ◌++◌, ◌∷◌, ℕ, List, [], length, take, drop};
 ghost use Rattle.byteorder.specs.Endian.{big_bytes};
 ghost use Rattle.ipx_wire.specs.Assigned.{ipx_header_size};
-ghost use Rattle.ipx_wire.specs.Ipx.{BeginsWith, PacketView, IsIpx, IsPartOf, view, with_hops, with_source_network};
+ghost use Rattle.ipx_wire.specs.Ipx.{BeginsWith, PacketView, IsIpx, IsPartOf, packet_view, with_hops, with_source_network};
 
 use crate::address::Network;
 use crate::ipx::packet::Packet;
@@ -13,8 +13,8 @@ use byteorder::{BigEndian, ByteOrder};
 /// The bytes of a packet that was read from a datagram, without those behind it. The caller owes
 /// that it was read from there. One calls it before a packet goes on, since padding does not.
 pub fn packet_part<'a>(datagram: &'a [u8], packet: &Packet<'_>) -> &'a [u8]
-    requires { BeginsWith datagram.now (view packet.now) }
-    ensures packet { IsIpx (view packet.now) result.now [] }
+    requires { BeginsWith datagram.now (packet_view packet.now) }
+    ensures packet { IsIpx (packet_view packet.now) result.now [] }
     // They are lent: they are the datagram's own bytes.
     ensures lent { IsPartOf datagram.entry 0 result }
 {

@@ -1,7 +1,7 @@
 //! Packets out of bytes.
 
 ghost use Rattle.std.specs.Prelude.{◌≡◌, List, ℕ, IfOk, IfErr, IsOkAnd, Some, None};
-ghost use Rattle.ipx_wire.specs.Ipx.{BeginsWith, PacketView, IsIpx, IsPartOf, ipx_fault, view};
+ghost use Rattle.ipx_wire.specs.Ipx.{BeginsWith, PacketView, IsIpx, IsPartOf, ipx_fault, packet_view};
 
 use crate::address::address_at;
 use crate::ipx::fault::IpxFault;
@@ -16,12 +16,12 @@ use byteorder::{BigEndian, ByteOrder};
 /// holds.
 pub fn decode(bytes: &[u8]) -> Result<Packet<'_>, IpxFault>
     // What is read is a packet of the datagram.
-    ensures found { IfOk result (λ p. BeginsWith bytes.now (view p)) }
+    ensures found { IfOk result (λ p. BeginsWith bytes.now (packet_view p)) }
     // The body is lent: it is the datagram's own bytes.
     ensures lent { IfOk result (λ p. IsPartOf bytes.entry 30 p.body) }
     // Each packet of the datagram is read.
     ensures only { (d : PacketView) (tail : List ℕ) → IsIpx d bytes.now tail
-        → IsOkAnd result (λ p. view p ≡ d) }
+        → IsOkAnd result (λ p. packet_view p ≡ d) }
     // Which fault it is, and that there is none.
     ensures fault { IfErr result (λ f. ipx_fault bytes.now ≡ Some f) }
     ensures whole { IfOk result (λ _. ipx_fault bytes.now ≡ None) }

@@ -2,7 +2,7 @@
 
 ghost use Rattle.std.specs.Prelude.{◌≡◌, ◌≤◌, ◌+◌, ◌++◌, [], length, take, drop};
 ghost use Rattle.ipx_wire.specs.Assigned.{ipx_header_size, ipx_max_body_size};
-ghost use Rattle.ipx_wire.specs.Ipx.{IsHeaderInRange, IsInRange, IsIpx, IsWritten, header_bytes, ipx_bytes, packet_of, view};
+ghost use Rattle.ipx_wire.specs.Ipx.{IsHeaderInRange, IsInRange, IsIpx, IsWritten, header_bytes, ipx_bytes, packet_of, packet_view};
 
 use crate::address::put_address;
 use crate::ipx::packet::{IpxHeader, NO_CHECKSUM, Packet};
@@ -25,9 +25,9 @@ fn put_header(out: &mut [u8], header: IpxHeader, body_length: usize)
 fn put_packet(out: &mut [u8], packet: &Packet<'_>)
     requires limit { length packet.now.body.now ≤ ipx_max_body_size }
     requires room { ipx_header_size + length packet.now.body.now ≤ length out.old }
-    ensures written { IsWritten out.old (ipx_bytes (view packet.now)) out.new
+    ensures written { IsWritten out.old (ipx_bytes (packet_view packet.now)) out.new
         (ipx_header_size + length packet.now.body.now) }
-    ensures range { IsInRange (view packet.now) }
+    ensures range { IsInRange (packet_view packet.now) }
 {
     let end = IPX_HEADER_SIZE + packet.body.len();
     put_header(out, packet.header, packet.body.len());
@@ -42,7 +42,7 @@ pub fn encode_into(packet: &Packet<'_>, out: &mut [u8]) -> usize
     requires limit { length packet.now.body.now ≤ ipx_max_body_size }
     requires room { ipx_header_size + length packet.now.body.now ≤ length out.old }
     ensures count { result ≡ ipx_header_size + length packet.now.body.now }
-    ensures written { IsIpx (view packet.now) (take result out.new) [] }
+    ensures written { IsIpx (packet_view packet.now) (take result out.new) [] }
     ensures rest { drop result out.new ≡ drop result out.old }
 {
     put_packet(out, packet);

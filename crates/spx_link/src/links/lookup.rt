@@ -2,7 +2,7 @@
 
 ghost use Rattle.std.specs.Prelude.{◌≡◌, ◌<◌, ◌↔◌, ◌==◌, IsSome, IsTrue, Some, filter, is_some};
 ghost use Rattle.std.specs.Prelude.{length, not, option_copied, position, slice_get};
-ghost use Rattle.spx_link.specs.Leasts.{IsFrom, IsLeastId, IsOver, lesser_of};
+ghost use Rattle.spx_link.specs.Leasts.{IsFrom, IsLeastId, HasGreaterId, lesser_of};
 ghost use Rattle.spx_link.specs.Limits.{most_links};
 ghost use Rattle.spx_link.specs.Links as spec;
 ghost use Rattle.spx_link.specs.Links.{IsNextFree, link_of};
@@ -84,7 +84,7 @@ fn lesser(id: u16, counts: bool, least: Option<u16>) -> Option<u16>
 
 /// The least id above another.
 pub fn least_above(links: &[Link], id: u16) -> Option<u16>
-    ensures { IsLeastId (IsOver id) links.now result }
+    ensures { IsLeastId (HasGreaterId id) links.now result }
 {
     let mut least: Option<u16> = None;
     for link in links {
@@ -94,7 +94,7 @@ pub fn least_above(links: &[Link], id: u16) -> Option<u16>
 }
 
 fn is_over(link: &Link, id: u16) -> bool
-    ensures { IsTrue result ↔ IsOver id link.now }
+    ensures { IsTrue result ↔ HasGreaterId id link.now }
 {
     id < link.own
 }

@@ -1,5 +1,5 @@
 use Rattle.std.proofs.Common.{◌≡◌, Some, inl, inr, rules, subst, sym}
-use Rattle.ipx_wire.specs.Ipx.{view}
+use Rattle.ipx_wire.specs.Ipx.{packet_view}
 use Rattle.ipx_commands.specs.Reading.{IsContents, Protocol, body_fault, contents_view}
 use Rattle.ipx_commands.proofs.Protocols.{protocol_of_other}
 use Rattle.ipx_commands.proofs.reading.read_datagram.Goals as goal
@@ -20,5 +20,5 @@ returns-in-Err-contents_at c =
     let refuses = λ (p : Protocol). body_fault p packet.body.now ≡ Some c.in-Err-contents_at.fault in
     elim c.in-Err-contents_at.ensures.fault [
       | inl none ↦ search rules
-      | inr fault ↦ (view packet, found.0, found.1, subst refuses (sym other) fault)
+      | inr fault ↦ (packet_view packet, found.0, found.1, subst refuses (sym other) fault)
     ]

@@ -1,5 +1,5 @@
-use Rattle.ipx_commands.specs.Reading.{reading_view}
+use Rattle.ipx_commands.specs.Reading.{decoded_view}
 use Rattle.ipx_commands.proofs.show.lines_for_bytes.Goals as goal
 
 pub returns : goal.returns
-returns c = (reading_view c.in_ok-reading.reading, c.in_ok-reading.ensures, c.in_ok-lines.ensures, c.reading_to_status-status.ensures)
+returns c = (decoded_view c.in_ok-reading.reading, c.in_ok-reading.ensures, c.in_ok-lines.ensures, c.reading_to_status-status.ensures)

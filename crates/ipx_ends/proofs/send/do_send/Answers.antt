@@ -4,8 +4,8 @@ use Rattle.ipx_site.specs.Host.{IsHostText}
 use Rattle.ipx_site.specs.Loading.{IsFileText}
 use Rattle.ipx_site.specs.declared.host.HostFile.{HostFile}
 use Rattle.ipx_wire.specs.declared.address.Address.{Address}
-use Rattle.ipx_ends.specs.Sent.{SendsAll}
-use Rattle.ipx_ends.specs.Target.{Names}
+use Rattle.ipx_ends.specs.Sent.{SendsWholeInput}
+use Rattle.ipx_ends.specs.Target.{NamesAddress}
 use Rattle.ipx_ends.specs.declared.target.Target.{Target}
 use Rattle.ipx_ends.proofs.Hosted.{untouched_by}
 use Rattle.ipx_ends.proofs.send.do_send.Goals as goal
@@ -23,9 +23,9 @@ few_of X (Err s) r (inr e) few unloaded = omega (arith, unloaded.0, e)
 
 -- what was sent, and by which file
 sent_of : {K : Type 0} (X : Type 0) (t : Target) (to : Address) (known left : Option (List ℕ)) (tells : K → ℕ → K → Type 0) (loaded : Result HostFile ℕ) (r : ℕ)
-    → IfErr loaded (λ s. (s ≡ 1) ⊎ (s ≡ 2)) → IfErr loaded (λ s. (r ≡ s) × X) → IfOk loaded (λ h. (text : List ℕ) × IsFileText text × IsHostText text h) → Names t to
-    → IfOk loaded (λ h. r ≡ 0 → SendsAll h to known left tells) → r ≡ 0
-    → (text : List ℕ) × (file : HostFile) × (a : Address) × IsFileText text × IsHostText text file × Names t a × SendsAll file a known left tells
+    → IfErr loaded (λ s. (s ≡ 1) ⊎ (s ≡ 2)) → IfErr loaded (λ s. (r ≡ s) × X) → IfOk loaded (λ h. (text : List ℕ) × IsFileText text × IsHostText text h) → NamesAddress t to
+    → IfOk loaded (λ h. r ≡ 0 → SendsWholeInput h to known left tells) → r ≡ 0
+    → (text : List ℕ) × (file : HostFile) × (a : Address) × IsFileText text × IsHostText text file × NamesAddress t a × SendsWholeInput file a known left tells
 sent_of X t to known left tells (Ok h) r fault unloaded host named sent zero = (host.0, h, to, host.1, host.2, named, sent zero)
 sent_of X t to known left tells (Err s) r (inl e) unloaded host named sent zero = absurd (omega (arith, unloaded.0, e, zero))
 sent_of X t to known left tells (Err s) r (inr e) unloaded host named sent zero = absurd (omega (arith, unloaded.0, e, zero))

@@ -1,5 +1,5 @@
 use Rattle.std.proofs.Common.{length, refl}
-use Rattle.ipx_wire.specs.Ipx.{view as packet_view}
+use Rattle.ipx_wire.specs.Ipx.{packet_view}
 use Rattle.ipx_router.specs.Knowledge.{routes_in, services_in}
 use Rattle.ipx_router.proofs.Fits.{rip_there_ok, sap_there_ok}
 use Rattle.ipx_router.proofs.KeptTables.{sound_kept}

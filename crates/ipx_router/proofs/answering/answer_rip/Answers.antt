@@ -1,4 +1,4 @@
-use Rattle.ipx_wire.specs.Ipx.{view as packet_view}
+use Rattle.ipx_wire.specs.Ipx.{packet_view}
 use Rattle.ipx_router.specs.Knowledge.{routes_in}
 use Rattle.ipx_router.proofs.Receiving.{rip_heard, rip_wants}
 use Rattle.ipx_router.proofs.answering.answer_rip.Goals as goal

@@ -1,4 +1,4 @@
-use Rattle.ipx_wire.specs.Ipx.{view as packet_view}
+use Rattle.ipx_wire.specs.Ipx.{packet_view}
 use Rattle.ipx_router.specs.Knowledge.{services_in}
 use Rattle.ipx_router.proofs.Receiving.{sap_heard, sap_wants}
 use Rattle.ipx_router.proofs.answering.answer_sap.Goals as goal

@@ -1,7 +1,7 @@
 use Rattle.std.proofs.Common.{subst}
 use Rattle.std.specs.Prelude.{IfOk, OnErr}
 use Rattle.ipx_router.specs.Knowledge.{Known}
-use Rattle.ipx_router.specs.OutcomeView.{view}
+use Rattle.ipx_router.specs.OutcomeView.{router_outcome}
 use Rattle.ipx_router.specs.Answer.{AnswersBytes}
 use Rattle.ipx_router.specs.WantOfMemory.{BytesWantMemory}
 use Rattle.ipx_router.proofs.Receiving.{known_same}
@@ -15,7 +15,7 @@ answer_to-requires-clause-sound c =
 pub returns-clause-answer : goal.returns-clause-answer
 returns-clause-answer c =
     let same = known_same c.args.ports.now c.args.at.now c.args.routes.now c.age.new.self c.args.services.now c.age-2.new.self c.age.ensures.aged c.age-2.ensures.aged in
-    subst (λ (k : Known). IfOk c.answer_to.result (λ o. AnswersBytes k c.args.at c.args.bytes.now (view o) (c.answer_to.new.routes, c.answer_to.new.services))) same c.answer_to.ensures.answer
+    subst (λ (k : Known). IfOk c.answer_to.result (λ o. AnswersBytes k c.args.at c.args.bytes.now (router_outcome o) (c.answer_to.new.routes, c.answer_to.new.services))) same c.answer_to.ensures.answer
 
 pub returns-clause-refused : goal.returns-clause-refused
 returns-clause-refused c =

@@ -1,5 +1,5 @@
 use Rattle.std.proofs.Common.{◌≡◌, ◌∙◌, true, subst, sym}
-use Rattle.ipx_wire.specs.Ipx.{PacketView, view}
+use Rattle.ipx_wire.specs.Ipx.{PacketView, packet_view}
 use Rattle.ipx_site.specs.Peers.{is_own_word, may_say}
 use Rattle.ipx_site.proofs.peers.word_on.Goals as goal
 
@@ -7,7 +7,7 @@ pub returns-then-not-is_own_word : goal.returns-then-not-is_own_word
 returns-then-not-is_own_word c = (
   sym c.is_listed.ensures ∙ c.if-not-is_listed.false,
   λ all.
-      let said = c.is_own_word.ensures ∙ all (view c.in-Ok.packet) c.in-Ok.ensures.found in
+      let said = c.is_own_word.ensures ∙ all (packet_view c.in-Ok.packet) c.in-Ok.ensures.found in
       let no = c.if-not-is_own_word.true in cc,
 )
 
@@ -26,6 +26,6 @@ returns-else-may_say c =
       sym c.is_listed.ensures ∙ c.if-not-is_listed.false,
       (λ p begins. subst own (c.in-Ok.ensures.only p begins.0 begins.1) (sym c.is_own_word.ensures ∙ c.if-not-is_own_word.false)),
       λ all.
-          let said = c.may_say.ensures ∙ all (view c.in-Ok.packet) c.in-Ok.ensures.found in
+          let said = c.may_say.ensures ∙ all (packet_view c.in-Ok.packet) c.in-Ok.ensures.found in
           let no = c.if-may_say.false in cc,
     )

@@ -1,13 +1,13 @@
 use Rattle.std.proofs.Common.{◌≡◌, ◌∷◌, [], drop, refl}
 use Rattle.std.proofs.lemmas.List.{drop_all, append-nil, append_assoc}
-use Rattle.ipx_site.specs.Values.{IsAddress}
+use Rattle.ipx_site.specs.Values.{IsIpAddress}
 use Rattle.ipx_site.proofs.Each.{item_left, none_there, one_less, one_more}
 use Rattle.ipx_site.proofs.values.addresses_of.Goals as goal
 
 pub returns-in_default : goal.returns-in_default
 returns-in_default c = λ ips are.
     let (rest, left) = c.loop-value.invariant.1 ips are in
-    none_there IsAddress _ _ _ (item_left c.args.values.now c.loop-value.value-index c.value-item.result c.value-item.is c.loop-value-test.true)
+    none_there IsIpAddress _ _ _ (item_left c.args.values.now c.loop-value.value-index c.value-item.result c.value-item.is c.loop-value-test.true)
     c.in_default.ensures rest left
 
 pub loop-value-preserved : goal.loop-value-preserved
@@ -15,9 +15,9 @@ loop-value-preserved c =
     let next = item_left c.args.values.now c.loop-value.value-index c.value-item.result c.value-item.is c.loop-value-test.true in (
       λ rest are.
           rw (c.in_ok-push.ensures.items, append_assoc c.loop-value.ips.items (c.in-Some.ip ∷ []) rest)
-          (c.loop-value.invariant.0 (c.in-Some.ip ∷ rest) (one_more IsAddress _ _ _ next c.in-Some.ip c.in-Some.ensures rest are)),
+          (c.loop-value.invariant.0 (c.in-Some.ip ∷ rest) (one_more IsIpAddress _ _ _ next c.in-Some.ip c.in-Some.ensures rest are)),
       λ ips are.
-          let (rest, left) = c.loop-value.invariant.1 ips are in one_less IsAddress _ _ _ next rest left,
+          let (rest, left) = c.loop-value.invariant.1 ips are in one_less IsIpAddress _ _ _ next rest left,
     )
 
 pub returns : goal.returns

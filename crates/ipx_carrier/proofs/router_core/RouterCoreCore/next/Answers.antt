@@ -4,7 +4,7 @@ use Rattle.std.proofs.lemmas.List.Elements.{All-drop}
 use Rattle.std.proofs.lemmas.Result.{err_from_is_err_and}
 use Rattle.ipx_router.specs.declared.outcome.Reply.{Reply}
 use Rattle.ipx_router.specs.Packets.{sendings}
-use Rattle.ipx_carrier.specs.RouterCore.{AreGivable, CoreView, Gives, IsGivable, Withholds, most_queued}
+use Rattle.ipx_carrier.specs.RouterCore.{AreGivable, CoreView, RouterGives, IsGivable, Withholds, most_queued}
 use Rattle.ipx_carrier.specs.Given.{given_in}
 use Rattle.ipx_carrier.proofs.Putting.{IsKept, core_of, kept_by_put, kept_next, next_gives, next_withholds, rest_of, same_core}
 use Rattle.ipx_carrier.proofs.router_core.RouterCoreCore.next.Goals as goal
@@ -34,7 +34,7 @@ returns-clause-given c =
     let i = c.self.inside in
     let given = given_in c.take_first.new.room c.take_first.result in
     let after : CoreView = core_of i.fates c.put_told.new.router (sendings c.take_first.new.queue.items) c.put_start.new.started c.put_told.new.dropped in
-    subst (λ (v : CoreView). Gives v c.args.now given after) c.self.view_is
+    subst (λ (v : CoreView). RouterGives v c.args.now given after) c.self.view_is
     (next_gives i.fates i.router c.put_told.new.router i.queue.items c.put_start.new.queue.items c.put_told.new.queue.items c.take_first.new.queue.items i.started c.put_start.new.started i.dropped c.put_start.new.dropped c.put_told.new.dropped c.args.now given c.in_ok-put_start.ensures.put c.in_ok-put_told.ensures.put c.in_ok-put_start.ensures.started c.take_first.ensures.given c.take_first.ensures.rest)
 
 pub returns-clause-there : goal.returns-clause-there

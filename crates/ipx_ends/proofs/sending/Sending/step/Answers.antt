@@ -2,7 +2,7 @@ use Rattle.std.proofs.Common.{◌≡◌, ◌≢◌, ◌∙◌, ℕ, Bool, List, 
 use Rattle.std.proofs.lemmas.Grind.{common_steps}
 use Rattle.std.proofs.lemmas.Result.{err_from_is_err_and}
 use Rattle.spx_link.specs.declared.state.State.TheVariants.{Live}
-use Rattle.ipx_ends.specs.Feeding.{Feeds, Intake, Rests, intake}
+use Rattle.ipx_ends.specs.Feeding.{Feeds, Intake, LeavesIntake, intake}
 use Rattle.ipx_ends.specs.declared.end_core.EndCore.{EndCore}
 use Rattle.ipx_ends.specs.Transfer.{ended_at, state_at}
 use Rattle.ipx_ends.specs.declared.verdict.Verdict.{Verdict}
@@ -23,13 +23,13 @@ returns-then-turn-clause-steps g c =
     let known = g.I.Read.remaining c.args.reader.now in
     let left = g.I.Read.remaining c.if-eq.reader in
     let start = intake dropped look.read look.closed look.ledger known in
-    let fed : (bytes : List ℕ) × Feeds start (intake mid.station.core.endpoint mid.read mid.closed mid.ledger left) look.id bytes × (state_at seen.endpoint old.id ≢ Some Live → Rests start (intake mid.station.core.endpoint mid.read mid.closed mid.ledger left) bytes) =
+    let fed : (bytes : List ℕ) × Feeds start (intake mid.station.core.endpoint mid.read mid.closed mid.ledger left) look.id bytes × (state_at seen.endpoint old.id ≢ Some Live → LeavesIntake start (intake mid.station.core.endpoint mid.read mid.closed mid.ledger left) bytes) =
     elim c.if-eq.branch [
       | then-eq+in_ok-fed w ↦
           let is : c.look-state.result ≡ Some Live = first_of (search rules, grind (arith, common_steps)) in
           rw (w.self-is, w.reader-is) (w.in_ok-fed.ensures.feeds.0, w.in_ok-fed.ensures.feeds.1, λ other. absurd (other (sym told.state ∙ is)))
       | else-eq w ↦
-          let rests : Rests start start [] = record { same = refl {a = start}; none = refl } in
+          let rests : LeavesIntake start start [] = record { same = refl {a = start}; none = refl } in
           rw (w.self-is, w.reader-is) ([], inr (inr rests), λ other. rests)
     ] in
     let joined : mid.joined ≡ look.joined = elim c.if-eq.branch [ then-eq+in_ok-fed w ↦ rw w.self-is w.feed.ensures.joined | else-eq w ↦ rw w.self-is refl ] in
@@ -40,7 +40,7 @@ returns-then-turn-clause-steps g c =
     let new = intake shown.station.core.endpoint shown.read shown.closed shown.ledger left in
     let seeing = sees old.joined look.joined old.left look.left seen look.station.core old.id look.id old.closed look.closed c.is_whole-whole.result c.waits.result c.look-state.result None told.state told.core told.id told.closed told.joined told.left c.is_whole-whole.ensures c.waits.ensures c.in_default.ensures.verdict in
     let fed' : Feeds start new look.id fed.0 = subst (λ (i : Intake). Feeds start i look.id fed.0) (sym shows) fed.1 in
-    let only : state_at seen.endpoint old.id ≢ Some Live → Rests start new fed.0 = λ other. subst (λ (i : Intake). Rests start i fed.0) (sym shows) (fed.2 other) in
+    let only : state_at seen.endpoint old.id ≢ Some Live → LeavesIntake start new fed.0 = λ other. subst (λ (i : Intake). LeavesIntake start i fed.0) (sym shows) (fed.2 other) in
     record {
       seen = seen;
       turn = c.turn-turn.result;
@@ -64,13 +64,13 @@ returns-else-turn-clause-steps g c =
     let known = g.I.Read.remaining c.args.reader.now in
     let left = g.I.Read.remaining c.if-eq.reader in
     let start = intake dropped look.read look.closed look.ledger known in
-    let fed : (bytes : List ℕ) × Feeds start (intake mid.station.core.endpoint mid.read mid.closed mid.ledger left) look.id bytes × (state_at seen.endpoint old.id ≢ Some Live → Rests start (intake mid.station.core.endpoint mid.read mid.closed mid.ledger left) bytes) =
+    let fed : (bytes : List ℕ) × Feeds start (intake mid.station.core.endpoint mid.read mid.closed mid.ledger left) look.id bytes × (state_at seen.endpoint old.id ≢ Some Live → LeavesIntake start (intake mid.station.core.endpoint mid.read mid.closed mid.ledger left) bytes) =
     elim c.if-eq.branch [
       | then-eq+in_ok-fed w ↦
           let is : c.look-state.result ≡ Some Live = first_of (search rules, grind (arith, common_steps)) in
           rw (w.self-is, w.reader-is) (w.in_ok-fed.ensures.feeds.0, w.in_ok-fed.ensures.feeds.1, λ other. absurd (other (sym told.state ∙ is)))
       | else-eq w ↦
-          let rests : Rests start start [] = record { same = refl {a = start}; none = refl } in
+          let rests : LeavesIntake start start [] = record { same = refl {a = start}; none = refl } in
           rw (w.self-is, w.reader-is) ([], inr (inr rests), λ other. rests)
     ] in
     let joined : mid.joined ≡ look.joined = elim c.if-eq.branch [ then-eq+in_ok-fed w ↦ rw w.self-is w.feed.ensures.joined | else-eq w ↦ rw w.self-is refl ] in
@@ -81,7 +81,7 @@ returns-else-turn-clause-steps g c =
     let new = intake shown.station.core.endpoint shown.read shown.closed shown.ledger left in
     let seeing = sees old.joined look.joined old.left look.left seen look.station.core old.id look.id old.closed look.closed c.is_whole-whole.result c.waits.result c.look-state.result None told.state told.core told.id told.closed told.joined told.left c.is_whole-whole.ensures c.waits.ensures c.in_default.ensures.verdict in
     let fed' : Feeds start new look.id fed.0 = subst (λ (i : Intake). Feeds start i look.id fed.0) (sym shows) fed.1 in
-    let only : state_at seen.endpoint old.id ≢ Some Live → Rests start new fed.0 = λ other. subst (λ (i : Intake). Rests start i fed.0) (sym shows) (fed.2 other) in
+    let only : state_at seen.endpoint old.id ≢ Some Live → LeavesIntake start new fed.0 = λ other. subst (λ (i : Intake). LeavesIntake start i fed.0) (sym shows) (fed.2 other) in
     record {
       seen = seen;
       turn = c.turn-turn.result;

@@ -1,7 +1,7 @@
 use Rattle.std.proofs.Common.{refl, arith, subst, ap, ◌∙◌, ℕ}
 use Rattle.ipx_steps.specs.World.{end_at}
 use Rattle.std.proofs.lemmas.Option.{slice_get_within}
-use Rattle.ipx_hosts.specs.Telling.{here_at, state_at}
+use Rattle.ipx_hosts.specs.Telling.{here_at, state_on_host}
 use Rattle.ipx_net.specs.Ends.{told_of}
 use Rattle.ipx_net.specs.Told.{StandsSo, state_by}
 use Rattle.ipx_net.proofs.TellingStands.{end_place, settle_next}
@@ -21,5 +21,5 @@ returns-clause-here c = λ id who is within.
     let v = c.args.hosts.now in
     let found = end_place (here_at v c.args.host) id who is in
     let inside = slice_get_within (here_at v c.args.host) found.0 found.1 found.2 in
-    subst (λ (i : ℕ). StandsSo c.args.host (state_by c.args.gone (state_at v c.args.host i)) (told_of c.loop-place.self.infos.items who)) found.3
+    subst (λ (i : ℕ). StandsSo c.args.host (state_by c.args.gone (state_on_host v c.args.host i)) (told_of c.loop-place.self.infos.items who)) found.3
     (s.here found.0 found.1 who (omega (arith, inside, c.links-place-end.ensures)) found.2 (ap (end_at (here_at v c.args.host)) found.3 ∙ is) within)

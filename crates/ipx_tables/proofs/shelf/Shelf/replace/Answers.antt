@@ -2,7 +2,7 @@ use Rattle.std.proofs.Common.{◌∙◌, ap}
 use mathlib.Core.Bool.{◌||◌}
 use Rattle.std.specs.Ordering.{is_eq}
 use Rattle.ipx_tables.specs.Content.{pair_of}
-use Rattle.ipx_tables.specs.Marks.{mark_cmp, mark_of}
+use Rattle.ipx_tables.specs.Marks.{mark_cmp, expiry_key_of}
 use Rattle.ipx_tables.proofs.Lists.{pair_total}
 use Rattle.ipx_tables.proofs.Places.{set_rising}
 use Rattle.ipx_tables.proofs.Pairing.{marked_at, paired_kept, paired_moved, unmarked_after}
@@ -24,7 +24,7 @@ invariant_of-self g c =
     let here = rw (← c.self.view_is) at c.requires in
     let gone = rw c.mark_by.ensures at c.unmark.ensures.marked in
     let put = rw c.mark_by-then-before-offer.ensures at c.put_mark.ensures.marked in
-    paired_moved g.met.K.Ord.total _ _ c.self.invariant c.args.at c.index-before.result.now c.args.offer c.index-before.ensures here _ c.put_mark.ensures.rising (λ m. put m ∙ ap (λ b. is_eq (mark_cmp g.K.Ord.cmp (mark_of c.args.offer) m) || b) (gone m))
+    paired_moved g.met.K.Ord.total _ _ c.self.invariant c.args.at c.index-before.result.now c.args.offer c.index-before.ensures here _ c.put_mark.ensures.rising (λ m. put m ∙ ap (λ b. is_eq (mark_cmp g.K.Ord.cmp (expiry_key_of c.args.offer) m) || b) (gone m))
 
 pub invariant_of-self-else-before-offer : goal.invariant_of-self-else-before-offer
 invariant_of-self-else-before-offer g c =
