@@ -3,7 +3,7 @@ use Rattle.std.proofs.Common.{◌≤◌, ℕ, List, [], ◌∷◌, length, arith
 use Rattle.std.proofs.lemmas.List.Elements.{All-cons, All-head, All-nil, All-tail}
 use Rattle.ipx_wire.specs.Ipx.{IsIpx, PacketView}
 use Rattle.ipx_router.specs.RouterView.{RouterView}
-use Rattle.ipx_router.specs.Packets.{AreOwn, IsOwn, SendingView}
+use Rattle.ipx_router.specs.RouterPackets.{AreOwn, IsOwn, SendingView}
 use Rattle.ipx_router.specs.Ports.{AreOnPorts, IsPortNumber}
 use Rattle.ipx_router.specs.OutcomeView.{Dropped, Forward, Heard, IsOnPort, OutcomeView, Replies, replies_of}
 use Rattle.ipx_router.specs.Forwarded.{ForwardsOneHopOn}

@@ -6,7 +6,7 @@ use Rattle.std.specs.Result.{OnErr, OnOk}
 use borrow.Author.Tests.{leb-true}
 use Rattle.ipx_router.specs.RouterView.{RouterView}
 use Rattle.ipx_router.specs.declared.outcome.Reply.{Reply}
-use Rattle.ipx_router.specs.Packets.{SendingView, sending_of, sendings}
+use Rattle.ipx_router.specs.RouterPackets.{SendingView, sending_of, sendings}
 use Rattle.ipx_carrier.specs.declared.fates.Fates.{Fates}
 use Rattle.ipx_carrier.specs.Turns.{Given}
 use Rattle.ipx_carrier.specs.RouterCore.{AreGivable, CoreView, RouterGives, IsGivable, IsNotTold, Withholds, first_given, most_queued, put_in_queue}

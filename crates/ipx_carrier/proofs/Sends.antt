@@ -2,7 +2,7 @@
 use Rattle.std.proofs.Common.{◌≡◌, ◌≤◌, ◌<◌, ℕ, zero, suc, ◌+◌, false, List, [], ◌∷◌, ◌++◌, length, map, Option, Some, None, Result, Ok, Err, refl, sym, ap, ◌∙◌, subst, append_assoc, append-nil, arith, cond, length-append, take, get_or, inl, inr, lit≤, lit<, add-zero, is_none, unwrap_or}
 use Rattle.std.specs.Prelude.{OnErr, option_map}
 use Rattle.std.proofs.lemmas.Grind.{flat_map-append}
-use Rattle.ipx_router.specs.Packets.{broadcast}
+use Rattle.ipx_router.specs.RouterPackets.{broadcast}
 use Rattle.ipx_router.specs.Classify.{is_node}
 use Rattle.std.proofs.lemmas.List.{take_more, map-append}
 use Rattle.ipx_carrier.specs.declared.fault.RunFault.{RunFault}

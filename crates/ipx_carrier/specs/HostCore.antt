@@ -7,7 +7,7 @@ use Rattle.spx_messages.specs.Arrives.{Arrives, IsAcceptable, Unheard}
 use Rattle.spx_messages.specs.EndpointView.{EndpointView}
 use Rattle.spx_messages.specs.Polls.{Polls}
 use Rattle.ipx_carrier.specs.Turns.{Given}
-use Rattle.ipx_carrier.specs.Given.{given_in}
+use Rattle.ipx_carrier.specs.GivenPackets.{given_in}
 
 -- the endpoint reads a datagram, whatever it answers
 abbrev pub HostHears : EndpointView → List ℕ → ℕ → EndpointView → Type 0

@@ -1,7 +1,7 @@
 -- Words of private functions: what putting packets into a queue leaves.
 use Rattle.std.specs.Prelude.{◌≡◌, ℕ, ◌+◌, ◌-◌, ◌^◌, Bool, List, [], ◌++◌, length, min, nat_le, MatchBool}
 use Rattle.ipx_router.specs.RouterView.{RouterView}
-use Rattle.ipx_router.specs.Packets.{SendingView}
+use Rattle.ipx_router.specs.RouterPackets.{SendingView}
 use Rattle.ipx_router.specs.Starting.{AreStarts}
 use Rattle.ipx_carrier.specs.RouterCore.{AreGivable, TellsNow, most_queued}
 

@@ -2,7 +2,7 @@
 -- The entry points are `RouterHears` and `RouterGives`, and `Misses` and `Withholds` where memory is refused.
 use Rattle.std.specs.Prelude.{◌≡◌, ◌<◌, ◌≤◌, ◌⊎◌, ℕ, ◌+◌, ◌-◌, ◌^◌, Bool, true, false, List, [], ◌∷◌, ◌++◌, All, length, drop, min, nat_le, Option, Some, None, if◌then◌else◌, MatchBool}
 use Rattle.ipx_router.specs.RouterView.{RouterView}
-use Rattle.ipx_router.specs.Packets.{SendingView}
+use Rattle.ipx_router.specs.RouterPackets.{SendingView}
 use Rattle.ipx_router.specs.Ports.{IsPortNumber}
 use Rattle.ipx_router.specs.OutcomeView.{OutcomeView, Forward, Replies, Heard, Dropped}
 use Rattle.ipx_router.specs.Answer.{Receives}
@@ -11,7 +11,7 @@ use Rattle.ipx_router.specs.Starting.{AreStarts}
 use Rattle.ipx_router.specs.Knowledge.{HoldsKnown, KeepsAllButOffers, known_at, tables}
 use Rattle.ipx_router.specs.Telling as telling
 use Rattle.ipx_carrier.specs.declared.fates.Fates.{Fates}
-use Rattle.ipx_carrier.specs.Fates.{fated}
+use Rattle.ipx_carrier.specs.OutcomeCounts.{fated}
 use Rattle.ipx_carrier.specs.Turns.{Given}
 
 pub record CoreView : Type 0 where

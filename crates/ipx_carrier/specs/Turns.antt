@@ -3,7 +3,7 @@
 use Rattle.std.specs.Prelude.{Vec, ◌≡◌, ◌<◌, ◌≤◌, ◌⊎◌, ℕ, ◌+◌, List, [], ◌∷◌, ◌++◌, length, map, flat_map, slice_get, Option, Some, None, option_map, unwrap_or, if◌then◌else◌}
 use Rattle.std.specs.Global.{Global}
 use Rattle.ipx_wire.specs.declared.address.Node.{Node}
-use Rattle.ipx_router.specs.Packets.{broadcast}
+use Rattle.ipx_router.specs.RouterPackets.{broadcast}
 use Rattle.ipx_router.specs.Classify.{is_node}
 use Rattle.ipx_carrier.specs.declared.fault.RunFault.{RunFault}
 use Rattle.ipx_carrier.specs.declared.fault.RunFault.TheVariants.{Device, OutOfMemory}

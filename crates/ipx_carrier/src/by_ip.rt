@@ -2,7 +2,7 @@
 
 ghost use Rattle.std.specs.Prelude.{◌≡◌, ◌<◌, ◌≤◌, ◌+◌, ◌^◌, [], OnErr, OnOk, map, slice_get, unwrap_or};
 ghost use Rattle.ipx_carrier.specs.Device.{Passes};
-ghost use Rattle.ipx_carrier.specs.Fault.{device_failures};
+ghost use Rattle.ipx_carrier.specs.RunFaultNumbers.{device_failures};
 ghost use Rattle.ipx_carrier.specs.Segments.{SendsFrontOf};
 ghost use Rattle.ipx_carrier.specs.Turns.{by_ip, peers_of};
 

@@ -2,7 +2,7 @@
 
 ghost use Rattle.std.specs.Prelude.{◌≡◌, ◌<◌, ◌≤◌, ℕ, List, Option, IfOk, OnOk, OnErr, IfSome, length};
 ghost use Rattle.ipx_carrier.specs.Turns.{Given};
-ghost use Rattle.ipx_carrier.specs.Given.{given_in};
+ghost use Rattle.ipx_carrier.specs.GivenPackets.{given_in};
 
 use ipx_wire::{Node, OutOfMemory};
 use std::alloc::Global;

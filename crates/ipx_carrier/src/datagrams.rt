@@ -2,7 +2,7 @@
 
 ghost use Rattle.std.specs.Prelude.{◌≡◌, ◌<◌, ◌≤◌, ◌+◌, ◌^◌, ℕ, Bool, List, [], ◌∷◌, Option, IfOk, OnOk, OnErr, IfSome, is_err, length};
 ghost use Rattle.ipx_carrier.specs.Device.{Access, Passes, Traffic, received_in};
-ghost use Rattle.ipx_carrier.specs.Fault.{device_failures};
+ghost use Rattle.ipx_carrier.specs.RunFaultNumbers.{device_failures};
 ghost use Rattle.ipx_carrier.specs.Waits.{LeavesPort, WaitingDatagrams};
 
 use crate::fault::DeviceFault;

@@ -2,7 +2,7 @@
 
 ghost use Rattle.std.specs.Prelude.{◌≡◌};
 ghost use Rattle.ipx_router.specs.OutcomeView.{router_outcome};
-ghost use Rattle.ipx_carrier.specs.Fates.{fated, fated_by, none, raised};
+ghost use Rattle.ipx_carrier.specs.OutcomeCounts.{fated, fated_by, none, raised};
 
 use ipx_router::{Outcome, Reason};
 

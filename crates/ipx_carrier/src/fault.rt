@@ -1,7 +1,7 @@
 //! What can go wrong between a core and the network.
 
 ghost use Rattle.std.specs.Prelude.{◌≡◌};
-ghost use Rattle.ipx_carrier.specs.Fault.{carrier_fault_number, run_fault_number};
+ghost use Rattle.ipx_carrier.specs.RunFaultNumbers.{carrier_fault_number, run_fault_number};
 
 use ipx_wire::OutOfMemory;
 use thiserror::Error;

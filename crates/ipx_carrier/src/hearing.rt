@@ -1,7 +1,7 @@
 //! The first part of a turn: each port is asked for a datagram, and the core hears what came.
 
 ghost use Rattle.std.specs.Prelude.{◌≡◌, ◌<◌, ◌≤◌, ◌+◌, ◌^◌, IfOk, IfErr, length};
-ghost use Rattle.ipx_carrier.specs.Fault.{failures_after};
+ghost use Rattle.ipx_carrier.specs.RunFaultNumbers.{failures_after};
 ghost use Rattle.ipx_carrier.specs.Parts.{AsksInVain, AsksPort, AsksPorts, AsksSomePorts, TakesFromDevice};
 
 use crate::cores::Core;

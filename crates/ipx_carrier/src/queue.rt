@@ -1,8 +1,8 @@
 //! The packets of a router that are to be sent.
 
 ghost use Rattle.std.specs.Prelude.{◌≡◌, ℕ, ◌<◌, ◌≤◌, ◌∷◌, [], length, drop, true, false, OnOk, OnErr, IfSome};
-ghost use Rattle.ipx_router.specs.Packets.{sendings};
-ghost use Rattle.ipx_carrier.specs.Given.{given_in};
+ghost use Rattle.ipx_router.specs.RouterPackets.{sendings};
+ghost use Rattle.ipx_carrier.specs.GivenPackets.{given_in};
 ghost use Rattle.ipx_router.specs.OutcomeView.{router_outcome};
 ghost use Rattle.ipx_carrier.specs.RouterCore.{AreGivable, IsNotTold, IsRoomFor, first_given, most_queued, sendings_of};
 ghost use Rattle.ipx_carrier.specs.Queued.{Puts, PutsStart, PutsTold};

@@ -1,7 +1,7 @@
 //! A router as a core.
 
 ghost use Rattle.std.specs.Prelude.{◌≡◌, ◌≤◌, [], false, length};
-ghost use Rattle.ipx_carrier.specs.Fates.{none};
+ghost use Rattle.ipx_carrier.specs.OutcomeCounts.{none};
 
 use crate::cores::Core;
 use crate::fates::Fates;
@@ -27,7 +27,7 @@ pub struct RouterCore {
 
 impl Model for RouterCore {
     ghost use Rattle.std.specs.Prelude.{◌≤◌, length};
-    ghost use Rattle.ipx_router.specs.Packets.{sendings};
+    ghost use Rattle.ipx_router.specs.RouterPackets.{sendings};
     ghost use Rattle.ipx_carrier.specs.RouterCore.{AreGivable, CoreView, most_queued};
 
     ghost Value = { CoreView };

@@ -1,7 +1,7 @@
 //! A run: turns of a core over a device.
 
 ghost use Rattle.std.specs.Prelude.{◌≡◌, ◌<◌, ◌≤◌, ◌+◌, ◌*◌, ◌^◌, IfOk, IfErr, length};
-ghost use Rattle.ipx_carrier.specs.Fault.{failures_after};
+ghost use Rattle.ipx_carrier.specs.RunFaultNumbers.{failures_after};
 ghost use Rattle.ipx_carrier.specs.Turns.{peers_of};
 ghost use Rattle.ipx_carrier.specs.Counts.{plus};
 ghost use Rattle.ipx_carrier.specs.Parts.{TakesFromDevice};

@@ -2,7 +2,7 @@
 
 ghost use Rattle.std.specs.Prelude.{◌≡◌, ◌<◌, ◌≤◌, ◌+◌, ◌^◌, ℕ, List, [], ◌∷◌, Option, IfOk, OnOk, OnErr, IfSome, length};
 ghost use Rattle.ipx_carrier.specs.Device.{Access, Passes, TrafficOf, received_in};
-ghost use Rattle.ipx_carrier.specs.Fault.{device_failures};
+ghost use Rattle.ipx_carrier.specs.RunFaultNumbers.{device_failures};
 ghost use Rattle.ipx_carrier.specs.Segments.{SendsFrontOf, copies_count, count_in};
 ghost use Rattle.ipx_carrier.specs.Turns.{Given, copies_of};
 ghost use Rattle.ipx_carrier.specs.Waits.{LeavesPort, WaitingDatagrams};

@@ -1,7 +1,7 @@
 //! The second part of a turn: the core is asked for packets, and each is sent.
 
 ghost use Rattle.std.specs.Prelude.{◌≡◌, ◌<◌, ◌≤◌, ◌+◌, ◌*◌, ◌^◌, IfOk, IfErr, length};
-ghost use Rattle.ipx_carrier.specs.Fault.{failures_after};
+ghost use Rattle.ipx_carrier.specs.RunFaultNumbers.{failures_after};
 ghost use Rattle.ipx_carrier.specs.Segments.{count_in};
 ghost use Rattle.ipx_carrier.specs.SendingView.{with_one_packet, copies_view};
 ghost use Rattle.ipx_carrier.specs.Parts.{SendsAll, SendsNext, SendsSome};

@@ -3,7 +3,7 @@ use Rattle.std.proofs.Common.{◌≡◌, ◌<◌, ◌+◌, ℕ, List, [], ◌∷
 use Rattle.std.specs.List.{flat_map}
 use Rattle.std.proofs.lemmas.List.{take_more}
 use Rattle.ipx_router.specs.declared.outcome.Reply.{Reply}
-use Rattle.ipx_router.specs.Packets.{sending_of, sendings}
+use Rattle.ipx_router.specs.RouterPackets.{sending_of, sendings}
 use Rattle.ipx_commands.specs.Line.{sending_line}
 
 lines_push : (xs : List Reply) (r : Reply) → flat_map sending_line (sendings (xs ++ r ∷ [])) ≡ flat_map sending_line (sendings xs) ++ sending_line (sending_of r)

@@ -5,7 +5,7 @@ use Rattle.std.specs.List.{AllZip, list_all, take_while}
 use Rattle.std.specs.Result.{result_ok}
 use Rattle.hex.specs.Hex.{decode_of}
 use Rattle.ipx_commands.specs.Line.{bad_line}
-use Rattle.ipx_commands.specs.Reading.{DecodedView, IsDecoded}
+use Rattle.ipx_commands.specs.Decoded.{DecodedView, IsDecoded}
 use Rattle.ipx_commands.specs.ShowLine.{reading_lines, reading_status}
 use Rattle.ipx_commands.specs.Show.{Shows, ShowWrites}
 use Rattle.ipx_commands.specs.CheckLine.{LineView, Skipped, Vector, Malformed, input_lines, line_form}

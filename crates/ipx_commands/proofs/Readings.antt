@@ -5,7 +5,7 @@ use Rattle.ipx_wire.specs.Ipx.{PacketView, IsIpx, ipx_fault}
 use Rattle.ipx_wire.specs.Spx.{IsSpx, spx_fault}
 use Rattle.ipx_control.specs.Rip.{RipView, IsRip, rip_fault}
 use Rattle.ipx_control.specs.Sap.{SapView, IsSap, sap_fault}
-use Rattle.ipx_commands.specs.Reading.{ContentsView, OfSpx, OfRip, OfSap, DecodedView, NoPacket, NoSpx, NoControl, Holds, Protocol, Spx, Rip, Sap, Other, IsContents, IsDecoded, body_fault, protocol_of}
+use Rattle.ipx_commands.specs.Decoded.{ContentsView, OfSpx, OfRip, OfSap, DecodedView, NoPacket, NoSpx, NoControl, Holds, Protocol, Spx, Rip, Sap, Other, IsContents, IsDecoded, body_fault, protocol_of}
 
 -- what the layouts of the packets give
 pub record Layouts : Type 0 where

@@ -11,7 +11,7 @@ use Rattle.std.proofs.lemmas.List.Sums.{count_by-le-length, sum_by_push, take_wh
 use Rattle.ipx_commands.specs.declared.check.Tally as code
 use Rattle.ipx_commands.specs.CheckLine.{LineView, Skipped, Vector, Malformed, input_lines, line_form}
 use Rattle.ipx_commands.specs.Check.{ChecksLines, IsVectorOutcome, VectorOutcomeView, Passed, Failed, check_status, last_line, failed_line, failed_lines, is_failed, is_known, is_vector}
-use Rattle.ipx_commands.specs.Tally.{IsTally}
+use Rattle.ipx_commands.specs.CheckCounts.{IsTally}
 
 enumerate_from-push : (n : ℕ) (vs : List VectorOutcomeView) (v : VectorOutcomeView) → enumerate_from n (vs ++ v ∷ []) ≡ enumerate_from n vs ++ (n + length vs, v) ∷ []
 enumerate_from-push n [] v =

@@ -4,10 +4,10 @@ use Rattle.std.specs.List.{AllZip, enumerate_from, flat_map, list_all, take_whil
 use Rattle.std.specs.Fmt.{decimal}
 use Rattle.ipx_wire.specs.Ipx.{ipx_fault_number}
 use Rattle.ipx_wire.specs.Spx.{spx_fault_number}
-use Rattle.ipx_control.specs.Fault.{control_fault_number}
+use Rattle.ipx_control.specs.ControlFaults.{control_fault_number}
 use Rattle.ipx_commands.specs.declared.check.Verdict as code
 use Rattle.ipx_commands.specs.declared.check.Verdict.TheVariants as verdicts
-use Rattle.ipx_commands.specs.Reading.{DecodedView, NoPacket, NoSpx, NoControl, Holds, IsDecoded}
+use Rattle.ipx_commands.specs.Decoded.{DecodedView, NoPacket, NoSpx, NoControl, Holds, IsDecoded}
 use Rattle.ipx_commands.specs.Text.{most_input}
 use Rattle.ipx_commands.specs.CheckLine.{LineView, Skipped, Vector, Malformed, input_lines, line_form}
 

@@ -1,10 +1,10 @@
 pub mod Text
 pub mod Line
 pub mod Hop
-pub mod Reading
+pub mod Decoded
 pub mod ShowLine
 pub mod Show
 pub mod CheckLine
 pub mod Check
-pub mod Tally
+pub mod CheckCounts
 pub mod Output

@@ -3,7 +3,7 @@ use Rattle.std.specs.Prelude.{◌≡◌, ℕ, List, MatchOption}
 use Rattle.std.specs.Result.{result_ok}
 use Rattle.hex.specs.Hex.{decode_of}
 use Rattle.ipx_commands.specs.Line.{bad_line}
-use Rattle.ipx_commands.specs.Reading.{DecodedView, IsDecoded}
+use Rattle.ipx_commands.specs.Decoded.{DecodedView, IsDecoded}
 use Rattle.ipx_commands.specs.ShowLine.{reading_lines, reading_status}
 
 -- the lines and the status of what a datagram is read as

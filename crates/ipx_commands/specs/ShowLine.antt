@@ -12,7 +12,7 @@ use Rattle.ipx_control.specs.declared.sap.packet.ServiceEntry.{ServiceEntry}
 use Rattle.ipx_control.specs.Rip as rip
 use Rattle.ipx_control.specs.Sap as sap
 use Rattle.ipx_commands.specs.Line.{control_fault_text, fault_text, spx_fault_text}
-use Rattle.ipx_commands.specs.Reading.{ContentsView, Plain, OfSpx, OfRip, OfSap, DecodedView, NoPacket, NoSpx, NoControl, Holds}
+use Rattle.ipx_commands.specs.Decoded.{ContentsView, Plain, OfSpx, OfRip, OfSap, DecodedView, NoPacket, NoSpx, NoControl, Holds}
 
 -- a network in 8 hex digits, a node in 12 and a socket in 4
 abbrev pub address_text : Address → List ℕ

@@ -4,10 +4,10 @@ ghost use Rattle.std.specs.Prelude.{◌≡◌, ◌≤◌, ◌<◌, ◌+◌, ◌+
 ghost use Rattle.std.specs.Io.KnownBytes.{Appends};
 ghost use Rattle.ipx_commands.specs.Output.{LeavesWritten};
 ghost use Rattle.ipx_commands.specs.Text.{IsInput};
-ghost use Rattle.ipx_commands.specs.Reading.{decoded_view};
+ghost use Rattle.ipx_commands.specs.Decoded.{decoded_view};
 ghost use Rattle.ipx_commands.specs.CheckLine.{Malformed as no_line, Vector as vector, input_lines, line_form};
 ghost use Rattle.ipx_commands.specs.Check.{CheckWrites, ChecksLines, Failed as told_failed, IsVectorOutcome, VectorOutcomeView, check_status, failed_line, failed_lines, last_line, outcome, vector_outcome_view};
-ghost use Rattle.ipx_commands.specs.Tally.{IsTally};
+ghost use Rattle.ipx_commands.specs.CheckCounts.{IsTally};
 
 use crate::check_line::{Line, read_line};
 use crate::input::{InputFault, MOST_INPUT, read_up_to};

@@ -1,7 +1,7 @@
 //! Laws of what the commands write: for one input there is one output and one status.
 
 ghost use Rattle.std.specs.Prelude.{◌≡◌, ℕ, List};
-ghost use Rattle.ipx_commands.specs.Reading.{IsDecoded, DecodedView};
+ghost use Rattle.ipx_commands.specs.Decoded.{IsDecoded, DecodedView};
 ghost use Rattle.ipx_commands.specs.Hop.{HopWrites};
 ghost use Rattle.ipx_commands.specs.Show.{ShowWrites};
 ghost use Rattle.ipx_commands.specs.Check.{CheckWrites};

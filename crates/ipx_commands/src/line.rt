@@ -3,7 +3,7 @@
 ghost use Rattle.std.specs.Prelude.{◌≡◌, IfOk, string_bytes};
 ghost use Rattle.std.specs.List.{flat_map};
 ghost use Rattle.ipx_router.specs.OutcomeView.{router_outcome};
-ghost use Rattle.ipx_router.specs.Packets.{sending_of, sendings};
+ghost use Rattle.ipx_router.specs.RouterPackets.{sending_of, sendings};
 ghost use Rattle.ipx_commands.specs.Line.{control_fault_name, control_fault_text, fault_name, fault_text, lines_of, no_route_name, numbered, reason_text, sending_line, sending_text, spx_fault_name, spx_fault_text, status_of};
 
 use ipx_control::ControlFault;

@@ -2,7 +2,7 @@
 
 ghost use Rattle.std.specs.Prelude.{◌≡◌, ◌⊎◌, IfOk, IfErr, Some, None};
 ghost use Rattle.ipx_wire.specs.Spx.{spx_fault};
-ghost use Rattle.ipx_commands.specs.Reading.{IsContents, IsDecoded, Spx, body_fault, contents_view, protocol_at, decoded_view};
+ghost use Rattle.ipx_commands.specs.Decoded.{IsContents, IsDecoded, Spx, body_fault, contents_view, protocol_at, decoded_view};
 
 use ipx_control::{ControlFault, Rip, Sap, decode_rip, decode_sap};
 use ipx_wire::{

@@ -5,7 +5,7 @@ ghost use Rattle.std.specs.List.{before_first, flat_map};
 ghost use Rattle.ipx_wire.specs.Ipx.{packet_view};
 ghost use Rattle.ipx_control.specs.Rip.{rip_view};
 ghost use Rattle.ipx_control.specs.Sap.{sap_view};
-ghost use Rattle.ipx_commands.specs.Reading.{contents_view, decoded_view};
+ghost use Rattle.ipx_commands.specs.Decoded.{contents_view, decoded_view};
 ghost use Rattle.ipx_commands.specs.ShowLine.{address_text, bit_text, contents_lines, control_text, counts_text, header_lines, ids_text, name_byte, name_text, reach, reading_lines, reading_status, rip_entry_line, rip_lines, sap_lines, service_line, spx_line, word_text};
 
 use crate::line::{control_fault_to_text, fault_to_text, spx_fault_to_text};

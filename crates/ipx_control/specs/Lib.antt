@@ -1,5 +1,5 @@
 pub mod Entries
-pub mod Fault
+pub mod ControlFaults
 pub mod Lent
 pub mod Rip
 pub mod Sap

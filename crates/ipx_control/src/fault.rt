@@ -1,7 +1,7 @@
 //! Why bytes are no RIP and no SAP packet.
 
 ghost use Rattle.std.specs.Prelude.{◌≡◌};
-ghost use Rattle.ipx_control.specs.Fault.{control_fault_number};
+ghost use Rattle.ipx_control.specs.ControlFaults.{control_fault_number};
 ghost use Rattle.ipx_control.specs.declared.fault.ControlFault.TheVariants.{OutOfMemory as out_of_memory};
 
 use ipx_wire::OutOfMemory;

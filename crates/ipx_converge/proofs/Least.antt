@@ -7,7 +7,7 @@ use Rattle.ipx_converge.specs.Histories.{Clock, Internet, Owns, TellsRoute, Rout
 use Rattle.ipx_converge.specs.Ways.{IsLeastWay, LeastWaysExtend}
 use Rattle.ipx_converge.specs.TableLaws.{LawsOfTables}
 use Rattle.ipx_converge.proofs.Order.{told_apart}
-use Rattle.ipx_router.specs.Route.{direct_route}
+use Rattle.ipx_router.specs.RouteChoice.{direct_route}
 use Rattle.ipx_converge.proofs.Settling.{some_same}
 use Rattle.ipx_converge.proofs.Roots.{hops_told, are_ways}
 

@@ -12,7 +12,7 @@ use Rattle.ipx_tables.specs.Best.{is_better}
 use Rattle.ipx_tables.specs.Content.{source_cmp}
 use Rattle.ipx_tables.specs.Route.{route_before}
 use Rattle.ipx_router.specs.declared.route.Route.{Route}
-use Rattle.ipx_router.specs.Route.{over_neighbour}
+use Rattle.ipx_router.specs.RouteChoice.{over_neighbour}
 use Rattle.ipx_converge.specs.TableLaws.{LawsOfTables}
 use Rattle.ipx_converge.specs.Histories.{Internet, TellsRoute, as_offer, better_route}
 use Rattle.ipx_converge.proofs.Settling.{bool_cases}

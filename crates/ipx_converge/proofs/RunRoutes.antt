@@ -12,7 +12,7 @@ use Rattle.ipx_router.specs.declared.port.PortNow.{PortNow}
 use Rattle.ipx_router.specs.declared.route.Route.{Route}
 use Rattle.ipx_router.specs.Hearing.{is_heard, route_metric}
 use Rattle.ipx_router.specs.Knowledge.{Routes}
-use Rattle.ipx_router.specs.Route.{IsHeardRoute, IsRouteOrNone, IsRouteTo, direct_route, over_neighbour, over_port}
+use Rattle.ipx_router.specs.RouteChoice.{IsHeardRoute, IsRouteOrNone, IsRouteTo, direct_route, over_neighbour, over_port}
 use Rattle.ipx_router.specs.Told.{told_route}
 use Rattle.ipx_converge.specs.TableLaws.{LawsOfTables}
 use Rattle.ipx_converge.specs.Histories.{Clock, HasAsGood, Internet, IsHistory, Owns, Routing, TellsRoute, WasTold, better_route, is_foreign, told_metric}

@@ -33,9 +33,9 @@ use Rattle.ipx_router.specs.Classify.{concern_of, is_node}
 use Rattle.ipx_router.specs.Hearing.{after_route, after_routes, is_heard, route_metric}
 use Rattle.ipx_router.specs.Knowledge.{HoldsKnown, HoldsRoutes, Routes, Services, known_at, routes_in, tables}
 use Rattle.ipx_router.specs.OutcomeView.{OutcomeView, Forward, Replies, Heard, Dropped}
-use Rattle.ipx_router.specs.Packets.{AreCutOf, AreRoutePackets, AreServicePackets, IsRipPacket, IsSapPacket, SendingView, all_nodes, own_header}
+use Rattle.ipx_router.specs.RouterPackets.{AreCutOf, AreRoutePackets, AreServicePackets, IsRipPacket, IsSapPacket, SendingView, all_nodes, own_header}
 use Rattle.ipx_router.specs.Ports.{IsPort}
-use Rattle.ipx_router.specs.Route.{direct_route}
+use Rattle.ipx_router.specs.RouteChoice.{direct_route}
 use Rattle.ipx_router.specs.RouterView.{RouterView}
 use Rattle.ipx_router.specs.Telling.{AreTellings, AreTold, is_due}
 use Rattle.ipx_router.specs.Told.{IsToldRoute}

@@ -13,7 +13,7 @@ use Rattle.ipx_router.specs.declared.port.PortNow.{PortNow}
 use Rattle.ipx_router.specs.declared.route.Route.{Route}
 use Rattle.ipx_router.specs.Hearing.{after_routes}
 use Rattle.ipx_router.specs.Knowledge.{Routes}
-use Rattle.ipx_router.specs.Route.{IsHeardRoute, IsRouteOrNone, direct_route, over_neighbour, over_port}
+use Rattle.ipx_router.specs.RouteChoice.{IsHeardRoute, IsRouteOrNone, direct_route, over_neighbour, over_port}
 use Rattle.ipx_router.specs.Told.{IsToldRoute, told_route}
 use Rattle.ipx_converge.specs.Fair.{IsFairRun}
 use Rattle.ipx_converge.specs.Histories.{Meet, Owns, Routing, TellsRoute, as_offer, better_route}

@@ -10,7 +10,7 @@ use Rattle.ipx_router.specs.Answer.{Receives}
 use Rattle.ipx_router.specs.Hearing.{after_routes}
 use Rattle.ipx_router.specs.Knowledge.{known_at, routes_in}
 use Rattle.ipx_router.specs.OutcomeView.{OutcomeView, Dropped}
-use Rattle.ipx_router.specs.Packets.{SendingView}
+use Rattle.ipx_router.specs.RouterPackets.{SendingView}
 use Rattle.ipx_router.specs.RouterView.{RouterView}
 use Rattle.ipx_router.specs.Telling.{TellsIfDue, is_due}
 use Rattle.ipx_router.specs.Told.{IsToldRoute}

@@ -12,7 +12,7 @@ use Rattle.ipx_tables.specs.Route.{route_before, route_dead}
 use Rattle.ipx_router.specs.declared.port.Port.{Port}
 use Rattle.ipx_router.specs.declared.route.Route.{Route}
 use Rattle.ipx_router.specs.Ports.{IsPort}
-use Rattle.ipx_router.specs.Route.{direct_route, over_neighbour, over_port}
+use Rattle.ipx_router.specs.RouteChoice.{direct_route, over_neighbour, over_port}
 use Rattle.ipx_router.specs.Told.{told_hops, told_ticks}
 
 -- the routers of a network, by place: of each its ports

@@ -7,7 +7,7 @@ use Rattle.ipx_tables.specs.declared.source.Source.{Source}
 use Rattle.ipx_router.specs.declared.port.Port.{Port}
 use Rattle.ipx_router.specs.declared.route.Route.{Route}
 use Rattle.ipx_router.specs.Knowledge.{Routes}
-use Rattle.ipx_router.specs.Route.{over_neighbour}
+use Rattle.ipx_router.specs.RouteChoice.{over_neighbour}
 use Rattle.ipx_converge.specs.Fair.{IsFairRun}
 use Rattle.ipx_converge.specs.Histories.{Clock, Internet, Routing}
 use Rattle.ipx_converge.specs.RouterRuns.{NodesDiffer}

@@ -19,8 +19,8 @@ use Rattle.spx_messages.specs.declared.taken.Taken.{Taken}
 use Rattle.ipx_ends.specs.Books.{EntersAcknowledged}
 use Rattle.ipx_ends.specs.Dropping.{DropsCame}
 use Rattle.ipx_ends.specs.Feeding.{Feeds, Intake, KeepsQueue, LeavesIntake, SameQueue, intake}
-use Rattle.ipx_ends.specs.Rounds.{IsSendStep, SendState, intake_of, place}
-use Rattle.ipx_ends.specs.Steps.{FeedsOn, GoesOnOrEnds, IsFeedFault, IsStepFault, SeenSoFar, Sees}
+use Rattle.ipx_ends.specs.SendRounds.{IsSendStep, SendState, intake_of, place}
+use Rattle.ipx_ends.specs.SendSteps.{FeedsOn, GoesOnOrEnds, IsFeedFault, IsStepFault, SeenSoFar, Sees}
 use Rattle.ipx_ends.specs.Transfer.{IsWaiting, IsWholeAt, ended_at, joined_at, left_at, state_at, verdict_at}
 use Rattle.ipx_carrier.specs.Turns.{Peers}
 use Rattle.ipx_ends.specs.Turning.{TakesTurn}

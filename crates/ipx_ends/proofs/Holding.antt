@@ -17,10 +17,10 @@ use Rattle.ipx_ends.specs.Callers.{Admits, Asks as IsAsked, EndedAlone, KeepsHea
 use Rattle.ipx_ends.specs.Outlet.{Writes}
 use Rattle.ipx_ends.specs.Tending.{DoesAction, IsFateOf, JustStays, Tends}
 use Rattle.ipx_ends.specs.declared.end_core.EndCore.{EndCore}
-use Rattle.ipx_ends.specs.Stop.{parted}
+use Rattle.ipx_ends.specs.ListenOutcomes.{parted}
 use Rattle.ipx_ends.specs.declared.listening.Stop.{Stop}
 use Rattle.ipx_ends.specs.declared.listening.Stop.TheVariants as Stops
-use Rattle.ipx_ends.specs.Fate.{IsCallerAction, ends, is_unheard, standing_asked, standing_heard}
+use Rattle.ipx_ends.specs.CallerActions.{IsCallerAction, ends, is_unheard, standing_asked, standing_heard}
 use Rattle.ipx_ends.specs.Passing.{PassesEach, PassesFrom, PassesOne, PassesSome, held_after, standing_after, standing_with}
 use Rattle.ipx_ends.specs.declared.callers.Caller.{Caller}
 use Rattle.ipx_ends.specs.declared.callers.Fate.{Fate}

@@ -13,7 +13,7 @@ use Rattle.spx_messages.specs.EndpointView.{EndpointView, Held, buffers_at, held
 use Rattle.ipx_ends.specs.Hosting.{HearsAndNotesAll, Host, ListensWell, WritesAndPasses, MovesSome, Serves, ServesWell, Steps, StepsWithoutStop, StepsTo, host}
 use Rattle.ipx_ends.specs.Outlet.{Writes, left_of}
 use Rattle.ipx_ends.specs.Passing.{PassesEach, PassesFrom, PassesSome, given_each, given_from}
-use Rattle.ipx_ends.specs.Stop.{parted, stop_status}
+use Rattle.ipx_ends.specs.ListenOutcomes.{parted, stop_status}
 use Rattle.ipx_ends.specs.Tending.{DoesAction, JustStays, Tends, TendsFirst, TendsOn, Tidies}
 use Rattle.ipx_ends.specs.declared.callers.Caller.{Caller}
 use Rattle.ipx_ends.specs.declared.callers.Fate.{Fate}

@@ -5,7 +5,7 @@ use Rattle.spx_messages.specs.Changes.{SameSelf}
 use Rattle.spx_messages.specs.EndpointView.{EndpointView, Held, held_at}
 use Rattle.spx_messages.specs.Taking.{TakenView, Nothing, Part, PeerEnd, Whole, take_end}
 use Rattle.spx_messages.specs.declared.fault.EndFault.{EndFault}
-use Rattle.ipx_ends.specs.Fate.{is_unheard}
+use Rattle.ipx_ends.specs.CallerActions.{is_unheard}
 use Rattle.ipx_ends.specs.Outlet.{Writes, left_of}
 use Rattle.ipx_ends.specs.Passing.{PassesHeld, PassesEach, PassesFrom, PassesOne, SameOthers, Takes, TakesNothing, bodies_after, held_after, left_with, standing_with}
 use Rattle.ipx_ends.specs.declared.callers.Caller.{Caller}

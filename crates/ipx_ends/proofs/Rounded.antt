@@ -10,9 +10,9 @@ use Rattle.spx_link.specs.declared.state.State.{State}
 use Rattle.spx_messages.specs.EndpointView.{EndpointView, held_at}
 use Rattle.ipx_ends.specs.Books.{EntersAcknowledged}
 use Rattle.ipx_ends.specs.Feeding.{Feeds, Intake}
-use Rattle.ipx_ends.specs.Rounds.{IsSendStep, LastRound, SendState, Round, Rounds, Transfers, intake_of}
+use Rattle.ipx_ends.specs.SendRounds.{IsSendStep, LastRound, SendState, Round, Rounds, Transfers, intake_of}
 use Rattle.ipx_ends.specs.Sent.{IsDialing, SendsWholeInput}
-use Rattle.ipx_ends.specs.Steps.{GoesOnOrEnds, IsStepFault, Sees}
+use Rattle.ipx_ends.specs.SendSteps.{GoesOnOrEnds, IsStepFault, Sees}
 use Rattle.ipx_ends.specs.Transfer.{state_at}
 use Rattle.ipx_ends.specs.Turning.{TakesTurn}
 use Rattle.ipx_ends.specs.declared.end_core.EndCore.{EndCore}

@@ -2,7 +2,7 @@
 use Rattle.std.proofs.Common.{◌≡◌, ℕ, Err, None, refl, subst}
 use Rattle.ipx_carrier.specs.declared.fault.RunFault.{RunFault}
 use Rattle.ipx_carrier.specs.declared.fault.RunFault.TheVariants.{Device, OutOfMemory}
-use Rattle.ipx_carrier.specs.Fault.{failures_after}
+use Rattle.ipx_carrier.specs.RunFaultNumbers.{failures_after}
 use Rattle.ipx_carrier.specs.Runs.{EndsEarly}
 use Rattle.ipx_carrier.specs.Turns.{Peers}
 use Rattle.ipx_ends.specs.declared.end_core.EndCore.{EndCore}

@@ -2,7 +2,7 @@
 -- of it is own.
 use Rattle.std.specs.Prelude.{◌≡◌, ◌<◌, ◌≤◌, ℕ, ◌+◌, ◌-◌, ◌^◌, List, [], ◌∷◌, ◌++◌, length, Option, Some, None}
 use Rattle.spx_link.specs.LinkView.{numbers_of}
-use Rattle.spx_link.specs.Marks.{distance}
+use Rattle.spx_link.specs.SequenceMarks.{distance}
 use Rattle.spx_link.specs.declared.numbers.Numbers.{Numbers}
 use Rattle.spx_messages.specs.EndpointView.{Held}
 use Rattle.ipx_site.specs.Bursts.{counted}

@@ -8,9 +8,9 @@ use Rattle.spx_link.specs.Offer.{offer_link}
 use Rattle.spx_units.specs.Cut.{cut_of}
 use Rattle.spx_messages.specs.Changes.{ChangesEnd, SameBut, SameSelf}
 use Rattle.spx_messages.specs.EndpointView.{EndpointView, Held, held_at}
-use Rattle.ipx_carrier.specs.Fates.{raised}
+use Rattle.ipx_carrier.specs.OutcomeCounts.{raised}
 use Rattle.ipx_wire.specs.declared.address.Address.{Address}
-use Rattle.ipx_ends.specs.Fate.{ends, is_unheard, standing_asked, standing_heard}
+use Rattle.ipx_ends.specs.CallerActions.{ends, is_unheard, standing_asked, standing_heard}
 use Rattle.ipx_ends.specs.declared.callers.Caller.{Caller}
 use Rattle.ipx_ends.specs.declared.callers.Standing.TheVariants as Standings
 use Rattle.ipx_ends.specs.declared.end_core.Accepted.{Accepted}

@@ -3,7 +3,7 @@ use Rattle.std.specs.Prelude.{◌≡◌, ◌<◌, ℕ, ◌+◌, ◌-◌, ◌*◌
 use Rattle.std.specs.Int.{div_ceil}
 use Rattle.std.specs.List.{sum_by}
 use Rattle.ipx_wire.specs.Assigned.{spx_max_data_size}
-use Rattle.spx_link.specs.Marks.{distance}
+use Rattle.spx_link.specs.SequenceMarks.{distance}
 use Rattle.spx_link.specs.declared.numbers.Numbers.{Numbers}
 use Rattle.ipx_site.specs.Bursts.{counted}
 

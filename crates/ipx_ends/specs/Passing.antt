@@ -4,7 +4,7 @@ use Rattle.spx_messages.specs.Changes.{ChangesEnd, SameBut, SameSelf}
 use Rattle.spx_messages.specs.EndpointView.{EndpointView, Held, held_at}
 use Rattle.spx_messages.specs.Taking.{TakenView, Nothing, Part, PeerEnd, Whole, take_end}
 use Rattle.spx_messages.specs.declared.fault.EndFault.{EndFault}
-use Rattle.ipx_ends.specs.Fate.{is_unheard}
+use Rattle.ipx_ends.specs.CallerActions.{is_unheard}
 use Rattle.ipx_ends.specs.Outlet.{Writes, left_of}
 use Rattle.ipx_ends.specs.declared.callers.Caller.{Caller}
 use Rattle.ipx_ends.specs.declared.callers.Standing.{Standing}

@@ -9,8 +9,8 @@ use Rattle.ipx_wire.specs.declared.address.Socket.{Socket}
 use Rattle.spx_link.specs.Offer.{dialed}
 use Rattle.spx_messages.specs.EndpointView.{buffers_at, held_at}
 use Rattle.ipx_ends.specs.Books.{IsUnused}
-use Rattle.ipx_ends.specs.Rounds.{SendState, Transfers}
-use Rattle.ipx_ends.specs.Steps.{noted}
+use Rattle.ipx_ends.specs.SendRounds.{SendState, Transfers}
+use Rattle.ipx_ends.specs.SendSteps.{noted}
 use Rattle.ipx_ends.specs.Transfer.{IsWholeAt}
 
 -- a host as its file says it, which listens nowhere, and whose one link asks for a connection to an

@@ -4,7 +4,7 @@ use Rattle.std.specs.Prelude.{◌≡◌, ◌≤◌, ◌<◌, ◌⊎◌, ◌^◌,
 use Rattle.spx_link.specs.Due.{IsQuiet}
 use Rattle.spx_link.specs.LinkView.{LinkView}
 use Rattle.spx_link.specs.Links.{LinksView, link_at}
-use Rattle.ipx_ends.specs.Fate.{IsCallerAction}
+use Rattle.ipx_ends.specs.CallerActions.{IsCallerAction}
 use Rattle.ipx_ends.specs.Transfer.{state_at}
 use Rattle.ipx_ends.specs.declared.callers.Caller.{Caller}
 use Rattle.ipx_ends.specs.declared.callers.Fate.TheVariants.{Stays}

@@ -2,8 +2,8 @@
 use Rattle.std.specs.Prelude.{◌≡◌, ◌≤◌, ◌<◌, ◌-◌, ℕ, zero, suc, Bool, List, All, take, remove, slice_get, slice_set, Option, Some, None}
 use Rattle.spx_messages.specs.EndpointView.{EndpointView}
 use Rattle.ipx_ends.specs.Callers.{Asks, LetsLinkGo}
-use Rattle.ipx_ends.specs.Fate.{IsCallerAction}
-use Rattle.ipx_ends.specs.Stop.{parted}
+use Rattle.ipx_ends.specs.CallerActions.{IsCallerAction}
+use Rattle.ipx_ends.specs.ListenOutcomes.{parted}
 use Rattle.ipx_ends.specs.Transfer.{state_at}
 use Rattle.ipx_ends.specs.declared.callers.Caller.{Caller}
 use Rattle.ipx_ends.specs.declared.callers.Fate.{Fate}

@@ -2,7 +2,7 @@
 
 ghost use Rattle.std.specs.Prelude.{◌≡◌, ◌↔◌, Some, map};
 ghost use Rattle.spx_link.specs.declared.state.State.TheVariants as States;
-ghost use Rattle.ipx_ends.specs.Fate.{IsCallerAction, IsOver, IsToAsk, is_unheard, standing_asked, standing_heard};
+ghost use Rattle.ipx_ends.specs.CallerActions.{IsCallerAction, IsOver, IsToAsk, is_unheard, standing_asked, standing_heard};
 ghost use Rattle.ipx_ends.specs.Callers.{heard_by, has_spoken, is_overdue, is_unheard_of};
 ghost use Rattle.ipx_ends.specs.declared.callers.Fate.TheVariants as Fates;
 

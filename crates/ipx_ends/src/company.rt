@@ -1,7 +1,7 @@
 //! Whom a host hears and sends to.
 
 ghost use Rattle.std.specs.Prelude.{◌≡◌, ◌∷◌, ◌++◌, [], IfOk};
-ghost use Rattle.ipx_site.specs.Ports.{guarding, heard_at_port, named};
+ghost use Rattle.ipx_site.specs.SitePorts.{guarding, heard_at_port, named};
 ghost use Rattle.ipx_ends.specs.Company.{dialed_ip, guarded_host, known_ips};
 
 use crate::start::StartFault;

@@ -6,7 +6,7 @@ ghost use Rattle.std.specs.IoError.{error_kind};
 ghost use Rattle.std.specs.declared.io.ErrorKind.TheVariants.{Interrupted, WouldBlock};
 ghost use Rattle.ipx_ends.specs.Books.{EntersRead};
 ghost use Rattle.ipx_ends.specs.Feeding.{Feeds, HandsOn, ReadsOn, intake};
-ghost use Rattle.ipx_ends.specs.Steps.{IsReadFault};
+ghost use Rattle.ipx_ends.specs.SendSteps.{IsReadFault};
 ghost use Rattle.ipx_ends.specs.declared.verdict.Verdict.TheVariants as Verdicts;
 
 use crate::handing::hand_in;

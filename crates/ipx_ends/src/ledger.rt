@@ -1,7 +1,7 @@
 //! How much of what was handed in is acknowledged.
 
 ghost use Rattle.std.specs.Prelude.{◌≡◌, ◌<◌, ◌≤◌, ◌+◌, ◌-◌, ◌^◌, ℕ, List, [], ◌∷◌, ◌++◌, OnErr, OnOk, false, length, sum, true};
-ghost use Rattle.spx_link.specs.Marks.{distance};
+ghost use Rattle.spx_link.specs.SequenceMarks.{distance};
 ghost use Rattle.spx_units.specs.Cut.{cut_of};
 ghost use Rattle.ipx_site.specs.Bursts.{counted};
 ghost use Rattle.ipx_ends.specs.Ledger.{CountsAcknowledged, IsFirstOpen, all_units, base_of, bytes_acknowledged, units_in};

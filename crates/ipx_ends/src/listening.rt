@@ -11,7 +11,7 @@ ghost use Rattle.ipx_ends.specs.Hosting.{HearsAndNotesAll, WritesAndPasses, Move
 ghost use Rattle.ipx_ends.specs.Outlet.{Writes, left_of};
 ghost use Rattle.ipx_ends.specs.Passing.{PassesEach, PassesSome};
 ghost use Rattle.ipx_ends.specs.Sleeping.{MayRest};
-ghost use Rattle.ipx_ends.specs.Stop.{stop_in, stop_status};
+ghost use Rattle.ipx_ends.specs.ListenOutcomes.{stop_in, stop_status};
 ghost use Rattle.ipx_ends.specs.declared.callers.Caller.{Caller};
 ghost use Rattle.ipx_ends.specs.declared.listening.Stop.{Stop as AStop};
 ghost use Rattle.ipx_ends.specs.declared.listening.Stop.TheVariants as Stops;

@@ -7,9 +7,9 @@ ghost use Rattle.ipx_site.specs.Host.{IsHostText};
 ghost use Rattle.ipx_site.specs.Loading.{IsFileText};
 ghost use Rattle.ipx_site.specs.declared.clock.SteadyClock.{SteadyClock};
 ghost use Rattle.ipx_wire.specs.declared.address.Address.{Address};
-ghost use Rattle.ipx_ends.specs.Rounds.{SendState, Transfers, place};
+ghost use Rattle.ipx_ends.specs.SendRounds.{SendState, Transfers, place};
 ghost use Rattle.ipx_ends.specs.Sent.{SendsWholeInput};
-ghost use Rattle.ipx_ends.specs.Steps.{noted};
+ghost use Rattle.ipx_ends.specs.SendSteps.{noted};
 ghost use Rattle.ipx_ends.specs.Target.{NamesAddress};
 
 use crate::sending::Sending;

@@ -6,10 +6,10 @@ ghost use Rattle.ipx_carrier.specs.Turns.{peers_of};
 ghost use Rattle.ipx_wire.specs.declared.address.Address.{Address};
 ghost use Rattle.spx_messages.specs.EndpointView.{held_at};
 ghost use Rattle.ipx_ends.specs.Books.{EntersAcknowledged};
-ghost use Rattle.ipx_ends.specs.Rounds.{EndsWith, IsSendStep, LastsOn, Transfers, place};
+ghost use Rattle.ipx_ends.specs.SendRounds.{EndsWith, IsSendStep, LastsOn, Transfers, place};
 ghost use Rattle.ipx_ends.specs.Sent.{IsDialing};
 ghost use Rattle.ipx_ends.specs.Sleeping.{MayWait, longest_wait};
-ghost use Rattle.ipx_ends.specs.Steps.{IsFeedFault, IsStepFault, noted};
+ghost use Rattle.ipx_ends.specs.SendSteps.{IsFeedFault, IsStepFault, noted};
 ghost use Rattle.ipx_ends.specs.Transfer.{IsWaiting, IsWholeAt, joined_at, left_at, state_at};
 ghost use Rattle.ipx_ends.specs.declared.verdict.Verdict.TheVariants as Verdicts;
 

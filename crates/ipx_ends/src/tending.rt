@@ -2,9 +2,9 @@
 
 ghost use Rattle.std.specs.Prelude.{◌≡◌, ◌<◌, [], length, remove, slice_get, slice_set, take, false, All, IfSome, IsTrue, MatchOption, None, OnErr, Some, Err, Ok};
 ghost use Rattle.ipx_ends.specs.Callers.{Asks, EndedAlone, LetsLinkGo, raised_if};
-ghost use Rattle.ipx_ends.specs.Fate.{is_unheard};
+ghost use Rattle.ipx_ends.specs.CallerActions.{is_unheard};
 ghost use Rattle.ipx_ends.specs.Outlet.{left_of};
-ghost use Rattle.ipx_ends.specs.Stop.{parted, stop_in};
+ghost use Rattle.ipx_ends.specs.ListenOutcomes.{parted, stop_in};
 ghost use Rattle.ipx_ends.specs.Tending.{IsFateOf, JustStays, Tends, Tidies};
 ghost use Rattle.ipx_ends.specs.declared.callers.Caller.{Caller};
 ghost use Rattle.ipx_ends.specs.declared.callers.Standing.TheVariants as Standings;

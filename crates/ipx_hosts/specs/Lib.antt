@@ -1,5 +1,5 @@
 pub mod Hosts
 pub mod Refusing
-pub mod Stations
-pub mod Telling
-pub mod Beginnings
+pub mod HostStates
+pub mod EndTelling
+pub mod HostBeginnings

@@ -11,13 +11,13 @@ ghost use Rattle.spx_units.specs.declared.fault.MessageFault.TheVariants as Mess
 ghost use Rattle.spx_messages.specs.EndpointView.{held_at};
 ghost use Rattle.spx_units.specs.Cut.{cut_of};
 ghost use Rattle.spx_units.specs.Message.{cut_fault, message_view};
-ghost use Rattle.ipx_steps.specs.Steps.{buffers_of, here_after};
+ghost use Rattle.ipx_steps.specs.HostSteps.{buffers_of, here_after};
 ghost use Rattle.ipx_steps.specs.World.{end_at};
 ghost use Rattle.spx_messages.specs.Changes.{Listens};
-ghost use Rattle.ipx_hosts.specs.Beginnings.{BeginsAt};
+ghost use Rattle.ipx_hosts.specs.HostBeginnings.{BeginsAt};
 ghost use Rattle.ipx_hosts.specs.Refusing.{CloseIsRefused, DialIsLeft, Overruns, PushesTo, SendIsRefused, TakeIsRefused, close_fault, dial_fault, send_fault, want};
-ghost use Rattle.ipx_hosts.specs.Stations.{ChangesAt, DialsAt, ReleasesAt, RefusalKeeps, StaysAt, reader_of, speaker};
-ghost use Rattle.ipx_hosts.specs.Telling.{state_of};
+ghost use Rattle.ipx_hosts.specs.HostStates.{ChangesAt, DialsAt, ReleasesAt, RefusalKeeps, StaysAt, reader_of, speaker};
+ghost use Rattle.ipx_hosts.specs.EndTelling.{state_of};
 
 use crate::refusal::Refusal;
 use ipx_wire::{Address, Fragment, Network, Node, OutOfMemory, Socket};

@@ -7,7 +7,7 @@ use Rattle.ipx_log.specs.Scan.{Scan, Reading, seen_all, scan, unread}
 use Rattle.ipx_log.specs.Peers.{ArePeersIn, NothingInjected}
 use Rattle.ipx_log.specs.Addresses.{NothingReleased, AddressesTellPeers}
 use Rattle.ipx_log.specs.Scene.{Scene}
-use Rattle.spx_units.specs.Packets.{Home}
+use Rattle.spx_units.specs.WrittenPackets.{Home}
 use Rattle.ipx_log.specs.Deeds.{Deed, DoesDeed, Dials, Accepts, Reads, OwesReply, Gives, Rests, Sends, Takes, Overruns, Closes, Releases, Carries, Tells, Injects, IsBegun, Reached, begun, happened}
 use Rattle.ipx_log.proofs.Lists.{get_before}
 use Rattle.ipx_log.proofs.Folding.{seen_all-append}

@@ -8,8 +8,8 @@ use Rattle.spx_link.specs.Poll.{OutgoingView}
 use Rattle.spx_link.specs.LinkView.{LinkView}
 use Rattle.ipx_wire.specs.Connection.{IsConnectionPacket}
 use Rattle.ipx_log.specs.SentUnits.{SaysOnly}
-use Rattle.ipx_log.specs.Packets.{IsOneOn, one_on}
-use Rattle.spx_units.specs.Packets.{Home, IsWrittenPacket}
+use Rattle.ipx_log.specs.PacketsOnWay.{IsOneOn, one_on}
+use Rattle.spx_units.specs.WrittenPackets.{Home, IsWrittenPacket}
 use Rattle.ipx_log.specs.Below.{LawsBelow}
 
 -- what was written is read as what was given, and as nothing else

@@ -11,7 +11,7 @@ use Rattle.spx_link.specs.Receive.{receive_link}
 use Rattle.ipx_log.specs.Note.{Note, Opened, Accepted, Got, HandsIn, AsksEnd, TakesUnit, Released, Told, Carried, Injected}
 use Rattle.ipx_log.specs.Scan.{Scan, Mark, seen, seen_all, scan, unread, one_further}
 use Rattle.ipx_log.specs.Scene.{Scene}
-use Rattle.ipx_log.specs.Packets.{IsOneOn, one_on, note_of, notes_of, out_notes}
+use Rattle.ipx_log.specs.PacketsOnWay.{IsOneOn, one_on, note_of, notes_of, out_notes}
 use Rattle.ipx_log.specs.Deeds.{Deed, DoesDeed, Dials, Accepts, Reads, OwesReply, Gives, Rests, Sends, Takes, Overruns, Closes, Releases, Carries, Tells, Injects, Reached, begun, happened}
 use Rattle.ipx_log.specs.Carried.{behind_routers, IsCarried, RoutersAlterHopsAlone}
 use Rattle.ipx_log.proofs.Lists.{get_last, get_before, get_here}

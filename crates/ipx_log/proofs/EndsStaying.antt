@@ -11,7 +11,7 @@ use Rattle.ipx_log.specs.Note.{Note, Opened, Accepted, Got, HandsIn, AsksEnd, Ta
 use Rattle.ipx_log.specs.Scan.{Scan, times, seen, seen_all, scan, unread}
 use Rattle.ipx_log.specs.Scene.{Scene, Stand, Stands, linked}
 use Rattle.ipx_log.specs.Deeds.{Deed, DoesDeed, Dials, Accepts, Reads, OwesReply, Gives, Rests, Sends, Takes, Overruns, Closes, Releases, Carries, Tells, Injects}
-use Rattle.ipx_log.specs.Packets.{note_of, notes_of, out_notes}
+use Rattle.ipx_log.specs.PacketsOnWay.{note_of, notes_of, out_notes}
 use Rattle.ipx_log.specs.SentUnits.{sent_by}
 use Rattle.ipx_log.specs.EndsTold.{StaysAtHost}
 use Rattle.ipx_log.proofs.Lists.{get_before, times-append}

@@ -7,7 +7,7 @@ use Rattle.std.proofs.lemmas.Option.{slice_get_within, slice_get-get_or}
 use Rattle.spx_link.specs.declared.outgoing.Sent.{Sent}
 use Rattle.spx_link.specs.declared.received.Received.{Received}
 use Rattle.spx_link.specs.LinkView.{LinkView}
-use Rattle.spx_link.specs.Marks.{mark}
+use Rattle.spx_link.specs.SequenceMarks.{mark}
 use Rattle.spx_link.specs.Poll.{poll_link}
 use Rattle.spx_link.specs.Receive.{receive_link}
 use Rattle.spx_link.specs.Offer.{owe_reply_link, take_link, offer_link, end_link, lose_link, dialed, accepted_from}
@@ -16,7 +16,7 @@ use Rattle.ipx_log.specs.Note.{Note, Opened, Accepted, Got, HandsIn, AsksEnd, Ta
 use Rattle.ipx_log.specs.Scan.{Scan, Role, Maker, times, seen, seen_all, scan, unread, no_role, mark_of, joined_by, asker}
 use Rattle.ipx_log.specs.Scene.{Scene, Stand, linked}
 use Rattle.ipx_log.specs.Deeds.{Deed, DoesDeed, Dials, Accepts, Reads, OwesReply, Gives, Rests, Sends, Takes, Overruns, Closes, Releases, Carries, Tells, Injects, Reached, begun, happened}
-use Rattle.ipx_log.specs.Packets.{note_of, notes_of, out_notes}
+use Rattle.ipx_log.specs.PacketsOnWay.{note_of, notes_of, out_notes}
 use Rattle.ipx_log.specs.EndsTold.{EndsAreTold}
 use Rattle.ipx_log.proofs.Lists.{get_last, get_set, times-append}
 use Rattle.ipx_log.proofs.Speaking.{eqb_same}

@@ -9,7 +9,7 @@ use Rattle.spx_units.specs.Message.{MessageView}
 use Rattle.ipx_log.specs.Note.{Note, SendsUnit}
 use Rattle.ipx_log.specs.Scene.{Scene}
 use Rattle.ipx_log.specs.Deeds.{Deed, DoesDeed, DoesGive, Dials, Accepts, Reads, OwesReply, Gives, Rests, Sends, Takes, Overruns, Closes, Releases, Carries, Tells, Injects, Reached, begun, happened}
-use Rattle.ipx_log.specs.Packets.{note_of, notes_of, out_notes}
+use Rattle.ipx_log.specs.PacketsOnWay.{note_of, notes_of, out_notes}
 use Rattle.ipx_log.proofs.Growing.{splits}
 use Rattle.spx_link.specs.declared.outgoing.Sent.TheVariants as Sents
 use Rattle.spx_link.specs.declared.received.Received.TheVariants as R

@@ -12,7 +12,7 @@ use Rattle.ipx_log.specs.Note.{Note, Opened, Accepted, Got, HandsIn, AsksEnd, Ta
 use Rattle.ipx_log.specs.Handed.{out_by, taken_by, gathered, handed_out, taken_of}
 use Rattle.ipx_log.specs.Scene.{Scene, Stand, linked}
 use Rattle.ipx_log.specs.Deeds.{Deed, DoesDeed, Dials, Accepts, Reads, OwesReply, Gives, Rests, Sends, Takes, Overruns, Closes, Releases, Carries, Tells, Injects, Reached, begun, happened}
-use Rattle.ipx_log.specs.Packets.{note_of, notes_of, out_notes}
+use Rattle.ipx_log.specs.PacketsOnWay.{note_of, notes_of, out_notes}
 use Rattle.ipx_log.specs.HandedOut.{HandsOutWhatItTook}
 use Rattle.ipx_log.proofs.Lists.{get_last, get_set}
 use Rattle.ipx_log.proofs.Speaking.{eqb_same}

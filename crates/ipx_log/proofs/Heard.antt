@@ -19,7 +19,7 @@ use Rattle.ipx_log.specs.Scan.{Scan, Reading, seen, seen_all, scan, unread, is_n
 use Rattle.ipx_log.specs.Handed.{taken_by, gathered, taken_of}
 use Rattle.ipx_log.specs.Scene.{Scene, Stand, Stands, linked}
 use Rattle.ipx_log.specs.Deeds.{Deed, DoesDeed, Dials, Accepts, Reads, OwesReply, Gives, Rests, Sends, Takes, Overruns, Closes, Releases, Carries, Tells, Injects, Reached, begun, happened}
-use Rattle.ipx_log.specs.Packets.{note_of, out_notes}
+use Rattle.ipx_log.specs.PacketsOnWay.{note_of, out_notes}
 use Rattle.ipx_log.proofs.Lists.{get_last, get_set, get_here, get_before}
 use Rattle.ipx_log.proofs.Folding.{seen_all-append}
 use Rattle.ipx_log.proofs.Gathering.{gathered-append}

@@ -11,7 +11,7 @@ use Rattle.ipx_log.specs.Scan.{Scan, Mark, Role, seen, seen_all, scan, unread}
 use Rattle.ipx_log.specs.PairLog.{Half, Pair, pair_after, pair_from, pair_between}
 use Rattle.ipx_pairs.specs.States.{is_quiet}
 use Rattle.ipx_log.specs.Scene.{Scene, Stand}
-use Rattle.ipx_log.specs.Packets.{out_notes}
+use Rattle.ipx_log.specs.PacketsOnWay.{out_notes}
 use Rattle.ipx_log.proofs.Tied.{Whole}
 use Rattle.ipx_log.proofs.Folding.{AreIn, seen_all-append, pair_noted, pair_grows}
 

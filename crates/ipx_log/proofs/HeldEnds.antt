@@ -12,7 +12,7 @@ use Rattle.ipx_wire.specs.Ipx.{PacketView}
 use Rattle.spx_link.specs.declared.unit.Unit.{Unit}
 use Rattle.spx_link.specs.Limits.{most_units}
 use Rattle.spx_link.specs.LinkView.{LinkView}
-use Rattle.spx_link.specs.Marks.{mark, room_after}
+use Rattle.spx_link.specs.SequenceMarks.{mark, room_after}
 use Rattle.spx_link.specs.Receive.{is_system}
 use Rattle.spx_link.specs.Offer.{dialed, accepted_from}
 use Rattle.spx_link.specs.Machine.{End, Packet, got, learned, read_unit}
@@ -29,7 +29,7 @@ use Rattle.ipx_pairs.specs.Tracks.{Formed, Follows}
 use Rattle.ipx_pairs.specs.Spelling.{Carries}
 use Rattle.ipx_pairs.specs.States.{is_quiet}
 use Rattle.ipx_log.specs.Scene.{Stand}
-use Rattle.spx_units.specs.Packets.{IsRequestFor}
+use Rattle.spx_units.specs.WrittenPackets.{IsRequestFor}
 use Rattle.ipx_log.proofs.Lists.{get_last, get_before, get_here, read_there}
 use Rattle.ipx_log.proofs.Tied.{mark_at, Letter}
 use Rattle.ipx_log.proofs.Moving.{moves, sees_same}

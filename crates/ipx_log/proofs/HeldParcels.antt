@@ -18,7 +18,7 @@ use Rattle.ipx_pairs.specs.Spelling.{Spoke, PolledTo}
 use Rattle.ipx_pairs.specs.Tracks.{core}
 use Rattle.ipx_pairs.specs.States.{is_quiet}
 use Rattle.ipx_log.specs.Scene.{Stand, linked}
-use Rattle.ipx_log.specs.Packets.{note_of}
+use Rattle.ipx_log.specs.PacketsOnWay.{note_of}
 use Rattle.ipx_log.proofs.Tied.{Whole}
 use Rattle.ipx_log.proofs.Moving.{other_end, this_link}
 use Rattle.ipx_log.proofs.Speaking.{WholeAfter, eqb_same, speaks_whole}

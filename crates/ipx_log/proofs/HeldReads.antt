@@ -16,7 +16,7 @@ use Rattle.ipx_log.specs.Peers.{end_of}
 use Rattle.ipx_log.proofs.OfTwo.{AreRoles, ReadsOf}
 use Rattle.ipx_log.specs.PairLog.{Half, Pair, half_after, got_mail, mail_of, pair_from}
 use Rattle.ipx_log.specs.Scene.{Stand, linked}
-use Rattle.ipx_log.specs.Packets.{notes_of}
+use Rattle.ipx_log.specs.PacketsOnWay.{notes_of}
 use Rattle.ipx_log.proofs.Lists.{get_here}
 use Rattle.ipx_log.proofs.Tied.{Whole}
 use Rattle.ipx_log.proofs.Reading.{reads_whole}

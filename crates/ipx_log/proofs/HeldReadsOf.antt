@@ -14,7 +14,7 @@ use Rattle.ipx_log.specs.Scan.{Scan, Role, Reading, seen_all, mark_of, role_of, 
 use Rattle.ipx_log.proofs.OfTwo.{AreRoles, ReadsOf}
 use Rattle.ipx_log.specs.PairLog.{Half, Pair, half_after, got_mail, mail_of, pair_from}
 use Rattle.ipx_log.specs.Scene.{Stand, linked}
-use Rattle.ipx_log.specs.Packets.{notes_of}
+use Rattle.ipx_log.specs.PacketsOnWay.{notes_of}
 use Rattle.ipx_log.proofs.Lists.{get_here}
 use Rattle.ipx_log.proofs.Moving.{other_end}
 use Rattle.ipx_log.proofs.Others.{elsewhere}

@@ -9,7 +9,7 @@ use Rattle.spx_link.specs.LinkView.{LinkView}
 use Rattle.ipx_log.specs.Scan.{Mark, Role, Reading, no_role}
 use Rattle.ipx_wire.specs.Connection.{IsConnectionPacket}
 use Rattle.ipx_log.specs.Scene.{Stand}
-use Rattle.spx_units.specs.Packets.{Home}
+use Rattle.spx_units.specs.WrittenPackets.{Home}
 use Rattle.ipx_log.proofs.Lists.{get_before, get_last, get_here, get_set}
 use Rattle.ipx_log.proofs.Held.{set_other, set_here}
 use Rattle.ipx_log.proofs.Tied.{mark_at}

@@ -14,8 +14,8 @@ use Rattle.ipx_log.specs.Note.{Note, Accepted, Joined, Got}
 use Rattle.ipx_log.specs.Scan.{Scan, Maker, Role, Reading, seen_all, scan, unread, mark_of, role_of, joined_by, asker, is_now, no_role, BySystem, FromOutside}
 use Rattle.ipx_log.specs.Peers.{NothingInjected}
 use Rattle.ipx_log.specs.Scene.{Scene, Stand, Stands, linked}
-use Rattle.ipx_log.specs.Packets.{IsFor, notes_of}
-use Rattle.spx_units.specs.Packets.{Home, IsRequestFor}
+use Rattle.ipx_log.specs.PacketsOnWay.{IsFor, notes_of}
+use Rattle.spx_units.specs.WrittenPackets.{Home, IsRequestFor}
 use Rattle.ipx_log.specs.Deeds.{DoesAccept, DoesRead}
 use Rattle.ipx_log.proofs.Lists.{get_here, read_there}
 use Rattle.ipx_log.proofs.Folding.{seen_all-append}

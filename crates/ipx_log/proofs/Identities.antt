@@ -14,7 +14,7 @@ use Rattle.ipx_log.specs.Scan.{Each, Mark, Maker, Role, Reading, BySystem, FromO
 use Rattle.ipx_log.specs.Peers.{end_of}
 use Rattle.ipx_wire.specs.Connection.{IsConnectionPacket}
 use Rattle.ipx_log.specs.Scene.{Stand}
-use Rattle.spx_units.specs.Packets.{Home}
+use Rattle.spx_units.specs.WrittenPackets.{Home}
 use Rattle.ipx_log.proofs.Lists.{get_before}
 use Rattle.ipx_log.proofs.Held.{set_other, set_here}
 use Rattle.ipx_log.proofs.Tied.{mark_at}

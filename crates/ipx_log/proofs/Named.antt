@@ -20,7 +20,7 @@ use Rattle.ipx_log.specs.Scan.{Scan, Mark, Maker, Role, seen, seen_all, scan, un
 use Rattle.ipx_log.specs.Peers.{end_of}
 use Rattle.ipx_log.specs.Named.{PeersAreNamed}
 use Rattle.ipx_log.specs.Scene.{Scene, Stand, Stands, linked}
-use Rattle.ipx_log.specs.Packets.{note_of, out_notes}
+use Rattle.ipx_log.specs.PacketsOnWay.{note_of, out_notes}
 use Rattle.ipx_log.specs.Deeds.{Deed, DoesDeed, DoesGive, DoesRead, Dials, Accepts, Reads, OwesReply, Gives, Rests, Sends, Takes, Overruns, Closes, Releases, Carries, Tells, Injects, IsBegun, Reached, begun, happened}
 use Rattle.ipx_log.specs.Below.{LawsBelow}
 use Rattle.ipx_log.proofs.Adding.{mark_before, mark_here}

@@ -12,7 +12,7 @@ use Rattle.ipx_log.specs.Scan.{Scan, Mark, seen, seen_all, scan, unread, mark_of
 use Rattle.ipx_log.specs.Peers.{end_of}
 use Rattle.ipx_log.specs.Scene.{Scene, Stand, Stands, linked}
 use Rattle.ipx_log.specs.Deeds.{Deed, DoesDeed, Dials, Accepts, Reads, OwesReply, Gives, Rests, Sends, Takes, Overruns, Closes, Releases, Carries, Tells, Injects}
-use Rattle.ipx_log.specs.Packets.{note_of, out_notes}
+use Rattle.ipx_log.specs.PacketsOnWay.{note_of, out_notes}
 use Rattle.std.proofs.lemmas.Option.{slice_get_within}
 use Rattle.ipx_log.proofs.Folding.{NoteIn, seen_all-append}
 use Rattle.ipx_log.proofs.Facts.{Facts, OpeningsAreUnjoined, opening_set, facts_noted, facts_sent, facts_end, facts_joined}

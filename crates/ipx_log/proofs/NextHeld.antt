@@ -21,8 +21,8 @@ use Rattle.ipx_pairs.specs.Tracks.{Formed, core, Follows, may_end}
 use Rattle.ipx_pairs.specs.Spelling.{PolledTo}
 use Rattle.ipx_pairs.specs.States.{is_quiet}
 use Rattle.ipx_log.specs.Scene.{Scene, Stand, linked}
-use Rattle.ipx_log.specs.Packets.{note_of, notes_of, out_notes}
-use Rattle.spx_units.specs.Packets.{Home, IsWrittenPacket}
+use Rattle.ipx_log.specs.PacketsOnWay.{note_of, notes_of, out_notes}
+use Rattle.spx_units.specs.WrittenPackets.{Home, IsWrittenPacket}
 use Rattle.ipx_log.specs.Deeds.{Deed, DoesDeed, DoesOverrun, Dials, Accepts, Reads, OwesReply, Gives, Rests, Sends, Takes, Overruns, Closes, Releases, Carries, Tells, Injects}
 use Rattle.ipx_log.proofs.Tied.{Whole}
 use Rattle.ipx_log.proofs.Bytes.{written_says}

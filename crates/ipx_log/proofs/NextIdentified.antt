@@ -22,8 +22,8 @@ use Rattle.ipx_log.specs.Scan.{Scan, Mark, Maker, Role, seen, seen_all, scan, ma
 use Rattle.ipx_log.specs.Peers.{end_of, NothingInjected}
 use Rattle.ipx_log.specs.Addresses.{NothingReleased}
 use Rattle.ipx_log.specs.Scene.{Scene, Stand, Stands, linked}
-use Rattle.spx_units.specs.Packets.{Home}
-use Rattle.ipx_log.specs.Packets.{IsOneOn, one_on, note_of, out_notes}
+use Rattle.spx_units.specs.WrittenPackets.{Home}
+use Rattle.ipx_log.specs.PacketsOnWay.{IsOneOn, one_on, note_of, out_notes}
 use Rattle.ipx_log.specs.Deeds.{Deed, DoesDeed, DoesDial, DoesGive, DoesCarry, DoesTell, Dials, Accepts, Reads, OwesReply, Gives, Rests, Sends, Takes, Overruns, Closes, Releases, Carries, Tells, Injects}
 use Rattle.ipx_log.proofs.Bytes.{written_says}
 use Rattle.ipx_log.proofs.NextFacts.{FactsAt, given_mark}

@@ -10,7 +10,7 @@ use Rattle.ipx_log.specs.Note.{Note, Opened, Accepted, Got, HandsIn, HandsOut, A
 use Rattle.ipx_log.specs.Scan.{Scan, Role, seen, seen_all, scan, unread, mark_of, role_of, joined_by, asker}
 use Rattle.ipx_log.specs.Scene.{Scene, Stand}
 use Rattle.ipx_log.specs.Deeds.{Deed, DoesDeed, Dials, Accepts, Reads, OwesReply, Gives, Rests, Sends, Takes, Overruns, Closes, Releases, Carries, Tells, Injects, Reached, begun, happened}
-use Rattle.ipx_log.specs.Packets.{note_of, notes_of, out_notes}
+use Rattle.ipx_log.specs.PacketsOnWay.{note_of, notes_of, out_notes}
 use Rattle.ipx_log.specs.Numbered.{IsNumbered, NumbersAreInOrder}
 use Rattle.ipx_log.proofs.Folding.{seen_all-append}
 use Rattle.ipx_log.proofs.Held.{calmed, outs_seen}

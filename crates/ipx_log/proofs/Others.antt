@@ -12,7 +12,7 @@ use Rattle.ipx_log.specs.Scan.{Scan, Mark, times, seen, one_further}
 use Rattle.ipx_log.specs.Peers.{end_of}
 use Rattle.ipx_log.specs.PairLog.{Half, half_after, not_mine, mail_of}
 use Rattle.ipx_log.specs.Scene.{Stand}
-use Rattle.ipx_log.specs.Packets.{IsOneOn}
+use Rattle.ipx_log.specs.PacketsOnWay.{IsOneOn}
 use Rattle.ipx_log.proofs.Lists.{times-append, read_there, get_last}
 use Rattle.ipx_log.proofs.Tied.{mark_at, Tied, Whole}
 use Rattle.ipx_log.proofs.Bytes.{carried_reads}

@@ -11,7 +11,7 @@ use Rattle.ipx_log.specs.Note.{Note, Opened, Accepted, Joined, HandsIn, HandsOut
 use Rattle.ipx_log.specs.Scan.{Each, Scan, Role, Maker, seen, seen_all, scan, unread, role_of, mark_of, joined_by, asker, no_role}
 use Rattle.ipx_log.specs.Scene.{Scene}
 use Rattle.ipx_log.specs.Deeds.{Deed, DoesDeed, Dials, Accepts, Reads, OwesReply, Gives, Rests, Sends, Takes, Overruns, Closes, Releases, Carries, Tells, Injects, Reached, begun, happened}
-use Rattle.ipx_log.specs.Packets.{note_of, notes_of, out_notes}
+use Rattle.ipx_log.specs.PacketsOnWay.{note_of, notes_of, out_notes}
 use Rattle.ipx_log.proofs.Lists.{get_last, get_set}
 use Rattle.ipx_log.proofs.Folding.{seen_all-append}
 use Rattle.spx_link.specs.declared.outgoing.Sent.TheVariants as Sents

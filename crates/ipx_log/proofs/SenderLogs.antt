@@ -11,7 +11,7 @@ use Rattle.ipx_log.specs.Scan.{Scan, times, seen, seen_all, scan, unread}
 use Rattle.ipx_log.specs.Handed.{units_by, units_of}
 use Rattle.ipx_log.specs.PairLog.{position_of}
 use Rattle.ipx_log.specs.Scene.{Scene}
-use Rattle.ipx_log.specs.Packets.{notes_of, out_notes}
+use Rattle.ipx_log.specs.PacketsOnWay.{notes_of, out_notes}
 use Rattle.ipx_log.specs.SentUnits.{sent_by, CarriesUnit, UnitsAreSentInOrder}
 use Rattle.ipx_log.proofs.Lists.{get_before, read_there}
 use Rattle.ipx_log.proofs.Folding.{seen_all-append}

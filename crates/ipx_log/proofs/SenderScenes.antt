@@ -8,7 +8,7 @@ use Rattle.ipx_wire.specs.declared.address.Network.{Network}
 use Rattle.spx_link.specs.declared.unit.Unit.{Unit}
 use Rattle.spx_link.specs.declared.outgoing.Sent.{Sent}
 use Rattle.spx_link.specs.Limits.{most_units}
-use Rattle.spx_link.specs.Marks.{mark, distance}
+use Rattle.spx_link.specs.SequenceMarks.{mark, distance}
 use Rattle.spx_link.specs.LinkView.{LinkView}
 use Rattle.spx_link.specs.Poll.{OutgoingView, poll_link}
 use Rattle.spx_link.specs.Receive.{receive_link}
@@ -21,10 +21,10 @@ use Rattle.ipx_log.specs.Handed.{units_of}
 use Rattle.ipx_log.specs.PairLog.{position_of}
 use Rattle.ipx_log.specs.Scene.{Scene, Stand, linked}
 use Rattle.ipx_log.specs.Deeds.{Deed, DoesDeed, Dials, Accepts, Reads, OwesReply, Gives, Rests, Sends, Takes, Overruns, Closes, Releases, Carries, Tells, Injects, DoesGive, IsBegun, Reached, begun, happened}
-use Rattle.ipx_log.specs.Packets.{note_of, notes_of, out_notes}
-use Rattle.spx_units.specs.Packets.{Home, IsWrittenPacket}
+use Rattle.ipx_log.specs.PacketsOnWay.{note_of, notes_of, out_notes}
+use Rattle.spx_units.specs.WrittenPackets.{Home, IsWrittenPacket}
 use Rattle.ipx_log.specs.SentUnits.{sent_by, IsUnitPacket, CarriesUnit, UnitsAreSentInOrder, LinksSendInOrder, PositionsAreGreatest}
-use Rattle.ipx_pairs.specs.Queues.{SendsFrom, Queues, GivesUnit, IsGivenOut, PolledFrom}
+use Rattle.ipx_pairs.specs.PairQueues.{SendsFrom, Queues, GivesUnit, IsGivenOut, PolledFrom}
 use Rattle.ipx_log.proofs.Lists.{get_last, get_set, get_here, read_there, times-append}
 use Rattle.ipx_log.proofs.Bytes.{written_says}
 use Rattle.ipx_log.proofs.Folding.{seen_all-append}

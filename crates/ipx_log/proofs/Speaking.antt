@@ -5,7 +5,7 @@ use Rattle.std.proofs.lemmas.List.{append-nil}
 use Rattle.std.proofs.lemmas.Bool.{cond-true, cond-false}
 use Rattle.std.proofs.lemmas.Bool.Decides.{nat_tests}
 use Rattle.spx_link.specs.declared.outgoing.Sent.{Sent}
-use Rattle.spx_link.specs.Marks.{mark, distance}
+use Rattle.spx_link.specs.SequenceMarks.{mark, distance}
 use Rattle.spx_link.specs.LinkView.{LinkView}
 use Rattle.spx_link.specs.Poll.{OutgoingView}
 use Rattle.spx_link.specs.Machine.{one_more_sent}
@@ -19,7 +19,7 @@ use Rattle.ipx_log.specs.PairLog.{Half, half_after, not_mine, posted, posted_nex
 use Rattle.ipx_pairs.specs.Spelling.{Says, Spoke}
 use Rattle.ipx_pairs.specs.Tracks.{core, IsOpen}
 use Rattle.ipx_log.specs.Scene.{Stand, linked}
-use Rattle.ipx_log.specs.Packets.{note_of}
+use Rattle.ipx_log.specs.PacketsOnWay.{note_of}
 use Rattle.ipx_log.proofs.Lists.{times-append, read_there, get_here}
 use Rattle.ipx_log.proofs.Tied.{Whole}
 use Rattle.ipx_log.proofs.Giving.{gives_whole}

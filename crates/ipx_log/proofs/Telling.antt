@@ -18,7 +18,7 @@ use Rattle.ipx_log.specs.Handed.{out_by, units_by, taken_by, gathered, handed_ou
 use Rattle.ipx_log.specs.PairLog.{pair_between, new_half}
 use Rattle.ipx_log.specs.Scene.{Scene, Stand}
 use Rattle.ipx_log.specs.Deeds.{Deed, DoesDeed, Dials, Accepts, Reads, OwesReply, Gives, Rests, Sends, Takes, Overruns, Closes, Releases, Carries, Tells, Injects}
-use Rattle.ipx_log.specs.Packets.{note_of, notes_of, out_notes}
+use Rattle.ipx_log.specs.PacketsOnWay.{note_of, notes_of, out_notes}
 use Rattle.ipx_log.proofs.Lists.{get_last, get_set}
 use Rattle.ipx_log.proofs.Speaking.{eqb_same}
 use Rattle.ipx_log.proofs.Gathering.{gathered-append, both_counted, joins_log, AreRanged, InRange}

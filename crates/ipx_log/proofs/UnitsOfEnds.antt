@@ -20,7 +20,7 @@ use Rattle.ipx_log.specs.Note.{Note, HandsIn, AsksEnd, TakesUnit}
 use Rattle.ipx_log.specs.Handed.{in_by, units_by, handed_in, units_of}
 use Rattle.ipx_log.specs.UnitsOfEnds.{end_by, ends_asked, AreCuts, UnitsAreCuts}
 use Rattle.ipx_log.specs.Scene.{Scene, Stand, Stands}
-use Rattle.ipx_log.specs.Packets.{note_of, notes_of, out_notes}
+use Rattle.ipx_log.specs.PacketsOnWay.{note_of, notes_of, out_notes}
 use Rattle.ipx_log.specs.Deeds.{Deed, DoesDeed, Dials, Accepts, Reads, OwesReply, Gives, Rests, Sends, Takes, Overruns, Closes, Releases, Carries, Tells, Injects, Reached, begun, happened}
 use Rattle.ipx_log.proofs.Fields.{log_of}
 use Rattle.ipx_log.proofs.Lists.{get_here}

@@ -10,7 +10,7 @@ use Rattle.spx_link.specs.declared.unit.Unit.{Unit}
 use Rattle.spx_link.specs.declared.outgoing.Sent.{Sent}
 use Rattle.spx_link.specs.declared.received.Received.{Received}
 use Rattle.spx_link.specs.LinkView.{LinkView}
-use Rattle.spx_link.specs.Marks.{mark, distance, room_after}
+use Rattle.spx_link.specs.SequenceMarks.{mark, distance, room_after}
 use Rattle.spx_link.specs.Offer.{offer_link, end_link, take_link, owe_reply_link}
 use Rattle.spx_link.specs.Poll.{poll_link}
 use Rattle.spx_link.specs.Receive.{receive_link}
@@ -23,7 +23,7 @@ use Rattle.ipx_log.specs.Handed.{taken_by, taken_of, handed_out, out_by}
 use Rattle.ipx_pairs.specs.States.{is_quiet}
 use Rattle.ipx_log.specs.Scene.{Scene, Stand, Stands, linked}
 use Rattle.ipx_log.specs.Deeds.{Deed, DoesDeed, Dials, Accepts, Reads, OwesReply, Gives, Rests, Sends, Takes, Overruns, Closes, Releases, Carries, Tells, Injects, Reached, begun, happened}
-use Rattle.ipx_log.specs.Packets.{note_of, notes_of, out_notes}
+use Rattle.ipx_log.specs.PacketsOnWay.{note_of, notes_of, out_notes}
 use Rattle.ipx_log.specs.SentUnits.{sent_by}
 use Rattle.ipx_log.proofs.Lists.{get_before, get_here, times-append}
 use Rattle.ipx_log.proofs.Folding.{seen_all-append}

@@ -4,7 +4,7 @@ use Rattle.std.specs.Prelude.{ℕ, ◌≡◌, ◌≢◌, List, Some, slice_get, 
 use Rattle.ipx_log.specs.Note.{Note, Released}
 use Rattle.ipx_log.specs.Peers.{NothingInjected, FromOwnPeer}
 use Rattle.ipx_log.specs.Scene.{Scene}
-use Rattle.spx_units.specs.Packets.{Home}
+use Rattle.spx_units.specs.WrittenPackets.{Home}
 
 abbrev pub AddressesDiffer : Scene → Type 0
 AddressesDiffer s =

@@ -10,9 +10,9 @@ use Rattle.ipx_pairs.specs.Allowances.{AllowanceLaws}
 use Rattle.ipx_pairs.specs.Confirmed.{CloseLaws}
 use Rattle.ipx_pairs.specs.Lasting.{LastingLaws}
 use Rattle.ipx_pairs.specs.Names.{NameLaws}
-use Rattle.ipx_pairs.specs.Queues.{QueueLaws}
+use Rattle.ipx_pairs.specs.PairQueues.{QueueLaws}
 use Rattle.ipx_pairs.specs.States.{StateLaws}
-use Rattle.ipx_pairs.specs.Steps.{StepLaws}
+use Rattle.ipx_pairs.specs.PairSteps.{StepLaws}
 
 pub record LawsBelow : Type 0 where
   -- bytes are one packet at most

@@ -5,7 +5,7 @@ use Rattle.ipx_wire.specs.declared.address.Network.{Network}
 use Rattle.ipx_wire.specs.Ipx.{PacketView, IsIpx}
 use Rattle.ipx_log.specs.Scan.{Mark, scan, mark_of}
 use Rattle.ipx_log.specs.Scene.{Scene}
-use Rattle.ipx_log.specs.Packets.{one_on}
+use Rattle.ipx_log.specs.PacketsOnWay.{one_on}
 
 -- the packet behind so many routers, the first of which got it on this network
 abbrev pub behind_routers : ℕ → Network → PacketView → PacketView

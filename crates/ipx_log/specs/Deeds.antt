@@ -18,9 +18,9 @@ use Rattle.spx_units.specs.Cut.{cut_of}
 use Rattle.ipx_wire.specs.Connection.{IsConnectionPacket}
 use Rattle.ipx_log.specs.Note.{Opened, Accepted, HandsIn, TakesUnit, AsksEnd, Got, Released, Told, Carried, Injected}
 use Rattle.spx_link.specs.declared.received.Received.TheVariants as Receiveds
-use Rattle.ipx_log.specs.Packets.{IsFor, IsOneOn, note_of, notes_of, out_notes}
+use Rattle.ipx_log.specs.PacketsOnWay.{IsFor, IsOneOn, note_of, notes_of, out_notes}
 use Rattle.ipx_log.specs.Scene.{IsFreeId, Scene, Stand, Stands, linked, with_entries, put_end, sent_off}
-use Rattle.spx_units.specs.Packets.{Home, IsRequestFor, IsWrittenPacket}
+use Rattle.spx_units.specs.WrittenPackets.{Home, IsRequestFor, IsWrittenPacket}
 
 pub data Deed : Type 0 where
   -- an end is opened, or made by a request

@@ -12,7 +12,7 @@ pub mod InStep
 pub mod Named
 pub mod Note
 pub mod Numbered
-pub mod Packets
+pub mod PacketsOnWay
 pub mod PairLog
 pub mod Peers
 pub mod Scan

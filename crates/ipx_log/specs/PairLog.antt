@@ -1,7 +1,7 @@
 -- The machine of a log: two ends whose numbers never wrap, which take a step at each entry of
 -- theirs. It is a fold over the entries, written for one end beside the other.
 use Rattle.std.specs.Prelude.{ℕ, ◌+◌, ◌-◌, ◌==◌, List, [], ◌∷◌, ◌++◌, Option, Some, None, slice_index_or, if◌then◌else◌}
-use Rattle.spx_link.specs.Marks.{mark, distance}
+use Rattle.spx_link.specs.SequenceMarks.{mark, distance}
 use Rattle.spx_link.specs.Machine.{End, Packet, packet_now, mailed, sent_next, one_more_sent, got, new_end}
 use Rattle.spx_link.specs.declared.unit.Unit.{Unit}
 use Rattle.spx_link.specs.Offer.{the_end}

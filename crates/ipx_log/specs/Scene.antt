@@ -3,7 +3,7 @@ use Rattle.std.specs.Prelude.{ℕ, ◌≡◌, ◌≢◌, Bool, List, [], ◌∷�
 use Rattle.ipx_wire.specs.declared.address.Network.{Network}
 use Rattle.spx_link.specs.LinkView.{LinkView}
 use Rattle.spx_units.specs.Message.{MessageView}
-use Rattle.spx_units.specs.Packets.{Home}
+use Rattle.spx_units.specs.WrittenPackets.{Home}
 use Rattle.ipx_log.specs.Note.{Note}
 
 -- an end: its host, its link until it is released, the message that it has in part, and whether a

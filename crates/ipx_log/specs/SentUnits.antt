@@ -5,11 +5,11 @@ use Rattle.ipx_wire.specs.declared.spx.packet.SpxHeader.{SpxHeader}
 use Rattle.ipx_wire.specs.Ipx.{PacketView}
 use Rattle.spx_link.specs.declared.unit.Unit.{Unit}
 use Rattle.spx_link.specs.LinkView.{LinkView}
-use Rattle.spx_link.specs.Marks.{mark}
+use Rattle.spx_link.specs.SequenceMarks.{mark}
 use Rattle.spx_link.specs.Receive.{is_system}
 use Rattle.spx_link.specs.Units.{unit_in}
 use Rattle.ipx_wire.specs.Connection.{IsConnectionPacket, sequence_in}
-use Rattle.ipx_pairs.specs.Queues.{SendsFrom}
+use Rattle.ipx_pairs.specs.PairQueues.{SendsFrom}
 use Rattle.ipx_log.specs.Note.{Note, SendsUnit, SendsAgain}
 use Rattle.ipx_log.specs.Scan.{times, scan}
 use Rattle.ipx_log.specs.Handed.{units_of}

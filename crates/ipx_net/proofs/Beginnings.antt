@@ -9,7 +9,7 @@ use Rattle.ipx_wire.specs.declared.address.Network.{Network}
 use Rattle.ipx_wire.specs.declared.address.Socket.{Socket}
 use Rattle.spx_link.specs.Limits.{most_units}
 use Rattle.ipx_log.specs.Deeds.{Reached}
-use Rattle.ipx_hosts.specs.Beginnings.{AddsHost, listens_at}
+use Rattle.ipx_hosts.specs.HostBeginnings.{AddsHost, listens_at}
 use Rattle.ipx_hosts.specs.Hosts.{HostsView, world_of}
 use Rattle.ipx_router.specs.NewRouter.{ports_fault}
 use Rattle.ipx_router.specs.declared.fault.NewFault.{NewFault}
@@ -18,7 +18,7 @@ use Rattle.ipx_steps.specs.Reach.{CameTo, HasNoLinks, IsNewWorld}
 use Rattle.ipx_steps.specs.World.{InOrder, HostState, World, scene_of}
 use Rattle.ipx_net.specs.BookView.{BookView, blank}
 use Rattle.ipx_net.specs.NetReach.{GoesOn}
-use Rattle.ipx_net.specs.Beginnings.{AreHosts, AreRouters, IsHostOwed, IsStationOf, IsRouterOf, PortLists, first_refusal, router_faults}
+use Rattle.ipx_net.specs.NetBeginnings.{AreHosts, AreRouters, IsHostOwed, IsStationOf, IsRouterOf, PortLists, first_refusal, router_faults}
 use Rattle.ipx_net.specs.declared.host.Host.{Host}
 use Rattle.ipx_net.specs.declared.routers.RouterNow.{RouterNow}
 

@@ -3,7 +3,7 @@ use Rattle.std.proofs.Common.{ℕ, zero, suc, ◌≡◌, ◌≢◌, List, [], �
 use Rattle.std.specs.Prelude.{slice_get}
 use Rattle.std.proofs.lemmas.Bool.{cond-false}
 use Rattle.ipx_wire.specs.declared.address.Network.{Network}
-use Rattle.spx_units.specs.Packets.{Home}
+use Rattle.spx_units.specs.WrittenPackets.{Home}
 use Rattle.spx_messages.specs.EndpointView.{Held}
 use Rattle.ipx_log.specs.Addresses.{AddressesTellPeers}
 use Rattle.ipx_log.specs.Allocation.{AloneReadsNothing, WithinAllocation}

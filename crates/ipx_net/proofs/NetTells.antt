@@ -9,7 +9,7 @@ use Rattle.ipx_net.specs.AnswerView.{AnswerView}
 use Rattle.ipx_net.specs.Ends.{TellsEnds, TellsLog, TellsNext}
 use Rattle.ipx_net.specs.NetEvents.{Happens}
 use Rattle.ipx_net.specs.NetView.{NetView}
-use Rattle.ipx_net.specs.Told.{Restood, StandAs, hosts_of, touched_by}
+use Rattle.ipx_net.specs.ToldEnds.{Restood, StandAs, hosts_of, touched_by}
 use Rattle.ipx_net.specs.declared.endinfo.EndInfo.{EndInfo}
 use Rattle.ipx_net.specs.declared.event.Event.{Event}
 use Rattle.ipx_net.proofs.TellingSteps.{happens_only, restood_log, tells_stands}

@@ -6,7 +6,7 @@ use Rattle.std.proofs.lemmas.List.Elements.{All-push}
 use Rattle.ipx_log.specs.Note.{Note}
 use Rattle.ipx_log.specs.Scan.{Scan, joined_by, no_role, scan, seen, seen_all, unread}
 use Rattle.ipx_log.specs.Scan as Scans
-use Rattle.ipx_net.specs.Entries.{entry_note, entry_notes}
+use Rattle.ipx_net.specs.LogEntries.{entry_note, entry_notes}
 use Rattle.ipx_net.specs.Sights.{role_view}
 use Rattle.ipx_net.specs.declared.entry.Entry.{Entry}
 use Rattle.ipx_net.specs.declared.mark.Mark.{Mark}

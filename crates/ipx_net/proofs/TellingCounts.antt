@@ -3,16 +3,16 @@ use Rattle.std.proofs.Common.{◌≡◌, ◌<◌, ◌≤◌, ◌+◌, ◌==◌, 
 use Rattle.std.proofs.lemmas.Bool.{eqb-false}
 use Rattle.std.proofs.lemmas.List.{map-append, get_or-set_same, get_or-set_other, take-append-drop, take_more, drop_more, set_past}
 use Rattle.spx_units.specs.Message.{MessageView}
-use Rattle.spx_link.specs.Marks.{mark}
+use Rattle.spx_link.specs.SequenceMarks.{mark}
 use Rattle.ipx_log.specs.Handed.{gathered, handed_in, handed_out, in_by, out_by}
 use Rattle.ipx_log.specs.Note.{Note, Opened, Accepted, Joined, HandsIn, HandsOut, TakesUnit, AsksEnd, Got, Released, SendsUnit, SendsAgain, SendsSystem, Told, Carried, Injected}
 use Rattle.ipx_log.specs.Numbered.{IsNumbered}
 use Rattle.ipx_log.specs.Scan.{Scan, asker, joined_by, mark_of, role_of, scan, seen, times, unread}
 use Rattle.ipx_log.specs.SentUnits.{sent_by}
 use Rattle.ipx_net.specs.Ends.{nobody, told_of}
-use Rattle.ipx_net.specs.Entries.{entry_note, entry_notes}
+use Rattle.ipx_net.specs.LogEntries.{entry_note, entry_notes}
 use Rattle.ipx_net.specs.Theorems.{AreNumbered}
-use Rattle.ipx_net.specs.Told.{AreCounted, IsCounted, StayAs, StaysAs, change, one_given, one_out, one_sent, told_with}
+use Rattle.ipx_net.specs.ToldEnds.{AreCounted, IsCounted, StayAs, StaysAs, change, one_given, one_out, one_sent, told_with}
 use Rattle.ipx_net.specs.declared.endinfo.EndInfo.{EndInfo}
 use Rattle.ipx_net.specs.declared.entry.Entry.{Entry}
 use Rattle.ipx_net.proofs.Sightings.{seen_all-append}

@@ -10,9 +10,9 @@ use Rattle.ipx_log.specs.Numbered.{IsNumbered}
 use Rattle.ipx_log.specs.Peers.{AreJoined, ArePeersIn}
 use Rattle.ipx_log.specs.Scan.{Maker, Role, Scan, asker, joined_by, mark_of, no_role, role_of, scan, seen, seen_all, unread}
 use Rattle.ipx_net.specs.Ends.{told_of}
-use Rattle.ipx_net.specs.Entries.{entry_note, entry_notes}
+use Rattle.ipx_net.specs.LogEntries.{entry_note, entry_notes}
 use Rattle.ipx_net.specs.Theorems.{AreNumbered}
-use Rattle.ipx_net.specs.Told.{StayAlone, StaysBut, change, joins, made_peers, paired_by, with_peer}
+use Rattle.ipx_net.specs.ToldEnds.{StayAlone, StaysBut, change, joins, made_peers, paired_by, with_peer}
 use Rattle.ipx_net.specs.declared.endinfo.EndInfo.{EndInfo}
 use Rattle.ipx_net.specs.declared.entry.Entry.{Entry}
 use Rattle.ipx_net.proofs.Sightings.{seen_all-append}

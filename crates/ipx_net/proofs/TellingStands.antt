@@ -7,9 +7,9 @@ use Rattle.std.proofs.lemmas.Option.{same_Some}
 use Rattle.spx_link.specs.declared.state.State.{State}
 use Rattle.ipx_steps.specs.World.{IsEndOf, HostState, end_at}
 use Rattle.ipx_hosts.specs.Hosts.{FitTogether, HostsView}
-use Rattle.ipx_hosts.specs.Telling.{here_at, here_in, state_on_host}
+use Rattle.ipx_hosts.specs.EndTelling.{here_at, here_in, state_on_host}
 use Rattle.ipx_net.specs.Ends.{nobody, told_of}
-use Rattle.ipx_net.specs.Told.{StandsSo, change, logged, settled, standing, state_by, stood}
+use Rattle.ipx_net.specs.ToldEnds.{StandsSo, change, logged, settled, standing, state_by, stood}
 use Rattle.ipx_net.specs.declared.endinfo.EndInfo.{EndInfo}
 
 -- an end that is told otherwise, or as before

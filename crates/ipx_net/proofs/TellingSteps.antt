@@ -12,20 +12,20 @@ use Rattle.spx_messages.specs.declared.arrived.Arrived.TheVariants as Arriveds
 use Rattle.spx_messages.specs.declared.fault.EndFault.{EndFault}
 use Rattle.spx_messages.specs.Taking.{TakenView, overlong}
 use Rattle.spx_link.specs.LinkView.{LinkView}
-use Rattle.ipx_steps.specs.Calls.{ChangesLink, DialsFrom, RefusesAt, ReleasesOf}
-use Rattle.ipx_steps.specs.Steps.{TakesOf, ends_after, marked_over}
+use Rattle.ipx_steps.specs.EndCalls.{ChangesLink, DialsFrom, RefusesAt, ReleasesOf}
+use Rattle.ipx_steps.specs.HostSteps.{TakesOf, ends_after, marked_over}
 use Rattle.ipx_steps.specs.World.{EndNow, InOrder, IsEndOf, HostState, World, end_at, held_in, held_of}
 use Rattle.ipx_wire.specs.declared.address.Address.{Address}
 use Rattle.ipx_wire.specs.declared.address.Socket.{Socket}
 use Rattle.ipx_hosts.specs.Hosts.{HostsView}
-use Rattle.ipx_hosts.specs.Telling.{here_at, here_in, state_on_host, state_of}
+use Rattle.ipx_hosts.specs.EndTelling.{here_at, here_in, state_on_host, state_of}
 use Rattle.ipx_net.specs.AnswerView.{AnswerView}
 use Rattle.ipx_net.specs.Ends.{TellsLog, TellsStand, TellsStands, told_of}
 use Rattle.ipx_net.specs.HostEvents.{RefusedOf}
 use Rattle.ipx_net.specs.NetEvents.{Happens}
 use Rattle.ipx_net.specs.NetView.{NetNow}
 use Rattle.ipx_net.specs.RouterEvents.{RouterDoes}
-use Rattle.ipx_net.specs.Told.{Resettled, Restood, StandAs, StandsSo, host_there, hosts_of, logged, state_by, touched_by}
+use Rattle.ipx_net.specs.ToldEnds.{Resettled, Restood, StandAs, StandsSo, host_there, hosts_of, logged, state_by, touched_by}
 use Rattle.ipx_net.specs.declared.endinfo.EndInfo.{EndInfo}
 use Rattle.ipx_net.specs.declared.event.Event.{Event}
 use Rattle.ipx_net.specs.declared.event.Event.TheVariants as Events

@@ -6,7 +6,7 @@ use Rattle.spx_units.specs.Message.{MessageView}
 use Rattle.ipx_log.specs.Note.{Note}
 use Rattle.ipx_log.specs.Handed.{gathered, IsBeginning}
 use Rattle.ipx_net.specs.declared.entry.Entry.{Entry}
-use Rattle.ipx_net.specs.Entries.{entry_note, entry_notes}
+use Rattle.ipx_net.specs.LogEntries.{entry_note, entry_notes}
 
 -- what the entries from a place on add is what the entry there adds, and then what the others add
 pub here : (f : Note → List MessageView) (log : List Entry) (at : ℕ) (e : Entry) (ms : List MessageView) → at < length log → e ≡ get_or log at e → f (entry_note e) ≡ ms

@@ -11,11 +11,11 @@ use Rattle.spx_messages.specs.EndpointView.{Held, held_at}
 use Rattle.spx_messages.specs.Taking.{TakenView}
 use Rattle.spx_messages.specs.declared.arrived.Arrived.{Arrived}
 use Rattle.spx_messages.specs.declared.fault.EndFault.{EndFault}
-use Rattle.ipx_router.specs.Packets.{SendingView, sending_of, sendings}
+use Rattle.ipx_router.specs.RouterPackets.{SendingView, sending_of, sendings}
 use Rattle.ipx_router.specs.declared.outcome.Reply.{Reply}
 use Rattle.ipx_router.specs.declared.port.Port.{Port}
 use Rattle.ipx_log.specs.Note.{Note}
-use Rattle.ipx_steps.specs.Steps.{TakesOf, arrival_notes, unit_notes, whole_notes}
+use Rattle.ipx_steps.specs.HostSteps.{TakesOf, arrival_notes, unit_notes, whole_notes}
 use Rattle.ipx_steps.specs.World.{EndNow, ParcelView, HostState}
 use Rattle.ipx_hosts.specs.Hosts.{DeliveredAt, HostsView, Noting}
 use Rattle.ipx_hosts.specs.Refusing.{end_held, held_by}
@@ -23,7 +23,7 @@ use Rattle.ipx_net.specs.AnswerView.{AnswerView}
 use Rattle.ipx_net.specs.GrowthView.{GrowthView, growth_view}
 use Rattle.ipx_net.specs.HostEvents.{DeliversSo}
 use Rattle.ipx_net.specs.RouterEvents.{told_growth}
-use Rattle.ipx_net.specs.WantOfMemory.{HostWantsMemory, IsMade, TakeIsTold}
+use Rattle.ipx_net.specs.EventWants.{HostWantsMemory, IsMade, TakeIsTold}
 use Rattle.ipx_net.specs.declared.growth.Growth.{Growth}
 use Rattle.ipx_net.specs.declared.routers.RouterNow.{RouterNow}
 

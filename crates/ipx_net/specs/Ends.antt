@@ -5,7 +5,7 @@ use Rattle.spx_link.specs.declared.unit.Unit.{Unit}
 use Rattle.spx_link.specs.Limits.{end_stream}
 use Rattle.spx_link.specs.LinkView.{LinkView}
 use Rattle.spx_link.specs.Machine.{End}
-use Rattle.spx_link.specs.Marks.{mark}
+use Rattle.spx_link.specs.SequenceMarks.{mark}
 use Rattle.ipx_log.specs.Close.{HoldsAll, IsEndInMachine}
 use Rattle.ipx_log.specs.EndsTold.{peer_of}
 use Rattle.ipx_log.specs.Handed.{handed_in, handed_out, units_of}
@@ -15,7 +15,7 @@ use Rattle.ipx_log.specs.Scan.{scan}
 use Rattle.ipx_log.specs.Scene.{Stand, Stands}
 use Rattle.ipx_log.specs.SentUnits.{sent_by}
 use Rattle.ipx_steps.specs.World.{EndNow, HostState, World, held_of, scene_of}
-use Rattle.ipx_hosts.specs.Telling.{state_of}
+use Rattle.ipx_hosts.specs.EndTelling.{state_of}
 use Rattle.ipx_net.specs.NetView.{NetView}
 use Rattle.ipx_net.specs.declared.endinfo.EndInfo.{EndInfo}
 

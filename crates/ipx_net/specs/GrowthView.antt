@@ -4,7 +4,7 @@ use Rattle.ipx_log.specs.Note.{Note}
 use Rattle.ipx_steps.specs.World.{ParcelView, World}
 use Rattle.ipx_hosts.specs.Hosts.{HostsView, world_of}
 use Rattle.ipx_net.specs.AnswerView.{AnswerView, answer_view}
-use Rattle.ipx_net.specs.Entries.{entry_notes}
+use Rattle.ipx_net.specs.LogEntries.{entry_notes}
 use Rattle.ipx_net.specs.Parcels.{parcel_views}
 use Rattle.ipx_net.specs.declared.growth.Growth.{Growth}
 

@@ -1,7 +1,7 @@
 pub mod Begins
 pub mod BookView
-pub mod Entries
-pub mod Faults
+pub mod LogEntries
+pub mod NetFaultNumbers
 pub mod Parcels
 pub mod Places
 pub mod Sights
@@ -12,11 +12,11 @@ pub mod HostEvents
 pub mod Speaking
 pub mod NetView
 pub mod Ends
-pub mod Told
+pub mod ToldEnds
 pub mod RouterEvents
 pub mod NetEvents
-pub mod WantOfMemory
+pub mod EventWants
 pub mod NetFaults
 pub mod NetReach
 pub mod Theorems
-pub mod Beginnings
+pub mod NetBeginnings

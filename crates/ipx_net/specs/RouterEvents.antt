@@ -6,7 +6,7 @@ use Rattle.ipx_router.specs.Forwarded.{ForwardsOneHopOn}
 use Rattle.ipx_router.specs.NewRouter.{IsOwnNetwork}
 use Rattle.ipx_router.specs.OutcomeView.{OutcomeView, replies_of}
 use Rattle.ipx_router.specs.OutcomeView as Outcomes
-use Rattle.ipx_router.specs.Packets.{AreOwn, SendingView}
+use Rattle.ipx_router.specs.RouterPackets.{AreOwn, SendingView}
 use Rattle.ipx_router.specs.declared.port.Port.{Port}
 use Rattle.ipx_log.specs.Note as Notes
 use Rattle.ipx_steps.specs.Routers.{CarriesOn, GivesOwnLetters, told_notes}

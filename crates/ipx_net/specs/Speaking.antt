@@ -2,7 +2,7 @@
 use Rattle.std.specs.Prelude.{ℕ, List, [], ◌∷◌, Option, Some, None}
 use Rattle.spx_link.specs.declared.outgoing.Sent.{Sent}
 use Rattle.ipx_log.specs.Note.{Note}
-use Rattle.ipx_log.specs.Packets.{note_of}
+use Rattle.ipx_log.specs.PacketsOnWay.{note_of}
 
 abbrev pub spoken_notes : Option (ℕ × Sent) → ℕ → List Note
 spoken_notes None parcel = []

@@ -5,7 +5,7 @@ ghost use Rattle.ipx_log.specs.EndsTold.{peer_of};
 ghost use Rattle.ipx_log.specs.Peers.{IsFresh};
 ghost use Rattle.ipx_net.specs.Begins.{Begins};
 ghost use Rattle.ipx_net.specs.BookView.{BookView, blank, written_on};
-ghost use Rattle.ipx_net.specs.Entries.{entry_notes};
+ghost use Rattle.ipx_net.specs.LogEntries.{entry_notes};
 ghost use Rattle.ipx_net.specs.Parcels.{parcel_views};
 
 use crate::entry::Entry;
@@ -29,7 +29,7 @@ impl Model for Book {
     ghost use Rattle.std.specs.Prelude.{◌≡◌};
     ghost use Rattle.ipx_log.specs.Scan.{scan};
     ghost use Rattle.ipx_net.specs.BookView.{BookView};
-    ghost use Rattle.ipx_net.specs.Entries.{entry_notes};
+    ghost use Rattle.ipx_net.specs.LogEntries.{entry_notes};
     ghost use Rattle.ipx_net.specs.Parcels.{parcel_views};
     ghost use Rattle.ipx_net.specs.Sights.{scan_of};
 

@@ -6,12 +6,12 @@ ghost use Rattle.spx_messages.specs.Taking.{taken_view};
 ghost use Rattle.spx_units.specs.Message.{message_view};
 ghost use Rattle.ipx_hosts.specs.Hosts.{FitTogether, SameHomes, stands};
 ghost use Rattle.ipx_hosts.specs.Refusing.{close_fault, dial_fault, end_held, send_fault};
-ghost use Rattle.ipx_steps.specs.Steps.{unit_notes, whole_notes};
+ghost use Rattle.ipx_steps.specs.HostSteps.{unit_notes, whole_notes};
 ghost use Rattle.ipx_net.specs.AnswerView as views;
-ghost use Rattle.ipx_net.specs.Entries.{taken_unit};
+ghost use Rattle.ipx_net.specs.LogEntries.{taken_unit};
 ghost use Rattle.ipx_net.specs.GrowthView.{GrowsWorld, growth_view};
 ghost use Rattle.ipx_net.specs.HostEvents.{Closing, Dialling, Releasing, Sending, TakingFrom};
-ghost use Rattle.ipx_net.specs.WantOfMemory.{IsMade, TakeIsTold};
+ghost use Rattle.ipx_net.specs.EventWants.{IsMade, TakeIsTold};
 
 use crate::answer::Answer;
 use crate::entry::{Entry, TakenUnit};

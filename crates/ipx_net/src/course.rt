@@ -5,16 +5,16 @@ ghost use Rattle.std.specs.Prelude.{◌≡◌, ◌≤◌, ◌+◌, ◌-◌, ◌�
 ghost use Rattle.ipx_log.specs.Peers.{IsFresh};
 ghost use Rattle.ipx_router.specs.declared.fault.NewFault.TheVariants as NewFaults;
 ghost use Rattle.ipx_net.specs.AnswerView.{answer_view};
-ghost use Rattle.ipx_net.specs.Beginnings.{ArePortsOwed, IsHostOwed, IsNewNet, first_refusal};
+ghost use Rattle.ipx_net.specs.NetBeginnings.{ArePortsOwed, IsHostOwed, IsNewNet, first_refusal};
 ghost use Rattle.ipx_net.specs.Begins.{Begins};
 ghost use Rattle.ipx_net.specs.Ends.{TellsLog};
-ghost use Rattle.ipx_net.specs.Entries.{entry_notes};
+ghost use Rattle.ipx_net.specs.LogEntries.{entry_notes};
 ghost use Rattle.ipx_net.specs.NetEvents.{Happens, IsOwed};
 ghost use Rattle.ipx_net.specs.NetFaults.{first_fault};
 ghost use Rattle.ipx_net.specs.Parcels.{parcel_views};
 ghost use Rattle.ipx_net.specs.Theorems.{Theorems};
-ghost use Rattle.ipx_net.specs.Told.{Restood, StandAs, hosts_of, polled_host, reached_host, touched_by};
-ghost use Rattle.ipx_net.specs.WantOfMemory.{EventWantsMemory};
+ghost use Rattle.ipx_net.specs.ToldEnds.{Restood, StandAs, hosts_of, polled_host, reached_host, touched_by};
+ghost use Rattle.ipx_net.specs.EventWants.{EventWantsMemory};
 ghost use Rattle.ipx_net.specs.declared.fault.NetFault.TheVariants as NetFaults;
 
 use crate::answer::Answer;

@@ -2,13 +2,13 @@
 
 ghost use Rattle.std.specs.Prelude.{◌≡◌, ◌<◌, ◌≤◌, ◌∷◌, [], IfOk, IfSome, OnErr, Some, length, slice_get};
 ghost use Rattle.ipx_log.specs.Note as Notes;
-ghost use Rattle.ipx_log.specs.Packets.{notes_of};
-ghost use Rattle.ipx_steps.specs.Steps.{arrival_notes, read_notes};
+ghost use Rattle.ipx_log.specs.PacketsOnWay.{notes_of};
+ghost use Rattle.ipx_steps.specs.HostSteps.{arrival_notes, read_notes};
 ghost use Rattle.ipx_hosts.specs.Hosts.{SameHomes};
-ghost use Rattle.ipx_net.specs.Entries.{entry_notes};
+ghost use Rattle.ipx_net.specs.LogEntries.{entry_notes};
 ghost use Rattle.ipx_net.specs.GrowthView.{growth_view};
 ghost use Rattle.ipx_net.specs.HostEvents.{DeliversSo, end_for};
-ghost use Rattle.ipx_net.specs.WantOfMemory.{HostWantsMemory, IsMade};
+ghost use Rattle.ipx_net.specs.EventWants.{HostWantsMemory, IsMade};
 
 use crate::answer::Answer;
 use crate::entry::Entry;

@@ -1,7 +1,7 @@
 //! Why a step was refused.
 
 ghost use Rattle.std.specs.Prelude.{◌≡◌};
-ghost use Rattle.ipx_net.specs.Faults.{net_fault_number};
+ghost use Rattle.ipx_net.specs.NetFaultNumbers.{net_fault_number};
 ghost use Rattle.ipx_net.specs.declared.fault.NetFault.TheVariants as NetFaults;
 
 use ipx_wire::OutOfMemory;

@@ -2,7 +2,7 @@
 
 ghost use Rattle.std.specs.Prelude.{◌≡◌, ◌∷◌, [], IfOk};
 ghost use Rattle.ipx_net.specs.AnswerView.{answer_view};
-ghost use Rattle.ipx_net.specs.Entries.{entry_note};
+ghost use Rattle.ipx_net.specs.LogEntries.{entry_note};
 ghost use Rattle.ipx_net.specs.GrowthView.{growth_view};
 
 use crate::answer::Answer;

@@ -6,7 +6,7 @@ ghost use Rattle.ipx_net.specs.GrowthView.{growth_view};
 ghost use Rattle.ipx_net.specs.NetEvents.{DeliversTo, Happens, IsOwed, PollsOf, injected};
 ghost use Rattle.ipx_net.specs.NetFaults.{fault_before, network_at, place_fault, poll_fault};
 ghost use Rattle.ipx_net.specs.NetView.{net_of};
-ghost use Rattle.ipx_net.specs.WantOfMemory.{EventWantsMemory, IsMade, PollWantsMemory};
+ghost use Rattle.ipx_net.specs.EventWants.{EventWantsMemory, IsMade, PollWantsMemory};
 ghost use Rattle.ipx_net.specs.declared.event.Event.TheVariants as Events;
 
 use crate::answer::Answer;

@@ -2,7 +2,7 @@
 
 ghost use Rattle.std.specs.Prelude.{◌≡◌, ◌++◌, ◌∷◌, [], All, IfErr, IfOk, None, OnOk, false, unwrap_or};
 ghost use Rattle.ipx_router.specs.declared.fault.NewFault.TheVariants as NewFaults;
-ghost use Rattle.ipx_net.specs.Beginnings.{AreHosts, ArePortsOwed, AreRouters, first_refusal};
+ghost use Rattle.ipx_net.specs.NetBeginnings.{AreHosts, ArePortsOwed, AreRouters, first_refusal};
 
 use crate::host::Host;
 use crate::routers::RouterNow;

@@ -5,14 +5,14 @@ ghost use Rattle.ipx_log.specs.Peers.{IsFresh, Premises};
 ghost use Rattle.ipx_log.specs.Scan.{scan};
 ghost use Rattle.ipx_router.specs.declared.fault.NewFault.TheVariants as NewFaults;
 ghost use Rattle.ipx_net.specs.AnswerView.{answer_view};
-ghost use Rattle.ipx_net.specs.Beginnings.{ArePortsOwed, IsHostOwed, IsNewNet, first_refusal};
+ghost use Rattle.ipx_net.specs.NetBeginnings.{ArePortsOwed, IsHostOwed, IsNewNet, first_refusal};
 ghost use Rattle.ipx_net.specs.Begins.{Begins};
 ghost use Rattle.ipx_net.specs.Ends.{TellsClosed, TellsEnded, TellsEnds, TellsNext, TellsOpened, TellsReleased};
-ghost use Rattle.ipx_net.specs.Entries.{entry_notes};
+ghost use Rattle.ipx_net.specs.LogEntries.{entry_notes};
 ghost use Rattle.ipx_net.specs.NetEvents.{Happens, IsOwed};
 ghost use Rattle.ipx_net.specs.NetFaults.{first_fault};
 ghost use Rattle.ipx_net.specs.Parcels.{parcel_views};
-ghost use Rattle.ipx_net.specs.WantOfMemory.{EventWantsMemory};
+ghost use Rattle.ipx_net.specs.EventWants.{EventWantsMemory};
 ghost use Rattle.ipx_net.specs.Theorems.{Theorems};
 ghost use Rattle.ipx_net.specs.declared.fault.NetFault.TheVariants as NetFaults;
 

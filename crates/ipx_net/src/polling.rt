@@ -1,16 +1,16 @@
 //! A host is polled.
 
 ghost use Rattle.std.specs.Prelude.{◌≡◌, ◌<◌, ◌∷◌, [], IfOk, Some, length};
-ghost use Rattle.ipx_log.specs.Packets.{note_of};
+ghost use Rattle.ipx_log.specs.PacketsOnWay.{note_of};
 ghost use Rattle.ipx_steps.specs.World.{AtHost};
 ghost use Rattle.ipx_hosts.specs.Hosts.{SameHomes};
 ghost use Rattle.ipx_net.specs.AnswerView as views;
-ghost use Rattle.ipx_net.specs.Entries.{entry_note, entry_notes};
+ghost use Rattle.ipx_net.specs.LogEntries.{entry_note, entry_notes};
 ghost use Rattle.ipx_net.specs.GrowthView.{GrowsWorld, growth_view};
 ghost use Rattle.ipx_net.specs.HostEvents.{PollingHost};
 ghost use Rattle.ipx_net.specs.Parcels.{parcel_view};
 ghost use Rattle.ipx_net.specs.Speaking.{spoken_notes};
-ghost use Rattle.ipx_net.specs.WantOfMemory.{IsMade, PollIsSent};
+ghost use Rattle.ipx_net.specs.EventWants.{IsMade, PollIsSent};
 
 use crate::answer::Answer;
 use crate::entry::Entry;

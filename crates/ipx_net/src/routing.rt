@@ -4,10 +4,10 @@ ghost use Rattle.std.specs.Prelude.{◌≡◌, ◌+◌, ◌<◌, ◌≤◌, IfOk
 ghost use Rattle.std.specs.List.{range_with_len};
 ghost use Rattle.ipx_router.specs.OutcomeView.{router_outcome};
 ghost use Rattle.ipx_router.specs.declared.outcome.Outcome.TheVariants as Outcomes;
-ghost use Rattle.ipx_router.specs.Packets.{sending_of, sendings};
+ghost use Rattle.ipx_router.specs.RouterPackets.{sending_of, sendings};
 ghost use Rattle.ipx_net.specs.GrowthView.{growth_view};
 ghost use Rattle.ipx_net.specs.RouterEvents.{MemberPolled, MemberReached, routed_growth, told_growth};
-ghost use Rattle.ipx_net.specs.WantOfMemory.{IsMade, IsSent, RouterPollWantsMemory, RouterWantsMemory};
+ghost use Rattle.ipx_net.specs.EventWants.{IsMade, IsSent, RouterPollWantsMemory, RouterWantsMemory};
 
 use crate::answer::Answer;
 use crate::entry::Entry;

@@ -2,14 +2,14 @@
 
 ghost use Rattle.std.specs.Prelude.{◌≡◌, ◌≢◌, ◌<◌, ◌≤◌, ◌+◌, ◌-◌, ◌^◌, ℕ, [], OnErr, OnOk, Some, length, set, slice_get, take, vec_capacity, vec_len};
 ghost use Rattle.ipx_hosts.specs.Hosts.{FitTogether};
-ghost use Rattle.ipx_hosts.specs.Telling.{here_at, state_on_host};
+ghost use Rattle.ipx_hosts.specs.EndTelling.{here_at, state_on_host};
 ghost use Rattle.ipx_log.specs.EndsTold.{peer_of};
 ghost use Rattle.ipx_log.specs.Scan.{scan};
 ghost use Rattle.ipx_steps.specs.World.{end_at};
 ghost use Rattle.ipx_net.specs.Ends.{nobody, told_of};
-ghost use Rattle.ipx_net.specs.Entries.{entry_note, entry_notes};
+ghost use Rattle.ipx_net.specs.LogEntries.{entry_note, entry_notes};
 ghost use Rattle.ipx_net.specs.Theorems.{AreNumbered};
-ghost use Rattle.ipx_net.specs.Told.{AreCounted, StandsSo, StayAlone, StayAs, change, joins, logged, one_given, one_out, one_sent, made_peers, paired_by, settled, standing, state_by, stood, told_with, with_peer};
+ghost use Rattle.ipx_net.specs.ToldEnds.{AreCounted, StandsSo, StayAlone, StayAs, change, joins, logged, one_given, one_out, one_sent, made_peers, paired_by, settled, standing, state_by, stood, told_with, with_peer};
 
 use crate::book::Book;
 use crate::endinfo::EndInfo;

@@ -2,7 +2,7 @@
 
 ghost use Rattle.std.specs.Prelude.{◌≢◌, ◌<◌, ◌≤◌, All, IfOk, IfSome};
 ghost use Rattle.ipx_router.specs.NewRouter.{IsOwnNetwork};
-ghost use Rattle.ipx_net.specs.Beginnings.{ArePortsOwed, IsHostOwed};
+ghost use Rattle.ipx_net.specs.NetBeginnings.{ArePortsOwed, IsHostOwed};
 
 use ipx_net::{Answer, Event, Host, Member, Net, NetFault, Place};
 use ipx_router::{NewFault, Port};

@@ -2,7 +2,7 @@
 //! the next step is refused. Run it with each request refused.
 
 ghost use Rattle.std.specs.Prelude.{◌≡◌, ◌≢◌, ◌<◌, ◌≤◌, All, IfOk, IfSome};
-ghost use Rattle.ipx_net.specs.Beginnings.{IsHostOwed};
+ghost use Rattle.ipx_net.specs.NetBeginnings.{IsHostOwed};
 ghost use Rattle.ipx_net.specs.NetEvents.{IsOwed};
 
 use crate::book::message;

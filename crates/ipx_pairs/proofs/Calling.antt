@@ -10,7 +10,7 @@ use Rattle.spx_link.specs.Units.{unit_of}
 use Rattle.spx_link.specs.Offer.{refusal, queued, offer_link, end_link, take_held, take_link, the_end}
 use Rattle.spx_link.specs.Machine.{End, AreSound}
 use Rattle.ipx_pairs.specs.Tracks.{Formed, Follows, may_end}
-use Rattle.ipx_pairs.specs.Steps.{StepLaws, TakesTo}
+use Rattle.ipx_pairs.specs.PairSteps.{StepLaws, TakesTo}
 use Rattle.ipx_pairs.proofs.Lists.{get_last}
 use Rattle.ipx_pairs.proofs.Polling.{slice_get-drop, polls}
 use Rattle.ipx_pairs.proofs.Receiving.{receives_tracks}

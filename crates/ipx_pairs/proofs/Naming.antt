@@ -12,7 +12,7 @@ use Rattle.spx_link.specs.declared.received.Received.{Received}
 use Rattle.spx_link.specs.Limits.{most_sends, end_stream, no_id, confirm_stream}
 use Rattle.spx_link.specs.LinkView.{LinkView, free, due}
 use Rattle.spx_link.specs.Units.{unit_in}
-use Rattle.spx_link.specs.Marks.{mark}
+use Rattle.spx_link.specs.SequenceMarks.{mark}
 use Rattle.spx_link.specs.Offer.{take_held}
 use Rattle.spx_link.specs.Receive.{read_numbers, read_system, read_unit, read_packet, is_system, is_own, is_reply, joined_link, receive_at, receive_link, beyond_expected, put, is_taken, leading, any_end, keep_end, keep_units, settle, keep, in_turn, not_behind, repeated, may_confirm, with_ack_owed}
 use Rattle.spx_link.specs.Poll.{OutgoingView, plain, with_unit, base, lost, requests, requests_or_lost, poll_request, may_probe, probes_once, probes_or_lost, poll_probe, acknowledges, poll_ack, late_if_working, sends_again, sends_again_or_lost, poll_late, poll_again, may_send, sends, poll_unit, confirms, poll_confirm, replies, poll_reply, poll_at, poll_link}

@@ -9,7 +9,7 @@ use Rattle.spx_link.specs.declared.queue.Queued.{Queued}
 use Rattle.spx_link.specs.declared.outgoing.Sent.{Sent}
 use Rattle.spx_link.specs.declared.state.State.{State}
 use Rattle.spx_link.specs.Limits.{most_units, most_sends}
-use Rattle.spx_link.specs.Marks.{mark, distance}
+use Rattle.spx_link.specs.SequenceMarks.{mark, distance}
 use Rattle.spx_link.specs.LinkView.{LinkView, due, is_end, is_working}
 use Rattle.spx_link.specs.Units.{unit_of}
 use Rattle.spx_link.specs.Offer.{the_end}
@@ -18,7 +18,7 @@ use Rattle.spx_link.specs.Poll.{OutgoingView, plain, with_unit, lost, requests, 
 use Rattle.spx_link.specs.Machine.{End, IsWithin, one_more_sent, AreSound}
 use Rattle.ipx_pairs.specs.Tracks.{Tracks, core, Follows, may_end}
 use Rattle.ipx_pairs.specs.Spelling.{Says, PolledTo}
-use Rattle.ipx_pairs.specs.Steps.{Polled}
+use Rattle.ipx_pairs.specs.PairSteps.{Polled}
 use Rattle.spx_link.specs.declared.outgoing.Sent.TheVariants as Sents
 use Rattle.spx_link.specs.declared.state.State.TheVariants as S
 

@@ -12,14 +12,14 @@ use Rattle.spx_link.specs.declared.outgoing.Sent.{Sent}
 use Rattle.spx_link.specs.declared.state.State.{State}
 use Rattle.spx_link.specs.declared.received.Received.{Received}
 use Rattle.spx_link.specs.Limits.{most_units, most_sends, end_stream}
-use Rattle.spx_link.specs.Marks.{mark, distance, acknowledged}
+use Rattle.spx_link.specs.SequenceMarks.{mark, distance, acknowledged}
 use Rattle.spx_link.specs.LinkView.{LinkView, due, is_end, is_working, free}
 use Rattle.spx_link.specs.Units.{unit_in, unit_of, queued_units}
 use Rattle.spx_link.specs.Offer.{refusal, queued, offer_link, end_link, take_held, take_link, owe_reply_link, lose_link, dialed, accepted_from, the_end}
 use Rattle.spx_link.specs.Receive.{read_numbers, read_system, read_unit, read_packet, is_system, is_own, is_reply, joined_link, receive_at, receive_link, beyond_expected, put, is_taken, leading, any_end, keep_end, keep_units, settle, keep, in_turn, not_behind, repeated, may_confirm, with_ack_owed}
 use Rattle.spx_link.specs.Poll.{OutgoingView, with_unit, lost, requests, requests_or_lost, poll_request, is_waiting, may_probe, probes_once, probes_or_lost, poll_probe, acknowledges, poll_ack, late_if_working, sends_again, sends_again_or_lost, poll_late, poll_again, may_send, sends, poll_unit, confirms, poll_confirm, replies, poll_reply, poll_at, poll_link}
 use Rattle.ipx_pairs.specs.Tracks.{Formed, may_end}
-use Rattle.ipx_pairs.specs.Queues.{SendsFrom, Queues, GivesUnit, PolledFrom, PollsFrom, QueueLaws}
+use Rattle.ipx_pairs.specs.PairQueues.{SendsFrom, Queues, GivesUnit, PolledFrom, PollsFrom, QueueLaws}
 use Rattle.ipx_pairs.proofs.Polling.{slice_get-drop, stamped, last_as, late_below}
 use Rattle.ipx_pairs.proofs.Receiving.{taken_le}
 use Rattle.ipx_pairs.proofs.ReadingStates.{reading}

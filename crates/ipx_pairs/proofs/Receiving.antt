@@ -9,7 +9,7 @@ use Rattle.spx_link.specs.declared.unit.Unit.{Unit}
 use Rattle.spx_link.specs.declared.state.State.{State}
 use Rattle.spx_link.specs.declared.received.Received.{Received}
 use Rattle.spx_link.specs.Limits.{most_units}
-use Rattle.spx_link.specs.Marks.{mark, distance, acknowledged, room_after}
+use Rattle.spx_link.specs.SequenceMarks.{mark, distance, acknowledged, room_after}
 use Rattle.spx_link.specs.LinkView.{LinkView, free}
 use Rattle.spx_link.specs.Units.{unit_in, unit_of}
 use Rattle.spx_link.specs.Receive.{read_ack, read_limit, read_numbers, read_system, read_unit, read_packet, is_system, is_own, is_reply, joined_link, receive_at, receive_link, beyond_expected, put, is_taken, leading, any_end, keep_end, keep_units, settle}
@@ -17,7 +17,7 @@ use Rattle.spx_link.specs.Fresh.{IsRecentPacket}
 use Rattle.spx_link.specs.Machine.{End, Packet, IsChain, IsWithin, WasSent, got, learned, risen, put_mark, is_marked, lead, is_wanted, AreSound}
 use Rattle.ipx_pairs.specs.Tracks.{Tracks, Formed, core}
 use Rattle.ipx_pairs.specs.Spelling.{Spells, Carries}
-use Rattle.ipx_pairs.specs.Steps.{IsReadNow}
+use Rattle.ipx_pairs.specs.PairSteps.{IsReadNow}
 use Rattle.ipx_pairs.proofs.Slots.{length-put_mark, Fill, FormedUnits, lead-drop, map-put, marked-map, fill_put, fill_drop, leading_units, leading_end, lead_leading}
 use Rattle.spx_link.specs.declared.state.State.TheVariants as S
 use Rattle.spx_link.specs.declared.received.Received.TheVariants as R

@@ -7,7 +7,7 @@ use Rattle.spx_link.specs.declared.outgoing.Sent.{Sent}
 use Rattle.spx_link.specs.declared.outgoing.Sent.TheVariants as Sents
 use Rattle.spx_link.specs.declared.received.Received.TheVariants.{Stranger}
 use Rattle.spx_link.specs.declared.state.State.TheVariants.{Opening, Live, Lost}
-use Rattle.spx_link.specs.Marks.{mark, room_after}
+use Rattle.spx_link.specs.SequenceMarks.{mark, room_after}
 use Rattle.spx_link.specs.LinkView.{LinkView}
 use Rattle.spx_link.specs.Offer.{take_link}
 use Rattle.spx_link.specs.Poll.{OutgoingView, allocation, poll_link}

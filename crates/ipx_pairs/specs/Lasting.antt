@@ -6,7 +6,7 @@ use Rattle.ipx_wire.specs.declared.address.Address.{Address}
 use Rattle.ipx_wire.specs.declared.spx.packet.SpxHeader.{SpxHeader}
 use Rattle.spx_link.specs.declared.outgoing.Sent.{Sent}
 use Rattle.spx_link.specs.declared.outgoing.Sent.TheVariants as Sents
-use Rattle.spx_link.specs.Marks.{mark}
+use Rattle.spx_link.specs.SequenceMarks.{mark}
 use Rattle.spx_link.specs.LinkView.{LinkView}
 use Rattle.spx_link.specs.Offer.{take_link}
 use Rattle.spx_link.specs.Poll.{OutgoingView, poll_link}

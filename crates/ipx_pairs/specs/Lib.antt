@@ -1,8 +1,8 @@
 pub mod Tracks
 pub mod Spelling
-pub mod Steps
+pub mod PairSteps
 pub mod States
-pub mod Queues
+pub mod PairQueues
 pub mod Names
 pub mod Lasting
 pub mod Confirmed

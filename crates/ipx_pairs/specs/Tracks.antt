@@ -6,7 +6,7 @@ use Rattle.spx_link.specs.declared.state.State.{State}
 use Rattle.spx_link.specs.declared.state.State.TheVariants.{Opening, Live, Ending, PeerEnded, Confirmed, Lost}
 use Rattle.spx_link.specs.Limits.{most_units, end_stream}
 use Rattle.spx_link.specs.LinkView.{LinkView}
-use Rattle.spx_link.specs.Marks.{mark}
+use Rattle.spx_link.specs.SequenceMarks.{mark}
 use Rattle.spx_link.specs.Units.{queued_units}
 use Rattle.spx_link.specs.Machine.{End, lead}
 use Rattle.spx_link.specs.Offer.{the_end}

@@ -4,9 +4,9 @@ ghost use Rattle.ipx_pairs.specs.Allowances.{AllowanceLaws};
 ghost use Rattle.ipx_pairs.specs.Confirmed.{CloseLaws};
 ghost use Rattle.ipx_pairs.specs.Lasting.{LastingLaws};
 ghost use Rattle.ipx_pairs.specs.Names.{NameLaws};
-ghost use Rattle.ipx_pairs.specs.Queues.{QueueLaws};
+ghost use Rattle.ipx_pairs.specs.PairQueues.{QueueLaws};
 ghost use Rattle.ipx_pairs.specs.States.{StateLaws};
-ghost use Rattle.ipx_pairs.specs.Steps.{StepLaws};
+ghost use Rattle.ipx_pairs.specs.PairSteps.{StepLaws};
 
 /// Each call of a link that follows its end of the machine is a step of that end: a packet that is
 /// fresh is got, a poll sends or does nothing, a take takes, and an offer or an end gains units.

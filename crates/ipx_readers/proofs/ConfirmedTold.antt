@@ -12,7 +12,7 @@ use Rattle.ipx_log.specs.Peers.{ArePeers, Premises}
 use Rattle.ipx_log.specs.Scan.{scan}
 use Rattle.ipx_log.specs.Scene.{Stand}
 use Rattle.ipx_steps.specs.World.{EndNow, World, held_of, scene_of, stand_of, stand_with}
-use Rattle.ipx_hosts.specs.Telling.{state_of}
+use Rattle.ipx_hosts.specs.EndTelling.{state_of}
 use Rattle.ipx_net.specs.Ends.{TellsClosed, TellsEnds, nobody, told_of}
 use Rattle.ipx_net.specs.NetView.{NetView}
 use Rattle.ipx_net.specs.Theorems.{LinkTheorems, Theorems}

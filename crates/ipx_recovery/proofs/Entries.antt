@@ -8,7 +8,7 @@ use Rattle.spx_link.specs.Limits.{most_sends}
 use Rattle.spx_link.specs.LinkView.{LinkView, due}
 use Rattle.spx_link.specs.declared.unit.Unit.{Unit}
 use Rattle.ipx_wire.specs.declared.spx.packet.SpxHeader.{SpxHeader}
-use Rattle.spx_link.specs.Marks.{mark, distance}
+use Rattle.spx_link.specs.SequenceMarks.{mark, distance}
 use Rattle.ipx_pairs.specs.Spelling.{Carries}
 use Rattle.spx_link.specs.Machine.{End, AreSound}
 use Rattle.spx_link.specs.Poll.{OutgoingView}

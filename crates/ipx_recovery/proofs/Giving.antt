@@ -8,10 +8,10 @@ use Rattle.spx_link.specs.declared.outgoing.Sent.{Sent}
 use Rattle.spx_link.specs.declared.outgoing.Sent.TheVariants as Sents
 use Rattle.spx_link.specs.Limits.{most_sends, confirm_stream}
 use Rattle.spx_link.specs.LinkView.{LinkView, due, is_working}
-use Rattle.spx_link.specs.Marks.{mark}
+use Rattle.spx_link.specs.SequenceMarks.{mark}
 use Rattle.spx_link.specs.Offer.{the_end, queued}
 use Rattle.spx_link.specs.Receive.{is_system}
-use Rattle.spx_link.specs.Turns.{is_joined}
+use Rattle.spx_link.specs.LinkTurns.{is_joined}
 use Rattle.spx_link.specs.Poll.{OutgoingView, base, late, late_if_working, poll_link, replies, confirms, sends, sends_again, acknowledges, probes_once}
 use Rattle.ipx_recovery.proofs.PollCases.{IsResting, probing, poll_by}
 use Rattle.ipx_recovery.proofs.Ending.{late_due}

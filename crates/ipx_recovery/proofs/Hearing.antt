@@ -10,8 +10,8 @@ use Rattle.spx_link.specs.declared.state.State.{State}
 use Rattle.spx_link.specs.declared.state.State.TheVariants as S
 use Rattle.spx_link.specs.Limits.{end_stream, confirm_stream}
 use Rattle.spx_link.specs.LinkView.{LinkView, free, is_confirmed, is_end}
-use Rattle.spx_link.specs.Marks.{acknowledged}
-use Rattle.spx_link.specs.Turns.{is_joined}
+use Rattle.spx_link.specs.SequenceMarks.{acknowledged}
+use Rattle.spx_link.specs.LinkTurns.{is_joined}
 use Rattle.spx_link.specs.Units.{unit_in}
 use Rattle.spx_link.specs.Receive.{read_numbers, is_system, may_confirm, with_ack_owed, read_system, beyond_expected, repeated, after_end, put, is_taken, leading, any_end, keep_end, keep_units, settle, keep, in_turn, not_behind, read_unit, read_packet, is_own, receive_joined, receive_at, receive_link}
 use Rattle.ipx_recovery.proofs.Lists.{or_first, or_left, or_right, or_second}

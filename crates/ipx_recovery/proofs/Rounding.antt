@@ -7,7 +7,7 @@ use Rattle.spx_link.specs.Limits.{resend_after}
 use Rattle.spx_link.specs.LinkView.{LinkView, due, is_working}
 use Rattle.spx_link.specs.Machine.{End}
 use Rattle.spx_link.specs.Poll.{is_waiting, may_probe}
-use Rattle.spx_link.specs.Turns.{is_joined}
+use Rattle.spx_link.specs.LinkTurns.{is_joined}
 use Rattle.ipx_recovery.specs.LinkLaws.{LinkLaws}
 use Rattle.ipx_recovery.specs.LosslessRounds.{LosslessRound}
 use Rattle.ipx_recovery.proofs.PollCases.{IsResting}

@@ -8,7 +8,7 @@ use Rattle.spx_link.specs.LinkView.{LinkView, is_working}
 use Rattle.spx_link.specs.Machine.{End}
 use Rattle.ipx_recovery.specs.LinkLaws.{LinkLaws}
 use Rattle.std.proofs.Math.Nat.{suc-mul, zero-mul, lt-div-mul-add}
-use Rattle.spx_link.specs.Turns.{is_joined}
+use Rattle.spx_link.specs.LinkTurns.{is_joined}
 use Rattle.spx_link.specs.Receive.{after_end}
 use Rattle.spx_link.specs.Offer.{the_end}
 use Rattle.spx_link.specs.LinkView.{is_end}

@@ -15,7 +15,7 @@ use Rattle.ipx_control.specs.Rip as rip
 use Rattle.ipx_control.specs.Sap.{SapView}
 use Rattle.ipx_control.specs.Sap as sap
 use Rattle.ipx_router.specs.declared.packets.Recipient.{Recipient}
-use Rattle.ipx_router.specs.Packets.{AreCutOf, AreRoutePackets, AreServicePackets, AreOwn, IsOwn, IsRipPacket, IsSapPacket, SendingView, own_header, sending_of, sendings}
+use Rattle.ipx_router.specs.RouterPackets.{AreCutOf, AreRoutePackets, AreServicePackets, AreOwn, IsOwn, IsRipPacket, IsSapPacket, SendingView, own_header, sending_of, sendings}
 use Rattle.ipx_router.specs.Adding.{AddsPackets, IsLeftToAdd}
 
 pub sendings_push : (old : List Reply) (r : Reply) (later : List SendingView) → sendings (old ++ r ∷ []) ++ later ≡ sendings old ++ (sending_of r ∷ later)

@@ -32,7 +32,7 @@ use Rattle.ipx_router.specs.declared.reason.Reason.TheVariants.{Bad, BadControl}
 use Rattle.ipx_router.specs.RouterView.{RouterView}
 use Rattle.ipx_router.specs.Knowledge.{HoldsKnown, HoldsRoutes, HoldsServices, Known, Routes, Services, Tables}
 use Rattle.ipx_router.specs.Ports.{AreOnPorts, IsPortNumber}
-use Rattle.ipx_router.specs.Packets.{AreOwn, IsOwn, SendingView, all_nodes, recipient_at}
+use Rattle.ipx_router.specs.RouterPackets.{AreOwn, IsOwn, SendingView, all_nodes, recipient_at}
 use Rattle.ipx_router.specs.OutcomeView.{OutcomeView, Forward, Replies, Heard, Dropped, IsOnPort, replies_of, router_outcome}
 use Rattle.ipx_router.specs.Classify.{concern_of}
 use Rattle.ipx_router.specs.Hearing.{source_of}

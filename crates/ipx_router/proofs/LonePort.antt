@@ -13,7 +13,7 @@ use Rattle.ipx_router.specs.declared.port.PortNow.{PortNow}
 use Rattle.ipx_router.specs.declared.route.Route.{Route}
 use Rattle.ipx_router.specs.Knowledge.{Routes, Services}
 use Rattle.ipx_router.specs.Ports.{AreFromPorts}
-use Rattle.ipx_router.specs.Route.{IsHeardRoute, direct_route, over_port}
+use Rattle.ipx_router.specs.RouteChoice.{IsHeardRoute, direct_route, over_port}
 use Rattle.ipx_router.specs.Told.{IsListOf, IsToldRoute, IsToldService, key_of_service, route_key, told_route}
 use Rattle.ipx_router.specs.Telling.{AreTellings, AreTold, HasToTell}
 use Rattle.ipx_router.specs.Placing.{no_way}

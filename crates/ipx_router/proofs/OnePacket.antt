@@ -3,7 +3,7 @@ use Rattle.std.proofs.Common.{◌≡◌, ℕ, ◌+◌, ◌<◌, List, [], ◌∷
 use Rattle.std.proofs.lemmas.List.{get_or-drop}
 use Rattle.ipx_wire.specs.Ipx.{IsBytes, IsIpx, PacketView}
 use Rattle.ipx_router.specs.declared.packets.Recipient.{Recipient}
-use Rattle.ipx_router.specs.Packets.{AreBytesOf, AreCutOf, IsOwnPacket, SendingView, own_header}
+use Rattle.ipx_router.specs.RouterPackets.{AreBytesOf, AreCutOf, IsOwnPacket, SendingView, own_header}
 
 -- a packet has one list of bytes
 abbrev pub OneListOfBytes : Type 0

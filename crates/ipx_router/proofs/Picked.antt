@@ -16,7 +16,7 @@ use Rattle.ipx_router.specs.declared.port.Port.{Port}
 use Rattle.ipx_router.specs.declared.port.PortNow.{PortNow}
 use Rattle.ipx_router.specs.declared.route.Route.{Route}
 use Rattle.ipx_router.specs.Knowledge.{Routes, Services}
-use Rattle.ipx_router.specs.Route.{IsHeardRoute, IsRouteOrNone, IsRouteTo, over_port}
+use Rattle.ipx_router.specs.RouteChoice.{IsHeardRoute, IsRouteOrNone, IsRouteTo, over_port}
 use Rattle.ipx_router.specs.Told.{AreToldServices, IsListOf, IsToldRoute, IsToldService, key_of_service, told_route}
 use Rattle.ipx_router.specs.Replying.{AreServicesAsked, AreToldOf, asks_all, is_of_kind}
 use Rattle.ipx_router.specs.Picking.{IsToldOf}

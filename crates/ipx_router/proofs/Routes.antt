@@ -6,7 +6,7 @@ use Rattle.ipx_tables.specs.Best.{NoneCounts}
 use Rattle.ipx_router.specs.declared.port.Port.{Port}
 use Rattle.ipx_router.specs.declared.route.Route.{Route}
 use Rattle.ipx_router.specs.Knowledge.{Routes}
-use Rattle.ipx_router.specs.Route.{IsHeardRoute, IsRouteOrNone, direct_route, over_port}
+use Rattle.ipx_router.specs.RouteChoice.{IsHeardRoute, IsRouteOrNone, direct_route, over_port}
 
 pub route_by_offer : (ports : List Port) (routes : Routes) (now : ℕ) (network : Network) (o : Option Route) → direct_route ports network ≡ None → MatchOption o (NoneCounts routes network now) (IsHeardRoute routes now network)
     → IsRouteOrNone ports routes now network o

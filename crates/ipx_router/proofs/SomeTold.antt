@@ -17,7 +17,7 @@ use Rattle.ipx_router.specs.declared.port.Port.{Port}
 use Rattle.ipx_router.specs.declared.port.PortNow.{PortNow}
 use Rattle.ipx_router.specs.declared.route.Route.{Route}
 use Rattle.ipx_router.specs.Knowledge.{Routes}
-use Rattle.ipx_router.specs.Route.{IsHeardRoute, direct_route, over_port}
+use Rattle.ipx_router.specs.RouteChoice.{IsHeardRoute, direct_route, over_port}
 use Rattle.ipx_router.specs.Told.{AreToldRoutes, IsToldRoute, route_key, told_route}
 use Rattle.ipx_router.specs.Placing.{is_told_item, is_told_port, no_way}
 use Rattle.ipx_router.specs.Picking.{NoRouteIsTold}

@@ -13,7 +13,7 @@ use Rattle.ipx_router.specs.declared.port.Port.{Port}
 use Rattle.ipx_router.specs.declared.port.PortNow.{PortNow}
 use Rattle.ipx_router.specs.Knowledge.{Routes, Services}
 use Rattle.ipx_router.specs.Told.{AreToldRoutes, AreToldServices}
-use Rattle.ipx_router.specs.Packets.{AreRoutePackets, AreServicePackets, IsRipPacket, IsSapPacket, SendingView, all_nodes, sending_of, sendings}
+use Rattle.ipx_router.specs.RouterPackets.{AreRoutePackets, AreServicePackets, IsRipPacket, IsSapPacket, SendingView, all_nodes, sending_of, sendings}
 use Rattle.ipx_router.specs.Adding.{AddsPackets}
 use Rattle.ipx_router.specs.Ports.{AreOnPorts, IsPortNumber}
 use Rattle.ipx_router.specs.Starting.{AreAsked, AreStarts, all_asked}

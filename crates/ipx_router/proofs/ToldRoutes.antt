@@ -20,7 +20,7 @@ use Rattle.ipx_router.specs.declared.port.Port.{Port}
 use Rattle.ipx_router.specs.declared.port.PortNow.{PortNow}
 use Rattle.ipx_router.specs.declared.route.Route.{Route}
 use Rattle.ipx_router.specs.Knowledge.{Routes}
-use Rattle.ipx_router.specs.Route.{IsHeardRoute, IsRouteTo, direct_route, over_port, over_neighbour}
+use Rattle.ipx_router.specs.RouteChoice.{IsHeardRoute, IsRouteTo, direct_route, over_port, over_neighbour}
 use Rattle.ipx_router.specs.Told.{AreToldRoutes, IsToldRoute, route_key, told_route}
 use Rattle.ipx_tables.specs.Sorted.{IsRising}
 use Rattle.ipx_router.proofs.Rising.{nothing_rises}

@@ -1,7 +1,7 @@
 -- Words of the private functions that add packets to replies, one after another.
 use Rattle.std.specs.Prelude.{◌≡◌, List, ◌++◌}
 use Rattle.ipx_router.specs.declared.outcome.Reply.{Reply}
-use Rattle.ipx_router.specs.Packets.{SendingView, sendings}
+use Rattle.ipx_router.specs.RouterPackets.{SendingView, sendings}
 
 -- replies were added at the end: these packets
 abbrev pub AddsPackets : (List SendingView → Type 0) → List Reply → List Reply → Type 0

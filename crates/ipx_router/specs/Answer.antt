@@ -25,7 +25,7 @@ use Rattle.ipx_router.specs.RouterView.{RouterView}
 use Rattle.ipx_router.specs.OutcomeView.{OutcomeView, Forward, Replies, Heard, Dropped}
 use Rattle.ipx_router.specs.Knowledge.{AreTables, HoldsKnown, HoldsRoutes, HoldsServices, KeepsAllButOffers, Known, Routes, Services, Tables, known_at, tables}
 use Rattle.ipx_router.specs.Ports.{IsPort}
-use Rattle.ipx_router.specs.Packets.{SendingView, recipient_at}
+use Rattle.ipx_router.specs.RouterPackets.{SendingView, recipient_at}
 use Rattle.ipx_router.specs.Classify.{concern_of}
 use Rattle.ipx_router.specs.Forward.{Forwards}
 use Rattle.ipx_router.specs.Replying.{RepliesRoutes, RepliesServices}

@@ -9,7 +9,7 @@ use Rattle.ipx_router.specs.declared.port.Port.{Port}
 use Rattle.ipx_router.specs.declared.classify.Concern.{Concern}
 use Rattle.ipx_router.specs.declared.classify.Concern.TheVariants.{Dropped, Rip, Sap, Forward}
 use Rattle.ipx_router.specs.declared.reason.Reason.TheVariants.{Propagated, NotOurs}
-use Rattle.ipx_router.specs.Packets.{broadcast}
+use Rattle.ipx_router.specs.RouterPackets.{broadcast}
 
 abbrev pub is_node : Node → Node → Bool
 is_node a b = pointwise nat_eq a.0 b.0

@@ -11,8 +11,8 @@ use Rattle.ipx_router.specs.declared.forwarding.Fate.{Fate}
 use Rattle.ipx_router.specs.declared.forwarding.Fate.TheVariants as fates
 use Rattle.ipx_router.specs.declared.route.Route.{Route}
 use Rattle.ipx_router.specs.Knowledge.{Routes}
-use Rattle.ipx_router.specs.Route.{IsRouteOrNone}
-use Rattle.ipx_router.specs.Packets.{AreBytesOf}
+use Rattle.ipx_router.specs.RouteChoice.{IsRouteOrNone}
+use Rattle.ipx_router.specs.RouterPackets.{AreBytesOf}
 use Rattle.ipx_router.specs.OutcomeView.{OutcomeView, Forward, Dropped}
 
 -- a packet that fifteen routers forwarded is dropped; the next node is the neighbour, or on a

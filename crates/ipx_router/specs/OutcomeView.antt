@@ -4,7 +4,7 @@ use Rattle.ipx_wire.specs.declared.address.Node.{Node}
 use Rattle.ipx_router.specs.declared.outcome.Outcome.{Outcome}
 use Rattle.ipx_router.specs.declared.outcome.Outcome.TheVariants as outcomes
 use Rattle.ipx_router.specs.declared.reason.Reason.{Reason}
-use Rattle.ipx_router.specs.Packets.{SendingView, sendings}
+use Rattle.ipx_router.specs.RouterPackets.{SendingView, sendings}
 use Rattle.ipx_router.specs.Ports.{AreOnPorts, IsPortNumber}
 
 pub data OutcomeView : Type 0 where

@@ -8,7 +8,7 @@ use Rattle.ipx_tables.specs.Route.{network_cmp}
 use Rattle.ipx_tables.specs.Sorted.{IsRising}
 use Rattle.ipx_router.specs.declared.port.Port.{Port}
 use Rattle.ipx_router.specs.declared.port.PortNow.{PortNow}
-use Rattle.ipx_router.specs.Route.{direct_route}
+use Rattle.ipx_router.specs.RouteChoice.{direct_route}
 use Rattle.ipx_router.specs.Told.{route_key, told_route}
 
 -- an entry of the network stands in the list

@@ -5,7 +5,7 @@ use Rattle.ipx_tables.specs.Content.{Content}
 use Rattle.ipx_router.specs.declared.port.Port.{Port}
 use Rattle.ipx_router.specs.NewRouter.{IsOwnNetwork}
 use Rattle.ipx_router.specs.Knowledge.{AreTables, Tables, routes_in, services_in}
-use Rattle.ipx_router.specs.Packets.{SendingView}
+use Rattle.ipx_router.specs.RouterPackets.{SendingView}
 
 -- the port of a number
 abbrev pub IsPort : List Port → ℕ → Port → Type 0

@@ -12,7 +12,7 @@ use Rattle.ipx_router.specs.declared.packets.Recipient.{Recipient}
 use Rattle.ipx_router.specs.declared.port.Port.{Port}
 use Rattle.ipx_router.specs.declared.port.PortNow.{PortNow}
 use Rattle.ipx_router.specs.Knowledge.{Routes, Services}
-use Rattle.ipx_router.specs.Packets.{AreRoutePackets, AreServicePackets, SendingView}
+use Rattle.ipx_router.specs.RouterPackets.{AreRoutePackets, AreServicePackets, SendingView}
 use Rattle.ipx_router.specs.Told.{AreToldRoutes, IsListOf, IsToldRoute, IsToldService, key_of_service}
 
 -- an entry for network FFFFFFFF asks for all

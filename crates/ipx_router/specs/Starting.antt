@@ -5,7 +5,7 @@ use Rattle.ipx_control.specs.declared.rip.packet.RipEntry.{RipEntry}
 use Rattle.ipx_control.specs.Rip as rip
 use Rattle.ipx_control.specs.Sap as sap
 use Rattle.ipx_router.specs.declared.port.Port.{Port}
-use Rattle.ipx_router.specs.Packets.{SendingView, IsRipPacket, IsSapPacket, all_nodes}
+use Rattle.ipx_router.specs.RouterPackets.{SendingView, IsRipPacket, IsSapPacket, all_nodes}
 
 -- a request for all routes and a query for all services
 abbrev pub all_asked : RipEntry

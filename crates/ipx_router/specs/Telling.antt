@@ -7,7 +7,7 @@ use Rattle.ipx_router.specs.declared.port.Port.{Port}
 use Rattle.ipx_router.specs.declared.port.PortNow.{PortNow}
 use Rattle.ipx_router.specs.Knowledge.{Known, Routes, Services}
 use Rattle.ipx_router.specs.Told.{AreToldRoutes, AreToldServices, IsToldRoute, IsToldService}
-use Rattle.ipx_router.specs.Packets.{SendingView, AreRoutePackets, AreServicePackets, all_nodes}
+use Rattle.ipx_router.specs.RouterPackets.{SendingView, AreRoutePackets, AreServicePackets, all_nodes}
 use Rattle.ipx_router.specs.Ports.{IsPort}
 
 -- the packets that tell what is known on one port: routes, and then services

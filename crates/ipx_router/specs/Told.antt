@@ -17,7 +17,7 @@ use Rattle.ipx_router.specs.declared.port.Port.{Port}
 use Rattle.ipx_router.specs.declared.port.PortNow.{PortNow}
 use Rattle.ipx_router.specs.Knowledge.{Routes, Services}
 use Rattle.ipx_router.specs.declared.route.Route.{Route}
-use Rattle.ipx_router.specs.Route.{IsRouteTo}
+use Rattle.ipx_router.specs.RouteChoice.{IsRouteTo}
 
 -- the list, in the order of the keys, of just what a fact holds of
 pub record IsListOf {X K : Type 0} (cmp : K → K → Ordering) (key_of : X → K) (fact : X → Type 0)

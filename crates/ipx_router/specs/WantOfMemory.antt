@@ -24,7 +24,7 @@ use Rattle.ipx_router.specs.declared.route.Route.{Route}
 use Rattle.ipx_router.specs.RouterView.{RouterView}
 use Rattle.ipx_router.specs.Knowledge.{HoldsKnown, HoldsRoutes, HoldsServices, Known, Routes, Services, Tables, known_at, tables}
 use Rattle.ipx_router.specs.Ports.{IsPort}
-use Rattle.ipx_router.specs.Route.{IsRouteTo}
+use Rattle.ipx_router.specs.RouteChoice.{IsRouteTo}
 use Rattle.ipx_router.specs.Told.{IsToldRoute, IsToldService}
 use Rattle.ipx_router.specs.Classify.{concern_of}
 use Rattle.ipx_router.specs.Replying.{is_asked}

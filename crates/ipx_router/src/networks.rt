@@ -3,7 +3,7 @@
 ghost use Rattle.std.specs.Prelude.{◌≡◌, ◌==◌, [], Some, None};
 ghost use Rattle.std.specs.List.{list_any};
 ghost use Rattle.ipx_router.specs.NewRouter.{first_twin};
-ghost use Rattle.ipx_router.specs.Route.{direct_route};
+ghost use Rattle.ipx_router.specs.RouteChoice.{direct_route};
 
 use crate::port::Port;
 use ipx_wire::Network;

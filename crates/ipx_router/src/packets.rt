@@ -4,7 +4,7 @@ ghost use Rattle.std.specs.Prelude.{◌≡◌, ◌≤◌, ◌+◌, ◌++◌, ℕ
 ghost use Rattle.ipx_wire.specs.Ipx.{IsBytes, IsIpx};
 ghost use Rattle.ipx_control.specs.Rip.{Response as routes_response, rip_entries, rip_view};
 ghost use Rattle.ipx_control.specs.Sap.{IsSapWithinLimit, Response as services_response, sap_view};
-ghost use Rattle.ipx_router.specs.Packets.{AreBytesOf, AreRoutePackets, AreServicePackets, IsRipPacket, IsSapPacket, all_nodes, recipient_at, own_header, sending_of, sendings};
+ghost use Rattle.ipx_router.specs.RouterPackets.{AreBytesOf, AreRoutePackets, AreServicePackets, IsRipPacket, IsSapPacket, all_nodes, recipient_at, own_header, sending_of, sendings};
 ghost use Rattle.ipx_router.specs.Adding.{AddsPackets};
 
 use crate::outcome::Reply;

@@ -3,7 +3,7 @@
 ghost use Rattle.std.specs.Prelude.{◌≡◌, ◌≤◌, Bool, Contains, IfNone, IfOk, IfSome, OnErr, filter, length};
 ghost use Rattle.std.specs.Bool.{OnFalse, OnTrue};
 ghost use Rattle.ipx_router.specs.Knowledge.{routes_in, services_in};
-ghost use Rattle.ipx_router.specs.Packets.{sendings};
+ghost use Rattle.ipx_router.specs.RouterPackets.{sendings};
 ghost use Rattle.ipx_router.specs.Told.{IsToldService};
 ghost use Rattle.ipx_router.specs.Replying.{IsNearest, NoneIsNear, AreNearest, AreRoutesAsked, AreServicesAsked, RepliesRoutes, RepliesServices, is_asked, is_near, is_nearer, is_of_kind};
 ghost use Rattle.ipx_router.specs.Picking.{NoneIsAsked, is_item_asked, nearer};

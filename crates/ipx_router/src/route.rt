@@ -4,7 +4,7 @@ ghost use Rattle.std.specs.Prelude.{◌≡◌, ◌≤◌, ℕ, length, None, IfS
 ghost use Rattle.ipx_tables.specs.Best.{NoneCounts};
 ghost use Rattle.ipx_router.specs.Ports.{AreFromPorts, IsPortNumber};
 ghost use Rattle.ipx_router.specs.Knowledge.{routes_in};
-ghost use Rattle.ipx_router.specs.Route.{IsHeardRoute, IsRouteOrNone, direct_route};
+ghost use Rattle.ipx_router.specs.RouteChoice.{IsHeardRoute, IsRouteOrNone, direct_route};
 
 use crate::networks::direct_port;
 use crate::port::Port;

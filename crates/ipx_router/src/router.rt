@@ -3,7 +3,7 @@
 ghost use Rattle.std.specs.Prelude.{◌≡◌, ◌≤◌, [], length, true, All, IfOk, IfErr, OnOk, OnErr, Some, None};
 ghost use Rattle.ipx_router.specs.NewRouter.{IsOwnNetwork, ports_fault};
 ghost use Rattle.ipx_router.specs.Knowledge.{AreTables, HoldsKnown, KeepsAllButOffers, known_at, tables};
-ghost use Rattle.ipx_router.specs.Packets.{AreOwn, sendings};
+ghost use Rattle.ipx_router.specs.RouterPackets.{AreOwn, sendings};
 ghost use Rattle.ipx_router.specs.Ports.{AreOnPorts};
 ghost use Rattle.ipx_router.specs.OutcomeView.{IsOnPort, replies_of, router_outcome};
 ghost use Rattle.ipx_router.specs.Answer.{Receives};

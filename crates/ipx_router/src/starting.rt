@@ -3,7 +3,7 @@
 ghost use Rattle.std.specs.Prelude.{◌≡◌, ◌≤◌, length, OnOk, IfOk};
 ghost use Rattle.ipx_router.specs.Starting.{AreAsked, AreStarts};
 ghost use Rattle.ipx_router.specs.Ports.{AreOnPorts};
-ghost use Rattle.ipx_router.specs.Packets.{sendings};
+ghost use Rattle.ipx_router.specs.RouterPackets.{sendings};
 ghost use Rattle.ipx_router.specs.Adding.{AddsPackets};
 
 use crate::outcome::Reply;

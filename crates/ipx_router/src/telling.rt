@@ -7,7 +7,7 @@ ghost use Rattle.ipx_tables.specs.Service.{service_before, service_key_cmp};
 ghost use Rattle.ipx_router.specs.Telling.{AreTellings, AreTold, HasToTell, IsNextTelling, TellsIfDue, is_due};
 ghost use Rattle.ipx_router.specs.Knowledge.{HoldsKnown, Routes, Services, known_aged, known_in, routes_in, services_in};
 ghost use Rattle.ipx_router.specs.Ports.{AreOnPorts, IsSound};
-ghost use Rattle.ipx_router.specs.Packets.{sendings};
+ghost use Rattle.ipx_router.specs.RouterPackets.{sendings};
 ghost use Rattle.ipx_router.specs.Adding.{AddsPackets};
 
 use crate::outcome::Reply;

@@ -8,7 +8,7 @@ ghost use Rattle.ipx_tables.specs.Listing.{IsListing};
 ghost use Rattle.ipx_tables.specs.Route.{network_cmp, route_before};
 ghost use Rattle.ipx_tables.specs.Service.{service_before, service_key_cmp};
 ghost use Rattle.ipx_router.specs.Knowledge.{Routes, Services, routes_in, services_in};
-ghost use Rattle.ipx_router.specs.Route.{direct_route};
+ghost use Rattle.ipx_router.specs.RouteChoice.{direct_route};
 ghost use Rattle.ipx_router.specs.Told.{AreToldRoutes, AreToldServices, IsToldRoute, route_key, told_route, told_service};
 ghost use Rattle.ipx_router.specs.Placing.{AddsHeard, AreToldPorts, PutsEntry, is_told_item, is_told_port};
 ghost use Rattle.ipx_router.specs.Picking.{IsToldOf, NoRouteIsTold};

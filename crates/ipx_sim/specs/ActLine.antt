@@ -7,11 +7,11 @@ use Rattle.hex.specs.Hex.{encode_lower}
 use Rattle.spx_messages.specs.declared.arrived.Arrived.{Arrived}
 use Rattle.spx_messages.specs.declared.arrived.Arrived.TheVariants as Arriveds
 use Rattle.spx_messages.specs.declared.fault.EndFault.{EndFault}
-use Rattle.spx_messages.specs.Faults.{end_fault_number}
+use Rattle.spx_messages.specs.EndpointFaults.{end_fault_number}
 use Rattle.ipx_commands.specs.Line.{fault_text, numbered, reason_text, spx_fault_text}
 use Rattle.ipx_steps.specs.World.{ParcelView}
 use Rattle.ipx_net.specs.AnswerView.{AnswerView, ArrivedAt, Done, Dropped, End, Heard, Parcels, Refused, Taken}
-use Rattle.ipx_net.specs.Faults.{net_fault_number}
+use Rattle.ipx_net.specs.NetFaultNumbers.{net_fault_number}
 use Rattle.ipx_net.specs.declared.event.Event.{Event}
 use Rattle.ipx_net.specs.declared.event.Event.TheVariants as Events
 use Rattle.ipx_net.specs.declared.fault.NetFault.{NetFault}

@@ -2,7 +2,7 @@
 
 ghost use Rattle.std.specs.Prelude.{◌<◌, ◌≤◌, All, IfOk, IfSome};
 ghost use Rattle.spx_link.specs.Limits.{most_units};
-ghost use Rattle.ipx_net.specs.Beginnings.{ArePortsOwed, IsHostOwed};
+ghost use Rattle.ipx_net.specs.NetBeginnings.{ArePortsOwed, IsHostOwed};
 ghost use Rattle.ipx_router.specs.NewRouter.{IsOwnNetwork};
 
 use crate::fields::{
@@ -30,7 +30,7 @@ pub struct Layout {
 
 impl Model for Layout {
     ghost use Rattle.std.specs.Prelude.{All};
-    ghost use Rattle.ipx_net.specs.Beginnings.{ArePortsOwed, IsHostOwed};
+    ghost use Rattle.ipx_net.specs.NetBeginnings.{ArePortsOwed, IsHostOwed};
 
     ghost Value = { Unit {0} };
 

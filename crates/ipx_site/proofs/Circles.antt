@@ -10,7 +10,7 @@ use Rattle.toml.specs.Data.{Data, Items, no_items, item, as_array}
 use Rattle.toml.specs.View.{items_view}
 use Rattle.toml.specs.declared.value.Value.{Value}
 use Rattle.ipx_site.specs.Neighbours.{AreAmong, AreNeighbours, ReadsList}
-use Rattle.ipx_site.specs.Peers.{is_peer}
+use Rattle.ipx_site.specs.SitePeers.{is_peer}
 use Rattle.ipx_site.specs.Values.{AreEach, IsIpAddress, ReadsAddresses}
 use Rattle.ipx_site.proofs.Each.{as_many}
 

@@ -5,7 +5,7 @@ use Rattle.toml.specs.Data.{Items, no_items, item}
 use Rattle.ipx_router.specs.NewRouter.{IsOwnNetwork}
 use Rattle.ipx_site.specs.declared.site.SitePort.{SitePort}
 use Rattle.ipx_site.specs.Site.{ArePorts}
-use Rattle.ipx_site.specs.Ports.{router_port_of, router_ports}
+use Rattle.ipx_site.specs.SitePorts.{router_port_of, router_ports}
 
 pub own_of : (earlier : List SitePort) (ds : Items) (ps : List SitePort) → ArePorts earlier ds ps → All IsOwnNetwork (router_ports ps)
 own_of earlier no_items ps h =

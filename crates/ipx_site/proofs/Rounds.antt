@@ -7,7 +7,7 @@ use Rattle.ipx_site.specs.declared.turns.Burst.{Burst}
 use Rattle.ipx_site.specs.Bursts.{Bursts}
 use Rattle.ipx_site.specs.Leisure.{IsLeisure}
 use Rattle.ipx_site.specs.Sparing.{GivesBelow, HearsSparingly, MissesBelow, SparingView, WithholdsBelow}
-use Rattle.ipx_site.specs.Rounds.{AsksAgain, IsRound, SleepsBehind}
+use Rattle.ipx_site.specs.RouterRounds.{AsksAgain, IsRound, SleepsBehind}
 
 -- a core that asks again has the ports that it had
 pub same_ports : (now times times_after : ℕ) (old mid : SparingView CoreView) → AsksAgain now times times_after old mid

@@ -11,7 +11,7 @@ use Rattle.ipx_site.specs.declared.site.Accept.{Accept}
 use Rattle.ipx_site.specs.declared.site.Accept.TheVariants.{Any, Peers}
 use Rattle.ipx_site.specs.declared.site.SiteFile.{SiteFile}
 use Rattle.ipx_site.specs.declared.site.SitePort.{SitePort}
-use Rattle.ipx_site.specs.Peers.{is_peer}
+use Rattle.ipx_site.specs.SitePeers.{is_peer}
 
 -- a byte of a text from elsewhere: itself where it is printable ASCII, else a dot
 abbrev pub shown_byte : ℕ → List ℕ

@@ -4,10 +4,10 @@ pub mod Origins
 pub mod Fields
 pub mod Port
 pub mod Site
-pub mod Ports
+pub mod SitePorts
 pub mod Host
 pub mod Loading
-pub mod Peers
+pub mod SitePeers
 pub mod Neighbours
 pub mod Askers
 pub mod Sparing
@@ -15,5 +15,5 @@ pub mod Seldom
 pub mod Moments
 pub mod Bursts
 pub mod Leisure
-pub mod Rounds
+pub mod RouterRounds
 pub mod Checked

@@ -17,7 +17,7 @@ use Rattle.ipx_carrier.specs.Turns.{Given}
 use Rattle.ipx_site.specs.declared.asker.Asker.{Asker}
 use Rattle.ipx_site.specs.declared.peers.Kept.{Kept}
 use Rattle.ipx_site.specs.Askers.{AskersView, HasTurn, with_turn_taken}
-use Rattle.ipx_site.specs.Peers.{one_more}
+use Rattle.ipx_site.specs.SitePeers.{one_more}
 
 -- a body asks for all routes
 abbrev pub AsksAllRoutes : List ℕ → Type 0

@@ -8,7 +8,7 @@ use Rattle.toml.specs.Data.{Data, Items, no_items, item, as_str, as_integer, as_
 use Rattle.ipx_wire.specs.declared.address.Network.{Network}
 use Rattle.ipx_wire.specs.declared.address.Socket.{Socket}
 use Rattle.ipx_wire.specs.Assigned.{all_networks, local_network}
-use Rattle.ipx_site.specs.Peers.{is_peer}
+use Rattle.ipx_site.specs.SitePeers.{is_peer}
 use Rattle.ipx_site.specs.declared.site.Accept.{Accept}
 use Rattle.ipx_site.specs.declared.site.Accept.TheVariants.{Any, Peers}
 

@@ -4,7 +4,7 @@ ghost use Rattle.std.specs.Prelude.{◌≡◌, ◌⊎◌, ℕ, List, All, Err, I
 ghost use Rattle.ipx_router.specs.NewRouter.{IsOwnNetwork};
 ghost use Rattle.ipx_site.specs.Host.{IsHostText, IsHostTextFault};
 ghost use Rattle.ipx_site.specs.Loading.{IsFileText, IsStatus, fault_status};
-ghost use Rattle.ipx_site.specs.Ports.{router_ports};
+ghost use Rattle.ipx_site.specs.SitePorts.{router_ports};
 ghost use Rattle.ipx_site.specs.Site.{IsSiteText, IsSiteTextFault};
 
 use crate::fault::FileFault;

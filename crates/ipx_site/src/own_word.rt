@@ -2,7 +2,7 @@
 
 ghost use Rattle.std.specs.Prelude.{◌≡◌};
 ghost use Rattle.ipx_wire.specs.Ipx.{packet_view};
-ghost use Rattle.ipx_site.specs.Peers.{is_node_of, is_own_word, is_response, is_straight};
+ghost use Rattle.ipx_site.specs.SitePeers.{is_node_of, is_own_word, is_response, is_straight};
 
 use byteorder::{BigEndian, ByteOrder};
 use ipx_carrier::node_of;

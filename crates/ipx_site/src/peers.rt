@@ -3,11 +3,11 @@
 ghost use Rattle.std.specs.Prelude.{◌≡◌, ◌<◌, ◌≤◌, ◌+◌, ◌^◌, [], ◌∷◌, ℕ, true, false, Ok, Option, Some, OnErr, OnOk, IfOk, IfSome, is_err, length, map, slice_get};
 ghost use Rattle.ipx_wire.specs.Ipx.{packet_view};
 ghost use Rattle.ipx_carrier.specs.Device.{Passes, received_in};
-ghost use Rattle.ipx_carrier.specs.Fates.{raised};
-ghost use Rattle.ipx_carrier.specs.Fault.{device_failures};
+ghost use Rattle.ipx_carrier.specs.OutcomeCounts.{raised};
+ghost use Rattle.ipx_carrier.specs.RunFaultNumbers.{device_failures};
 ghost use Rattle.ipx_carrier.specs.Waits.{LeavesPort};
-ghost use Rattle.ipx_site.specs.Peers.{IsWordOn, TakesIn, is_listed, is_peer, kept_in, may_go, may_say, none_kept, nothing_kept, one_more};
-ghost use Rattle.ipx_site.specs.Ports.{access_by};
+ghost use Rattle.ipx_site.specs.SitePeers.{IsWordOn, TakesIn, is_listed, is_peer, kept_in, may_go, may_say, none_kept, nothing_kept, one_more};
+ghost use Rattle.ipx_site.specs.SitePorts.{access_by};
 
 use crate::own_word::{is_own_word, is_response, is_straight};
 use crate::senders::Senders;

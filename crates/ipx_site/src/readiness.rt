@@ -1,7 +1,7 @@
 //! Waiting until something is to be read, or for some time.
 
 ghost use Rattle.std.specs.Prelude.{◌≡◌, ◌+◌, IfOk, None, OnOk, Some, length};
-ghost use Rattle.ipx_carrier.specs.Fates.{raised};
+ghost use Rattle.ipx_carrier.specs.OutcomeCounts.{raised};
 ghost use Rattle.ipx_site.specs.Bursts.{counted};
 
 use crate::sockets::SiteSockets;

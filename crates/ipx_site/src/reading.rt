@@ -5,7 +5,7 @@ ghost use Rattle.toml.specs.Data.{Data, Items};
 ghost use Rattle.toml.specs.View.{items_view, table_view, view};
 ghost use Rattle.ipx_router.specs.NewRouter.{IsOwnNetwork};
 ghost use Rattle.ipx_site.specs.Fields.{Holds, IsFault, Reads};
-ghost use Rattle.ipx_site.specs.Ports.{router_ports};
+ghost use Rattle.ipx_site.specs.SitePorts.{router_ports};
 ghost use Rattle.ipx_site.specs.Site.{ArePorts, IsFirstFault, IsPortItem, IsPortItemFault, IsPortList, IsSite, IsSiteFault, IsSiteText, IsSiteTextFault, IsTwin, is_few, twin_place};
 
 use crate::fault::FileFault;

@@ -3,7 +3,7 @@
 ghost use Rattle.std.specs.Prelude.{◌≡◌, ◌≤◌, ◌⊎◌, [], All, IfErr, IfOk, OnOk, is_ok, if◌then◌else◌, map};
 ghost use Rattle.ipx_router.specs.NewRouter.{IsOwnNetwork};
 ghost use Rattle.ipx_carrier.specs.Turns.{peers_of};
-ghost use Rattle.ipx_site.specs.Ports.{GuardPorts, guarded, guarding, heard_at_port, named, router_port_of, router_ports, site_peers, udp_ports};
+ghost use Rattle.ipx_site.specs.SitePorts.{GuardPorts, guarded, guarding, heard_at_port, named, router_port_of, router_ports, site_peers, udp_ports};
 
 use crate::bind_fault::BindFault;
 use crate::clock::SteadyClock;

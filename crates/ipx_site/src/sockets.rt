@@ -1,8 +1,8 @@
 //! Sockets of UDP, one for each port of a site.
 
 ghost use Rattle.std.specs.Prelude.{◌≡◌, ◌⊎◌, ◌<◌, ◌↔◌, ◌∷◌, [], IfOk, IfSome, IsSome, OnErr, Some, length, map, slice_get};
-ghost use Rattle.ipx_carrier.specs.Fates.{raised};
-ghost use Rattle.ipx_site.specs.Ports.{udp_ports};
+ghost use Rattle.ipx_carrier.specs.OutcomeCounts.{raised};
+ghost use Rattle.ipx_site.specs.SitePorts.{udp_ports};
 
 use crate::bind_fault::{BindFault, obstacle_of};
 use crate::peers::raise;

@@ -1,7 +1,7 @@
 //! A core that answers those who ask for all that it knows in turn.
 
 ghost use Rattle.std.specs.Prelude.{◌≡◌, [], false, IfOk};
-ghost use Rattle.ipx_site.specs.Peers.{none_kept};
+ghost use Rattle.ipx_site.specs.SitePeers.{none_kept};
 
 use crate::asker::asker_of;
 use crate::askers::Askers;

@@ -3,9 +3,9 @@
 ghost use Rattle.std.specs.Prelude.{◌≡◌, ◌≤◌, length, map};
 ghost use Rattle.ipx_carrier.specs.Turns.{peers_of};
 ghost use Rattle.ipx_site.specs.Leisure.{IsLeisure, IsToDo, agenda, happened, happened_in, look_after};
-ghost use Rattle.ipx_site.specs.Peers.{kept_in};
-ghost use Rattle.ipx_site.specs.Ports.{access_by};
-ghost use Rattle.ipx_site.specs.Rounds.{AsksAgain, IsRound, SleepsBehind};
+ghost use Rattle.ipx_site.specs.SitePeers.{kept_in};
+ghost use Rattle.ipx_site.specs.SitePorts.{access_by};
+ghost use Rattle.ipx_site.specs.RouterRounds.{AsksAgain, IsRound, SleepsBehind};
 
 use crate::asking::asking_moment;
 use crate::clock::SteadyClock;

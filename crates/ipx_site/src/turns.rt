@@ -1,12 +1,12 @@
 //! Turns of a core over a device, one after another, as long as there is something to do.
 
 ghost use Rattle.std.specs.Prelude.{◌≡◌, ◌⊎◌, ◌<◌, ◌≤◌, ◌↔◌, ◌+◌, ◌^◌, true, false, IfOk, IfErr, IsTrue, Err, Some, None, length, map};
-ghost use Rattle.ipx_carrier.specs.Fault.{failures_after};
+ghost use Rattle.ipx_carrier.specs.RunFaultNumbers.{failures_after};
 ghost use Rattle.ipx_carrier.specs.Runs.{EndsEarly, Runs};
 ghost use Rattle.ipx_carrier.specs.Turns.{peers_of};
 ghost use Rattle.ipx_site.specs.Bursts.{Bursts, CanBegin, counted, failed_after, no_turns, refused};
-ghost use Rattle.ipx_site.specs.Peers.{kept_in};
-ghost use Rattle.ipx_site.specs.Ports.{access_by};
+ghost use Rattle.ipx_site.specs.SitePeers.{kept_in};
+ghost use Rattle.ipx_site.specs.SitePorts.{access_by};
 
 use crate::peers::PeersOnly;
 use crate::senders::Senders;

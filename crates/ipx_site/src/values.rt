@@ -5,7 +5,7 @@ ghost use Rattle.std.specs.List.{list_all};
 ghost use Rattle.toml.specs.View.{items_view, view};
 ghost use Rattle.ipx_site.specs.Values.{AreAddresses, AreAddressesOf, AreRouterPeers, IsAccept, IsIpAddress, IsCount, IsHex, IsNetwork, IsSocket, IsText, ReadsAddresses, SpellsHexNumber};
 ghost use Rattle.ipx_site.specs.Fields.{Reads};
-ghost use Rattle.ipx_site.specs.Peers.{is_peer};
+ghost use Rattle.ipx_site.specs.SitePeers.{is_peer};
 
 use crate::peers::is_one_of;
 use crate::site::Accept;

@@ -10,16 +10,16 @@ use Rattle.spx_link.specs.LinkView.{LinkView}
 use Rattle.spx_link.specs.Receive.{receive_link}
 use Rattle.spx_link.specs.Offer.{owe_reply_link, accepted_from}
 use Rattle.ipx_log.specs.Note.{Note}
-use Rattle.spx_units.specs.Packets.{Home}
+use Rattle.spx_units.specs.WrittenPackets.{Home}
 use Rattle.ipx_log.specs.Deeds.{Accepts, Reads, OwesReply}
-use Rattle.ipx_log.specs.Packets.{IsFor, notes_of}
+use Rattle.ipx_log.specs.PacketsOnWay.{IsFor, notes_of}
 use Rattle.spx_messages.specs.Changes.{SameBut}
 use Rattle.spx_messages.specs.EndpointView.{Held, EndpointView, held_at}
 use Rattle.spx_messages.specs.declared.arrived.Arrived.{Arrived}
 use Rattle.spx_messages.specs.Arrives.{IsOurs, IsAccepted, IsAskedAgain, IsHeard}
 use Rattle.ipx_steps.specs.World.{World, HostState, EndNow, stand_with, stand_of, home_at, bytes_of, segment_of, scene_of, InOrder}
-use Rattle.ipx_steps.specs.Steps.{Delivers, heard_notes, read_notes, arrival_notes, buffers_of}
-use Rattle.ipx_steps.specs.Deeds.{Deeds}
+use Rattle.ipx_steps.specs.HostSteps.{Delivers, heard_notes, read_notes, arrival_notes, buffers_of}
+use Rattle.ipx_steps.specs.DeedRuns.{Deeds}
 use Rattle.ipx_steps.proofs.Places.{get_map, get_set_here, map_more, map_same, map_length}
 use Rattle.ipx_steps.proofs.Doing.{no_deed, one_deed}
 use Rattle.ipx_steps.proofs.Standing.{none_held, held_same, held_stands, held_there, ends_same, made, scene_after}

@@ -5,7 +5,7 @@ use Rattle.spx_link.specs.LinkView.{LinkView}
 use Rattle.spx_link.specs.Poll.{poll_link}
 use Rattle.ipx_log.specs.Scene.{Scene, Stand, linked}
 use Rattle.ipx_log.specs.Deeds.{Deed, DoesDeed, Rests, Reached, happened}
-use Rattle.ipx_steps.specs.Deeds.{DoesAll, Deeds}
+use Rattle.ipx_steps.specs.DeedRuns.{DoesAll, Deeds}
 use Rattle.ipx_steps.proofs.Places.{get_past, set_past}
 
 pub no_deed : (old new : Scene) → new ≡ old → Deeds old new

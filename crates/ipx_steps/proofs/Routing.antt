@@ -8,7 +8,7 @@ use Rattle.ipx_log.specs.Scan.{Each}
 use Rattle.ipx_log.specs.Scene.{Scene, sent_off}
 use Rattle.ipx_steps.specs.World.{World, ParcelView, AtPort, stand_of, home_at, bytes_of, segment_of, scene_of}
 use Rattle.ipx_steps.specs.Routers.{IsOwnLetter, told_notes, GivesOwnLetters, CarriesOn}
-use Rattle.ipx_steps.specs.Deeds.{Deeds}
+use Rattle.ipx_steps.specs.DeedRuns.{Deeds}
 use Rattle.ipx_steps.proofs.Places.{get_map, map_more, map_length}
 use Rattle.ipx_steps.proofs.Doing.{no_deed, one_deed, then}
 use Rattle.ipx_steps.proofs.Standing.{made, made_same}

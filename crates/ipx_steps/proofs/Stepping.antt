@@ -3,8 +3,8 @@ use Rattle.std.proofs.Common.{sym, ◌∙◌}
 use Rattle.std.proofs.lemmas.List.{append-nil}
 use Rattle.ipx_log.specs.Deeds.{Reached}
 use Rattle.ipx_steps.specs.World.{World, scene_of, InOrder}
-use Rattle.ipx_steps.specs.Deeds.{Deeds}
-use Rattle.ipx_steps.specs.Step.{WorldStep, Delivered, Polled, Taken, Dialled, Sent, Closed, Released, Refused, Injected, Ticked, Told, Carried}
+use Rattle.ipx_steps.specs.DeedRuns.{Deeds}
+use Rattle.ipx_steps.specs.WorldStep.{WorldStep, Delivered, Polled, Taken, Dialled, Sent, Closed, Released, Refused, Injected, Ticked, Told, Carried}
 use Rattle.ipx_steps.proofs.Doing.{reached_after}
 use Rattle.ipx_steps.proofs.Delivering.{delivers_deeds, left_alone}
 use Rattle.ipx_steps.proofs.Polling.{polls_deeds}

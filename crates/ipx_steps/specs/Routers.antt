@@ -6,7 +6,7 @@ use Rattle.ipx_wire.specs.declared.address.Node.{Node}
 use Rattle.ipx_wire.specs.Ipx.{PacketView, IsIpx}
 use Rattle.ipx_log.specs.Note.{Note}
 use Rattle.ipx_log.specs.Scan.{Each}
-use Rattle.ipx_log.specs.Packets.{IsOneOn}
+use Rattle.ipx_log.specs.PacketsOnWay.{IsOneOn}
 use Rattle.ipx_steps.specs.World.{World, ParcelView, AtPort}
 use Rattle.ipx_log.specs.Note as Notes
 

@@ -2,8 +2,8 @@
 
 ghost use Rattle.ipx_log.specs.Deeds.{Reached};
 ghost use Rattle.ipx_steps.specs.World.{World, InOrder, scene_of};
-ghost use Rattle.ipx_steps.specs.Step.{WorldStep};
-ghost use Rattle.ipx_steps.specs.Deeds.{Deeds};
+ghost use Rattle.ipx_steps.specs.WorldStep.{WorldStep};
+ghost use Rattle.ipx_steps.specs.DeedRuns.{Deeds};
 ghost use Rattle.ipx_steps.specs.Reach.{CameTo};
 ghost use Rattle.ipx_log.specs.InStep.{PeersAreInStep};
 

@@ -14,7 +14,7 @@ use Rattle.ipx_tables.specs.declared.offer.Offer.{Offer}
 use Rattle.ipx_tables.specs.Order.{IsStrictTotal}
 use Rattle.ipx_tables.specs.Content.{content, said_of, IsApart, pair_of, is_young, is_same, source_cmp}
 use Rattle.ipx_tables.specs.Best.{metric_cmp, rank_cmp, is_better, IsBest, NoneCounts}
-use Rattle.ipx_tables.specs.Scan.{is_candidate, source_and_metric, offer_beats, better_of, best_from}
+use Rattle.ipx_tables.specs.OfferScan.{is_candidate, source_and_metric, offer_beats, better_of, best_from}
 use Rattle.ipx_tables.proofs.Lists.{source_total, same_equiv, found_same}
 
 -- of some item of the list it holds

@@ -7,7 +7,7 @@ use Rattle.std.proofs.lemmas.List.Edits.{length-remove}
 use Rattle.ipx_tables.specs.declared.source.Source.{Source}
 use Rattle.ipx_tables.specs.declared.offer.Offer.{Offer}
 use Rattle.ipx_tables.specs.Content.{said_of, found, IsApart, pair_of}
-use Rattle.ipx_tables.specs.Scan.{IsAt}
+use Rattle.ipx_tables.specs.OfferScan.{IsAt}
 use Rattle.ipx_tables.proofs.Lists.{found_same, found_remove, apart_remove}
 use Rattle.ipx_tables.proofs.Listed.{found_member}
 

@@ -13,7 +13,7 @@ use Rattle.std.proofs.lemmas.List.Sums.{sum_by-le, sum_by-take-drop}
 use Rattle.std.proofs.lemmas.Grind.{common_steps}
 use Rattle.ipx_tables.specs.declared.offer.Offer.{Offer}
 use Rattle.ipx_tables.specs.Content.{pair_of, pair_cmp, is_young}
-use Rattle.ipx_tables.specs.Scan.{best_from, better_of, is_candidate}
+use Rattle.ipx_tables.specs.OfferScan.{best_from, better_of, is_candidate}
 use Rattle.ipx_tables.specs.Sorted.{IsRising}
 
 -- half of what is below a power is below the power before it

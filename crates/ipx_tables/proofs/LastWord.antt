@@ -5,7 +5,7 @@ use Rattle.std.specs.List.{AllByRecursion}
 use Rattle.std.specs.declared.cmp.Ordering.{Ordering}
 use Rattle.ipx_tables.specs.declared.source.Source.{Source}
 use Rattle.ipx_tables.specs.Content.{Content, is_same, is_young, still}
-use Rattle.ipx_tables.specs.Calls.{Call, Hear, Age, after_call, after_calls, Spares, IsLastWord}
+use Rattle.ipx_tables.specs.TableCalls.{Call, Hear, Age, after_call, after_calls, Spares, IsLastWord}
 use Rattle.ipx_tables.proofs.Best.{some_pair}
 
 module _ {K M : Type 0} (cmp : K → K → Ordering) (dead : M → Bool) (p : K × Source) (metric : M) (moment : ℕ) where

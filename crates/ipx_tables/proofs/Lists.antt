@@ -8,7 +8,7 @@ use Rattle.std.specs.declared.cmp.Ordering.{Ordering}
 use Rattle.std.proofs.lemmas.Cmp.{eq_by_cmp_equiv, then_total, on_total, nat_cmp_total, nat_list_cmp_total}
 use Rattle.ipx_tables.specs.declared.source.Source.{Source}
 use Rattle.ipx_tables.specs.declared.offer.Offer.{Offer}
-use Rattle.ipx_tables.specs.Scan.{IsAt}
+use Rattle.ipx_tables.specs.OfferScan.{IsAt}
 use Rattle.ipx_tables.specs.Content.{said_of, found, IsApart, pair_of, is_young, still, source_cmp, pair_cmp, is_same, content}
 
 module _ {K M : Type 0} {same : K × Source → K × Source → Bool} (e : IsEquivalence same) where

@@ -8,7 +8,7 @@ use Rattle.std.proofs.lemmas.List.{get_or_default}
 use Rattle.ipx_tables.specs.declared.source.Source.{Source}
 use Rattle.ipx_tables.specs.declared.offer.Offer.{Offer}
 use Rattle.ipx_tables.specs.Content.{content, said_of, found, pair_of, pair_cmp, is_same, IsApart}
-use Rattle.ipx_tables.specs.Scan.{IsAt}
+use Rattle.ipx_tables.specs.OfferScan.{IsAt}
 use Rattle.ipx_tables.specs.Sorted.{IsRising, IsAtKey, IsGapFor}
 use Rattle.ipx_tables.proofs.Lists.{same_equiv, pair_total}
 use Rattle.ipx_tables.proofs.Listed.{member_found}

@@ -16,7 +16,7 @@ use Rattle.ipx_tables.specs.declared.offer.Offer.{Offer}
 use Rattle.ipx_tables.specs.declared.mark.Mark.{Mark}
 use Rattle.ipx_tables.specs.Content.{content, said_of, is_same, pair_of, pair_cmp}
 use Rattle.ipx_tables.specs.Expiry.{IsOldest}
-use Rattle.ipx_tables.specs.Marks.{mark_at, mark_cmp, mark_itself, expiry_key_of, has_expiry_key, is_heard_at, AreAlike, IsPaired}
+use Rattle.ipx_tables.specs.ExpiryKeys.{mark_at, mark_cmp, mark_itself, expiry_key_of, has_expiry_key, is_heard_at, AreAlike, IsPaired}
 use Rattle.ipx_tables.specs.Sorted.{IsRising, IsAtKey, IsGapFor}
 use Rattle.ipx_tables.proofs.Lists.{same_equiv, pair_total, found_same, found_set, found_insert, found_remove}
 use Rattle.ipx_tables.proofs.Places.{at_read, insert_rising, remove_rising, set_rising}

@@ -17,7 +17,7 @@ use Rattle.ipx_tables.specs.declared.offer.Offer.{Offer}
 use Rattle.ipx_tables.specs.Order.{IsStrictTotal}
 use Rattle.ipx_tables.specs.Content.{content, heard_key, said_of, IsApart, is_same, is_young, pair_cmp, pair_of, source_cmp}
 use Rattle.ipx_tables.specs.Best.{is_better, NoneCounts}
-use Rattle.ipx_tables.specs.Scan.{better_of, offer_beats}
+use Rattle.ipx_tables.specs.OfferScan.{better_of, offer_beats}
 use Rattle.ipx_tables.specs.Sorted.{IsRising, IsAtKey}
 use Rattle.ipx_tables.specs.Listing.{listed_key, IsListing}
 use Rattle.ipx_tables.specs.Walk.{IsLone, item_of, item_beats, put_first, bests_of}

@@ -4,11 +4,11 @@ pub mod Service
 pub mod Content
 pub mod Room
 pub mod Best
-pub mod Calls
+pub mod TableCalls
 pub mod Sorted
 pub mod Listing
-pub mod Scan
+pub mod OfferScan
 pub mod Walk
-pub mod Marks
+pub mod ExpiryKeys
 pub mod Expiry
 pub mod Late

@@ -3,7 +3,7 @@
 ghost use Rattle.std.specs.Prelude.{◌≡◌, ◌≤◌, ◌<◌, ◌+◌, ◌^◌, ℕ, true, false, None, length, slice_index_or, count_by};
 ghost use Rattle.std.specs.Ordering.{is_eq, is_lt};
 ghost use Rattle.ipx_tables.specs.Best.{rank_cmp};
-ghost use Rattle.ipx_tables.specs.Scan.{best_from, better_of, is_candidate, offer_beats};
+ghost use Rattle.ipx_tables.specs.OfferScan.{best_from, better_of, is_candidate, offer_beats};
 
 use crate::metric::Metric;
 use crate::moments::counts;

@@ -3,7 +3,7 @@
 ghost use Rattle.std.specs.Prelude.{◌≡◌, ◌↔◌, ℕ, List, Some, None, length};
 ghost use Rattle.ipx_tables.specs.Order.{IsStrictTotal, TellsApart};
 ghost use Rattle.ipx_tables.specs.Content.{Content, Table, IsTable, content, source_cmp};
-ghost use Rattle.ipx_tables.specs.Calls.{Call, after_calls, IsLastWord};
+ghost use Rattle.ipx_tables.specs.TableCalls.{Call, after_calls, IsLastWord};
 ghost use Rattle.ipx_tables.specs.Best.{IsBest, is_better, rank_cmp};
 ghost use Rattle.ipx_tables.specs.Listing.{IsListing};
 ghost use Rattle.ipx_tables.specs.Route.{network_cmp, route_before};

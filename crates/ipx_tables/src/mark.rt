@@ -1,7 +1,7 @@
 //! When an offer was heard.
 
 ghost use Rattle.std.specs.Prelude.{◌≡◌};
-ghost use Rattle.ipx_tables.specs.Marks.{expiry_key_of};
+ghost use Rattle.ipx_tables.specs.ExpiryKeys.{expiry_key_of};
 
 use crate::offer::Offer;
 use crate::source::Source;

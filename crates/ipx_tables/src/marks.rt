@@ -3,7 +3,7 @@
 ghost use Rattle.std.specs.Prelude.{◌≡◌, ◌+◌, ◌<◌, ◌&&◌, ◌||◌, true, false, not, IfOk, IfErr, IfSome, MatchResult};
 ghost use Rattle.std.specs.Ordering.{is_eq};
 ghost use Rattle.std.specs.VecDeque.{deque_len, deque_capacity};
-ghost use Rattle.ipx_tables.specs.Marks.{has_expiry_key, mark_cmp, mark_itself};
+ghost use Rattle.ipx_tables.specs.ExpiryKeys.{has_expiry_key, mark_cmp, mark_itself};
 ghost use Rattle.ipx_tables.specs.Sorted.{IsAtKey, IsGapFor, IsRising};
 
 use crate::mark::Mark;

@@ -28,7 +28,7 @@ pub struct Shelf<K: Ord + Copy, M: Copy> {
 impl<K: Ord + Copy, M: Copy> Model for Shelf<K, M> {
     ghost use Rattle.std.specs.Prelude.{List};
     ghost use Rattle.ipx_tables.specs.declared.offer.Offer.{Offer};
-    ghost use Rattle.ipx_tables.specs.Marks.{IsPaired};
+    ghost use Rattle.ipx_tables.specs.ExpiryKeys.{IsPaired};
 
     ghost Value = { List (Offer K M) };
 

@@ -1,7 +1,7 @@
 //! The hosts and routers that a script lays out, as their sockets are bound.
 
 ghost use Rattle.std.specs.Prelude.{◌≡◌, ◌≢◌, ℕ, All, IfOk, IfSome, None, Some};
-ghost use Rattle.ipx_net.specs.Beginnings.{ArePortsOwed};
+ghost use Rattle.ipx_net.specs.NetBeginnings.{ArePortsOwed};
 ghost use Rattle.ipx_router.specs.NewRouter.{IsOwnNetwork};
 ghost use Rattle.ipx_wire.specs.declared.address.Socket.{Socket as AnySocket};
 ghost use Rattle.spx_messages.specs.EndpointView.{buffers_at, held_at};

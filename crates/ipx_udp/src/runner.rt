@@ -1,7 +1,7 @@
 //! A host or a router that runs over sockets.
 
 ghost use Rattle.std.specs.Prelude.{◌≡◌, IfOk, OnOk, Err, length};
-ghost use Rattle.ipx_carrier.specs.Fault.{failures_after};
+ghost use Rattle.ipx_carrier.specs.RunFaultNumbers.{failures_after};
 ghost use Rattle.ipx_carrier.specs.Turns.{peers_of};
 ghost use Rattle.ipx_udp.specs.RunnerTurns.{CanTurn, TakesRunnerTurn};
 

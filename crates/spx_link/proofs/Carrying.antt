@@ -17,7 +17,7 @@ use Rattle.spx_link.specs.Offer.{the_end}
 use Rattle.spx_link.specs.Poll as P
 use Rattle.spx_link.specs.Poll.{OutgoingView, poll_link, poll_at}
 use Rattle.spx_link.specs.Units.{unit_of, queued_units, as_sent, SameUnits, SameEndings}
-use Rattle.spx_link.specs.Given.{CarriesToPeer, IsGiven, StaysOrIsLost}
+use Rattle.spx_link.specs.PolledPackets.{CarriesToPeer, IsGiven, StaysOrIsLost}
 
 -- what holds of both sides holds of the choice, and may rest on the test
 pub by_test : {A : Type 0} (P : A → Type 0) (b : Bool) (x y : A) → (b ≡ true → P x) → (b ≡ false → P y) → P (if b then x else y)

@@ -14,11 +14,11 @@ use Rattle.spx_link.specs.declared.state.State.TheVariants as S
 use Rattle.spx_link.specs.Courses.{is_open, is_apart, HasNoEndWhileOpen, IsWhole, IsWholeOnceConfirmed, HasTaken}
 use Rattle.spx_link.specs.Effects.{IfRequest, numbers_after_poll, numbers_after_received, numbers_after_sent}
 use Rattle.spx_link.specs.LinkView.{LinkView, numbers_of}
-use Rattle.spx_link.specs.Marks.{mark, acknowledged}
+use Rattle.spx_link.specs.SequenceMarks.{mark, acknowledged}
 use Rattle.spx_link.specs.Offer.{take_link, take_held, refusal}
 use Rattle.spx_link.specs.Poll.{OutgoingView, poll_link}
 use Rattle.spx_link.specs.Receive.{receive_link}
-use Rattle.spx_link.specs.Turns.{is_joined, state_after, newly_held}
+use Rattle.spx_link.specs.LinkTurns.{is_joined, state_after, newly_held}
 use Rattle.spx_link.specs.Units.{unit_of}
 use Rattle.spx_link.proofs.Carrying.{poll_says}
 use Rattle.spx_link.proofs.Keeping.{poll_keeps, receive_keeps, opening_requests, lost_alone}

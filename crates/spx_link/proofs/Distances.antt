@@ -1,7 +1,7 @@
 -- Distances between the marks of positions.
 use Rattle.std.proofs.Common.{ℕ, ◌≡◌, ◌≢◌, ◌↔◌, ◌+◌, ◌-◌, ◌<◌, ◌≤◌, ◌&&◌, nat_le, nat_lt, max, if◌then◌else◌, arith}
 use Rattle.std.proofs.lemmas.Bool.Decides.{nat_tests}
-use Rattle.spx_link.specs.Marks.{acknowledged, mark, distance, outstanding_after, room_after}
+use Rattle.spx_link.specs.SequenceMarks.{acknowledged, mark, distance, outstanding_after, room_after}
 
 -- ---- marks
 

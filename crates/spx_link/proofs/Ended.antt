@@ -5,9 +5,9 @@ use Rattle.spx_link.specs.declared.unit.Unit as units
 use Rattle.spx_link.specs.declared.received.Received.{Received}
 use Rattle.spx_link.specs.declared.received.Received.TheVariants.{Joined, Kept, Repeat, Ahead, OverAllocation, System, PeerEnded, Confirmed, Stranger}
 use Rattle.spx_link.specs.LinkView.{LinkView}
-use Rattle.spx_link.specs.Marks.{distance}
+use Rattle.spx_link.specs.SequenceMarks.{distance}
 use Rattle.spx_link.specs.Receive.{is_kept, any_end, receive_link}
-use Rattle.spx_link.specs.Turns.{IsInTurn, kept, kept_with, newly_held}
+use Rattle.spx_link.specs.LinkTurns.{IsInTurn, kept, kept_with, newly_held}
 use Rattle.spx_link.specs.Units.{unit_in}
 use Rattle.spx_link.proofs.Laying.{leading_joins, put_read, after_held}
 use Rattle.spx_link.proofs.Reading.{receive_says}

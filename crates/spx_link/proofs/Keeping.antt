@@ -16,7 +16,7 @@ use Rattle.spx_link.specs.Poll.{OutgoingView, poll_link, poll_at}
 use Rattle.spx_link.specs.Receive as R
 use Rattle.spx_link.specs.Receive.{receive_link, receive_at}
 use Rattle.spx_link.specs.Offer.{take_link, take_held}
-use Rattle.spx_link.specs.Turns.{kept_with, newly_held}
+use Rattle.spx_link.specs.LinkTurns.{kept_with, newly_held}
 use Rattle.spx_link.specs.Effects.{numbers_after_poll, numbers_after_received, numbers_after_take, SameEnds, SamePeer, Joins, IfRequest}
 
 -- what holds of both sides holds of the choice

@@ -2,7 +2,7 @@
 use Rattle.std.proofs.Common.{ℕ, ◌+◌, ◌<◌, ◌≤◌, ◌↔◌, List, arith}
 use Rattle.std.specs.Prelude.{Contains}
 use Rattle.std.proofs.lemmas.List.Elements.{All-contains}
-use Rattle.spx_link.specs.Marks.{mark, distance}
+use Rattle.spx_link.specs.SequenceMarks.{mark, distance}
 use Rattle.spx_link.specs.Machine.{Packet, End, Machine, Step, IsRun, WasSent, AreSound, start}
 use Rattle.spx_link.specs.Fresh.{IsRecentPacket, TellsPositions}
 use Rattle.spx_link.proofs.Distances.{acknowledgement_read, allocation_read, sequence_current, sequence_next, sequence_window}

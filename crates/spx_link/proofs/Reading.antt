@@ -12,11 +12,11 @@ use Rattle.spx_link.specs.declared.state.State.{State}
 use Rattle.spx_link.specs.declared.state.State.TheVariants as States
 use Rattle.spx_link.specs.Limits.{end_stream, confirm_stream}
 use Rattle.spx_link.specs.LinkView.{LinkView, free, is_confirmed}
-use Rattle.spx_link.specs.Marks.{acknowledged, distance}
+use Rattle.spx_link.specs.SequenceMarks.{acknowledged, distance}
 use Rattle.spx_link.specs.Offer.{queued, first_of, take_link, take_held}
 use Rattle.spx_link.specs.Receive as R
 use Rattle.spx_link.specs.Receive.{is_kept, is_own, is_system, receive_link, receive_at}
-use Rattle.spx_link.specs.Turns.{is_joined, IsInTurn, state_after, ended_after, ConfirmsWhole, kept_with, newly_held}
+use Rattle.spx_link.specs.LinkTurns.{is_joined, IsInTurn, state_after, ended_after, ConfirmsWhole, kept_with, newly_held}
 use Rattle.spx_link.specs.Units.{unit_of, queued_units, SameEndings}
 use Rattle.spx_link.proofs.Carrying.{by_test}
 

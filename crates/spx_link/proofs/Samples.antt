@@ -1,7 +1,7 @@
 -- Values of the definitions, worked by hand, and a run with a unit that is sent, read, acknowledged and taken.
 use Rattle.std.proofs.Common.{ℕ, ◌+◌, ◌≡◌, [], ◌∷◌, true, false, List, Some, None, arith, refl}
 use Rattle.spx_link.specs.declared.unit.Unit.{Unit}
-use Rattle.spx_link.specs.Marks.{mark, distance, outstanding_after, room_after}
+use Rattle.spx_link.specs.SequenceMarks.{mark, distance, outstanding_after, room_after}
 use Rattle.spx_link.specs.Machine.{Packet, End, Machine, Step, IsRun, start, new_end, mailed, sent_next, got}
 use Rattle.spx_link.specs.Machine.Act.{Sends, SendsNoUnit, Gets, Takes, Gains}
 use Rattle.spx_link.specs.Machine.Step.{One, Two}

@@ -10,7 +10,7 @@ use Rattle.spx_link.specs.declared.state.State.{State}
 use Rattle.spx_link.specs.declared.state.State.TheVariants as States
 use Rattle.spx_link.specs.Limits.{most_sends}
 use Rattle.spx_link.specs.LinkView.{LinkView, due, is_working}
-use Rattle.spx_link.specs.Marks.{mark}
+use Rattle.spx_link.specs.SequenceMarks.{mark}
 use Rattle.spx_link.specs.Poll as P
 use Rattle.spx_link.specs.Poll.{OutgoingView, poll_link, poll_at}
 use Rattle.spx_link.specs.Due.{IsNextDue, earlier, earliest, again_at, owes_now, probe_due, sent_due, working_due, joined_due, request_due, due_at, due_link}

@@ -14,7 +14,7 @@ use Rattle.spx_link.specs.declared.received.Received.TheVariants.{Confirmed, Str
 use Rattle.spx_link.specs.declared.state.State.TheVariants.{Opening, Live}
 use Rattle.spx_link.specs.Limits.{no_id}
 use Rattle.spx_link.specs.LinkView.{LinkView}
-use Rattle.spx_link.specs.Marks.{mark, outstanding_after, room_after}
+use Rattle.spx_link.specs.SequenceMarks.{mark, outstanding_after, room_after}
 use Rattle.spx_link.specs.Poll.{OutgoingView}
 use Rattle.spx_link.specs.Receive.{is_system}
 

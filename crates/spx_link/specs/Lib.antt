@@ -4,7 +4,7 @@ pub mod Courses
 pub mod Due
 pub mod Effects
 pub mod Fresh
-pub mod Given
+pub mod PolledPackets
 pub mod Leasts
 pub mod Lending
 pub mod Limits
@@ -12,7 +12,7 @@ pub mod LinkView
 pub mod Links
 pub mod LinksLending
 pub mod Machine
-pub mod Marks
+pub mod SequenceMarks
 pub mod Offer
 pub mod Picked
 pub mod Poll
@@ -20,6 +20,6 @@ pub mod Queues
 pub mod Receive
 pub mod Sequences
 pub mod Sound
-pub mod Turns
+pub mod LinkTurns
 pub mod Units
-pub mod Faults
+pub mod LinkFaults

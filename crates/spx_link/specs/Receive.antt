@@ -14,7 +14,7 @@ use Rattle.spx_link.specs.declared.unit.Unit.{Unit}
 use Rattle.spx_link.specs.Limits.{end_stream, confirm_stream, no_id}
 use Rattle.spx_link.specs.LinkView.{LinkView, free, is_confirmed, is_end}
 use Rattle.spx_link.specs.Units.{unit_in}
-use Rattle.spx_link.specs.Marks.{mark, distance, acknowledged, outstanding_after, room_after}
+use Rattle.spx_link.specs.SequenceMarks.{mark, distance, acknowledged, outstanding_after, room_after}
 
 -- the answers to a unit that is kept
 abbrev pub is_kept : Received → Bool

@@ -13,17 +13,17 @@ ghost use Rattle.spx_link.specs.declared.state.State.TheVariants.{Ending, Live, 
 ghost use Rattle.spx_link.specs.Effects.{HasEnds, IfRequest, Joins, SameEnds, SamePeer};
 ghost use Rattle.spx_link.specs.Effects.{numbers_after_poll, numbers_after_received};
 ghost use Rattle.spx_link.specs.Effects.{numbers_after_take};
-ghost use Rattle.spx_link.specs.Given.{IsGiven, StaysOrIsLost};
+ghost use Rattle.spx_link.specs.PolledPackets.{IsGiven, StaysOrIsLost};
 ghost use Rattle.spx_link.specs.Limits.{end_stream, no_id};
 ghost use Rattle.spx_link.specs.LinkView.{LinkView, numbers_of};
 ghost use Rattle.spx_link.specs.Links.{LinksView, link_at};
-ghost use Rattle.spx_link.specs.Marks.{acknowledged, distance, room_after};
+ghost use Rattle.spx_link.specs.SequenceMarks.{acknowledged, distance, room_after};
 ghost use Rattle.spx_link.specs.Offer.{accepted_from, dialed, end_link, first_of, lose_link};
 ghost use Rattle.spx_link.specs.Offer.{offer_link, owe_reply_link, take_link, the_end};
 ghost use Rattle.spx_link.specs.Poll.{poll_link};
 ghost use Rattle.spx_link.specs.Receive.{any_end, is_kept, is_own, receive_link};
-ghost use Rattle.spx_link.specs.Turns.{ConfirmsWhole, IsInTurn, ended_after, is_joined, kept, kept_with};
-ghost use Rattle.spx_link.specs.Turns.{newly_held, state_after};
+ghost use Rattle.spx_link.specs.LinkTurns.{ConfirmsWhole, IsInTurn, ended_after, is_joined, kept, kept_with};
+ghost use Rattle.spx_link.specs.LinkTurns.{newly_held, state_after};
 ghost use Rattle.spx_link.specs.Units.{IsEmpty, SameEndings, SameUnits, as_sent, queued_units};
 ghost use Rattle.spx_link.specs.Units.{unit_in};
 

@@ -9,7 +9,7 @@
 
 ghost use Rattle.std.specs.Prelude.{ℕ, ◌≡◌, ◌≢◌, ◌↔◌, ◌+◌, ◌<◌, ◌≤◌, max};
 ghost use Rattle.spx_link.specs.Limits.{most_room, most_units};
-ghost use Rattle.spx_link.specs.Marks.{acknowledged, mark, distance, outstanding_after, room_after};
+ghost use Rattle.spx_link.specs.SequenceMarks.{acknowledged, mark, distance, outstanding_after, room_after};
 
 /// What marks say of positions.
 pub fn marks()

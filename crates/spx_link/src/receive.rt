@@ -2,7 +2,7 @@
 
 ghost use Rattle.std.specs.Prelude.{◌≡◌, ◌≤◌, ◌<◌, length};
 ghost use Rattle.spx_link.specs.LinkView as view;
-ghost use Rattle.spx_link.specs.Marks.{acknowledged};
+ghost use Rattle.spx_link.specs.SequenceMarks.{acknowledged};
 ghost use Rattle.spx_link.specs.Receive as spec;
 
 use crate::limits::{CONFIRM_STREAM, END_STREAM, MOST_ROOM, NO_ID};

@@ -5,11 +5,11 @@ use Rattle.spx_link.specs.Links.{LinksView, link_at}
 use Rattle.spx_link.specs.Poll.{OutgoingView, poll_link}
 use Rattle.spx_link.specs.declared.outgoing.Sent.{Sent}
 use Rattle.spx_units.specs.Message.{MessageView}
-use Rattle.spx_units.specs.Packets.{IsWrittenPacket}
+use Rattle.spx_units.specs.WrittenPackets.{IsWrittenPacket}
 use Rattle.spx_messages.specs.Changes.{SameSelf}
 use Rattle.spx_messages.specs.EndpointView.{EndpointView, Held, held_at, held_with, rest_in}
 use Rattle.spx_messages.specs.Polls.{Polls, RestsAt, home_of}
-use Rattle.spx_messages.specs.Turns.{AllRest, IsPacketBetween, Rests, Turned, address_at}
+use Rattle.spx_messages.specs.EndpointTurns.{AllRest, IsPacketBetween, Rests, Turned, address_at}
 use Rattle.spx_messages.specs.declared.poll.turn.Given.{Given}
 use Rattle.spx_messages.specs.declared.poll.writing.Place.{Place}
 

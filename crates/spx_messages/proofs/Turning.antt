@@ -7,7 +7,7 @@ use Rattle.spx_link.specs.Links.{LinksView, link_at, polled, ChangesOnly, IsAbov
 use Rattle.spx_link.specs.Poll.{poll_link}
 use Rattle.spx_messages.specs.declared.poll.turn.Given.{Given}
 use Rattle.spx_messages.specs.declared.poll.writing.Place.{Place}
-use Rattle.spx_messages.specs.Turns.{AllRest, GivesPacket, Rests, RestsTo, Turned}
+use Rattle.spx_messages.specs.EndpointTurns.{AllRest, GivesPacket, Rests, RestsTo, Turned}
 
 -- ---- options
 

@@ -7,7 +7,7 @@ use Rattle.ipx_wire.specs.Spx.{HasFreeBitsClear, IsSpx}
 use Rattle.ipx_wire.specs.declared.address.Address.{Address}
 use Rattle.ipx_wire.specs.declared.ipx.packet.IpxHeader.{IpxHeader}
 use Rattle.spx_link.specs.Poll.{OutgoingView}
-use Rattle.spx_messages.specs.Turns.{IsPacketBetween}
+use Rattle.spx_messages.specs.EndpointTurns.{IsPacketBetween}
 use borrow.Rule.Slice.PartMut.{put_mid, mid_of}
 
 -- what stands from a place on, once all from there on was written

@@ -3,7 +3,7 @@ pub mod Changes
 pub mod Taking
 pub mod Arrives
 pub mod Polls
-pub mod Faults
+pub mod EndpointFaults
 pub mod Pushing
 pub mod Readings
-pub mod Turns
+pub mod EndpointTurns

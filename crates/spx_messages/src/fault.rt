@@ -1,7 +1,7 @@
 //! Why a call of an endpoint was refused.
 
 ghost use Rattle.std.specs.Prelude.{◌≡◌};
-ghost use Rattle.spx_messages.specs.Faults.{end_fault_number};
+ghost use Rattle.spx_messages.specs.EndpointFaults.{end_fault_number};
 ghost use Rattle.spx_messages.specs.declared.fault.EndFault.TheVariants as EndFaults;
 
 use spx_link::{LinksFault, OfferFault};

@@ -1,4 +1,4 @@
 pub mod Message
 pub mod Cut
 pub mod Joining
-pub mod Packets
+pub mod WrittenPackets

@@ -4,7 +4,7 @@ ghost use Rattle.std.specs.Prelude.{◌≡◌, ◌≤◌, IfNone, IfSome, None, 
 ghost use Rattle.ipx_wire.specs.Assigned.{spx_max_packet_size};
 ghost use Rattle.spx_link.specs.Links.{ChangesOnly, IsLive, link_at, polled};
 ghost use Rattle.spx_link.specs.Poll.{poll_link};
-ghost use Rattle.spx_messages.specs.Turns.{AllRest, GivesPacket, Turned};
+ghost use Rattle.spx_messages.specs.EndpointTurns.{AllRest, GivesPacket, Turned};
 
 use crate::poll::writing::{Place, write_packet};
 use ipx_wire::Node;

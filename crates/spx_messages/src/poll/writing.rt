@@ -3,8 +3,8 @@
 ghost use Rattle.std.specs.Prelude.{◌≡◌, ◌≤◌, drop, length, take};
 ghost use Rattle.ipx_wire.specs.Assigned.{spx_max_data_size, spx_max_packet_size};
 ghost use Rattle.spx_link.specs.Poll.{outgoing_view};
-ghost use Rattle.spx_messages.specs.Turns as spec;
-ghost use Rattle.spx_messages.specs.Turns.{IsPacketBetween};
+ghost use Rattle.spx_messages.specs.EndpointTurns as spec;
+ghost use Rattle.spx_messages.specs.EndpointTurns.{IsPacketBetween};
 
 use ipx_wire::packet_type::SPX;
 use ipx_wire::{

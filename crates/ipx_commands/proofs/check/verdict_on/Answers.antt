@@ -1,6 +1,6 @@
 use Rattle.std.proofs.Common.{◌∙◌}
 use Rattle.ipx_commands.specs.Check.{outcome}
-use Rattle.ipx_commands.specs.Reading.{decoded_view}
+use Rattle.ipx_commands.specs.Decoded.{decoded_view}
 use Rattle.ipx_commands.proofs.Tallies.{failed_where}
 use Rattle.ipx_commands.proofs.check.verdict_on.Goals as goal
 

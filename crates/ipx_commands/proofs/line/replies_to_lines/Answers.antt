@@ -1,5 +1,5 @@
 use Rattle.std.proofs.Common.{◌∙◌, ◌++◌, List, ℕ, ap, sym, string_bytes}
-use Rattle.ipx_router.specs.Packets.{sending_of}
+use Rattle.ipx_router.specs.RouterPackets.{sending_of}
 use Rattle.ipx_commands.specs.Line.{sending_line}
 use Rattle.ipx_commands.proofs.Lines.{lines_more}
 use Rattle.ipx_commands.proofs.line.replies_to_lines.Goals as goal

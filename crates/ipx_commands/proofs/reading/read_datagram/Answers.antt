@@ -1,6 +1,6 @@
 use Rattle.std.proofs.Common.{◌≡◌, Some, inl, inr, rules, subst, sym}
 use Rattle.ipx_wire.specs.Ipx.{packet_view}
-use Rattle.ipx_commands.specs.Reading.{IsContents, Protocol, body_fault, contents_view}
+use Rattle.ipx_commands.specs.Decoded.{IsContents, Protocol, body_fault, contents_view}
 use Rattle.ipx_commands.proofs.Protocols.{protocol_of_other}
 use Rattle.ipx_commands.proofs.reading.read_datagram.Goals as goal
 

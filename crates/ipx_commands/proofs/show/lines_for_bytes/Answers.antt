@@ -1,4 +1,4 @@
-use Rattle.ipx_commands.specs.Reading.{decoded_view}
+use Rattle.ipx_commands.specs.Decoded.{decoded_view}
 use Rattle.ipx_commands.proofs.show.lines_for_bytes.Goals as goal
 
 pub returns : goal.returns

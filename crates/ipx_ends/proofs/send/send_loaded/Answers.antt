@@ -1,7 +1,7 @@
 use Rattle.std.proofs.Common.{◌≡◌, refl}
 use Rattle.ipx_carrier.specs.Turns.{peers_of}
-use Rattle.ipx_ends.specs.Rounds.{place}
-use Rattle.ipx_ends.specs.Steps.{noted}
+use Rattle.ipx_ends.specs.SendRounds.{place}
+use Rattle.ipx_ends.specs.SendSteps.{noted}
 use Rattle.ipx_ends.proofs.Rounded.{on_ok, sends}
 use Rattle.ipx_ends.proofs.send.send_loaded.Goals as goal
 

@@ -1,6 +1,6 @@
 use Rattle.std.proofs.Common.{refl}
-use Rattle.ipx_ends.specs.Rounds.{place}
-use Rattle.ipx_ends.specs.Steps.{noted}
+use Rattle.ipx_ends.specs.SendRounds.{place}
+use Rattle.ipx_ends.specs.SendSteps.{noted}
 use Rattle.ipx_ends.proofs.Rounded.{on_ok}
 use Rattle.ipx_ends.proofs.send.send_opened.Goals as goal
 

@@ -2,7 +2,7 @@ use Rattle.std.proofs.Common.{◌≡◌, ◌≢◌, ◌∙◌, true, false, rule
 use Rattle.std.specs.Prelude.{IsTrue}
 use Rattle.std.proofs.lemmas.Option.{IfSome_then}
 use Rattle.spx_messages.specs.EndpointView.{held_at}
-use Rattle.ipx_ends.specs.Fate.{is_unheard}
+use Rattle.ipx_ends.specs.CallerActions.{is_unheard}
 use Rattle.ipx_ends.specs.Outlet.{left_of}
 use Rattle.ipx_ends.specs.declared.callers.Standing.TheVariants as Standings
 use Rattle.ipx_ends.proofs.Passed.{from_passes, one_idle, one_taken, one_written}

@@ -1,5 +1,5 @@
 use Rattle.std.proofs.Common.{ap}
-use Rattle.ipx_net.specs.Entries.{entry_notes}
+use Rattle.ipx_net.specs.LogEntries.{entry_notes}
 use Rattle.ipx_net.specs.Parcels.{parcel_views}
 use Rattle.ipx_net.proofs.EventSteps.{delivering}
 use Rattle.ipx_net.proofs.Wanting.{want_of_entries, want_of_growth, want_of_link_there}

@@ -1,6 +1,6 @@
 use Rattle.std.proofs.Common.{◌≡◌, drop}
 use Rattle.ipx_log.specs.Handed.{handed_out}
-use Rattle.ipx_net.specs.Entries.{entry_notes}
+use Rattle.ipx_net.specs.LogEntries.{entry_notes}
 use Rattle.ipx_net.proofs.handed.is_silent.Given as goal
 
 abbrev pub invariant-loop-entry : goal.invariant-loop-entry

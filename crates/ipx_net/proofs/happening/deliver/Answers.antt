@@ -4,7 +4,7 @@ use Rattle.ipx_net.specs.GrowthView.{growth_view}
 use Rattle.ipx_net.specs.NetEvents.{DeliversTo}
 use Rattle.ipx_net.specs.NetFaults.{network_at, place_fault}
 use Rattle.ipx_net.specs.Parcels.{parcel_view}
-use Rattle.ipx_net.specs.WantOfMemory.{DeliveryWantsMemory, HostWantsMemory, RouterWantsMemory}
+use Rattle.ipx_net.specs.EventWants.{DeliveryWantsMemory, HostWantsMemory, RouterWantsMemory}
 use Rattle.ipx_net.specs.declared.parcel.Parcel.{Parcel}
 use Rattle.ipx_net.specs.declared.place.Place.{Place}
 use Rattle.ipx_net.proofs.Happened.{after, before, counted, delivered_ok, letter_at, parcel_within, reached_ok}

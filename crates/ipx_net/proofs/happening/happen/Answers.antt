@@ -2,7 +2,7 @@ use Rattle.std.proofs.Common.{IfOk, sym, subst, length}
 use Rattle.ipx_net.specs.GrowthView.{growth_view}
 use Rattle.ipx_net.specs.HostEvents.{Dialling, TakingFrom}
 use Rattle.ipx_net.specs.NetEvents.{Happens}
-use Rattle.ipx_net.specs.WantOfMemory.{EventWantsMemory, IsMade}
+use Rattle.ipx_net.specs.EventWants.{EventWantsMemory, IsMade}
 use Rattle.ipx_net.specs.declared.event.Event.{Event}
 use Rattle.ipx_net.proofs.Happened.{after, before, counted, happened}
 use Rattle.ipx_net.proofs.Wanting.{quiet_is_none}

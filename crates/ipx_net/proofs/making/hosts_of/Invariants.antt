@@ -1,5 +1,5 @@
 use Rattle.std.proofs.Common.{◌≡◌, [], take}
-use Rattle.ipx_net.specs.Beginnings.{AreHosts}
+use Rattle.ipx_net.specs.NetBeginnings.{AreHosts}
 use Rattle.ipx_net.proofs.making.hosts_of.Given as goal
 
 abbrev pub invariant-loop-host : goal.invariant-loop-host

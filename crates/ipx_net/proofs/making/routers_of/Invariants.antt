@@ -1,5 +1,5 @@
 use Rattle.std.proofs.Common.{◌≡◌, [], false}
-use Rattle.ipx_net.specs.Beginnings.{AreRouters, router_faults}
+use Rattle.ipx_net.specs.NetBeginnings.{AreRouters, router_faults}
 use Rattle.ipx_net.proofs.making.routers_of.Given as goal
 
 abbrev pub invariant-loop-ports : goal.invariant-loop-ports

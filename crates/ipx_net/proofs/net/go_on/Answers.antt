@@ -1,5 +1,5 @@
 use Rattle.std.proofs.Common.{◌≡◌, ◌∙◌, Option, ap, arith, false, length, subst, sym, take, true, ℕ}
-use Rattle.ipx_net.specs.Told.{Restood, hosts_of}
+use Rattle.ipx_net.specs.ToldEnds.{Restood, hosts_of}
 use Rattle.ipx_net.proofs.NetKept.{not_spent}
 use Rattle.ipx_net.proofs.NetTells.{range_on, tells_before, tells_err, tells_ok}
 use Rattle.ipx_net.proofs.TellingCounts.{notes_length}

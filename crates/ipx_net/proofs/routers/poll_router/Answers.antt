@@ -1,5 +1,5 @@
 use Rattle.std.proofs.Common.{inr, refl, true}
-use Rattle.ipx_router.specs.Packets.{sendings}
+use Rattle.ipx_router.specs.RouterPackets.{sendings}
 use Rattle.ipx_net.proofs.Wanting.{on_err, some_behind}
 use Rattle.ipx_net.proofs.routers.poll_router.Goals as goal
 

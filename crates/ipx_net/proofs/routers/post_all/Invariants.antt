@@ -1,5 +1,5 @@
 use Rattle.std.proofs.Common.{◌≡◌}
-use Rattle.ipx_router.specs.Packets.{sendings}
+use Rattle.ipx_router.specs.RouterPackets.{sendings}
 use Rattle.ipx_net.specs.Parcels.{parcel_views}
 use Rattle.ipx_net.specs.RouterMembers.{letters_of}
 use Rattle.ipx_net.proofs.routers.post_all.Given as goal

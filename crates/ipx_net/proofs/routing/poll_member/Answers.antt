@@ -1,8 +1,8 @@
 use Rattle.std.proofs.Common.{inr, length, refl}
 use Rattle.std.proofs.lemmas.Option.{slice_get_read}
-use Rattle.ipx_router.specs.Packets.{sendings}
+use Rattle.ipx_router.specs.RouterPackets.{sendings}
 use Rattle.ipx_net.specs.GrowthView.{growth_view}
-use Rattle.ipx_net.specs.WantOfMemory.{RouterPollWantsMemory}
+use Rattle.ipx_net.specs.EventWants.{RouterPollWantsMemory}
 use Rattle.ipx_net.proofs.Wanting.{of_list, told_of_some}
 use Rattle.ipx_net.proofs.routing.poll_member.Goals as goal
 

@@ -1,7 +1,7 @@
 use Rattle.std.proofs.Common.{◌∙◌, List, sym, subst, take}
 use Rattle.ipx_control.specs.declared.rip.packet.RipEntry.{RipEntry}
 use Rattle.ipx_control.specs.Rip as rip
-use Rattle.ipx_router.specs.Packets.{IsRipPacket, sending_of}
+use Rattle.ipx_router.specs.RouterPackets.{IsRipPacket, sending_of}
 use Rattle.ipx_router.proofs.Cuts.{cut_done, cut_more, none_left, some_left, take_fewer}
 use Rattle.ipx_router.proofs.packets.add_route_packets.Goals as goal
 

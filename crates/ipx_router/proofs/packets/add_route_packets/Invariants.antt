@@ -1,5 +1,5 @@
 use Rattle.std.proofs.Common.{length}
-use Rattle.ipx_router.specs.Packets.{AreRoutePackets}
+use Rattle.ipx_router.specs.RouterPackets.{AreRoutePackets}
 use Rattle.ipx_router.specs.Adding.{IsLeftToAdd}
 use Rattle.ipx_router.proofs.packets.add_route_packets.Given as goal
 

@@ -1,7 +1,7 @@
 use Rattle.std.proofs.Common.{◌∙◌, List, sym, subst, take}
 use Rattle.ipx_control.specs.declared.sap.packet.ServiceEntry.{ServiceEntry}
 use Rattle.ipx_control.specs.Sap as sap
-use Rattle.ipx_router.specs.Packets.{IsSapPacket, sending_of}
+use Rattle.ipx_router.specs.RouterPackets.{IsSapPacket, sending_of}
 use Rattle.ipx_router.proofs.Cuts.{cut_done, cut_more, none_left, some_left, take_fewer}
 use Rattle.ipx_router.proofs.packets.add_service_packets.Goals as goal
 

@@ -1,5 +1,5 @@
 use Rattle.std.proofs.Common.{length}
-use Rattle.ipx_router.specs.Packets.{AreServicePackets}
+use Rattle.ipx_router.specs.RouterPackets.{AreServicePackets}
 use Rattle.ipx_router.specs.Adding.{IsLeftToAdd}
 use Rattle.ipx_router.proofs.packets.add_service_packets.Given as goal
 

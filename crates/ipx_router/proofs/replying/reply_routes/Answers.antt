@@ -1,7 +1,7 @@
 use Rattle.std.proofs.Common.{◌≡◌, ◌∙◌, arith, false, length, nat_eq, subst, sym, true, ℕ}
 use Rattle.std.specs.Prelude.{vec_len}
 use Rattle.ipx_router.specs.Knowledge.{routes_in}
-use Rattle.ipx_router.specs.Packets.{AreRoutePackets}
+use Rattle.ipx_router.specs.RouterPackets.{AreRoutePackets}
 use Rattle.ipx_router.proofs.Cuts.{added_alone, none_left, some_left}
 use Rattle.ipx_router.proofs.SomeTold.{any_err, has_to_reply}
 use Rattle.ipx_router.proofs.replying.reply_routes.Goals as goal

@@ -1,4 +1,4 @@
-use Rattle.ipx_router.specs.Packets.{AreServicePackets}
+use Rattle.ipx_router.specs.RouterPackets.{AreServicePackets}
 use Rattle.ipx_router.proofs.Cuts.{added_alone}
 use Rattle.ipx_router.proofs.replying.service_replies.Goals as goal
 

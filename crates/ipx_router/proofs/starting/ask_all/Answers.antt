@@ -1,7 +1,7 @@
 use Rattle.std.proofs.Common.{◌+◌, List, [], append-nil, refl, sym, subst}
 use Rattle.std.proofs.lemmas.List.{drop_all, drop_more}
 use Rattle.ipx_router.specs.declared.port.Port.{Port}
-use Rattle.ipx_router.specs.Packets.{sendings}
+use Rattle.ipx_router.specs.RouterPackets.{sendings}
 use Rattle.ipx_router.specs.Starting.{AreStarts}
 use Rattle.ipx_router.proofs.Tellings.{starts_more, starts_there}
 use Rattle.ipx_router.proofs.ToldRoutes.{no_port}

@@ -1,5 +1,5 @@
 use Rattle.std.proofs.Common.{◌+◌, ◌++◌, List, drop}
-use Rattle.ipx_router.specs.Packets.{SendingView, sendings}
+use Rattle.ipx_router.specs.RouterPackets.{SendingView, sendings}
 use Rattle.ipx_router.specs.Starting.{AreStarts}
 use Rattle.ipx_router.proofs.starting.ask_all.Given as goal
 

@@ -4,7 +4,7 @@ use Rattle.ipx_control.specs.declared.rip.packet.RipEntry.{RipEntry}
 use Rattle.ipx_control.specs.Rip as rip
 use Rattle.ipx_control.specs.Sap as sap
 use Rattle.ipx_router.specs.declared.packets.Recipient.{Recipient}
-use Rattle.ipx_router.specs.Packets.{IsRipPacket, IsSapPacket, all_nodes, sending_of}
+use Rattle.ipx_router.specs.RouterPackets.{IsRipPacket, IsSapPacket, all_nodes, sending_of}
 use Rattle.ipx_router.specs.Starting.{all_asked}
 use Rattle.ipx_router.proofs.Tellings.{asks_two}
 use Rattle.ipx_router.proofs.starting.ask_on.Goals as goal

@@ -1,7 +1,7 @@
 use Rattle.std.proofs.Common.{◌≡◌, ◌∙◌, Bool, true, [], Some, Result, Ok, Err, refl, sym, subst}
 use Rattle.std.specs.Prelude.{MatchBool, OnErr}
 use Rattle.ipx_router.specs.Knowledge.{Known, known_aged}
-use Rattle.ipx_router.specs.Packets.{sendings}
+use Rattle.ipx_router.specs.RouterPackets.{sendings}
 use Rattle.ipx_router.specs.Telling.{AreTellings, HasToTell, is_due}
 use Rattle.ipx_router.proofs.Receiving.{known_same}
 use Rattle.ipx_router.proofs.KeptTables.{sound_aged}

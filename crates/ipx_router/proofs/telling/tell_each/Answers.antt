@@ -2,7 +2,7 @@ use Rattle.std.proofs.Common.{◌+◌, List, [], append-nil, refl, sym, subst}
 use Rattle.std.proofs.lemmas.List.{drop_all, drop_more}
 use Rattle.ipx_router.specs.declared.port.Port.{Port}
 use Rattle.ipx_router.specs.Knowledge.{routes_in, services_in}
-use Rattle.ipx_router.specs.Packets.{SendingView, sendings}
+use Rattle.ipx_router.specs.RouterPackets.{SendingView, sendings}
 use Rattle.ipx_router.specs.Telling.{AreTellings}
 use Rattle.ipx_router.proofs.Tellings.{tellings_more, tellings_there}
 use Rattle.ipx_router.proofs.ToldRoutes.{no_port}

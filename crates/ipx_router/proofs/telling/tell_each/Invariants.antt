@@ -1,6 +1,6 @@
 use Rattle.std.proofs.Common.{◌+◌, ◌++◌, List, drop}
 use Rattle.ipx_router.specs.Knowledge.{routes_in, services_in}
-use Rattle.ipx_router.specs.Packets.{SendingView, sendings}
+use Rattle.ipx_router.specs.RouterPackets.{SendingView, sendings}
 use Rattle.ipx_router.specs.Telling.{AreTellings}
 use Rattle.ipx_router.proofs.telling.tell_each.Given as goal
 

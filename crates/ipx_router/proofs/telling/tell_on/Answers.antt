@@ -1,7 +1,7 @@
 use Rattle.std.proofs.Common.{List, subst, false}
 use Rattle.ipx_control.specs.declared.rip.packet.RipEntry.{RipEntry}
 use Rattle.ipx_control.specs.declared.sap.packet.ServiceEntry.{ServiceEntry}
-use Rattle.ipx_router.specs.Packets.{AreRoutePackets, AreServicePackets}
+use Rattle.ipx_router.specs.RouterPackets.{AreRoutePackets, AreServicePackets}
 use Rattle.ipx_router.specs.Adding.{AddsPackets}
 use Rattle.ipx_router.proofs.Tellings.{tells_both}
 use Rattle.ipx_router.proofs.telling.tell_on.Goals as goal

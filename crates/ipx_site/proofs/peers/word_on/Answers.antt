@@ -1,6 +1,6 @@
 use Rattle.std.proofs.Common.{◌≡◌, ◌∙◌, true, subst, sym}
 use Rattle.ipx_wire.specs.Ipx.{PacketView, packet_view}
-use Rattle.ipx_site.specs.Peers.{is_own_word, may_say}
+use Rattle.ipx_site.specs.SitePeers.{is_own_word, may_say}
 use Rattle.ipx_site.proofs.peers.word_on.Goals as goal
 
 pub returns-then-not-is_own_word : goal.returns-then-not-is_own_word

@@ -1,7 +1,7 @@
 use Rattle.std.proofs.Common.{◌∙◌, ap, map}
 use Rattle.std.proofs.lemmas.List.{take_all}
 use Rattle.ipx_site.proofs.Ports.{one_more_mapped}
-use Rattle.ipx_site.specs.Ports.{guarding, guarded}
+use Rattle.ipx_site.specs.SitePorts.{guarding, guarded}
 use Rattle.ipx_site.proofs.routing.guards_of.Goals as goal
 
 pub loop-port-preserved : goal.loop-port-preserved

@@ -1,5 +1,5 @@
 use Rattle.std.proofs.Common.{take}
-use Rattle.ipx_site.specs.Ports.{GuardPorts}
+use Rattle.ipx_site.specs.SitePorts.{GuardPorts}
 use Rattle.ipx_site.proofs.routing.guards_of.Given as goal
 
 abbrev pub invariant-loop-port : goal.invariant-loop-port

@@ -1,6 +1,6 @@
 use Rattle.std.proofs.Common.{◌≡◌, take}
 use Rattle.ipx_carrier.specs.Turns.{peers_of}
-use Rattle.ipx_site.specs.Ports.{site_peers}
+use Rattle.ipx_site.specs.SitePorts.{site_peers}
 use Rattle.ipx_site.proofs.routing.peers_by_port.Given as goal
 
 abbrev pub invariant-loop-port : goal.invariant-loop-port

@@ -1,6 +1,6 @@
 use Rattle.std.proofs.Common.{◌∙◌, ap, length, sym}
 use Rattle.std.proofs.lemmas.List.{length-map}
-use Rattle.ipx_site.specs.Ports.{router_port_of, router_ports, site_peers, udp_ports}
+use Rattle.ipx_site.specs.SitePorts.{router_port_of, router_ports, site_peers, udp_ports}
 use Rattle.ipx_site.proofs.Ports.{same_length}
 use Rattle.ipx_site.proofs.routing.start.Goals as goal
 

@@ -1,7 +1,7 @@
 use Rattle.std.proofs.Common.{◌∙◌, arith, ap, sym}
 use Rattle.ipx_carrier.specs.declared.fault.RunFault.TheVariants.{Device}
 use Rattle.ipx_carrier.specs.Turns.{peers_of}
-use Rattle.ipx_site.specs.Peers.{kept_in}
+use Rattle.ipx_site.specs.SitePeers.{kept_in}
 use Rattle.ipx_site.proofs.Bursting.{begins_again, ends_badly, ends_quietly, goes_on, is_busy_so, no_fault, refused_first, refused_none, same_fault}
 use Rattle.ipx_site.proofs.turns.run_burst.Goals.{else-is_idle-via-then-is_idle+else-total-kept, else-is_idle-via-else-is_idle}
 use Rattle.ipx_site.proofs.turns.run_burst.Goals as goal

@@ -2,8 +2,8 @@ use Rattle.std.proofs.Common.{◌≡◌, None, false, length, map}
 use Rattle.ipx_carrier.specs.Turns.{peers_of}
 use Rattle.ipx_site.proofs.Bursting.{Goes}
 use Rattle.ipx_site.specs.Bursts.{CanBegin, no_turns}
-use Rattle.ipx_site.specs.Peers.{kept_in}
-use Rattle.ipx_site.specs.Ports.{access_by}
+use Rattle.ipx_site.specs.SitePeers.{kept_in}
+use Rattle.ipx_site.specs.SitePorts.{access_by}
 use Rattle.ipx_site.proofs.turns.run_burst.Given as goal
 
 abbrev pub invariant-loop-turn : goal.invariant-loop-turn

@@ -4,7 +4,7 @@ use Rattle.std.proofs.lemmas.Grind.{common_steps}
 use Rattle.std.proofs.lemmas.List.{get_or_default, get_or-drop}
 use Rattle.std.proofs.lemmas.List.Sums.{count_by-le-length}
 use Rattle.ipx_tables.specs.declared.offer.Offer.{Offer}
-use Rattle.ipx_tables.specs.Scan.{is_candidate, offer_beats}
+use Rattle.ipx_tables.specs.OfferScan.{is_candidate, offer_beats}
 use Rattle.ipx_tables.proofs.Halving.{best_skips, best_stays, count_back, count_front, past_keys, no_candidate, less_not_equal}
 use Rattle.ipx_tables.proofs.finding.best_in.Goals as goal
 

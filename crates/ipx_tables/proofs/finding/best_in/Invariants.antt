@@ -1,7 +1,7 @@
 use Rattle.std.proofs.Common.{◌≡◌, ℕ, ◌+◌, ◌-◌, ◌^◌, ◌<◌, ◌≤◌, length, get_or, drop, take, None, false, count_by}
 use Rattle.std.specs.Ordering.{is_lt, is_eq}
 use Rattle.ipx_tables.specs.declared.offer.Offer.{Offer}
-use Rattle.ipx_tables.specs.Scan.{best_from, is_candidate, offer_beats}
+use Rattle.ipx_tables.specs.OfferScan.{best_from, is_candidate, offer_beats}
 use Rattle.ipx_tables.proofs.finding.best_in.Given as goal
 
 -- from the best so far, what is left gives the best of all; what was read is of the key

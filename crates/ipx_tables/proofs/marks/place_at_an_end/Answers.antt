@@ -1,5 +1,5 @@
 use Rattle.std.proofs.Common.{◌≡◌, ◌+◌, ◌<◌, ◌∙◌, sym, length, arith}
-use Rattle.ipx_tables.specs.Marks.{mark_itself}
+use Rattle.ipx_tables.specs.ExpiryKeys.{mark_itself}
 use Rattle.ipx_tables.proofs.Places.{gap_behind, gap_before}
 use Rattle.ipx_tables.proofs.Held.{mark_total}
 use Rattle.ipx_tables.proofs.marks.place_at_an_end.Goals as goal

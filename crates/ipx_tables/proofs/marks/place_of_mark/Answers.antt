@@ -1,4 +1,4 @@
-use Rattle.ipx_tables.specs.Marks.{mark_itself}
+use Rattle.ipx_tables.specs.ExpiryKeys.{mark_itself}
 use Rattle.ipx_tables.proofs.Places.{searched}
 use Rattle.ipx_tables.proofs.Held.{mark_total}
 use Rattle.ipx_tables.proofs.marks.place_of_mark.Goals as goal

@@ -1,6 +1,6 @@
 use Rattle.std.proofs.Common.{sym, ◌∙◌, arith}
 use mathlib.Core.Bool.{true≢false}
-use Rattle.ipx_tables.specs.Marks.{mark_itself}
+use Rattle.ipx_tables.specs.ExpiryKeys.{mark_itself}
 use Rattle.ipx_tables.proofs.Places.{insert_rising}
 use Rattle.ipx_tables.proofs.Held.{mark_total, has_insert, has_at}
 use Rattle.ipx_tables.proofs.Outcomes.{accepted}

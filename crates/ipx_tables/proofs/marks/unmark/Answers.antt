@@ -1,7 +1,7 @@
 use Rattle.std.proofs.Common.{◌<◌, sym, ◌∙◌, arith}
 use mathlib.Core.Bool.{true≢false}
 use Rattle.std.specs.VecDeque.{deque_len}
-use Rattle.ipx_tables.specs.Marks.{mark_itself}
+use Rattle.ipx_tables.specs.ExpiryKeys.{mark_itself}
 use Rattle.ipx_tables.proofs.Held.{mark_total, has_remove, has_not}
 use Rattle.ipx_tables.proofs.marks.unmark.Goals as goal
 

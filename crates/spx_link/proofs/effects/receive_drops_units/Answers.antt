@@ -1,4 +1,4 @@
-use Rattle.spx_link.specs.Marks.{acknowledged}
+use Rattle.spx_link.specs.SequenceMarks.{acknowledged}
 use Rattle.spx_link.specs.Receive.{receive_link}
 use Rattle.spx_link.proofs.Reading.{receive_says, units_left}
 use Rattle.spx_link.proofs.effects.receive_drops_units.Goals as goal

@@ -1,7 +1,7 @@
 use Rattle.std.proofs.Common.{◌≡◌, ◌∙◌, ap, arith, inl, inr, length, refl, subst, sym}
 use Rattle.std.specs.Result.{OnErr, OnOk}
 use Rattle.std.proofs.lemmas.Result.{err_from_is_err_and, on_err_weaker, on_ok_weaker}
-use Rattle.ipx_router.specs.Packets.{sendings}
+use Rattle.ipx_router.specs.RouterPackets.{sendings}
 use Rattle.ipx_router.specs.OutcomeView.{router_outcome}
 use Rattle.ipx_carrier.specs.RouterCore.{AreGivable, CoreView, RouterHears, IsRoomFor, Misses, put_in_queue, sendings_of}
 use Rattle.ipx_carrier.specs.Queued.{Puts}

@@ -3,9 +3,9 @@ use Rattle.std.specs.Option.{IfSome}
 use Rattle.std.proofs.lemmas.List.Elements.{All-drop}
 use Rattle.std.proofs.lemmas.Result.{err_from_is_err_and}
 use Rattle.ipx_router.specs.declared.outcome.Reply.{Reply}
-use Rattle.ipx_router.specs.Packets.{sendings}
+use Rattle.ipx_router.specs.RouterPackets.{sendings}
 use Rattle.ipx_carrier.specs.RouterCore.{AreGivable, CoreView, RouterGives, IsGivable, Withholds, most_queued}
-use Rattle.ipx_carrier.specs.Given.{given_in}
+use Rattle.ipx_carrier.specs.GivenPackets.{given_in}
 use Rattle.ipx_carrier.proofs.Putting.{IsKept, core_of, kept_by_put, kept_next, next_gives, next_withholds, rest_of, same_core}
 use Rattle.ipx_carrier.proofs.router_core.RouterCoreCore.next.Goals as goal
 

@@ -2,8 +2,8 @@ use Rattle.std.proofs.Common.{◌∙◌, ℕ, List, [], Option, Err, inl, refl, 
 use Rattle.std.specs.List.{concat}
 use Rattle.std.specs.Io.KnownBytes.{Consumes, IsAtEnd}
 use Rattle.ipx_carrier.specs.Turns.{peers_of}
-use Rattle.ipx_ends.specs.Rounds.{place}
-use Rattle.ipx_ends.specs.Steps.{noted}
+use Rattle.ipx_ends.specs.SendRounds.{place}
+use Rattle.ipx_ends.specs.SendSteps.{noted}
 use Rattle.ipx_ends.specs.Transfer.{IsWholeAt}
 use Rattle.ipx_ends.proofs.Rounded.{last_round, rounds_bytes, rounds_end, rounds_step, same_step}
 use Rattle.ipx_ends.proofs.sending.Sending.serve.Goals as goal

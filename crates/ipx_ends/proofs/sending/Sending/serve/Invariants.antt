@@ -1,7 +1,7 @@
 use Rattle.std.proofs.Common.{◌≡◌, ◌≤◌, ℕ, List, length}
 use Rattle.ipx_carrier.specs.Turns.{peers_of}
-use Rattle.ipx_ends.specs.Rounds.{Rounds, place}
-use Rattle.ipx_ends.specs.Steps.{noted}
+use Rattle.ipx_ends.specs.SendRounds.{Rounds, place}
+use Rattle.ipx_ends.specs.SendSteps.{noted}
 use Rattle.ipx_ends.proofs.sending.Sending.serve.Given as goal
 
 -- what was fed so far

@@ -2,8 +2,8 @@ use Rattle.std.proofs.Common.{ap, inl}
 use Rattle.std.proofs.lemmas.Result.{err_from_is_err_and}
 use Rattle.ipx_ends.proofs.Fed.{step_err, step_ok, step_unwaited, step_waited}
 use Rattle.ipx_ends.proofs.Slept.{may_wait}
-use Rattle.ipx_ends.specs.Rounds.{place}
-use Rattle.ipx_ends.specs.Steps.{noted}
+use Rattle.ipx_ends.specs.SendRounds.{place}
+use Rattle.ipx_ends.specs.SendSteps.{noted}
 use Rattle.ipx_ends.proofs.sending.Sending.step_or_wait.Goals as goal
 
 pub returns-then-branch-clause-steps : goal.returns-then-branch-clause-steps

@@ -2,7 +2,7 @@ use Rattle.std.proofs.Common.{◌<◌, ◌↔◌, length, sym, ◌∙◌, subst,
 use Rattle.std.specs.Prelude.{IsTrue}
 use Rattle.ipx_net.specs.Begins.{Begins}
 use Rattle.ipx_net.specs.BookView.{BookView}
-use Rattle.ipx_net.specs.Entries.{entry_notes}
+use Rattle.ipx_net.specs.LogEntries.{entry_notes}
 use Rattle.ipx_net.proofs.Peering.{begins_with}
 use Rattle.ipx_net.proofs.book.Book.begins.Goals as goal
 

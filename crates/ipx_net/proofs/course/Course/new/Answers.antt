@@ -1,5 +1,5 @@
 use Rattle.std.proofs.Common.{subst}
-use Rattle.ipx_net.specs.Beginnings.{AreHosts}
+use Rattle.ipx_net.specs.NetBeginnings.{AreHosts}
 use Rattle.ipx_net.proofs.Beginnings.{begun}
 use Rattle.ipx_net.proofs.course.Course.new.Goals as goal
 

@@ -1,7 +1,7 @@
 use Rattle.std.proofs.Common.{◌≡◌, ◌∙◌, List, ap, subst, sym, take}
 use Rattle.ipx_log.specs.Note.{Note}
 use Rattle.ipx_net.specs.Ends.{TellsLog}
-use Rattle.ipx_net.specs.Entries.{entry_notes}
+use Rattle.ipx_net.specs.LogEntries.{entry_notes}
 use Rattle.ipx_net.specs.NetView.{NetView}
 use Rattle.ipx_net.specs.declared.endinfo.EndInfo.{EndInfo}
 use Rattle.ipx_net.specs.declared.entry.Entry.{Entry}

@@ -2,9 +2,9 @@ use Rattle.std.proofs.Common.{◌≡◌, ◌∙◌, List, ap, length, subst, sym
 use Rattle.ipx_log.specs.EndsTold.{peer_of}
 use Rattle.ipx_log.specs.Note.{Note}
 use Rattle.ipx_log.specs.Scan.{scan}
-use Rattle.ipx_net.specs.Entries.{entry_note}
+use Rattle.ipx_net.specs.LogEntries.{entry_note}
 use Rattle.ipx_net.specs.Theorems.{AreNumbered}
-use Rattle.ipx_net.specs.Told.{joins, paired_by}
+use Rattle.ipx_net.specs.ToldEnds.{joins, paired_by}
 use Rattle.ipx_net.specs.declared.entry.Entry.{Entry}
 use Rattle.ipx_net.proofs.TellingPeers.{notes_take, paired_all, paired_next, paired_start}
 use Rattle.ipx_net.proofs.told.EndsTold.pair_from.Goals as goal

@@ -1,6 +1,6 @@
 use Rattle.std.proofs.Common.{◌≡◌, ◌+◌, ◌-◌, length, arith, subst, sym, take, List}
-use Rattle.ipx_net.specs.Entries.{entry_note, entry_notes}
-use Rattle.ipx_net.specs.Told.{AreCounted, StayAs, told_with}
+use Rattle.ipx_net.specs.LogEntries.{entry_note, entry_notes}
+use Rattle.ipx_net.specs.ToldEnds.{AreCounted, StayAs, told_with}
 use Rattle.ipx_net.specs.declared.endinfo.EndInfo.{EndInfo}
 use Rattle.ipx_net.proofs.TellingCounts.{counted_next, few, stays_then, told_stays}
 use Rattle.ipx_net.proofs.told.EndsTold.read_from.Goals as goal

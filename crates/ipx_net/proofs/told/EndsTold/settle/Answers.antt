@@ -1,9 +1,9 @@
 use Rattle.std.proofs.Common.{refl, arith, subst, ap, ◌∙◌, ℕ}
 use Rattle.ipx_steps.specs.World.{end_at}
 use Rattle.std.proofs.lemmas.Option.{slice_get_within}
-use Rattle.ipx_hosts.specs.Telling.{here_at, state_on_host}
+use Rattle.ipx_hosts.specs.EndTelling.{here_at, state_on_host}
 use Rattle.ipx_net.specs.Ends.{told_of}
-use Rattle.ipx_net.specs.Told.{StandsSo, state_by}
+use Rattle.ipx_net.specs.ToldEnds.{StandsSo, state_by}
 use Rattle.ipx_net.proofs.TellingStands.{end_place, settle_next}
 use Rattle.ipx_net.proofs.told.EndsTold.settle.Goals as goal
 

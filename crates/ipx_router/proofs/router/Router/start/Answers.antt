@@ -1,4 +1,4 @@
-use Rattle.ipx_router.specs.Packets.{sendings}
+use Rattle.ipx_router.specs.RouterPackets.{sendings}
 use Rattle.ipx_router.proofs.Fits.{starts_own_ok}
 use Rattle.ipx_router.proofs.router.Router.start.Goals as goal
 

@@ -1,5 +1,5 @@
 use Rattle.ipx_router.specs.Knowledge.{known_aged}
-use Rattle.ipx_router.specs.Packets.{sendings}
+use Rattle.ipx_router.specs.RouterPackets.{sendings}
 use Rattle.ipx_router.proofs.Fits.{tells_own_ok}
 use Rattle.ipx_router.proofs.router.Router.tell.Goals as goal
 

@@ -2,7 +2,7 @@ use Rattle.std.proofs.Common.{ℕ, List, Option, Some, length, slice_get, refl, 
 use Rattle.std.proofs.lemmas.Option.{slice_get_past, slice_get_read}
 use Rattle.ipx_site.specs.declared.peers.Guard.{Guard}
 use Rattle.ipx_site.specs.declared.peers.Word.TheVariants.{Stranger}
-use Rattle.ipx_site.specs.Peers.{IsWordOn}
+use Rattle.ipx_site.specs.SitePeers.{IsWordOn}
 use Rattle.ipx_site.proofs.peers.PeersOnly.word.Goals as goal
 
 pub returns-in-Some : goal.returns-in-Some

@@ -1,5 +1,5 @@
 use Rattle.std.proofs.Common.{◌≡◌, map, take}
-use Rattle.ipx_site.specs.Ports.{udp_ports}
+use Rattle.ipx_site.specs.SitePorts.{udp_ports}
 use Rattle.ipx_site.proofs.sockets.SiteSockets.bind.Given as goal
 
 abbrev pub invariant-loop-place : goal.invariant-loop-place

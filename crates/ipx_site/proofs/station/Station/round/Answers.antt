@@ -1,6 +1,6 @@
 use Rattle.std.proofs.Common.{◌∙◌, ap, arith, length}
 use Rattle.ipx_carrier.specs.Turns.{peers_of}
-use Rattle.ipx_site.specs.Peers.{kept_in}
+use Rattle.ipx_site.specs.SitePeers.{kept_in}
 use Rattle.ipx_site.proofs.Rounds.{is_round}
 use Rattle.ipx_site.proofs.station.Station.round.Goals as goal
 

@@ -1,7 +1,7 @@
 use Rattle.std.proofs.Common.{◌≡◌, ◌<◌, ◌∙◌, sym, ap, length, arith}
 use mathlib.Core.Bool.{true≢false}
 use Rattle.std.specs.Option.{is_some}
-use Rattle.ipx_tables.specs.Marks.{is_heard_at}
+use Rattle.ipx_tables.specs.ExpiryKeys.{is_heard_at}
 use Rattle.ipx_tables.proofs.Ordered.{unsaid}
 use Rattle.ipx_tables.proofs.Outcomes.{at_none, none_there, of_err, of_ok}
 use Rattle.ipx_tables.proofs.Pairing.{first_heard, first_is_oldest, none_marked}

@@ -2,7 +2,7 @@ use Rattle.std.proofs.Common.{◌∙◌, ap}
 use mathlib.Core.Bool.{◌||◌}
 use Rattle.std.specs.Ordering.{is_eq}
 use Rattle.ipx_tables.specs.Content.{pair_of}
-use Rattle.ipx_tables.specs.Marks.{mark_cmp, expiry_key_of}
+use Rattle.ipx_tables.specs.ExpiryKeys.{mark_cmp, expiry_key_of}
 use Rattle.ipx_tables.proofs.Lists.{pair_total}
 use Rattle.ipx_tables.proofs.Places.{set_rising}
 use Rattle.ipx_tables.proofs.Pairing.{marked_at, paired_kept, paired_moved, unmarked_after}

@@ -1,5 +1,5 @@
 use Rattle.std.proofs.Common.{◌≡◌, ◌-◌}
-use Rattle.spx_messages.specs.Turns.{RestsTo}
+use Rattle.spx_messages.specs.EndpointTurns.{RestsTo}
 use Rattle.spx_messages.proofs.poll.turn.poll_links.Given as goal
 
 abbrev pub invariant-loop-next : goal.invariant-loop-next

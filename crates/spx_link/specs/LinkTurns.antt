@@ -10,7 +10,7 @@ use Rattle.spx_link.specs.declared.state.State.{State}
 use Rattle.spx_link.specs.declared.state.State.TheVariants as States
 use Rattle.spx_link.specs.declared.unit.Unit.{Unit}
 use Rattle.spx_link.specs.LinkView.{LinkView, free}
-use Rattle.spx_link.specs.Marks.{distance}
+use Rattle.spx_link.specs.SequenceMarks.{distance}
 use Rattle.spx_link.specs.Receive.{is_own, is_system, after_end, put, is_taken, leading}
 use Rattle.spx_link.specs.Units.{unit_in}
 

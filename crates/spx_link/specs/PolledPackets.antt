@@ -7,7 +7,7 @@ use Rattle.spx_link.specs.declared.state.State.{State}
 use Rattle.spx_link.specs.declared.state.State.TheVariants.{Lost, Opening}
 use Rattle.spx_link.specs.Limits.{confirm_stream, most_units, no_id}
 use Rattle.spx_link.specs.LinkView.{LinkView, is_working}
-use Rattle.spx_link.specs.Marks.{mark}
+use Rattle.spx_link.specs.SequenceMarks.{mark}
 use Rattle.spx_link.specs.Poll.{OutgoingView, allocation, base}
 use Rattle.spx_link.specs.Receive.{is_system}
 use Rattle.spx_link.specs.Units.{queued_units, as_sent, unit_in}

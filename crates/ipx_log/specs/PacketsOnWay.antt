@@ -8,7 +8,7 @@ use Rattle.ipx_wire.specs.Ipx.{PacketView, IsIpx}
 use Rattle.spx_link.specs.declared.outgoing.Sent.{Sent}
 use Rattle.spx_link.specs.declared.received.Received.{Received}
 use Rattle.spx_units.specs.Message.{MessageView}
-use Rattle.spx_units.specs.Packets.{Home}
+use Rattle.spx_units.specs.WrittenPackets.{Home}
 use Rattle.ipx_log.specs.Note.{Note, Joined, HandsOut, Got, SendsUnit, SendsAgain, SendsSystem}
 use Rattle.spx_link.specs.declared.outgoing.Sent.TheVariants as Sents
 use Rattle.spx_link.specs.declared.received.Received.TheVariants as Receiveds

@@ -1,6 +1,6 @@
 -- The numbers of the faults of an endpoint's calls.
 use Rattle.std.specs.Prelude.{ℕ}
-use Rattle.spx_link.specs.Faults.{links_fault_number, offer_fault_number}
+use Rattle.spx_link.specs.LinkFaults.{links_fault_number, offer_fault_number}
 use Rattle.spx_units.specs.Message.{message_fault_number}
 use Rattle.spx_messages.specs.declared.fault.EndFault.{EndFault}
 use Rattle.spx_messages.specs.declared.fault.EndFault.TheVariants.{Links, Message, NoSuchEnd, Offer}

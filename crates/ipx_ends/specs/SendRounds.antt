@@ -9,7 +9,7 @@ use Rattle.spx_link.specs.declared.state.State.{State}
 use Rattle.spx_messages.specs.EndpointView.{held_at}
 use Rattle.ipx_ends.specs.Books.{EntersAcknowledged}
 use Rattle.ipx_ends.specs.Feeding.{Intake, intake}
-use Rattle.ipx_ends.specs.Steps.{FeedsOn, GoesOnOrEnds, IsStepFault, SeenSoFar, Sees}
+use Rattle.ipx_ends.specs.SendSteps.{FeedsOn, GoesOnOrEnds, IsStepFault, SeenSoFar, Sees}
 use Rattle.ipx_ends.specs.Transfer.{IsWholeAt}
 use Rattle.ipx_ends.specs.Turning.{TakesTurn}
 use Rattle.ipx_ends.specs.declared.end_core.EndCore.{EndCore}

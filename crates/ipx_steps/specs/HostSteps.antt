@@ -6,7 +6,7 @@ use Rattle.spx_link.specs.declared.outgoing.Sent.{Sent}
 use Rattle.spx_link.specs.declared.received.Received.{Received}
 use Rattle.spx_link.specs.Offer.{first_of}
 use Rattle.ipx_log.specs.Note.{Note}
-use Rattle.ipx_log.specs.Packets.{note_of, notes_of}
+use Rattle.ipx_log.specs.PacketsOnWay.{note_of, notes_of}
 use Rattle.spx_messages.specs.Changes.{ChangesEnd}
 use Rattle.spx_messages.specs.EndpointView.{Held, held_at}
 use Rattle.spx_messages.specs.declared.arrived.Arrived.{Arrived}

@@ -13,12 +13,12 @@ use Rattle.ipx_router.specs.Answer.{Receives}
 use Rattle.ipx_router.specs.OutcomeView.{OutcomeView}
 use Rattle.ipx_router.specs.OutcomeView as Outcomes
 use Rattle.ipx_router.specs.Knowledge.{known_at}
-use Rattle.ipx_router.specs.Packets.{SendingView}
+use Rattle.ipx_router.specs.RouterPackets.{SendingView}
 use Rattle.ipx_router.specs.RouterView.{RouterView}
 use Rattle.ipx_router.specs.Telling.{HasToTell, is_due}
 use Rattle.ipx_router.specs.WantOfMemory.{WantsMemory}
 use Rattle.ipx_log.specs.Note.{Note}
-use Rattle.ipx_steps.specs.Steps.{arrival_notes, unit_notes, whole_notes}
+use Rattle.ipx_steps.specs.HostSteps.{arrival_notes, unit_notes, whole_notes}
 use Rattle.ipx_steps.specs.World.{ParcelView, HostState}
 use Rattle.ipx_hosts.specs.Hosts.{DeliveredAt, HostsView, PolledAt}
 use Rattle.ipx_hosts.specs.Refusing.{close_fault, dial_fault, send_fault}
