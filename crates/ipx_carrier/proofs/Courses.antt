@@ -4,7 +4,7 @@ use Rattle.std.proofs.lemmas.Grind.{flat_map-append}
 use Rattle.std.proofs.lemmas.List.{map-append}
 use Rattle.ipx_carrier.specs.declared.fault.RunFault.{RunFault}
 use Rattle.ipx_carrier.specs.declared.report.Report.{Report}
-use Rattle.ipx_carrier.specs.declared.report.Tally.{Tally}
+use Rattle.ipx_carrier.specs.declared.report.SendCounts.{SendCounts}
 use Rattle.ipx_carrier.specs.Device.{Passes, Reception, TellsMoments, TrafficOf}
 use Rattle.ipx_carrier.specs.Turns.{Given, Turn, Turns, Ways, copies_of, moments_of, packets_of, received_of, sent_of}
 use Rattle.ipx_carrier.specs.Counts.{heard_in, plus, report_of, unmapped_in}
@@ -13,7 +13,7 @@ use Rattle.ipx_carrier.specs.Runs.{EndsEarlyBy, RunsBy}
 use Rattle.ipx_carrier.proofs.Passing.{count-append, passes_nothing, passes_on, tells_on}
 
 -- the report of one turn
-abbrev pub turn_report : ℕ → Tally → Report
+abbrev pub turn_report : ℕ → SendCounts → Report
 turn_report heard tally =
     record { turns = 1; heard = heard; sent = tally.sent; unmapped = tally.unmapped }
 
@@ -64,7 +64,7 @@ module _ {C : Type 0} (hears : C → ℕ → List ℕ → ℕ → C → Type 0)
   pub ran_none : (s : Option (TrafficOf A)) (r : K) (a : C) (report : Report) → report ≡ counted 0 ways [] [] → RunsBy hears gives tells ports ways 0 s s r r a a report
   ran_none s r a report e = ([], refl, refl, passes_nothing s s refl, refl, e)
 
-  pub ran_one : (now : ℕ) (there : Ways A) (s t u : Option (TrafficOf A)) (r r' : K) (a b c : C) (heard : ℕ) (tally : Tally) → tells r now r' → there ≡ ways → AsksPorts hears now ports s t a b heard → SendsAll gives now there t u b c tally → RunsBy hears gives tells ports ways 1 s u r r' a c (turn_report heard tally)
+  pub ran_one : (now : ℕ) (there : Ways A) (s t u : Option (TrafficOf A)) (r r' : K) (a b c : C) (heard : ℕ) (tally : SendCounts) → tells r now r' → there ≡ ways → AsksPorts hears now ports s t a b heard → SendsAll gives now there t u b c tally → RunsBy hears gives tells ports ways 1 s u r r' a c (turn_report heard tally)
   ran_one now there s t u r r' a b c heard tally told is h k' =
       let k = subst (λ w. SendsAll gives now w t u b c tally) is k' in
       let turn : Turn = record { moment = now; answers = h.0; packets = k.0 } in

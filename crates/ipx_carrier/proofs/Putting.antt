@@ -7,20 +7,20 @@ use borrow.Author.Tests.{leb-true}
 use Rattle.ipx_router.specs.RouterView.{RouterView}
 use Rattle.ipx_router.specs.declared.outcome.Reply.{Reply}
 use Rattle.ipx_router.specs.RouterPackets.{SendingView, sending_of, sendings}
-use Rattle.ipx_carrier.specs.declared.fates.Fates.{Fates}
+use Rattle.ipx_carrier.specs.declared.fates.OutcomeCounts.{OutcomeCounts}
 use Rattle.ipx_carrier.specs.Turns.{Given}
 use Rattle.ipx_carrier.specs.RouterCore.{AreGivable, CoreView, RouterGives, IsGivable, IsNotTold, Withholds, first_given, most_queued, put_in_queue}
 use Rattle.ipx_carrier.specs.Queued.{Puts, PutsStart, PutsTold}
 
-abbrev pub core_of : Fates → RouterView → List SendingView → Bool → ℕ → CoreView
+abbrev pub core_of : OutcomeCounts → RouterView → List SendingView → Bool → ℕ → CoreView
 core_of f router queue started dropped =
     record { router = router; queue = queue; started = started; dropped = dropped; fates = f }
 
-put_cases : (f : Fates) (b : Bool) (sent q q' : List SendingView) (d d' : ℕ) (router : RouterView) (started : Bool) → MatchBool b ((q' ≡ q ++ sent) × (d' ≡ d)) ((q' ≡ q) × (d' ≡ min (d + length sent) (2 ^ 64 - 1))) → core_of f router q' started d' ≡ cond b (core_of f router (q ++ sent) started d) (core_of f router q started (min (d + length sent) (2 ^ 64 - 1)))
+put_cases : (f : OutcomeCounts) (b : Bool) (sent q q' : List SendingView) (d d' : ℕ) (router : RouterView) (started : Bool) → MatchBool b ((q' ≡ q ++ sent) × (d' ≡ d)) ((q' ≡ q) × (d' ≡ min (d + length sent) (2 ^ 64 - 1))) → core_of f router q' started d' ≡ cond b (core_of f router (q ++ sent) started d) (core_of f router q started (min (d + length sent) (2 ^ 64 - 1)))
 put_cases f true sent q q' d d' router started h = ap (λ q. core_of f router q started d') h.0 ∙ ap (λ d. core_of f router (q ++ sent) started d) h.1
 put_cases f false sent q q' d d' router started h = ap (λ q. core_of f router q started d') h.0 ∙ ap (λ d. core_of f router q started d) h.1
 
-pub put_is : (f : Fates) (sent q q' : List SendingView) (d d' : ℕ) (router : RouterView) (started : Bool) → Puts sent q d q' d' → core_of f router q' started d' ≡ put_in_queue sent (core_of f router q started d)
+pub put_is : (f : OutcomeCounts) (sent q q' : List SendingView) (d d' : ℕ) (router : RouterView) (started : Bool) → Puts sent q d q' d' → core_of f router q' started d' ≡ put_in_queue sent (core_of f router q started d)
 put_is f sent q q' d d' router started h = put_cases f (nat_le (length q + length sent) most_queued) sent q q' d d' router started h
 
 few_cases : (b : Bool) (sent q q' : List SendingView) (d d' : ℕ) → b ≡ nat_le (length q + length sent) most_queued → length q ≤ most_queued → MatchBool b ((q' ≡ q ++ sent) × (d' ≡ d)) ((q' ≡ q) × (d' ≡ min (d + length sent) (2 ^ 64 - 1))) → length q' ≤ most_queued
@@ -50,7 +50,7 @@ err_both (Ok x) P Q p q = tt
 err_both (Err e) P Q p q = (p, q)
 
 -- a queue that is as it was
-pub same_core : (f : Fates) (router : RouterView) (items items' : List Reply) (started started' : Bool) (d d' : ℕ) → (items' ≡ items) × (d' ≡ d) → started' ≡ started → core_of f router (sendings items') started' d' ≡ core_of f router (sendings items) started d
+pub same_core : (f : OutcomeCounts) (router : RouterView) (items items' : List Reply) (started started' : Bool) (d d' : ℕ) → (items' ≡ items) × (d' ≡ d) → started' ≡ started → core_of f router (sendings items') started' d' ≡ core_of f router (sendings items) started d
 same_core f router items items' started started' d d' h s =
     ap (λ (xs : List Reply). core_of f router (sendings xs) started' d') h.0 ∙ ap (λ d. core_of f router (sendings items) started' d) h.1 ∙ ap (λ s. core_of f router (sendings items) s d) s
 
@@ -78,7 +78,7 @@ pub rest_of : (items : List Reply) → sendings (drop 1 items) ≡ drop 1 (sendi
 rest_of [] = refl
 rest_of (r ∷ rs) = refl
 
-pub next_gives : (f : Fates) (router router' : RouterView) (items items1 items2 items3 : List Reply) (started started' : Bool) (d d1 d2 now : ℕ) (given : Option Given) → PutsStart router started (sendings items) d (sendings items1) d1 → PutsTold router now router' (sendings items1) d1 (sendings items2) d2 → started' ≡ true → given ≡ first_given (sendings items2) → items3 ≡ drop 1 items2 → RouterGives (core_of f router (sendings items) started d) now given (core_of f router' (sendings items3) started' d2)
+pub next_gives : (f : OutcomeCounts) (router router' : RouterView) (items items1 items2 items3 : List Reply) (started started' : Bool) (d d1 d2 now : ℕ) (given : Option Given) → PutsStart router started (sendings items) d (sendings items1) d1 → PutsTold router now router' (sendings items1) d1 (sendings items2) d2 → started' ≡ true → given ≡ first_given (sendings items2) → items3 ≡ drop 1 items2 → RouterGives (core_of f router (sendings items) started d) now given (core_of f router' (sendings items3) started' d2)
 next_gives f router router' items items1 items2 items3 started started' d d1 d2 now given h k s e rest =
     let x : put_in_queue k.0 (put_in_queue h.0 (core_of f router' (sendings items) true d)) ≡ core_of f router' (sendings items2) true d2 =
     ap (put_in_queue k.0) (sym (put_is f h.0 (sendings items) (sendings items1) d d1 router' true h.2)) ∙ sym (put_is f k.0 (sendings items1) (sendings items2) d1 d2 router' true k.2) in
@@ -92,7 +92,7 @@ next_gives f router router' items items1 items2 items3 started started' d d1 d2 
       (e ∙ ap (λ (c : CoreView). first_given c.queue) (sym x), after ∙ ap (λ (c : CoreView). core_of c.fates c.router (drop 1 c.queue) c.started c.dropped) (sym x)),
     )
 
-pub next_withholds : (f : Fates) (router router' : RouterView) (items items1 items2 : List Reply) (started started' : Bool) (d d1 d2 now : ℕ) → PutsStart router started (sendings items) d (sendings items1) d1 → started' ≡ true → (items2 ≡ items1) × (d2 ≡ d1) → IsNotTold router now (sendings items1) router' → Withholds (core_of f router (sendings items) started d) now (core_of f router' (sendings items2) started' d2)
+pub next_withholds : (f : OutcomeCounts) (router router' : RouterView) (items items1 items2 : List Reply) (started started' : Bool) (d d1 d2 now : ℕ) → PutsStart router started (sendings items) d (sendings items1) d1 → started' ≡ true → (items2 ≡ items1) × (d2 ≡ d1) → IsNotTold router now (sendings items1) router' → Withholds (core_of f router (sendings items) started d) now (core_of f router' (sendings items2) started' d2)
 next_withholds f router router' items items1 items2 started started' d d1 d2 now h s same lost =
     inr (
       h.0,

@@ -7,7 +7,7 @@ use Rattle.ipx_router.specs.Classify.{is_node}
 use Rattle.std.proofs.lemmas.List.{take_more, map-append}
 use Rattle.ipx_carrier.specs.declared.fault.RunFault.{RunFault}
 use Rattle.ipx_carrier.specs.declared.fault.RunFault.TheVariants.{Device, OutOfMemory}
-use Rattle.ipx_carrier.specs.declared.report.Tally.{Tally}
+use Rattle.ipx_carrier.specs.declared.report.SendCounts.{SendCounts}
 use Rattle.ipx_carrier.specs.Device.{Datagram, Passes, Traffic, TrafficOf}
 use Rattle.ipx_carrier.specs.Turns.{FailsAfter, FailsInLast, Given, GivesEach, IsFrontOf, Peers, Ways, by_ip, copies_of, datagram_to, sent_of}
 use Rattle.ipx_carrier.specs.SendingView.{with_one_packet}
@@ -69,7 +69,7 @@ fails_later {A} ways ps qs sent h =
       ap (λ ds. sent_of ways ps ++ ds) h.5 ∙ sym (append_assoc (sent_of ways ps) (sent_of ways before) front) ∙ ap (λ ds. ds ++ front) (sym all),
     )
 
-abbrev record_of : ℕ → ℕ → Tally
+abbrev record_of : ℕ → ℕ → SendCounts
 record_of sent unmapped = record { sent = sent; unmapped = unmapped }
 
 count_cases : {A : Type 0} (o : Option (List A)) (s u : ℕ) → record_of (s + length (unwrap_or o [])) (u + cond (is_none o) 1 0) ≡ with_one_packet (record_of s u) (option_map length o)
@@ -89,10 +89,10 @@ tally_more ways ps p =
     ap (λ n. record_of n (unmapped_in ways (ps ++ p ∷ []))) sent ∙ ap (λ n. record_of (length (sent_of ways ps) + length (copies_of ways p)) n) unmapped
     ∙ count_cases (ways p) (length (sent_of ways ps)) (unmapped_in ways ps)
 
-pub sends_none : {C A : Type 0} (gives : C → ℕ → Option Given → C → Type 0) (now : ℕ) (ways : Ways A) (s : Option (TrafficOf A)) (a : C) (t : Tally) → t ≡ record_of 0 0 → SendsEach gives 0 now ways s s a a t
+pub sends_none : {C A : Type 0} (gives : C → ℕ → Option Given → C → Type 0) (now : ℕ) (ways : Ways A) (s : Option (TrafficOf A)) (a : C) (t : SendCounts) → t ≡ record_of 0 0 → SendsEach gives 0 now ways s s a a t
 sends_none gives now ways s a t e = ([], refl, refl, passes_nothing s s refl, e)
 
-pub sends_more : {C A : Type 0} (gives : C → ℕ → Option Given → C → Type 0) (n now : ℕ) (ways : Ways A) (s t u : Option (TrafficOf A)) (a b c : C) (tally next : Tally) (o : Option ℕ) → SendsEach gives n now ways s t a b tally → SendsNext gives now ways t u b c (Some o) → next ≡ with_one_packet tally o → SendsEach gives (n + 1) now ways s u a c next
+pub sends_more : {C A : Type 0} (gives : C → ℕ → Option Given → C → Type 0) (n now : ℕ) (ways : Ways A) (s t u : Option (TrafficOf A)) (a b c : C) (tally next : SendCounts) (o : Option ℕ) → SendsEach gives n now ways s t a b tally → SendsNext gives now ways t u b c (Some o) → next ≡ with_one_packet tally o → SendsEach gives (n + 1) now ways s u a c next
 sends_more {A = A} gives n now ways s t u a b c tally next o h k e =
     let ps = h.0 in
     let p = k.0 in
@@ -105,20 +105,20 @@ sends_more {A = A} gives n now ways s t u a b c tally next o h k e =
     )
 
 -- the same where the ways are written otherwise
-pub sends_more_there : {C A : Type 0} (gives : C → ℕ → Option Given → C → Type 0) (n now : ℕ) (ways there : Ways A) (s t u : Option (TrafficOf A)) (a b c : C) (tally next : Tally) (o : Option ℕ) → there ≡ ways → SendsEach gives n now ways s t a b tally → SendsNext gives now there t u b c (Some o) → next ≡ with_one_packet tally o → SendsEach gives (n + 1) now ways s u a c next
+pub sends_more_there : {C A : Type 0} (gives : C → ℕ → Option Given → C → Type 0) (n now : ℕ) (ways there : Ways A) (s t u : Option (TrafficOf A)) (a b c : C) (tally next : SendCounts) (o : Option ℕ) → there ≡ ways → SendsEach gives n now ways s t a b tally → SendsNext gives now there t u b c (Some o) → next ≡ with_one_packet tally o → SendsEach gives (n + 1) now ways s u a c next
 sends_more_there gives n now ways there s t u a b c tally next o is h k e =
     sends_more gives n now ways s t u a b c tally next o h (subst (λ w. SendsNext gives now w t u b c (Some o)) is k) e
 
-pub sends_quiet : {C A : Type 0} (gives : C → ℕ → Option Given → C → Type 0) (n now : ℕ) (ways : Ways A) (s t u : Option (TrafficOf A)) (a b c : C) (tally : Tally) → SendsEach gives n now ways s t a b tally → n < 64 → SendsNext gives now ways t u b c None → SendsAll gives now ways s u a c tally
+pub sends_quiet : {C A : Type 0} (gives : C → ℕ → Option Given → C → Type 0) (n now : ℕ) (ways : Ways A) (s t u : Option (TrafficOf A)) (a b c : C) (tally : SendCounts) → SendsEach gives n now ways s t a b tally → n < 64 → SendsNext gives now ways t u b c None → SendsAll gives now ways s u a c tally
 sends_quiet gives n now ways s t u a b c tally h lt k =
     let count : length h.0 ≡ n = h.1 in
     (h.0, inr (b, h.2, omega arith, k.0), subst (λ u. Passes s u [] (sent_of ways h.0)) (sym k.1) h.3, h.4)
 
-pub sends_quiet_there : {C A : Type 0} (gives : C → ℕ → Option Given → C → Type 0) (n now : ℕ) (ways there : Ways A) (s t u : Option (TrafficOf A)) (a b c : C) (tally : Tally) → there ≡ ways → SendsEach gives n now ways s t a b tally → n < 64 → SendsNext gives now there t u b c None → SendsAll gives now ways s u a c tally
+pub sends_quiet_there : {C A : Type 0} (gives : C → ℕ → Option Given → C → Type 0) (n now : ℕ) (ways there : Ways A) (s t u : Option (TrafficOf A)) (a b c : C) (tally : SendCounts) → there ≡ ways → SendsEach gives n now ways s t a b tally → n < 64 → SendsNext gives now there t u b c None → SendsAll gives now ways s u a c tally
 sends_quiet_there gives n now ways there s t u a b c tally is h lt k =
     sends_quiet gives n now ways s t u a b c tally h lt (subst (λ w. SendsNext gives now w t u b c None) is k)
 
-pub sends_full : {C A : Type 0} (gives : C → ℕ → Option Given → C → Type 0) (n now : ℕ) (ways : Ways A) (s t : Option (TrafficOf A)) (a b : C) (tally : Tally) → SendsEach gives n now ways s t a b tally → n ≡ 64 → SendsAll gives now ways s t a b tally
+pub sends_full : {C A : Type 0} (gives : C → ℕ → Option Given → C → Type 0) (n now : ℕ) (ways : Ways A) (s t : Option (TrafficOf A)) (a b : C) (tally : SendCounts) → SendsEach gives n now ways s t a b tally → n ≡ 64 → SendsAll gives now ways s t a b tally
 sends_full gives n now ways s t a b tally h e = (h.0, inl (h.2, h.1 ∙ e), h.3, h.4)
 
 fails_on : {C A : Type 0} (gives : C → ℕ → Option Given → C → Type 0) (withholds : C → ℕ → C → Type 0) (n most now : ℕ) (ways : Ways A) (ps qs : List Given) (sent : List A) (f : RunFault) (a b c : C) → length ps ≡ n → n < most → GivesEach gives now ps a b → FailsAfter gives withholds 1 now ways qs sent f b c → FailsAfter gives withholds most now ways (ps ++ qs) (sent_of ways ps ++ sent) f a c
@@ -131,10 +131,10 @@ fails_on gives withholds n most now ways ps qs sent OutOfMemory a b c first lt h
     (k.0, gives_on gives now ps qs a b k.0 h k.1, omega (arith, length-append ps qs), ap (λ ds. sent_of ways ps ++ ds) k.3 ∙ sym all, k.4)
 
 -- packets that were sent, and then a fault
-pub sends_in_part : {C A : Type 0} (gives : C → ℕ → Option Given → C → Type 0) (withholds : C → ℕ → C → Type 0) (n most now : ℕ) (ways : Ways A) (s t u : Option (TrafficOf A)) (a b c : C) (tally : Tally) (f : RunFault) → SendsEach gives n now ways s t a b tally → n < most → SendsSome gives withholds 1 now ways t u f b c → SendsSome gives withholds most now ways s u f a c
+pub sends_in_part : {C A : Type 0} (gives : C → ℕ → Option Given → C → Type 0) (withholds : C → ℕ → C → Type 0) (n most now : ℕ) (ways : Ways A) (s t u : Option (TrafficOf A)) (a b c : C) (tally : SendCounts) (f : RunFault) → SendsEach gives n now ways s t a b tally → n < most → SendsSome gives withholds 1 now ways t u f b c → SendsSome gives withholds most now ways s u f a c
 sends_in_part gives withholds n most now ways s t u a b c tally f h lt k =
     (h.0 ++ k.0, sent_of ways h.0 ++ k.1, fails_on gives withholds n most now ways h.0 k.0 k.1 f a b c h.1 lt h.2 k.2, passes_sent s t u (sent_of ways h.0) k.1 h.3 k.3)
 
-pub sends_in_part_there : {C A : Type 0} (gives : C → ℕ → Option Given → C → Type 0) (withholds : C → ℕ → C → Type 0) (n most now : ℕ) (ways there : Ways A) (s t u : Option (TrafficOf A)) (a b c : C) (tally : Tally) (f : RunFault) → there ≡ ways → SendsEach gives n now ways s t a b tally → n < most → SendsSome gives withholds 1 now there t u f b c → SendsSome gives withholds most now ways s u f a c
+pub sends_in_part_there : {C A : Type 0} (gives : C → ℕ → Option Given → C → Type 0) (withholds : C → ℕ → C → Type 0) (n most now : ℕ) (ways there : Ways A) (s t u : Option (TrafficOf A)) (a b c : C) (tally : SendCounts) (f : RunFault) → there ≡ ways → SendsEach gives n now ways s t a b tally → n < most → SendsSome gives withholds 1 now there t u f b c → SendsSome gives withholds most now ways s u f a c
 sends_in_part_there gives withholds n most now ways there s t u a b c tally f is h lt k =
     sends_in_part gives withholds n most now ways s t u a b c tally f h lt (subst (λ w. SendsSome gives withholds 1 now w t u f b c) is k)

@@ -3,14 +3,14 @@ use Rattle.std.specs.Prelude.{ℕ, ◌+◌, ◌-◌, ◌^◌, min}
 use Rattle.ipx_router.specs.declared.reason.Reason.{Reason}
 use Rattle.ipx_router.specs.declared.reason.Reason.TheVariants.{Bad, Propagated, NotOurs, NoRoute, HopLimit, BadControl, TableFull}
 use Rattle.ipx_router.specs.OutcomeView.{OutcomeView, Forward, Replies, Heard, Dropped}
-use Rattle.ipx_carrier.specs.declared.fates.Fates.{Fates}
+use Rattle.ipx_carrier.specs.declared.fates.OutcomeCounts.{OutcomeCounts}
 
 -- a count of 64 bits goes up by one, and stays where it is the greatest
 abbrev pub raised : ℕ → ℕ
 raised n = min (n + 1) (2 ^ 64 - 1)
 
 -- nothing was heard yet
-abbrev pub none : Fates
+abbrev pub none : OutcomeCounts
 none = record {
   forwarded = 0;
   answered = 0;
@@ -25,7 +25,7 @@ none = record {
 }
 
 -- one more datagram was dropped, for this reason
-abbrev pub fated_by : Reason → Fates → Fates
+abbrev pub fated_by : Reason → OutcomeCounts → OutcomeCounts
 fated_by (Bad fault) f = record f { bad = raised f.bad }
 fated_by Propagated f = record f { propagated = raised f.propagated }
 fated_by NotOurs f = record f { not_ours = raised f.not_ours }
@@ -35,7 +35,7 @@ fated_by (BadControl fault) f = record f { bad_control = raised f.bad_control }
 fated_by TableFull f = record f { table_full = raised f.table_full }
 
 -- one more datagram became this
-abbrev pub fated : OutcomeView → Fates → Fates
+abbrev pub fated : OutcomeView → OutcomeCounts → OutcomeCounts
 fated (Forward port next bytes) f = record f { forwarded = raised f.forwarded }
 fated (Replies sent) f = record f { answered = raised f.answered }
 fated (Heard n) f = record f { heard = raised f.heard }

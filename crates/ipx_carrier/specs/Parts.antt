@@ -2,7 +2,7 @@
 -- sending the core's packets, leave.
 use Rattle.std.specs.Prelude.{◌≡◌, ◌<◌, ℕ, Bool, List, [], ◌∷◌, ◌++◌, length, Option, Some, None, is_some}
 use Rattle.ipx_carrier.specs.declared.fault.RunFault.{RunFault}
-use Rattle.ipx_carrier.specs.declared.report.Tally.{Tally}
+use Rattle.ipx_carrier.specs.declared.report.SendCounts.{SendCounts}
 use Rattle.ipx_carrier.specs.Device.{Passes, Reception, TrafficOf}
 use Rattle.ipx_carrier.specs.Waits.{LeavesPort, WaitingDatagrams}
 use Rattle.ipx_carrier.specs.Turns.{FailsAfter, FailsAtPort, GivesAll, GivesEach, Given, HearsAnswer, HearsEach, Ways, copies_of, sent_of}
@@ -50,7 +50,7 @@ module _ {C : Type 0} (hears misses : C → ℕ → List ℕ → ℕ → C → T
       × FailsAtPort misses now (length heard) last fault mid new
 
 -- what sending a core's packets counted
-abbrev pub tally_of : {A : Type 0} → Ways A → List Given → Tally
+abbrev pub tally_of : {A : Type 0} → Ways A → List Given → SendCounts
 tally_of ways packets =
     record { sent = length (sent_of ways packets); unmapped = unmapped_in ways packets }
 
@@ -63,14 +63,14 @@ module _ {C : Type 0} (gives : C → ℕ → Option Given → C → Type 0) {A :
       × Passes before after [] (copies_of ways p) × (count ≡ copies_count ways p)
 
   -- the core gave so many packets, and they were sent
-  abbrev pub SendsEach : ℕ → ℕ → Ways A → Option (TrafficOf A) → Option (TrafficOf A) → C → C → Tally
+  abbrev pub SendsEach : ℕ → ℕ → Ways A → Option (TrafficOf A) → Option (TrafficOf A) → C → C → SendCounts
       → Type 0
   SendsEach count now ways before after old new tally = (packets : List Given)
       × (length packets ≡ count) × GivesEach gives now packets old new
       × Passes before after [] (sent_of ways packets) × (tally ≡ tally_of ways packets)
 
   -- the core gave all its packets, or 64 of them, and they were sent
-  abbrev pub SendsAll : ℕ → Ways A → Option (TrafficOf A) → Option (TrafficOf A) → C → C → Tally
+  abbrev pub SendsAll : ℕ → Ways A → Option (TrafficOf A) → Option (TrafficOf A) → C → C → SendCounts
       → Type 0
   SendsAll now ways before after old new tally = (packets : List Given)
       × GivesAll gives now packets old new

@@ -10,7 +10,7 @@ use Rattle.ipx_router.specs.WantOfMemory.{WantsMemory}
 use Rattle.ipx_router.specs.Starting.{AreStarts}
 use Rattle.ipx_router.specs.Knowledge.{HoldsKnown, KeepsAllButOffers, known_at, tables}
 use Rattle.ipx_router.specs.Telling as telling
-use Rattle.ipx_carrier.specs.declared.fates.Fates.{Fates}
+use Rattle.ipx_carrier.specs.declared.fates.OutcomeCounts.{OutcomeCounts}
 use Rattle.ipx_carrier.specs.OutcomeCounts.{fated}
 use Rattle.ipx_carrier.specs.Turns.{Given}
 
@@ -23,7 +23,7 @@ pub record CoreView : Type 0 where
   -- how many packets found no room in the queue
   pub dropped : ℕ
   -- what became of the datagrams that came in
-  pub fates : Fates
+  pub fates : OutcomeCounts
 
 abbrev pub most_queued : ℕ
 most_queued = 16384

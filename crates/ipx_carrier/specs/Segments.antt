@@ -1,12 +1,12 @@
 -- What became of a packet that was handed to the segment of a port, by the copies that it is sent by.
 use Rattle.std.specs.Prelude.{ℕ, List, [], length, Option, Some, None, option_map}
-use Rattle.ipx_carrier.specs.declared.segments.Sent.{Sent}
-use Rattle.ipx_carrier.specs.declared.segments.Sent.TheVariants.{Unmapped, Copies}
+use Rattle.ipx_carrier.specs.declared.segments.PacketSent.{PacketSent}
+use Rattle.ipx_carrier.specs.declared.segments.PacketSent.TheVariants.{Unmapped, Copies}
 use Rattle.ipx_carrier.specs.Device.{Passes, TrafficOf}
 use Rattle.ipx_carrier.specs.Turns.{Given, IsFrontOf, Ways}
 
 -- by how many copies it was sent, if it could be
-abbrev pub count_in : Sent → Option ℕ
+abbrev pub count_in : PacketSent → Option ℕ
 count_in Unmapped = None
 count_in (Copies count) = Some count
 

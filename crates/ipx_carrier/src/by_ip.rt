@@ -9,7 +9,7 @@ ghost use Rattle.ipx_carrier.specs.Turns.{by_ip, peers_of};
 use crate::datagrams::Datagrams;
 use crate::fault::DeviceFault;
 use crate::mapping::ip_of;
-use crate::segments::{Segments, Sent};
+use crate::segments::{Segments, PacketSent};
 use ipx_wire::Node;
 
 /// Segments of a device of datagrams: a broadcast goes to each peer of its port, in order, another
@@ -92,17 +92,17 @@ impl<'a, D: Datagrams> Segments for ByIp<'a, D> {
         self.datagrams.failures()
     }
 
-    fn send(&mut self, port: usize, node: Node, packet: &[u8]) -> Result<Sent, DeviceFault> {
+    fn send(&mut self, port: usize, node: Node, packet: &[u8]) -> Result<PacketSent, DeviceFault> {
         if node == Node::BROADCAST {
             let peers = peers_at(self.peers, port);
             send_to_each(self.datagrams, port, peers, packet)?;
-            return Ok(Sent::Copies(peers.len()));
+            return Ok(PacketSent::Copies(peers.len()));
         }
         let Ok(to) = ip_of(node) else {
-            return Ok(Sent::Unmapped);
+            return Ok(PacketSent::Unmapped);
         };
         self.datagrams.send(port, to, packet)?;
-        Ok(Sent::Copies(1))
+        Ok(PacketSent::Copies(1))
     }
 
     fn receive(&mut self, port: usize, room: &mut [u8]) -> Result<Option<usize>, DeviceFault> {

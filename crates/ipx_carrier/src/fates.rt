@@ -9,7 +9,7 @@ use ipx_router::{Outcome, Reason};
 /// How often a router forwarded a datagram, answered it, heard it, or dropped it for each of the
 /// reasons. Each count stays at the greatest u64.
 #[derive(Clone, Copy, Debug, PartialEq, Eq)]
-pub struct Fates {
+pub struct OutcomeCounts {
     pub forwarded: u64,
     pub answered: u64,
     pub heard: u64,
@@ -29,12 +29,12 @@ fn raise(count: &mut u64)
     *count = count.saturating_add(1);
 }
 
-impl Fates {
+impl OutcomeCounts {
     /// Nothing was heard yet.
-    pub fn new() -> Fates
+    pub fn new() -> OutcomeCounts
         ensures { result ≡ none }
     {
-        Fates {
+        OutcomeCounts {
             forwarded: 0,
             answered: 0,
             heard: 0,

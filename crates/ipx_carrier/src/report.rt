@@ -16,7 +16,7 @@ pub struct Report {
 /// What sending the packets of one turn counted: datagrams that were sent, and packets that were
 /// not.
 #[derive(Clone, Copy, Debug)]
-pub struct Tally {
+pub struct SendCounts {
     pub sent: u128,
     pub unmapped: u128,
 }

@@ -4,7 +4,7 @@ ghost use Rattle.std.specs.Prelude.{◌≡◌, ◌≤◌, [], false, length};
 ghost use Rattle.ipx_carrier.specs.OutcomeCounts.{none};
 
 use crate::cores::Core;
-use crate::fates::Fates;
+use crate::fates::OutcomeCounts;
 use crate::queue::{put_outcome, put_start, put_told, take_first};
 use ipx_router::{Reply, Router};
 use ipx_wire::{Node, OutOfMemory};
@@ -22,7 +22,7 @@ pub struct RouterCore {
     queue: VecDeque<Reply>,
     started: bool,
     dropped: u64,
-    fates: Fates,
+    fates: OutcomeCounts,
 }
 
 impl Model for RouterCore {
@@ -59,7 +59,7 @@ impl RouterCore {
             queue: VecDeque::new(alloc),
             started: false,
             dropped: 0,
-            fates: Fates::new(),
+            fates: OutcomeCounts::new(),
         }
     }
 
@@ -79,7 +79,7 @@ impl RouterCore {
     }
 
     /// What became of the datagrams that it heard.
-    pub fn fates(&self) -> Fates
+    pub fn fates(&self) -> OutcomeCounts
         ensures { result ≡ self.now.fates }
     {
         self.fates

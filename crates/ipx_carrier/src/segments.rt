@@ -12,7 +12,7 @@ use ipx_wire::Node;
 
 /// What became of a packet that was handed to the segment of a port.
 #[derive(Clone, Copy, Debug, PartialEq, Eq)]
-pub enum Sent {
+pub enum PacketSent {
     /// Nothing there stands for its node, so it was not sent.
     Unmapped,
     /// It was sent so many times.
@@ -68,7 +68,7 @@ pub trait Segments {
     /// those before it were sent.
     ///
     /// The caller owes a port that is there, and a count of failures that can rise.
-    fn send(&mut self, port: usize, node: Node, packet: &[u8]) -> Result<Sent, DeviceFault>
+    fn send(&mut self, port: usize, node: Node, packet: &[u8]) -> Result<PacketSent, DeviceFault>
         requires there { port < port_count self.old }
         requires countable { failed self.old + 1 < 2 ^ 64 }
         ensures sent { OnOk result (Passes (traffic self.old) (traffic self.new) []

@@ -8,8 +8,8 @@ ghost use Rattle.ipx_carrier.specs.Parts.{SendsAll, SendsNext, SendsSome};
 
 use crate::cores::Core;
 use crate::fault::RunFault;
-use crate::report::Tally;
-use crate::segments::{Segments, Sent};
+use crate::report::SendCounts;
+use crate::segments::{Segments, PacketSent};
 use std::alloc::Global;
 
 /// Asks a core for a packet, and sends it if there is one.
@@ -19,7 +19,7 @@ fn send_next<C: Core, S: Segments>(
     segments: &mut S,
     now: u64,
     room: &mut [u8],
-) -> Result<Option<Sent>, RunFault>
+) -> Result<Option<PacketSent>, RunFault>
     requires ports { S.port_count segments.old ≡ C.port_count core.old }
     requires countable { S.failed segments.old + 1 < 2 ^ 64 }
     requires room { 1536 ≤ length room.old }
@@ -44,7 +44,7 @@ fn send_next<C: Core, S: Segments>(
 }
 
 /// A tally with one more packet.
-fn with_packet(tally: Tally, sent: Sent) -> Tally
+fn with_packet(tally: SendCounts, sent: PacketSent) -> SendCounts
     requires sent { tally.sent + 2 ^ 64 < 2 ^ 128 }
     requires unmapped { tally.unmapped + 1 < 2 ^ 128 }
     ensures added { result ≡ with_one_packet tally (count_in sent) }
@@ -52,11 +52,11 @@ fn with_packet(tally: Tally, sent: Sent) -> Tally
     ensures unmapped { result.unmapped ≤ tally.unmapped + 1 }
 {
     match sent {
-        Sent::Unmapped => Tally {
+        PacketSent::Unmapped => SendCounts {
             sent: tally.sent,
             unmapped: tally.unmapped + 1,
         },
-        Sent::Copies(count) => Tally {
+        PacketSent::Copies(count) => SendCounts {
             sent: tally.sent + count as u128,
             unmapped: tally.unmapped,
         },
@@ -70,7 +70,7 @@ pub fn send_all<C: Core, S: Segments>(
     segments: &mut S,
     now: u64,
     room: &mut [u8],
-) -> Result<Tally, RunFault>
+) -> Result<SendCounts, RunFault>
     requires ports { S.port_count segments.old ≡ C.port_count core.old }
     requires countable { S.failed segments.old + 1 < 2 ^ 64 }
     requires room { 1536 ≤ length room.old }
@@ -89,7 +89,7 @@ pub fn send_all<C: Core, S: Segments>(
     ensures kept_back { S.kept_back segments.old ≤ S.kept_back segments.new }
     ensures kept { S.kept segments.new ≡ S.kept segments.old }
 {
-    let mut tally = Tally {
+    let mut tally = SendCounts {
         sent: 0,
         unmapped: 0,
     };

@@ -1,7 +1,7 @@
 //! A router that asks again, and what it counts.
 
 use crate::fixture::{no_peers, one_peer_each, one_turn, two_ports};
-use ipx_carrier::{Fates, MemoryDatagrams};
+use ipx_carrier::{OutcomeCounts, MemoryDatagrams};
 use std::test::Fail;
 
 /// In its first turn it asks for routes and services on each port, and tells a network on each;
@@ -25,7 +25,7 @@ fn counts_what_is_no_packet(rt: HostRuntime) -> Result<(), Fail> {
     let peers = no_peers(alloc)?;
     let mut core = two_ports(alloc)?;
     let mut datagrams = MemoryDatagrams::new(alloc, 2)?;
-    assert!(rt; core.fates() == Fates::new());
+    assert!(rt; core.fates() == OutcomeCounts::new());
     datagrams.put(alloc, 1, b"abc")?;
     let _report = one_turn(alloc, &mut core, &mut datagrams, &peers)?;
     assert_eq!(rt; core.fates().bad, 1);

@@ -3,7 +3,7 @@
 use crate::fixture::{one_peer_each, text_of, two_ports};
 use crate::turns::are_first;
 use ipx_carrier::{
-    ByIp, Datagrams, DeviceFault, MemoryDatagrams, Segments, Sent, SteppedClock, run_segments,
+    ByIp, Datagrams, DeviceFault, MemoryDatagrams, Segments, PacketSent, SteppedClock, run_segments,
 };
 use ipx_wire::Node;
 use std::alloc::Global;
@@ -28,10 +28,10 @@ fn a_packet_goes_by_its_node(rt: HostRuntime) -> Result<(), Fail> {
     let to_one = segments.send(1, Node([0, 0, 127, 0, 0, 5]), &[1, 2]);
     let to_none = segments.send(0, Node([2, 0, 127, 0, 0, 5]), &[3]);
     let to_no_list = segments.send(1, Node::BROADCAST, &[4]);
-    assert!(rt; matches!(to_all, Ok(Sent::Copies(3))));
-    assert!(rt; matches!(to_one, Ok(Sent::Copies(1))));
-    assert!(rt; matches!(to_none, Ok(Sent::Unmapped)));
-    assert!(rt; matches!(to_no_list, Ok(Sent::Copies(0))));
+    assert!(rt; matches!(to_all, Ok(PacketSent::Copies(3))));
+    assert!(rt; matches!(to_one, Ok(PacketSent::Copies(1))));
+    assert!(rt; matches!(to_none, Ok(PacketSent::Unmapped)));
+    assert!(rt; matches!(to_no_list, Ok(PacketSent::Copies(0))));
     let texts = ["0 9 ab", "0 8 ab", "0 7 ab", "1 5 0102"];
     assert_eq!(rt; datagrams.sent().len(), 4);
     for (datagram, text) in datagrams.sent().iter().zip(texts.iter()) {

@@ -8,7 +8,7 @@ use Rattle.std.proofs.lemmas.List.Splits.{length-slice_split}
 use Rattle.std.proofs.lemmas.Slice.Zip.{AllZip-long, all_zipped_more}
 use Rattle.std.proofs.lemmas.Bool.{ne_eqb}
 use Rattle.std.proofs.lemmas.List.Sums.{count_by-le-length, sum_by_push, take_while-cons}
-use Rattle.ipx_commands.specs.declared.check.Tally as code
+use Rattle.ipx_commands.specs.declared.check.CheckCounts as code
 use Rattle.ipx_commands.specs.CheckLine.{LineView, Skipped, Vector, Malformed, input_lines, line_form}
 use Rattle.ipx_commands.specs.Check.{ChecksLines, IsVectorOutcome, VectorOutcomeView, Passed, Failed, check_status, last_line, failed_line, failed_lines, is_failed, is_known, is_vector}
 use Rattle.ipx_commands.specs.CheckCounts.{IsTally}
@@ -31,7 +31,7 @@ failed_lines-push vs v =
     ∙ ap (λ (t : List ℕ). flat_map line (enumerate_from 1 vs) ++ t) (append-nil (failed_line (length vs + 1) v))
 
 -- one more verdict
-pub IsTally-push : (vs : List VectorOutcomeView) (v : VectorOutcomeView) (old new : code.Tally) → IsTally vs old → string_bytes new.text ≡ string_bytes old.text ++ failed_line (old.lines + 1) v → new.lines ≡ old.lines + 1
+pub IsTally-push : (vs : List VectorOutcomeView) (v : VectorOutcomeView) (old new : code.CheckCounts) → IsTally vs old → string_bytes new.text ≡ string_bytes old.text ++ failed_line (old.lines + 1) v → new.lines ≡ old.lines + 1
     → new.vectors ≡ old.vectors + cond (is_vector v) 1 0 → new.failed ≡ old.failed + cond (is_failed v) 1 0 → IsTally (vs ++ v ∷ []) new
 IsTally-push vs v old new was text lines vectors failed =
     let place : failed_line (old.lines + 1) v ≡ failed_line (length vs + 1) v = ap (λ (n : ℕ). failed_line (n + 1) v) was.lines in
@@ -71,7 +71,7 @@ pub failed_where : (found wanted : ℕ) → (found ≡ wanted → ⊥) → Faile
 failed_where found wanted ne = rw (ne_eqb found wanted ne) refl
 
 -- an input has few lines
-pub few_lines : (input : List ℕ) (n : ℕ) (vs : List VectorOutcomeView) (t : code.Tally) → length input ≤ 1000000 → AllZip IsVectorOutcome (map line_form (take n (input_lines input))) vs → IsTally vs t → t.lines ≤ 1000001
+pub few_lines : (input : List ℕ) (n : ℕ) (vs : List VectorOutcomeView) (t : code.CheckCounts) → length input ≤ 1000000 → AllZip IsVectorOutcome (map line_form (take n (input_lines input))) vs → IsTally vs t → t.lines ≤ 1000001
 few_lines input n vs t short are is =
     let long = AllZip-long IsVectorOutcome (map line_form (take n (input_lines input))) vs are in
     omega (arith, short, is.lines, long, length-map (take n (input_lines input)) line_form, length-take n (input_lines input), length-slice_split (λ (b : ℕ). b == 10) input, count_by-le-length (λ (b : ℕ). b == 10) input)
@@ -85,7 +85,7 @@ lines_more lines n line v vs lt there is are =
     subst (λ (ls : List LineView). AllZip IsVectorOutcome ls (vs ++ v ∷ [])) (sym forms) (all_zipped_more IsVectorOutcome (map line_form (take n lines)) vs (line_form line) v are is)
 
 -- what is written at a line of no known form
-pub checked_to_bad_line : {L E : Type 0} (r : Result L E) (text : L → List ℕ) (status : L → ℕ) (lines : List (List ℕ)) (n : ℕ) (line : List ℕ) (t : code.Tally) (vs : List VectorOutcomeView)
+pub checked_to_bad_line : {L E : Type 0} (r : Result L E) (text : L → List ℕ) (status : L → ℕ) (lines : List (List ℕ)) (n : ℕ) (line : List ℕ) (t : code.CheckCounts) (vs : List VectorOutcomeView)
     → n < length lines → line ≡ get_or lines n line → line_form line ≡ Malformed → AllZip IsVectorOutcome (map line_form (take n lines)) vs → IsTally vs t
     → IfOk r (λ l. (ws : List VectorOutcomeView) → IsTally ws t → (text l ≡ failed_lines ws ++ last_line false ws) × (status l ≡ check_status false ws))
     → IfOk r (λ l. ChecksLines (map line_form lines) (text l) (status l))
@@ -108,7 +108,7 @@ checked_to_bad_line (Ok l) text status lines n line t vs lt there bad are is tol
     subst (λ (ls : List LineView). ChecksLines ls (text l) (status l)) (sym forms) checks
 
 -- what is written at the end
-pub checked_to_end : {L E : Type 0} (r : Result L E) (text : L → List ℕ) (status : L → ℕ) (lines : List (List ℕ)) (n : ℕ) (t : code.Tally) (vs : List VectorOutcomeView) → length lines ≤ n
+pub checked_to_end : {L E : Type 0} (r : Result L E) (text : L → List ℕ) (status : L → ℕ) (lines : List (List ℕ)) (n : ℕ) (t : code.CheckCounts) (vs : List VectorOutcomeView) → length lines ≤ n
     → AllZip IsVectorOutcome (map line_form (take n lines)) vs → IsTally vs t
     → IfOk r (λ l. (ws : List VectorOutcomeView) → IsTally ws t → (text l ≡ failed_lines ws ++ last_line true ws) × (status l ≡ check_status true ws))
     → IfOk r (λ l. ChecksLines (map line_form lines) (text l) (status l))

@@ -5,8 +5,8 @@ use Rattle.std.specs.Fmt.{decimal}
 use Rattle.ipx_wire.specs.Ipx.{ipx_fault_number}
 use Rattle.ipx_wire.specs.Spx.{spx_fault_number}
 use Rattle.ipx_control.specs.ControlFaults.{control_fault_number}
-use Rattle.ipx_commands.specs.declared.check.Verdict as code
-use Rattle.ipx_commands.specs.declared.check.Verdict.TheVariants as verdicts
+use Rattle.ipx_commands.specs.declared.check.VectorOutcome as code
+use Rattle.ipx_commands.specs.declared.check.VectorOutcome.TheVariants as verdicts
 use Rattle.ipx_commands.specs.Decoded.{DecodedView, NoPacket, NoSpx, NoControl, Holds, IsDecoded}
 use Rattle.ipx_commands.specs.Text.{most_input}
 use Rattle.ipx_commands.specs.CheckLine.{LineView, Skipped, Vector, Malformed, input_lines, line_form}
@@ -25,7 +25,7 @@ pub data VectorOutcomeView : Type 0 where
   Passed : VectorOutcomeView
   Failed : VectorOutcomeView
 
-abbrev pub vector_outcome_view : code.Verdict → VectorOutcomeView
+abbrev pub vector_outcome_view : code.VectorOutcome → VectorOutcomeView
 vector_outcome_view verdicts.NoVector = NoVector
 vector_outcome_view verdicts.Passed = Passed
 vector_outcome_view verdicts.Failed = Failed

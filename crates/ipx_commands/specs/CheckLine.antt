@@ -3,8 +3,8 @@ use Rattle.std.specs.Prelude.{ℕ, ◌+◌, ◌-◌, ◌*◌, ◌&&◌, Bool, Li
 use Rattle.std.specs.List.{list_all, slice_split, starts_with}
 use Rattle.std.specs.Result.{result_ok}
 use Rattle.hex.specs.Hex.{decode_of}
-use Rattle.ipx_commands.specs.declared.check_line.Line as code
-use Rattle.ipx_commands.specs.declared.check_line.Line.TheVariants as lines
+use Rattle.ipx_commands.specs.declared.check_line.VectorLine as code
+use Rattle.ipx_commands.specs.declared.check_line.VectorLine.TheVariants as lines
 
 -- the lines of an input, each ended by a byte 0a or by the end of the input
 abbrev pub input_lines : List ℕ → List (List ℕ)
@@ -17,7 +17,7 @@ pub data LineView : Type 0 where
   Vector : ℕ → List ℕ → LineView
   Malformed : LineView
 
-abbrev pub line_view : code.Line → LineView
+abbrev pub line_view : code.VectorLine → LineView
 line_view lines.Skipped = Skipped
 line_view (lines.Vector number bytes) = Vector number bytes.items
 line_view lines.Malformed = Malformed

@@ -12,8 +12,8 @@ use Rattle.ipx_control.specs.Rip.{RipView, IsRip, rip_fault, rip_view}
 use Rattle.ipx_control.specs.Sap.{SapView, IsSap, sap_fault, sap_view}
 use Rattle.ipx_commands.specs.declared.reading.Contents as code
 use Rattle.ipx_commands.specs.declared.reading.Contents.TheVariants as bodies
-use Rattle.ipx_commands.specs.declared.reading.Reading as readings_of
-use Rattle.ipx_commands.specs.declared.reading.Reading.TheVariants as readings
+use Rattle.ipx_commands.specs.declared.reading.Decoded as readings_of
+use Rattle.ipx_commands.specs.declared.reading.Decoded.TheVariants as readings
 
 -- what a body is read as
 pub data Protocol : Type 0 where
@@ -68,7 +68,7 @@ pub data DecodedView : Type 0 where
   NoControl : ControlFault → DecodedView
   Holds : PacketView → ContentsView → DecodedView
 
-abbrev pub decoded_view : readings_of.Reading → DecodedView
+abbrev pub decoded_view : readings_of.Decoded → DecodedView
 decoded_view (readings.NoPacket fault) = NoPacket fault
 decoded_view (readings.NoSpx fault) = NoSpx fault
 decoded_view (readings.NoControl fault) = NoControl fault

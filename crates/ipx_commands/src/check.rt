@@ -9,17 +9,17 @@ ghost use Rattle.ipx_commands.specs.CheckLine.{Malformed as no_line, Vector as v
 ghost use Rattle.ipx_commands.specs.Check.{CheckWrites, ChecksLines, Failed as told_failed, IsVectorOutcome, VectorOutcomeView, check_status, failed_line, failed_lines, last_line, outcome, vector_outcome_view};
 ghost use Rattle.ipx_commands.specs.CheckCounts.{IsTally};
 
-use crate::check_line::{Line, read_line};
+use crate::check_line::{VectorLine, read_line};
 use crate::input::{InputFault, MOST_INPUT, read_up_to};
 use crate::output::{tell_no_memory, write_lines};
-use crate::reading::{Reading, read_datagram};
+use crate::reading::{Decoded, read_datagram};
 use ipx_wire::OutOfMemory;
 use std::alloc::{AllocError, Global};
 use std::io::{Read, Write};
 
 /// Whether the datagram of a line has the outcome that the line wants.
 #[derive(Clone, Copy)]
-pub enum Verdict {
+pub enum VectorOutcome {
     NoVector,
     Passed,
     Failed,
@@ -28,7 +28,7 @@ pub enum Verdict {
 /// What was found so far: what is written for the vectors that failed, how many lines and vectors
 /// there were, and how many vectors failed.
 #[derive(Drop)]
-pub struct Tally {
+pub struct CheckCounts {
     text: String,
     lines: usize,
     vectors: usize,
@@ -36,37 +36,37 @@ pub struct Tally {
 }
 
 /// The number of the fault that refuses a datagram, 0 where none does.
-fn outcome_of(reading: &Reading<'_>) -> u8
+fn outcome_of(reading: &Decoded<'_>) -> u8
     ensures { result ≡ outcome (decoded_view reading.now) }
 {
     match reading {
-        Reading::NoPacket(fault) => fault.number(),
-        Reading::NoSpx(fault) => fault.number(),
-        Reading::NoControl(fault) => fault.number(),
-        Reading::Holds(_, _) => 0,
+        Decoded::NoPacket(fault) => fault.number(),
+        Decoded::NoSpx(fault) => fault.number(),
+        Decoded::NoControl(fault) => fault.number(),
+        Decoded::Holds(_, _) => 0,
     }
 }
 
-fn verdict_on(alloc: Global, number: u8, bytes: &[u8]) -> Result<Verdict, OutOfMemory>
+fn verdict_on(alloc: Global, number: u8, bytes: &[u8]) -> Result<VectorOutcome, OutOfMemory>
     ensures { IfOk result (λ v. IsVectorOutcome (vector number bytes.now) (vector_outcome_view v)) }
 {
     let reading = read_datagram(alloc, bytes)?;
     if outcome_of(&reading) == number {
-        return Ok(Verdict::Passed);
+        return Ok(VectorOutcome::Passed);
     }
-    Ok(Verdict::Failed)
+    Ok(VectorOutcome::Failed)
 }
 
 /// `None` is a line of no known form.
-fn verdict_of(alloc: Global, line: &[u8]) -> Result<Option<Verdict>, OutOfMemory>
+fn verdict_of(alloc: Global, line: &[u8]) -> Result<Option<VectorOutcome>, OutOfMemory>
     ensures { IfOk result (λ o. MatchOption o
         (line_form line.now ≡ no_line)
         (λ v. IsVectorOutcome (line_form line.now) (vector_outcome_view v))) }
 {
     match read_line(alloc, line)? {
-        Line::Malformed => return Ok(None),
-        Line::Skipped => return Ok(Some(Verdict::NoVector)),
-        Line::Vector { number, bytes } => {
+        VectorLine::Malformed => return Ok(None),
+        VectorLine::Skipped => return Ok(Some(VectorOutcome::NoVector)),
+        VectorLine::Vector { number, bytes } => {
             let verdict = verdict_on(alloc, number, &bytes)?;
             return Ok(Some(verdict));
         }
@@ -80,7 +80,7 @@ fn failed_to_line(alloc: Global, place: usize) -> Result<String, AllocError>
 }
 
 /// Counts one more line; where its vector failed, the line is written.
-fn note(alloc: Global, tally: &mut Tally, verdict: Verdict) -> Result<(), AllocError>
+fn note(alloc: Global, tally: &mut CheckCounts, verdict: VectorOutcome) -> Result<(), AllocError>
     requires lines { tally.old.lines ≤ 1000001 }
     requires vectors { tally.old.vectors ≤ tally.old.lines }
     requires failed { tally.old.failed ≤ tally.old.lines }
@@ -89,16 +89,16 @@ fn note(alloc: Global, tally: &mut Tally, verdict: Verdict) -> Result<(), AllocE
 {
     let place = tally.lines + 1;
     match verdict {
-        Verdict::NoVector => {
+        VectorOutcome::NoVector => {
             tally.lines = place;
             return Ok(());
         }
-        Verdict::Passed => {
+        VectorOutcome::Passed => {
             tally.lines = place;
             tally.vectors += 1;
             return Ok(());
         }
-        Verdict::Failed => {
+        VectorOutcome::Failed => {
             let line = failed_to_line(alloc, place)?;
             tally.text.push_str(&line)?;
             tally.lines = place;
@@ -110,7 +110,7 @@ fn note(alloc: Global, tally: &mut Tally, verdict: Verdict) -> Result<(), AllocE
 }
 
 /// The lines and the status where a line of no known form comes next.
-fn lines_at_bad_line(alloc: Global, tally: &Tally) -> Result<(String, u8), OutOfMemory>
+fn lines_at_bad_line(alloc: Global, tally: &CheckCounts) -> Result<(String, u8), OutOfMemory>
     requires { tally.now.lines ≤ 1000001 }
     ensures { IfOk result (λ r. (vs : List VectorOutcomeView) → IsTally vs tally.now
         → (string_bytes r.0 ≡ failed_lines vs ++ last_line false vs)
@@ -122,7 +122,7 @@ fn lines_at_bad_line(alloc: Global, tally: &Tally) -> Result<(String, u8), OutOf
 }
 
 /// The lines and the status where all lines were read.
-fn lines_at_end(alloc: Global, tally: &Tally) -> Result<(String, u8), OutOfMemory>
+fn lines_at_end(alloc: Global, tally: &CheckCounts) -> Result<(String, u8), OutOfMemory>
     ensures { IfOk result (λ r. (vs : List VectorOutcomeView) → IsTally vs tally.now
         → (string_bytes r.0 ≡ failed_lines vs ++ last_line true vs)
         × (r.1 ≡ check_status true vs)) }
@@ -142,7 +142,7 @@ fn check_lines(alloc: Global, input: &[u8]) -> Result<(String, u8), OutOfMemory>
     ensures { IfOk result (λ r.
         ChecksLines (map line_form (input_lines input.now)) (string_bytes r.0) r.1) }
 {
-    let mut tally = Tally {
+    let mut tally = CheckCounts {
         text: String::new(alloc),
         lines: 0,
         vectors: 0,

@@ -14,7 +14,7 @@ use std::alloc::Global;
 /// A line: one that is skipped, a vector, or one of no known form. A vector is the number of the
 /// fault that its datagram must have, 0 for none, and the datagram.
 #[derive(Drop)]
-pub enum Line {
+pub enum VectorLine {
     Skipped,
     Vector { number: u8, bytes: Vec<u8> },
     Malformed,
@@ -46,45 +46,45 @@ fn is_blank(line: &[u8]) -> bool
 }
 
 /// A vector, where there is a number and the text is hex.
-fn vector_in(alloc: Global, number: Option<u8>, text: &[u8]) -> Result<Line, OutOfMemory>
+fn vector_in(alloc: Global, number: Option<u8>, text: &[u8]) -> Result<VectorLine, OutOfMemory>
     ensures { IfOk result (λ l. line_view l ≡ vector_of number (result_ok (decode_of text.now))) }
 {
     let Some(number) = number else {
-        return Ok(Line::Malformed);
+        return Ok(VectorLine::Malformed);
     };
     match hex::decode(alloc, text) {
-        Ok(bytes) => return Ok(Line::Vector { number, bytes }),
+        Ok(bytes) => return Ok(VectorLine::Vector { number, bytes }),
         Err(FromHexError::OutOfMemory) => return Err(OutOfMemory),
-        Err(_) => return Ok(Line::Malformed),
+        Err(_) => return Ok(VectorLine::Malformed),
     }
 }
 
 /// What stands behind `bad `: a number, the first blank and a text in hex.
-fn bad_vector_in(alloc: Global, rest: &[u8]) -> Result<Line, OutOfMemory>
+fn bad_vector_in(alloc: Global, rest: &[u8]) -> Result<VectorLine, OutOfMemory>
     ensures { IfOk result (λ l.
         line_view l ≡ bad_vector rest.now (position (λ b. b == 32) rest.now)) }
 {
     match place_of(rest, b' ') {
         Some(end) => return vector_in(alloc, fault_number_of(&rest[..end]), &rest[end + 1..]),
-        None => return Ok(Line::Malformed),
+        None => return Ok(VectorLine::Malformed),
     }
 }
 
 /// What a line of vectors says: it is skipped, holds a vector, or has another form.
-pub fn read_line(alloc: Global, line: &[u8]) -> Result<Line, OutOfMemory>
+pub fn read_line(alloc: Global, line: &[u8]) -> Result<VectorLine, OutOfMemory>
     ensures { IfOk result (λ l. line_view l ≡ line_form line.now) }
 {
     if is_blank(line) {
-        return Ok(Line::Skipped);
+        return Ok(VectorLine::Skipped);
     }
     if line.starts_with(b"#") {
-        return Ok(Line::Skipped);
+        return Ok(VectorLine::Skipped);
     }
     if line.starts_with(b"ok ") {
         return vector_in(alloc, Some(0), &line[3..]);
     }
     if !line.starts_with(b"bad ") {
-        return Ok(Line::Malformed);
+        return Ok(VectorLine::Malformed);
     }
     bad_vector_in(alloc, &line[4..])
 }

@@ -21,7 +21,7 @@ pub enum Contents<'a> {
 
 /// A packet with what its body holds, or the fault that refuses the packet or its body.
 #[derive(Drop)]
-pub enum Reading<'a> {
+pub enum Decoded<'a> {
     NoPacket(IpxFault),
     NoSpx(SpxFault),
     NoControl(ControlFault),
@@ -62,22 +62,22 @@ fn contents_at<'a>(
 
 /// Reads a datagram and what its body holds. Packet type 5 is SPX, whatever the socket; else the
 /// destination socket says what the body is. It wants memory for the entries of RIP and SAP alone.
-pub fn read_datagram(alloc: Global, bytes: &[u8]) -> Result<Reading<'_>, OutOfMemory>
+pub fn read_datagram(alloc: Global, bytes: &[u8]) -> Result<Decoded<'_>, OutOfMemory>
     ensures { IfOk result (λ r. IsDecoded bytes.now (decoded_view r)) }
 {
     let packet = match decode(bytes) {
         Ok(packet) => packet,
-        Err(fault) => return Ok(Reading::NoPacket(fault)),
+        Err(fault) => return Ok(Decoded::NoPacket(fault)),
     };
     if packet.header.kind == packet_type::SPX {
         match spx_contents(packet.body) {
-            Ok(contents) => return Ok(Reading::Holds(packet, contents)),
-            Err(fault) => return Ok(Reading::NoSpx(fault)),
+            Ok(contents) => return Ok(Decoded::Holds(packet, contents)),
+            Err(fault) => return Ok(Decoded::NoSpx(fault)),
         }
     }
     match contents_at(alloc, packet.header.to.socket, packet.body) {
-        Ok(contents) => return Ok(Reading::Holds(packet, contents)),
+        Ok(contents) => return Ok(Decoded::Holds(packet, contents)),
         Err(ControlFault::OutOfMemory) => return Err(OutOfMemory),
-        Err(fault) => return Ok(Reading::NoControl(fault)),
+        Err(fault) => return Ok(Decoded::NoControl(fault)),
     }
 }

@@ -10,7 +10,7 @@ ghost use Rattle.ipx_commands.specs.ShowLine.{address_text, bit_text, contents_l
 
 use crate::line::{control_fault_to_text, fault_to_text, spx_fault_to_text};
 use crate::place::place_of;
-use crate::reading::{Contents, Reading};
+use crate::reading::{Contents, Decoded};
 use ipx_control::{Rip, RipEntry, Sap, ServiceEntry};
 use ipx_wire::{Address, Packet, SpxHeader};
 use std::alloc::{AllocError, Global};
@@ -222,23 +222,23 @@ fn contents_to_lines(alloc: Global, contents: &Contents<'_>) -> Result<String, A
 }
 
 /// The header, and what the body holds; or the fault, on one line.
-pub fn reading_to_lines(alloc: Global, reading: &Reading<'_>) -> Result<String, AllocError>
+pub fn reading_to_lines(alloc: Global, reading: &Decoded<'_>) -> Result<String, AllocError>
     ensures { IfOk result (λ t. string_bytes t ≡ reading_lines (decoded_view reading.now)) }
 {
     match reading {
-        Reading::NoPacket(fault) => {
+        Decoded::NoPacket(fault) => {
             let text = fault_to_text(alloc, *fault)?;
             return format!(in alloc; "refused {text}\n");
         }
-        Reading::NoSpx(fault) => {
+        Decoded::NoSpx(fault) => {
             let text = spx_fault_to_text(alloc, *fault)?;
             return format!(in alloc; "refused {text}\n");
         }
-        Reading::NoControl(fault) => {
+        Decoded::NoControl(fault) => {
             let text = control_fault_to_text(alloc, *fault)?;
             return format!(in alloc; "refused {text}\n");
         }
-        Reading::Holds(packet, contents) => {
+        Decoded::Holds(packet, contents) => {
             let header = packet_to_lines(alloc, packet)?;
             let body = contents_to_lines(alloc, contents)?;
             return format!(in alloc; "{header}{body}");
@@ -247,11 +247,11 @@ pub fn reading_to_lines(alloc: Global, reading: &Reading<'_>) -> Result<String, 
 }
 
 /// 0 for a packet, 1 for one that is refused.
-pub fn reading_to_status(reading: &Reading<'_>) -> u8
+pub fn reading_to_status(reading: &Decoded<'_>) -> u8
     ensures { result ≡ reading_status (decoded_view reading.now) }
 {
     match reading {
-        Reading::NoPacket(_) | Reading::NoSpx(_) | Reading::NoControl(_) => 1,
-        Reading::Holds(_, _) => 0,
+        Decoded::NoPacket(_) | Decoded::NoSpx(_) | Decoded::NoControl(_) => 1,
+        Decoded::Holds(_, _) => 0,
     }
 }

@@ -24,11 +24,11 @@ use Rattle.ipx_ends.specs.SendSteps.{FeedsOn, GoesOnOrEnds, IsFeedFault, IsStepF
 use Rattle.ipx_ends.specs.Transfer.{IsWaiting, IsWholeAt, ended_at, joined_at, left_at, state_at, verdict_at}
 use Rattle.ipx_carrier.specs.Turns.{Peers}
 use Rattle.ipx_ends.specs.Turning.{TakesTurn}
-use Rattle.ipx_ends.specs.declared.station.Turn.{Turn}
+use Rattle.ipx_ends.specs.declared.station.Activity.{Activity}
 use Rattle.ipx_ends.specs.declared.end_core.EndCore.{EndCore}
 use Rattle.ipx_ends.specs.declared.ledger.Ledger.{Ledger}
-use Rattle.ipx_ends.specs.declared.verdict.Verdict.{Verdict}
-use Rattle.ipx_ends.specs.declared.verdict.Verdict.TheVariants.{Unwaited}
+use Rattle.ipx_ends.specs.declared.verdict.SendOutcome.{SendOutcome}
+use Rattle.ipx_ends.specs.declared.verdict.SendOutcome.TheVariants.{Unwaited}
 
 -- ---- what came is taken
 
@@ -123,7 +123,7 @@ next_id s id next none few = free_next s id next.steps next.is next.passed none 
 
 -- ---- one step
 
-pub sees : (joined joined' : Bool) (left left' : Option ℕ) (core core' : EndCore) (id id' : ℕ) (closed closed' whole waits : Bool) (state : Option State) (verdict : Option Verdict)
+pub sees : (joined joined' : Bool) (left left' : Option ℕ) (core core' : EndCore) (id id' : ℕ) (closed closed' whole waits : Bool) (state : Option State) (verdict : Option SendOutcome)
     → state ≡ state_at core.endpoint id → core' ≡ core → id' ≡ id → closed' ≡ closed → joined' ≡ joined_at joined state → left' ≡ left_at left state core.moment
     → IsTrue whole ↔ IsWholeAt core'.endpoint id' → IsTrue waits ↔ IsWaiting closed' left' core'.moment → verdict ≡ verdict_at whole joined' waits state
     → Sees (record { joined = joined; left = left }) (record { joined = joined'; left = left' }) core.endpoint core.moment id closed (option_map (ended_at closed) verdict)
@@ -139,7 +139,7 @@ sees joined joined' left left' core core' id id' closed closed' whole waits stat
     }
 
 -- what was noted stays so, as the step goes on
-pub sees_later : (joined joined' : Bool) (left left' : Option ℕ) (old : SeenSoFar) (seen : EndpointView) (moment id : ℕ) (closed : Bool) (verdict : Option Verdict) → joined' ≡ joined → left' ≡ left
+pub sees_later : (joined joined' : Bool) (left left' : Option ℕ) (old : SeenSoFar) (seen : EndpointView) (moment id : ℕ) (closed : Bool) (verdict : Option SendOutcome) → joined' ≡ joined → left' ≡ left
     → Sees old (record { joined = joined; left = left }) seen moment id closed verdict → Sees old (record { joined = joined'; left = left' }) seen moment id closed verdict
 sees_later joined joined' left left' old seen moment id closed verdict p q s =
     record {
@@ -174,7 +174,7 @@ stepped id id' core core' start dropped read read' closed closed' ledger ledger'
     }
 
 -- the clock is as the turn left it
-pub turned : {K : Type 0} (clock now after : K) (tells : K → ℕ → K → Type 0) (peers : Peers) (old seen : EndCore) (turn : Turn)
+pub turned : {K : Type 0} (clock now after : K) (tells : K → ℕ → K → Type 0) (peers : Peers) (old seen : EndCore) (turn : Activity)
     → after ≡ now → TakesTurn clock now tells peers old seen turn → TakesTurn clock after tells peers old seen turn
 turned {K} clock now after tells peers old seen turn same taken = subst (λ (k : K). TakesTurn clock k tells peers old seen turn) (sym same) taken
 
@@ -189,18 +189,18 @@ went_on seen look mid shown looked fed showed =
     subst (λ (k : EndCore). k ≡ record seen { endpoint = k.endpoint }) (sym showed) on
 
 -- a step that goes on waits; its faults are faults of both
-goes_ok : (id : ℕ) (seen : EndpointView) (old new : Intake) (v : Option Verdict) (more : Bool) → GoesOnOrEnds IsFeedFault id seen old new v (Ok more) → GoesOnOrEnds {T = Unit {0}} IsStepFault id seen old new v (Ok tt)
+goes_ok : (id : ℕ) (seen : EndpointView) (old new : Intake) (v : Option SendOutcome) (more : Bool) → GoesOnOrEnds IsFeedFault id seen old new v (Ok more) → GoesOnOrEnds {T = Unit {0}} IsStepFault id seen old new v (Ok tt)
 goes_ok id seen old new (Some w) more goes = absurd (let no = goes.0 in cc)
 goes_ok id seen old new None more goes = (tt, goes.1)
 
-goes_unwaited : (id : ℕ) (seen : EndpointView) (old new : Intake) (v : Option Verdict) (more : Bool) → GoesOnOrEnds IsFeedFault id seen old new v (Ok more) → GoesOnOrEnds {T = Unit {0}} IsStepFault id seen old new v (Err Unwaited)
+goes_unwaited : (id : ℕ) (seen : EndpointView) (old new : Intake) (v : Option SendOutcome) (more : Bool) → GoesOnOrEnds IsFeedFault id seen old new v (Ok more) → GoesOnOrEnds {T = Unit {0}} IsStepFault id seen old new v (Err Unwaited)
 goes_unwaited id seen old new (Some w) more goes = absurd (let no = goes.0 in cc)
 goes_unwaited id seen old new None more goes = (inr refl, tt)
 
-goes_err : (id : ℕ) (seen : EndpointView) (old new : Intake) (v : Option Verdict) (f : Verdict) → GoesOnOrEnds {T = Bool} IsFeedFault id seen old new v (Err f) → GoesOnOrEnds {T = Unit {0}} IsStepFault id seen old new v (Err f)
+goes_err : (id : ℕ) (seen : EndpointView) (old new : Intake) (v : Option SendOutcome) (f : SendOutcome) → GoesOnOrEnds {T = Bool} IsFeedFault id seen old new v (Err f) → GoesOnOrEnds {T = Unit {0}} IsStepFault id seen old new v (Err f)
 goes_err id seen old new (Some w) f goes =
     let same : f ≡ w = (let is = goes.0 in cc) in
-    (subst (λ (x : Verdict). ◌≡◌ {A = Result (Unit {0}) Verdict} (Err f) (Err x)) same refl, goes.1)
+    (subst (λ (x : SendOutcome). ◌≡◌ {A = Result (Unit {0}) SendOutcome} (Err f) (Err x)) same refl, goes.1)
 goes_err id seen old new None f goes = (inl goes.0, tt)
 
 pub step_ok : {K : Type 0} (old new : SendState K) (more : Bool) (tells : K → ℕ → K → Type 0) (peers : Peers) (id : ℕ)
@@ -227,7 +227,7 @@ step_unwaited old new more tells peers id s = record {
   core = s.core;
 }
 
-pub step_err : {K : Type 0} (old new : SendState K) (f : Verdict) (tells : K → ℕ → K → Type 0) (peers : Peers) (id : ℕ)
+pub step_err : {K : Type 0} (old new : SendState K) (f : SendOutcome) (tells : K → ℕ → K → Type 0) (peers : Peers) (id : ℕ)
     → IsSendStep {T = Bool} IsFeedFault old new (Err f) tells peers id → IsSendStep {T = Unit {0}} IsStepFault old new (Err f) tells peers id
 step_err old new f tells peers id s = record {
   seen = s.seen;
@@ -244,7 +244,7 @@ pub same_place : {K : Type 0} (clock clock' : K) (core core' : EndCore) (n : See
     → clock' ≡ clock → core' ≡ core → place clock core n r c l k ≡ place clock' core' n r c l k
 same_place clock clock' core core' n r c l k p q = cc
 
-pub step_waited : {K : Type 0} (old : SendState K) (clock clock' : K) (core core' : EndCore) (n : SeenSoFar) (r c : Bool) (l : Ledger) (k : Option (List ℕ)) (answer : Result (Unit {0}) Verdict) (tells : K → ℕ → K → Type 0) (peers : Peers) (id : ℕ)
+pub step_waited : {K : Type 0} (old : SendState K) (clock clock' : K) (core core' : EndCore) (n : SeenSoFar) (r c : Bool) (l : Ledger) (k : Option (List ℕ)) (answer : Result (Unit {0}) SendOutcome) (tells : K → ℕ → K → Type 0) (peers : Peers) (id : ℕ)
     → clock' ≡ clock → core' ≡ core → IsSendStep IsStepFault old (place clock core n r c l k) answer tells peers id → IsSendStep IsStepFault old (place clock' core' n r c l k) answer tells peers id
 step_waited {K} old clock clock' core core' n r c l k answer tells peers id p q s =
     subst (λ (x : SendState K). IsSendStep IsStepFault old x answer tells peers id) (same_place clock clock' core core' n r c l k p q) s

@@ -18,13 +18,13 @@ use Rattle.ipx_ends.specs.Outlet.{Writes}
 use Rattle.ipx_ends.specs.Tending.{DoesAction, IsFateOf, JustStays, Tends}
 use Rattle.ipx_ends.specs.declared.end_core.EndCore.{EndCore}
 use Rattle.ipx_ends.specs.ListenOutcomes.{parted}
-use Rattle.ipx_ends.specs.declared.listening.Stop.{Stop}
-use Rattle.ipx_ends.specs.declared.listening.Stop.TheVariants as Stops
+use Rattle.ipx_ends.specs.declared.listening.ListenOutcome.{ListenOutcome}
+use Rattle.ipx_ends.specs.declared.listening.ListenOutcome.TheVariants as Stops
 use Rattle.ipx_ends.specs.CallerActions.{IsCallerAction, ends, is_unheard, standing_asked, standing_heard}
 use Rattle.ipx_ends.specs.Passing.{PassesEach, PassesFrom, PassesOne, PassesSome, held_after, standing_after, standing_with}
 use Rattle.ipx_ends.specs.declared.callers.Caller.{Caller}
-use Rattle.ipx_ends.specs.declared.callers.Fate.{Fate}
-use Rattle.ipx_ends.specs.declared.callers.Fate.TheVariants.{Stays, Asks, Over, GivenUp}
+use Rattle.ipx_ends.specs.declared.callers.CallerAction.{CallerAction}
+use Rattle.ipx_ends.specs.declared.callers.CallerAction.TheVariants.{Stays, Asks, Over, GivenUp}
 use Rattle.ipx_ends.specs.declared.callers.Standing.{Standing}
 use Rattle.ipx_ends.specs.declared.callers.Standing.TheVariants as Standings
 use Rattle.ipx_ends.proofs.Passed.{each_on}
@@ -35,7 +35,7 @@ on_err (Ok x) P p = tt
 on_err (Err e) P p = p
 
 -- what becomes of a connection is one thing
-pub fate_stays : (f : Fate) (standing : Standing) (state : Option State) (silent : ℕ) → IsCallerAction f standing state silent → (f ≡ Stays → ⊥) → IsCallerAction Stays standing state silent → ⊥
+pub fate_stays : (f : CallerAction) (standing : Standing) (state : Option State) (silent : ℕ) → IsCallerAction f standing state silent → (f ≡ Stays → ⊥) → IsCallerAction Stays standing state silent → ⊥
 fate_stays Stays standing state silent is not stays = not refl
 fate_stays Asks standing state silent is not stays = stays.2 is
 fate_stays Over standing state silent is not stays = stays.1 is
@@ -349,10 +349,10 @@ heard_more f xs ys i d c' within same so is =
     ∙ map_over_more f xs ys i (get_or ys i d) (omega arith) so (get_or_default ys i d (get_or ys i d) within)
 
 -- one more just stays
-pub first_more : (core : EndCore) (items xs : List Caller) (i : ℕ) (d : Caller) (f : Fate) → xs ≡ items → i < length xs → All (JustStays core) (take i items)
+pub first_more : (core : EndCore) (items xs : List Caller) (i : ℕ) (d : Caller) (f : CallerAction) → xs ≡ items → i < length xs → All (JustStays core) (take i items)
     → IsFateOf core (get_or xs i d) f → f ≡ Stays → All (JustStays core) (take (i + 1) items)
 first_more core items xs i d f same within all is stays =
-    let fate : JustStays core (get_or items i d) = subst (λ (l : List Caller). JustStays core (get_or l i d)) same (subst (λ (g : Fate). IsFateOf core (get_or xs i d) g) stays is) in
+    let fate : JustStays core (get_or items i d) = subst (λ (l : List Caller). JustStays core (get_or l i d)) same (subst (λ (g : CallerAction). IsFateOf core (get_or xs i d) g) stays is) in
     All-more (JustStays core) items i d (omega (arith, within, ap length same)) all fate
 
 -- where nothing was taken, and nothing then, all that is held is as it was
@@ -362,7 +362,7 @@ still_more false more a b c before here none id = here none id ∙ before refl i
 still_more true more a b c before here none id = absurd (cc)
 
 -- with `once` all ends, whatever connection goes that was heard; and well where its end was taken
-parted_some : (fate : Fate) (standing : Standing) → is_unheard standing ≡ false → None ≡ parted true fate standing → ⊥
+parted_some : (fate : CallerAction) (standing : Standing) → is_unheard standing ≡ false → None ≡ parted true fate standing → ⊥
 parted_some fate Standings.Called heard e = absurd (cc)
 parted_some fate Standings.Probed heard e = absurd (cc)
 parted_some Stays Standings.Open heard e = absurd (cc)
@@ -378,7 +378,7 @@ parted_some Asks Standings.Ended heard e = absurd (cc)
 parted_some Over Standings.Ended heard e = absurd (cc)
 parted_some GivenUp Standings.Ended heard e = absurd (cc)
 
-parted_ended : (fate : Fate) (standing : Standing) → Some Stops.Ended ≡ parted true fate standing → standing ≡ Standings.Ended
+parted_ended : (fate : CallerAction) (standing : Standing) → Some Stops.Ended ≡ parted true fate standing → standing ≡ Standings.Ended
 parted_ended fate Standings.Called e = absurd (cc)
 parted_ended fate Standings.Probed e = absurd (cc)
 parted_ended Stays Standings.Open e = absurd (cc)
@@ -401,7 +401,7 @@ asked_ended now old new c c' (inr p) ended = sym (ap (λ (k : Caller). k.standin
 same_some : (k c : Caller) → Some k ≡ Some c → k ≡ c
 same_some k c e = same_Some k c e
 
-done_alone : (now : ℕ) (k c : Caller) (fate : Fate) (old new : EndpointView) (cs' : List Caller) → k ≡ c → DoesAction true now c 0 fate old new (k ∷ []) cs' None → EndedAlone cs' → EndedAlone (k ∷ [])
+done_alone : (now : ℕ) (k c : Caller) (fate : CallerAction) (old new : EndpointView) (cs' : List Caller) → k ≡ c → DoesAction true now c 0 fate old new (k ∷ []) cs' None → EndedAlone cs' → EndedAlone (k ∷ [])
 done_alone now k c Stays old new cs' at does alone = subst EndedAlone does.1 alone
 done_alone now k c Asks old new cs' at does alone =
     let same = same_head does.0 alone.0 [] [] (sym does.2 ∙ alone.1) in
@@ -413,7 +413,7 @@ alone_is_heard : (cs' : List Caller) → EndedAlone cs' → list_any has_spoken 
 alone_is_heard cs' alone =
     any_ended cs' (ap (list_any is_ended) alone.1 ∙ ap (λ (x : Standing). ends x || false) alone.2)
 
-done_among : (now : ℕ) (k j c : Caller) (ks : List Caller) (place : ℕ) (fate : Fate) (old new : EndpointView) (cs' : List Caller) → (list_any has_spoken (k ∷ j ∷ ks) ≡ true → length (k ∷ j ∷ ks) ≡ 1)
+done_among : (now : ℕ) (k j c : Caller) (ks : List Caller) (place : ℕ) (fate : CallerAction) (old new : EndpointView) (cs' : List Caller) → (list_any has_spoken (k ∷ j ∷ ks) ≡ true → length (k ∷ j ∷ ks) ≡ 1)
     → DoesAction true now c place fate old new (k ∷ j ∷ ks) cs' None → EndedAlone cs' → EndedAlone (k ∷ j ∷ ks)
 done_among now k j c ks place Stays old new cs' one does alone = subst EndedAlone does.1 alone
 done_among now k j c ks place Asks old new cs' one does alone =
@@ -445,13 +445,13 @@ tended_on true core new cs cs' left place is within keeps tends alone =
     tended_in core new cs cs' place at.0 within at.1 keeps.0 here alone
 
 -- what an error was that was passed on
-pub stop_is : {T : Type 0} (r : Result T Stop) (y s stop : Stop) → r ≡ Err y → y ≡ s → r ≡ Err stop → s ≡ stop
+pub stop_is : {T : Type 0} (r : Result T ListenOutcome) (y s stop : ListenOutcome) → r ≡ Err y → y ≡ s → r ≡ Err stop → s ≡ stop
 stop_is r y s stop at same e =
     let all : Err y ≡ Err stop = sym at ∙ e in
     (cc)
 
 -- and where all ends well, it was
-done_ends : (now : ℕ) (c : Caller) (place : ℕ) (fate : Fate) (old new : EndpointView) (cs cs' : List Caller) → DoesAction true now c place fate old new cs cs' (Some Stops.Ended) → c.standing ≡ Standings.Ended
+done_ends : (now : ℕ) (c : Caller) (place : ℕ) (fate : CallerAction) (old new : EndpointView) (cs cs' : List Caller) → DoesAction true now c place fate old new cs cs' (Some Stops.Ended) → c.standing ≡ Standings.Ended
 done_ends now c place Stays old new cs cs' does = let no : Some Stops.Ended ≡ None = does.2 in absurd (cc)
 done_ends now c place Asks old new cs cs' does = let no : Some Stops.Ended ≡ None = does.3 in absurd (cc)
 done_ends now c place Over old new cs cs' does = parted_ended Over c.standing does.2

@@ -16,13 +16,13 @@ use Rattle.ipx_ends.specs.Passing.{PassesEach, PassesFrom, PassesSome, given_eac
 use Rattle.ipx_ends.specs.ListenOutcomes.{parted, stop_status}
 use Rattle.ipx_ends.specs.Tending.{DoesAction, JustStays, Tends, TendsFirst, TendsOn, Tidies}
 use Rattle.ipx_ends.specs.declared.callers.Caller.{Caller}
-use Rattle.ipx_ends.specs.declared.callers.Fate.{Fate}
-use Rattle.ipx_ends.specs.declared.callers.Fate.TheVariants as Fates
+use Rattle.ipx_ends.specs.declared.callers.CallerAction.{CallerAction}
+use Rattle.ipx_ends.specs.declared.callers.CallerAction.TheVariants as Fates
 use Rattle.ipx_ends.specs.declared.callers.Standing.{Standing}
 use Rattle.ipx_ends.specs.declared.callers.Standing.TheVariants as Standings
 use Rattle.ipx_ends.specs.declared.end_core.EndCore.{EndCore}
-use Rattle.ipx_ends.specs.declared.listening.Stop.{Stop}
-use Rattle.ipx_ends.specs.declared.listening.Stop.TheVariants.{Ended, Lost, Unwritten, Unwaited}
+use Rattle.ipx_ends.specs.declared.listening.ListenOutcome.{ListenOutcome}
+use Rattle.ipx_ends.specs.declared.listening.ListenOutcome.TheVariants.{Ended, Lost, Unwritten, Unwaited}
 use Rattle.ipx_ends.specs.declared.outlet.Outlet.{Outlet}
 use Rattle.ipx_ends.proofs.Written.{writes_none, writes_on}
 
@@ -33,7 +33,7 @@ some_at [] place within = absurd (omega arith)
 some_at (c ∷ cs) zero within = (c, refl)
 some_at (c ∷ cs) (suc n) within = some_at cs n (omega arith)
 
-pub tended_first : (once once' : Bool) (old new : EndCore) (cs cs' : List Caller) (stop : Option Stop) (place : ℕ) → once' ≡ once → place < length cs
+pub tended_first : (once once' : Bool) (old new : EndCore) (cs cs' : List Caller) (stop : Option ListenOutcome) (place : ℕ) → once' ≡ once → place < length cs
     → All (JustStays old) (take place cs) × IfSome (slice_get cs place) (λ c. JustStays old c → ⊥)
     → IfSome (slice_get cs place) (λ c. Tends once' old c place new.endpoint cs cs' stop) → new ≡ record old { endpoint = new.endpoint }
     → TendsFirst once old new cs cs' stop
@@ -57,14 +57,14 @@ tends_more once first mid new cs ms ns n run one =
     subst (λ (k : ℕ). TendsOn k once first new cs ns) next (mid, ms, run, one)
 
 -- what stops a host as it is tidied is that a connection parts
-abbrev IsParting : Option Stop → Type 0
+abbrev IsParting : Option ListenOutcome → Type 0
 IsParting None = Unit {0}
 IsParting (Some Ended) = Unit {0}
 IsParting (Some Lost) = Unit {0}
 IsParting (Some Unwritten) = ⊥
 IsParting (Some Unwaited) = ⊥
 
-parts : (once : Bool) (fate : Fate) (standing : Standing) → IsParting (parted once fate standing)
+parts : (once : Bool) (fate : CallerAction) (standing : Standing) → IsParting (parted once fate standing)
 parts false fate standing = tt
 parts true fate Standings.Called = tt
 parts true fate Standings.Probed = tt
@@ -81,14 +81,14 @@ parts true Fates.Asks Standings.Ended = tt
 parts true Fates.Over Standings.Ended = tt
 parts true Fates.GivenUp Standings.Ended = tt
 
-does_part : (once : Bool) (now : ℕ) (c : Caller) (place : ℕ) (fate : Fate) (old new : EndpointView) (cs cs' : List Caller) (stop : Option Stop)
+does_part : (once : Bool) (now : ℕ) (c : Caller) (place : ℕ) (fate : CallerAction) (old new : EndpointView) (cs cs' : List Caller) (stop : Option ListenOutcome)
     → DoesAction once now c place fate old new cs cs' stop → IsParting stop
 does_part once now c place Fates.Stays old new cs cs' stop does = subst IsParting (sym does.2) tt
 does_part once now c place Fates.Asks old new cs cs' stop does = subst IsParting (sym does.3) tt
 does_part once now c place Fates.Over old new cs cs' stop does = subst IsParting (sym does.2) (parts once Fates.Over c.standing)
 does_part once now c place Fates.GivenUp old new cs cs' stop does = subst IsParting (sym does.2) (parts once Fates.GivenUp c.standing)
 
-tidied_parts : (once : Bool) (old new : EndCore) (cs cs' : List Caller) (stop : Stop) → Tidies once old new cs cs' (Some stop) → IsParting (Some stop)
+tidied_parts : (once : Bool) (old new : EndCore) (cs cs' : List Caller) (stop : ListenOutcome) → Tidies once old new cs cs' (Some stop) → IsParting (Some stop)
 tidied_parts once old new cs cs' stop tidied =
     let last = tidied.5 in
     does_part once tidied.2.moment last.caller last.place last.tends.0 tidied.2.endpoint new.endpoint tidied.3 cs' (Some stop) last.tends.2
@@ -140,7 +140,7 @@ moved_none core cs x y a b wrote = moved_some core core cs cs x y y a b b wrote 
 -- ---- one step
 
 pub stepped : {K : Type 0} (clock clock1 clock2 clock3 : K) (core core1 core2 core3 : EndCore) (cs cs1 cs2 cs3 : List Caller) (o o1 o2 o3 : Outlet) (once once' : Bool) (a b : Option (List ℕ))
-    (stop : Option Stop) (tells : K → ℕ → K → Type 0) (peers : Peers) (bytes : List ℕ)
+    (stop : Option ListenOutcome) (tells : K → ℕ → K → Type 0) (peers : Peers) (bytes : List ℕ)
     → HearsAndNotesAll clock clock1 core core1 cs cs1 once tells peers → o1 ≡ o → clock2 ≡ clock1 → once' ≡ once
     → WritesAndPasses core1 core2 cs1 cs2 (left_of o1) (left_of o2) a b bytes → clock3 ≡ clock2 → o3 ≡ o2 → Tidies once' core2 core3 cs2 cs3 stop
     → Steps (host clock core cs (left_of o) a) (host clock3 core3 cs3 (left_of o3) b) once stop tells peers bytes
@@ -157,7 +157,7 @@ stepped {K} clock clock1 clock2 clock3 core core1 core2 core3 cs cs1 cs2 cs3 o o
     }
 
 -- a step that is tidied stops the host so
-pub tidied_to : {K : Type 0} (old new : Host K) (once : Bool) (stop : Stop) (tells : K → ℕ → K → Type 0) (peers : Peers) (bytes : List ℕ)
+pub tidied_to : {K : Type 0} (old new : Host K) (once : Bool) (stop : ListenOutcome) (tells : K → ℕ → K → Type 0) (peers : Peers) (bytes : List ℕ)
     → Steps old new once (Some stop) tells peers bytes → StepsTo old new once (Some stop) tells peers bytes
 tidied_to old new once Ended tells peers bytes s = s
 tidied_to old new once Lost tells peers bytes s = s
@@ -166,7 +166,7 @@ tidied_to old new once Unwaited tells peers bytes s = absurd (tidied_parts once 
 
 -- ---- one step after another
 
-to_writes : {K : Type 0} (old new : Host K) (once : Bool) (stop : Option Stop) (tells : K → ℕ → K → Type 0) (peers : Peers) (bytes : List ℕ)
+to_writes : {K : Type 0} (old new : Host K) (once : Bool) (stop : Option ListenOutcome) (tells : K → ℕ → K → Type 0) (peers : Peers) (bytes : List ℕ)
     → StepsTo old new once stop tells peers bytes → Writes (old.left ++ bytes) new.left old.written new.written
 to_writes old new once None tells peers bytes s = moves_writes s.heard s.moved s.there s.still old.left new.left old.written new.written bytes s.moves
 to_writes old new once (Some Ended) tells peers bytes s = moves_writes s.heard s.moved s.there s.still old.left new.left old.written new.written bytes s.moves
@@ -202,7 +202,7 @@ steps_more n old last new once once' tells peers here before now same among run 
     (before ++ now, subst (λ (k : ℕ). StepsWithoutStop k old new once tells peers (before ++ now)) next (last, before, now, refl, run, one))
 
 -- and a last one
-pub served : {K : Type 0} (n : ℕ) (old last new : Host K) (once once' : Bool) (stop : Stop) (tells : K → ℕ → K → Type 0) (peers here : Peers) (before now : List ℕ)
+pub served : {K : Type 0} (n : ℕ) (old last new : Host K) (once once' : Bool) (stop : ListenOutcome) (tells : K → ℕ → K → Type 0) (peers here : Peers) (before now : List ℕ)
     → once' ≡ once → here ≡ peers → StepsWithoutStop n old last once tells peers before → StepsTo last new once' (Some stop) tells here now
     → (bytes : List ℕ) × Serves old new once stop tells peers bytes × Writes (old.left ++ bytes) new.left old.written new.written
 served n old last new once once' stop tells peers here before now same among run step =
@@ -226,7 +226,7 @@ all_written x y a b p none =
     let all : p.0 ≡ x = sym (p.1 ∙ ap (λ l. p.0 ++ l) none ∙ append-nil p.0) in
     subst (Appends a b) all p.2
 
-pub ended_well : {K : Type 0} (old new : Host K) (once : Bool) (stop : Stop) (tells : K → ℕ → K → Type 0) (peers : Peers) (bytes : List ℕ)
+pub ended_well : {K : Type 0} (old new : Host K) (once : Bool) (stop : ListenOutcome) (tells : K → ℕ → K → Type 0) (peers : Peers) (bytes : List ℕ)
     → Serves old new once stop tells peers bytes → Writes (old.left ++ bytes) new.left old.written new.written → stop_status stop ≡ 0 → new.left ≡ []
     → ServesWell old once new.written tells peers bytes
 ended_well old new once Ended tells peers bytes serves wrote status none = (new, serves, none, refl, all_written (old.left ++ bytes) new.left old.written new.written wrote none)

@@ -8,15 +8,15 @@ use Rattle.ipx_ends.specs.Books.{Enters, EntersRead}
 use Rattle.ipx_ends.specs.Feeding.{HandsIn, HandsOn, ReadsOn, intake}
 use Rattle.ipx_ends.specs.declared.end_core.EndCore.{EndCore}
 use Rattle.ipx_ends.specs.declared.ledger.Ledger.{Ledger}
-use Rattle.ipx_ends.specs.declared.verdict.Verdict.{Verdict}
-use Rattle.ipx_ends.specs.declared.verdict.Verdict.TheVariants as Verdicts
+use Rattle.ipx_ends.specs.declared.verdict.SendOutcome.{SendOutcome}
+use Rattle.ipx_ends.specs.declared.verdict.SendOutcome.TheVariants as Verdicts
 
 kept_bytes : (k k' : Option (List ℕ)) → Keeps k k' → Consumes k k' []
 kept_bytes None k' kept = tt
 kept_bytes (Some xs) None kept = absurd kept
 kept_bytes (Some xs) (Some ys) kept = sym kept
 
-pub read_on : {E : Type 0} (r : Result ℕ E) (answer : Result Bool Verdict) (core core' : EndCore) (read read' closed closed' : Bool) (l l' : Ledger) (k k' : Option (List ℕ)) (buf room : List ℕ) (id : ℕ)
+pub read_on : {E : Type 0} (r : Result ℕ E) (answer : Result Bool SendOutcome) (core core' : EndCore) (read read' closed closed' : Bool) (l l' : Ledger) (k k' : Option (List ℕ)) (buf room : List ℕ) (id : ℕ)
     → read ≡ false → closed' ≡ closed → ReadConsumes k k' r buf → 0 < length buf
     → IfOk r (λ n. OnOk answer (HandsOn core.endpoint core'.endpoint id (take n room) × EntersRead l l' (take n room)))
     → IfOk r (λ n. n ≡ 0 → (answer ≡ Ok true) × (read' ≡ true)) → IfOk r (λ n. n ≢ 0 → read' ≡ read)
@@ -50,7 +50,7 @@ read_on (Err x) (Ok b) core core' read read' closed closed' l l' k k' buf room i
 )
 
 -- where it can't be read, nothing was read
-pub unread_on : {E : Type 0} (r : Result ℕ E) (answer : Result Bool Verdict) (core core' : EndCore) (read read' : Bool) (l l' : Ledger) (k k' : Option (List ℕ)) (room : List ℕ)
+pub unread_on : {E : Type 0} (r : Result ℕ E) (answer : Result Bool SendOutcome) (core core' : EndCore) (read read' : Bool) (l l' : Ledger) (k k' : Option (List ℕ)) (room : List ℕ)
     → ReadConsumes k k' r room → IfOk r (λ n. IfErr answer (λ v. v ≡ Verdicts.OutOfMemory))
     → OnErr r ((core' ≡ core) × (read' ≡ read) × (l' ≡ l)) → answer ≡ Err Verdicts.Unread → Keeps k k' × (core' ≡ core)
 unread_on (Ok n) (Ok b) core core' read read' l l' k k' room consumes memory still is = absurd (cc)

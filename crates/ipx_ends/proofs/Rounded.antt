@@ -16,8 +16,8 @@ use Rattle.ipx_ends.specs.SendSteps.{GoesOnOrEnds, IsStepFault, Sees}
 use Rattle.ipx_ends.specs.Transfer.{state_at}
 use Rattle.ipx_ends.specs.Turning.{TakesTurn}
 use Rattle.ipx_ends.specs.declared.end_core.EndCore.{EndCore}
-use Rattle.ipx_ends.specs.declared.verdict.Verdict.{Verdict}
-use Rattle.ipx_ends.specs.declared.verdict.Verdict.TheVariants.{Done}
+use Rattle.ipx_ends.specs.declared.verdict.SendOutcome.{SendOutcome}
+use Rattle.ipx_ends.specs.declared.verdict.SendOutcome.TheVariants.{Done}
 
 consumes_none : (a : Option (List ℕ)) → Consumes a a []
 consumes_none None = tt
@@ -68,25 +68,25 @@ rounds_more old (b ∷ more) last new tells peers id bytes run round =
     (run.0, run.1, rounds_more run.0 more last new tells peers id bytes run.2 round)
 
 -- the same step, of the same id and peers
-pub same_step : {K T : Type 0} (faults : Option State → Verdict → Type 0) (old new : SendState K) (answer : Result T Verdict) (tells : K → ℕ → K → Type 0) (peers here : Peers) (id id' : ℕ)
+pub same_step : {K T : Type 0} (faults : Option State → SendOutcome → Type 0) (old new : SendState K) (answer : Result T SendOutcome) (tells : K → ℕ → K → Type 0) (peers here : Peers) (id id' : ℕ)
     → id' ≡ id → here ≡ peers → IsSendStep faults old new answer tells here id' → IsSendStep faults old new answer tells peers id
 same_step faults old new answer tells peers here id id' same among s =
     subst (λ (i : ℕ). IsSendStep faults old new answer tells peers i) same (subst (λ (p : Peers). IsSendStep faults old new answer tells p id') among s)
 
 -- a run goes on by a step that answers no verdict
-round_of : {K : Type 0} (last new : SendState K) (tells : K → ℕ → K → Type 0) (peers : Peers) (id : ℕ) (s : IsSendStep {T = Unit {0}} IsStepFault last new (Ok tt) tells peers id) (v : Option Verdict) → s.verdict ≡ v
+round_of : {K : Type 0} (last new : SendState K) (tells : K → ℕ → K → Type 0) (peers : Peers) (id : ℕ) (s : IsSendStep {T = Unit {0}} IsStepFault last new (Ok tt) tells peers id) (v : Option SendOutcome) → s.verdict ≡ v
     → (bytes : List ℕ) × Round last new bytes tells peers id
 round_of last new tells peers id s (Some w) is =
-    let goes = subst (λ (v : Option Verdict). GoesOnOrEnds {T = Unit {0}} IsStepFault id s.seen.endpoint (intake_of last) (intake_of new) v (Ok tt)) is s.goes in
+    let goes = subst (λ (v : Option SendOutcome). GoesOnOrEnds {T = Unit {0}} IsStepFault id s.seen.endpoint (intake_of last) (intake_of new) v (Ok tt)) is s.goes in
     absurd (let no = goes.0 in cc)
 round_of last new tells peers id s None is =
-    let goes = subst (λ (v : Option Verdict). GoesOnOrEnds {T = Unit {0}} IsStepFault id s.seen.endpoint (intake_of last) (intake_of new) v (Ok tt)) is s.goes in (
+    let goes = subst (λ (v : Option SendOutcome). GoesOnOrEnds {T = Unit {0}} IsStepFault id s.seen.endpoint (intake_of last) (intake_of new) v (Ok tt)) is s.goes in (
       goes.1.0,
       record {
         seen = s.seen;
         turn = s.turn;
         turned = s.turned;
-        sees = subst (λ (v : Option Verdict). Sees last.noted new.noted s.seen.endpoint s.seen.moment id last.closed v) is s.sees;
+        sees = subst (λ (v : Option SendOutcome). Sees last.noted new.noted s.seen.endpoint s.seen.moment id last.closed v) is s.sees;
         fed = goes.1.1;
         core = s.core;
       },
@@ -109,17 +109,17 @@ not_fault state (inl (live, inr e)) = cc
 not_fault state (inr e) = cc
 
 -- and takes a last turn in the one that answers that it is done
-last_of : {K : Type 0} (last new : SendState K) (tells : K → ℕ → K → Type 0) (peers : Peers) (id : ℕ) (s : IsSendStep {T = Unit {0}} IsStepFault last new (Err Done) tells peers id) (v : Option Verdict) → s.verdict ≡ v
+last_of : {K : Type 0} (last new : SendState K) (tells : K → ℕ → K → Type 0) (peers : Peers) (id : ℕ) (s : IsSendStep {T = Unit {0}} IsStepFault last new (Err Done) tells peers id) (v : Option SendOutcome) → s.verdict ≡ v
     → LastRound last new tells peers id
 last_of last new tells peers id s None is =
-    let goes = subst (λ (v : Option Verdict). GoesOnOrEnds {T = Unit {0}} IsStepFault id s.seen.endpoint (intake_of last) (intake_of new) v (Err Done)) is s.goes in
+    let goes = subst (λ (v : Option SendOutcome). GoesOnOrEnds {T = Unit {0}} IsStepFault id s.seen.endpoint (intake_of last) (intake_of new) v (Err Done)) is s.goes in
     absurd (not_fault (state_at s.seen.endpoint id) goes.0)
 last_of last new tells peers id s (Some w) is =
-    let goes = subst (λ (v : Option Verdict). GoesOnOrEnds {T = Unit {0}} IsStepFault id s.seen.endpoint (intake_of last) (intake_of new) v (Err Done)) is s.goes in
+    let goes = subst (λ (v : Option SendOutcome). GoesOnOrEnds {T = Unit {0}} IsStepFault id s.seen.endpoint (intake_of last) (intake_of new) v (Err Done)) is s.goes in
     let same : w ≡ Done = (let it = goes.0 in cc) in
     let at : new.core ≡ s.seen = subst (λ (e : EndpointView). new.core ≡ record s.seen { endpoint = e }) (ap (λ (i : Intake). i.endpoint) goes.1.is) s.core in
     let sees : Sees last.noted new.noted s.seen.endpoint s.seen.moment id last.closed (Some Done) =
-    subst (λ (v : Option Verdict). Sees last.noted new.noted s.seen.endpoint s.seen.moment id last.closed v) (is ∙ ap (λ (f : Verdict). Some f) same) s.sees in
+    subst (λ (v : Option SendOutcome). Sees last.noted new.noted s.seen.endpoint s.seen.moment id last.closed v) (is ∙ ap (λ (f : SendOutcome). Some f) same) s.sees in
     record {
       turn = s.turn;
       turned = subst (λ (k : EndCore). TakesTurn last.clock new.clock tells peers last.core k s.turn) (sym at) s.turned;
@@ -130,10 +130,10 @@ last_of last new tells peers id s (Some w) is =
       known = ap (λ (i : Intake). i.known) goes.1.is;
     }
 
-pub last_round : {K : Type 0} (last new : SendState K) (tells : K → ℕ → K → Type 0) (peers : Peers) (id : ℕ) (f : Verdict)
+pub last_round : {K : Type 0} (last new : SendState K) (tells : K → ℕ → K → Type 0) (peers : Peers) (id : ℕ) (f : SendOutcome)
     → f ≡ Done → IsSendStep {T = Unit {0}} IsStepFault last new (Err f) tells peers id → LastRound last new tells peers id
 last_round last new tells peers id f done step =
-    let s = subst (λ (v : Verdict). IsSendStep {T = Unit {0}} IsStepFault last new (Err v) tells peers id) done step in
+    let s = subst (λ (v : SendOutcome). IsSendStep {T = Unit {0}} IsStepFault last new (Err v) tells peers id) done step in
     last_of last new tells peers id s s.verdict refl
 
 -- where a transfer ended well, the reader is at its end

@@ -2,8 +2,8 @@
 use Rattle.std.specs.Prelude.{◌≡◌, ◌≢◌, ◌≤◌, ◌⊎◌, ℕ, Bool, true, false, Option, Some, None}
 use Rattle.spx_link.specs.declared.state.State.{State}
 use Rattle.spx_link.specs.declared.state.State.TheVariants as States
-use Rattle.ipx_ends.specs.declared.callers.Fate.{Fate}
-use Rattle.ipx_ends.specs.declared.callers.Fate.TheVariants.{Stays, Asks, Over, GivenUp}
+use Rattle.ipx_ends.specs.declared.callers.CallerAction.{CallerAction}
+use Rattle.ipx_ends.specs.declared.callers.CallerAction.TheVariants.{Stays, Asks, Over, GivenUp}
 use Rattle.ipx_ends.specs.declared.callers.Standing.{Standing}
 use Rattle.ipx_ends.specs.declared.callers.Standing.TheVariants as Standings
 
@@ -38,7 +38,7 @@ IsToAsk standing state silent = IsHeld state × (((standing ≡ Standings.Open) 
     ⊎ ((standing ≡ Standings.Called) × (1000 ≤ silent)))
 
 -- what becomes of it; it stays where nothing of this is so
-abbrev pub IsCallerAction : Fate → Standing → Option State → ℕ → Type 0
+abbrev pub IsCallerAction : CallerAction → Standing → Option State → ℕ → Type 0
 IsCallerAction Stays standing state silent = (state ≢ Some States.Lost)
     × (IsOver standing state silent → ⊥) × (IsToAsk standing state silent → ⊥)
 IsCallerAction Asks standing state silent = IsToAsk standing state silent

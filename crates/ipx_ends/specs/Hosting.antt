@@ -16,9 +16,9 @@ use Rattle.ipx_ends.specs.Tending.{Tidies}
 use Rattle.ipx_ends.specs.Turning.{TakesTurn}
 use Rattle.ipx_ends.specs.declared.callers.Caller.{Caller}
 use Rattle.ipx_ends.specs.declared.end_core.EndCore.{EndCore}
-use Rattle.ipx_ends.specs.declared.listening.Stop.{Stop}
-use Rattle.ipx_ends.specs.declared.listening.Stop.TheVariants.{Ended, Lost, Unwritten, Unwaited}
-use Rattle.ipx_ends.specs.declared.station.Turn.{Turn}
+use Rattle.ipx_ends.specs.declared.listening.ListenOutcome.{ListenOutcome}
+use Rattle.ipx_ends.specs.declared.listening.ListenOutcome.TheVariants.{Ended, Lost, Unwritten, Unwaited}
+use Rattle.ipx_ends.specs.declared.station.Activity.{Activity}
 
 -- where it is between two steps: its clock and its core, its connections, what is left to write, and
 -- what its writer took, where that is known
@@ -42,7 +42,7 @@ NotesIf false once old new callers callers' = (new ≡ old) × (callers' ≡ cal
 pub record HearsAndNotesAll {K : Type 0} (clock clock' : K) (old new : EndCore) (callers callers' : List Caller)
     (once : Bool) (tells : K → ℕ → K → Type 0) (peers : Peers) : Type 0 where
   pub seen : EndCore
-  pub turn : Turn
+  pub turn : Activity
   pub turned : TakesTurn clock clock' tells peers old seen turn
   pub noted : NotesIf turn.heard once seen new callers callers'
 
@@ -67,7 +67,7 @@ pub record MovesSome (old new : EndCore) (callers callers' : List Caller) (waiti
   pub moves : WritesAndPasses old new front front' waiting left written writes bytes
 
 -- one step
-pub record Steps {K : Type 0} (old new : Host K) (once : Bool) (stop : Option Stop)
+pub record Steps {K : Type 0} (old new : Host K) (once : Bool) (stop : Option ListenOutcome)
     (tells : K → ℕ → K → Type 0) (peers : Peers) (bytes : List ℕ) : Type 0 where
   pub heard : EndCore
   pub there : List Caller
@@ -86,7 +86,7 @@ pub record WriterBreaksOff {K : Type 0} (old new : Host K) (once : Bool) (tells 
   pub moves : MovesSome heard new.core there new.callers old.left new.left old.written new.written bytes
 
 -- what a step does by why it stops the host, if it does; the wait behind a step changes nothing
-abbrev pub StepsTo : {K : Type 0} → Host K → Host K → Bool → Option Stop → (K → ℕ → K → Type 0) → Peers → List ℕ → Type 0
+abbrev pub StepsTo : {K : Type 0} → Host K → Host K → Bool → Option ListenOutcome → (K → ℕ → K → Type 0) → Peers → List ℕ → Type 0
 StepsTo old new once None tells peers bytes = Steps old new once None tells peers bytes
 StepsTo old new once (Some Ended) tells peers bytes = Steps old new once (Some Ended) tells peers bytes
 StepsTo old new once (Some Lost) tells peers bytes = Steps old new once (Some Lost) tells peers bytes
@@ -101,7 +101,7 @@ StepsWithoutStop {K} (suc n) old new once tells peers bytes = (last : Host K) ×
     × Steps last new once None tells peers now
 
 -- a whole run: steps, and one that stops the host. Lost is told, too, where none of 2^64 - 1 steps did
-abbrev pub Serves : {K : Type 0} → Host K → Host K → Bool → Stop → (K → ℕ → K → Type 0) → Peers → List ℕ → Type 0
+abbrev pub Serves : {K : Type 0} → Host K → Host K → Bool → ListenOutcome → (K → ℕ → K → Type 0) → Peers → List ℕ → Type 0
 Serves {K} old new once stop tells peers bytes =
     ((count : ℕ) × (last : Host K) × (before now : List ℕ) × (bytes ≡ before ++ now)
     × StepsWithoutStop count old last once tells peers before

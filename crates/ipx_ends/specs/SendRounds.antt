@@ -14,9 +14,9 @@ use Rattle.ipx_ends.specs.Transfer.{IsWholeAt}
 use Rattle.ipx_ends.specs.Turning.{TakesTurn}
 use Rattle.ipx_ends.specs.declared.end_core.EndCore.{EndCore}
 use Rattle.ipx_ends.specs.declared.ledger.Ledger.{Ledger}
-use Rattle.ipx_ends.specs.declared.station.Turn.{Turn}
-use Rattle.ipx_ends.specs.declared.verdict.Verdict.{Verdict}
-use Rattle.ipx_ends.specs.declared.verdict.Verdict.TheVariants.{Done, GivenUp}
+use Rattle.ipx_ends.specs.declared.station.Activity.{Activity}
+use Rattle.ipx_ends.specs.declared.verdict.SendOutcome.{SendOutcome}
+use Rattle.ipx_ends.specs.declared.verdict.SendOutcome.TheVariants.{Done, GivenUp}
 
 -- where a run is: its clock and its core, what is noted of the connection, whether all is read,
 -- whether the end is queued, what is counted, and what the reader has left, where that is known
@@ -45,12 +45,12 @@ intake_of p = intake p.core.endpoint p.read p.closed p.ledger p.known
 
 -- one step, and its answer: a turn, which leaves a core; by this it is noted and told how the
 -- connection stands, and the transfer ends or goes on. Nothing else of the core changes
-pub record IsSendStep {K T : Type 0} (faults : Option State → Verdict → Type 0) (old new : SendState K)
-    (answer : Result T Verdict) (tells : K → ℕ → K → Type 0) (peers : Peers) (id : ℕ) : Type 0 where
+pub record IsSendStep {K T : Type 0} (faults : Option State → SendOutcome → Type 0) (old new : SendState K)
+    (answer : Result T SendOutcome) (tells : K → ℕ → K → Type 0) (peers : Peers) (id : ℕ) : Type 0 where
   pub seen : EndCore
-  pub turn : Turn
+  pub turn : Activity
   pub turned : TakesTurn old.clock new.clock tells peers old.core seen turn
-  pub verdict : Option Verdict
+  pub verdict : Option SendOutcome
   pub sees : Sees old.noted new.noted seen.endpoint seen.moment id old.closed verdict
   pub goes : GoesOnOrEnds faults id seen.endpoint (intake_of old) (intake_of new) verdict answer
   pub core : new.core ≡ record seen { endpoint = new.core.endpoint }
@@ -59,7 +59,7 @@ pub record IsSendStep {K T : Type 0} (faults : Option State → Verdict → Type
 pub record Round {K : Type 0} (old new : SendState K) (bytes : List ℕ) (tells : K → ℕ → K → Type 0)
     (peers : Peers) (id : ℕ) : Type 0 where
   pub seen : EndCore
-  pub turn : Turn
+  pub turn : Activity
   pub turned : TakesTurn old.clock new.clock tells peers old.core seen turn
   pub sees : Sees old.noted new.noted seen.endpoint seen.moment id old.closed None
   pub fed : FeedsOn id seen.endpoint (intake_of old) (intake_of new) bytes
@@ -68,7 +68,7 @@ pub record Round {K : Type 0} (old new : SendState K) (bytes : List ℕ) (tells 
 -- the last one is a turn alone, which tells that all is done
 pub record LastRound {K : Type 0} (old new : SendState K) (tells : K → ℕ → K → Type 0) (peers : Peers)
     (id : ℕ) : Type 0 where
-  pub turn : Turn
+  pub turn : Activity
   pub turned : TakesTurn old.clock new.clock tells peers old.core new.core turn
   pub sees : Sees old.noted new.noted new.core.endpoint new.core.moment id old.closed (Some Done)
   pub follows : EntersAcknowledged (held_at new.core.endpoint id) old.ledger new.ledger
@@ -99,7 +99,7 @@ pub record Transfers {K : Type 0} (old new : SendState K) (tells : K → ℕ →
   pub whole : IsWholeAt new.core.endpoint id
 
 -- one that a step ended with a verdict, behind some rounds
-pub record EndsWith {K : Type 0} (old new : SendState K) (verdict : Verdict) (tells : K → ℕ → K → Type 0)
+pub record EndsWith {K : Type 0} (old new : SendState K) (verdict : SendOutcome) (tells : K → ℕ → K → Type 0)
     (peers : Peers) (id : ℕ) : Type 0 where
   pub bodies : List (List ℕ)
   pub last : SendState K
@@ -107,7 +107,7 @@ pub record EndsWith {K : Type 0} (old new : SendState K) (verdict : Verdict) (te
   pub step : IsSendStep {T = Unit {0}} IsStepFault last new (Err verdict) tells peers id
 
 -- one that no step ended in so many rounds, and that is given up
-pub record LastsOn {K : Type 0} (old new : SendState K) (verdict : Verdict) (tells : K → ℕ → K → Type 0)
+pub record LastsOn {K : Type 0} (old new : SendState K) (verdict : SendOutcome) (tells : K → ℕ → K → Type 0)
     (peers : Peers) (id : ℕ) : Type 0 where
   pub bodies : List (List ℕ)
   pub rounds : Rounds old bodies new tells peers id

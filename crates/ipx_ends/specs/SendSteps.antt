@@ -10,8 +10,8 @@ use Rattle.ipx_ends.specs.Dropping.{DropsCame}
 use Rattle.ipx_ends.specs.Feeding.{Feeds, Intake, LeavesIntake}
 use Rattle.ipx_ends.specs.Transfer.{IsWaiting, IsWholeAt, ended_at, joined_at, left_at, state_at, verdict_at}
 use Rattle.ipx_ends.specs.declared.ledger.Ledger.{Ledger}
-use Rattle.ipx_ends.specs.declared.verdict.Verdict.{Verdict}
-use Rattle.ipx_ends.specs.declared.verdict.Verdict.TheVariants as Verdicts
+use Rattle.ipx_ends.specs.declared.verdict.SendOutcome.{SendOutcome}
+use Rattle.ipx_ends.specs.declared.verdict.SendOutcome.TheVariants as Verdicts
 
 -- what is noted of a connection: whether it was open, and when the end of its peer was seen
 pub record SeenSoFar : Type 0 where
@@ -23,7 +23,7 @@ noted joined left = record { joined = joined; left = left }
 
 -- the endpoint was seen at a moment, and this is noted and told then
 pub record Sees (old new : SeenSoFar) (seen : EndpointView) (moment id : ℕ) (closed : Bool)
-    (verdict : Option Verdict) : Type 0 where
+    (verdict : Option SendOutcome) : Type 0 where
   pub joined : new.joined ≡ joined_at old.joined (state_at seen id)
   pub left : new.left ≡ left_at old.left (state_at seen id) moment
   pub whole : Bool
@@ -50,19 +50,19 @@ pub record FeedsNothing (id : ℕ) (seen : EndpointView) (old new : Intake) : Ty
   pub is : new ≡ record old { endpoint = seen; ledger = new.ledger }
 
 -- a verdict ends the transfer, and nothing is fed; with none it goes on, but for faults of its own
-abbrev pub GoesOnOrEnds : {T : Type 0} → (Option State → Verdict → Type 0) → ℕ → EndpointView → Intake → Intake → Option Verdict → Result T Verdict → Type 0
+abbrev pub GoesOnOrEnds : {T : Type 0} → (Option State → SendOutcome → Type 0) → ℕ → EndpointView → Intake → Intake → Option SendOutcome → Result T SendOutcome → Type 0
 GoesOnOrEnds faults id seen old new (Some v) answer = (answer ≡ Err v) × FeedsNothing id seen old new
 GoesOnOrEnds faults id seen old new None answer = IfErr answer (faults (state_at seen id))
     × OnOk answer ((bytes : List ℕ) × FeedsOn id seen old new bytes)
 
 -- the faults of what reads, hands in and queues
-abbrev pub IsReadFault : Verdict → Type 0
+abbrev pub IsReadFault : SendOutcome → Type 0
 IsReadFault v = (v ≡ Verdicts.Unread) ⊎ (v ≡ Verdicts.OutOfMemory)
 
 -- which come only where the link was seen Live
-abbrev pub IsFeedFault : Option State → Verdict → Type 0
+abbrev pub IsFeedFault : Option State → SendOutcome → Type 0
 IsFeedFault state v = (state ≡ Some Live) × IsReadFault v
 
 -- and of what waits
-abbrev pub IsStepFault : Option State → Verdict → Type 0
+abbrev pub IsStepFault : Option State → SendOutcome → Type 0
 IsStepFault state v = IsFeedFault state v ⊎ (v ≡ Verdicts.Unwaited)

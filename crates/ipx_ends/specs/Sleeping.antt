@@ -7,7 +7,7 @@ use Rattle.spx_link.specs.Links.{LinksView, link_at}
 use Rattle.ipx_ends.specs.CallerActions.{IsCallerAction}
 use Rattle.ipx_ends.specs.Transfer.{state_at}
 use Rattle.ipx_ends.specs.declared.callers.Caller.{Caller}
-use Rattle.ipx_ends.specs.declared.callers.Fate.TheVariants.{Stays}
+use Rattle.ipx_ends.specs.declared.callers.CallerAction.TheVariants.{Stays}
 use Rattle.ipx_ends.specs.declared.end_core.EndCore.{EndCore}
 
 -- so long from now no poll of any link sends anything or gives a link up, at any moment that a clock can

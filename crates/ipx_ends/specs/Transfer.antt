@@ -6,14 +6,14 @@ use Rattle.spx_link.specs.declared.state.State.{State}
 use Rattle.spx_link.specs.declared.state.State.TheVariants.{Opening, Live, Ending}
 use Rattle.spx_link.specs.declared.state.State.TheVariants.{PeerEnded, Confirmed, Lost}
 use Rattle.spx_messages.specs.EndpointView.{EndpointView, Held, held_at}
-use Rattle.ipx_ends.specs.declared.verdict.Verdict.{Verdict}
-use Rattle.ipx_ends.specs.declared.verdict.Verdict.TheVariants as Verdicts
+use Rattle.ipx_ends.specs.declared.verdict.SendOutcome.{SendOutcome}
+use Rattle.ipx_ends.specs.declared.verdict.SendOutcome.TheVariants as Verdicts
 
 -- what a link that is whole or is not, and has a state or is gone, tells of a transfer: done where the
 -- peer has acknowledged all, the end too, and nowhere else; whether it confirmed that end as well does
 -- not matter. A link that is lost before it was open was answered by nobody. The peer may end the
 -- connection first, which is waited for while the rest may still be acknowledged
-abbrev pub verdict_at : Bool → Bool → Bool → Option State → Option Verdict
+abbrev pub verdict_at : Bool → Bool → Bool → Option State → Option SendOutcome
 verdict_at whole joined waits None = Some Verdicts.GivenUp
 verdict_at whole joined waits (Some Opening) = None
 verdict_at whole joined waits (Some Live) = None
@@ -32,7 +32,7 @@ abbrev pub IsClosing : Option State → Type 0
 IsClosing state = (state ≡ Some Ending) ⊎ (state ≡ Some PeerEnded) ⊎ (state ≡ Some Confirmed)
 
 -- a transfer is done only where its end is queued; where it is not, it is given up
-abbrev pub ended_at : Bool → Verdict → Verdict
+abbrev pub ended_at : Bool → SendOutcome → SendOutcome
 ended_at true v = v
 ended_at false Verdicts.Done = Verdicts.GivenUp
 ended_at false Verdicts.Unanswered = Verdicts.Unanswered

@@ -7,7 +7,7 @@ use Rattle.ipx_carrier.specs.Runs.{EndsEarly, Runs}
 use Rattle.ipx_carrier.specs.Turns.{Given, Peers}
 use Rattle.ipx_ends.specs.Barring.{HearsAllowed}
 use Rattle.ipx_ends.specs.declared.end_core.EndCore.{EndCore}
-use Rattle.ipx_ends.specs.declared.station.Turn.{Turn}
+use Rattle.ipx_ends.specs.declared.station.Activity.{Activity}
 
 -- a core of one port hears all but requests of those who may not ask, gives and misses as its endpoint
 -- does, and withholds nothing. It notes what the datagram was that it heard last, and the moment
@@ -27,14 +27,14 @@ withholds old now new = ⊥
 
 -- what is told of a whole turn: whether a datagram was heard, and whether anything happened. What was
 -- kept back no turn of a core has
-pub record TellsOf (report : Report) (turn : Turn) : Type 0 where
+pub record TellsOf (report : Report) (turn : Activity) : Type 0 where
   pub heard : IsTrue turn.heard ↔ (0 < report.heard)
   pub active : IsTrue turn.active
       ↔ ((0 < report.heard) ⊎ ((0 < report.sent) ⊎ ((0 < report.unmapped) ⊎ IsTrue turn.kept)))
 
 -- one turn over sockets, as `run` takes it; or a part of one, since memory was refused: then nothing
 -- was heard
-abbrev pub TakesTurn : {K : Type 0} → K → K → (K → ℕ → K → Type 0) → Peers → EndCore → EndCore → Turn → Type 0
+abbrev pub TakesTurn : {K : Type 0} → K → K → (K → ℕ → K → Type 0) → Peers → EndCore → EndCore → Activity → Type 0
 TakesTurn {K} clock clock_after tells peers old new turn =
     ((report : Report) × Runs hears gives tells 1 peers 1 None None clock clock_after old new report
     × TellsOf report turn)

@@ -4,7 +4,7 @@ ghost use Rattle.std.specs.Prelude.{◌≡◌, ◌↔◌, Some, map};
 ghost use Rattle.spx_link.specs.declared.state.State.TheVariants as States;
 ghost use Rattle.ipx_ends.specs.CallerActions.{IsCallerAction, IsOver, IsToAsk, is_unheard, standing_asked, standing_heard};
 ghost use Rattle.ipx_ends.specs.Callers.{heard_by, has_spoken, is_overdue, is_unheard_of};
-ghost use Rattle.ipx_ends.specs.declared.callers.Fate.TheVariants as Fates;
+ghost use Rattle.ipx_ends.specs.declared.callers.CallerAction.TheVariants as Fates;
 
 use ipx_wire::Address;
 use spx_link::State;
@@ -123,7 +123,7 @@ pub fn hear_one(callers: &mut [Caller], heard: u16, moment: u64)
 
 /// What becomes of a connection.
 #[derive(Clone, Copy, Debug, PartialEq, Eq)]
-pub enum Fate {
+pub enum CallerAction {
     /// It is held on.
     Stays,
     /// It is held on, and asked whether it is still there.
@@ -136,18 +136,18 @@ pub enum Fate {
 
 /// What becomes of a connection of this standing, whose link has this state, or is gone, and that
 /// was silent for so many milliseconds.
-pub fn fate_of(standing: Standing, state: Option<State>, silent: u64) -> Fate
+pub fn fate_of(standing: Standing, state: Option<State>, silent: u64) -> CallerAction
     ensures fate { IsCallerAction result standing state silent }
     ensures given_up { (result ≡ Fates.GivenUp) ↔ (state ≡ Some States.Lost) }
     ensures over { (result ≡ Fates.Over) ↔ IsOver standing state silent }
     ensures asks { (result ≡ Fates.Asks) ↔ IsToAsk standing state silent }
 {
     match (standing, state) {
-        (_, Some(State::Lost)) => Fate::GivenUp,
-        (_, None | Some(State::Confirmed)) => Fate::Over,
-        (Standing::Ended, _) if silent >= LINGER => Fate::Over,
-        (Standing::Open, _) if silent >= SILENCE => Fate::Asks,
-        (Standing::Called, _) if silent >= CALL => Fate::Asks,
-        _ => Fate::Stays,
+        (_, Some(State::Lost)) => CallerAction::GivenUp,
+        (_, None | Some(State::Confirmed)) => CallerAction::Over,
+        (Standing::Ended, _) if silent >= LINGER => CallerAction::Over,
+        (Standing::Open, _) if silent >= SILENCE => CallerAction::Asks,
+        (Standing::Called, _) if silent >= CALL => CallerAction::Asks,
+        _ => CallerAction::Stays,
     }
 }

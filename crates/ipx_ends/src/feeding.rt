@@ -7,11 +7,11 @@ ghost use Rattle.std.specs.declared.io.ErrorKind.TheVariants.{Interrupted, Would
 ghost use Rattle.ipx_ends.specs.Books.{EntersRead};
 ghost use Rattle.ipx_ends.specs.Feeding.{Feeds, HandsOn, ReadsOn, intake};
 ghost use Rattle.ipx_ends.specs.SendSteps.{IsReadFault};
-ghost use Rattle.ipx_ends.specs.declared.verdict.Verdict.TheVariants as Verdicts;
+ghost use Rattle.ipx_ends.specs.declared.verdict.SendOutcome.TheVariants as Verdicts;
 
 use crate::handing::hand_in;
-use crate::sending::Sending;
-use crate::verdict::Verdict;
+use crate::sending::SendingHost;
+use crate::verdict::SendOutcome;
 use log::Log;
 use std::alloc::Global;
 use std::io::{self, ErrorKind, Read};
@@ -21,10 +21,10 @@ use std::rt::Clock;
 /// The most units that are handed in and not acknowledged before no more is read.
 const MOST_AHEAD: u64 = 2048;
 
-impl<'a, R: Net + Log + Clock + Eprint> Sending<'a, R> {
+impl<'a, R: Net + Log + Clock + Eprint> SendingHost<'a, R> {
     /// Does what is to be done with what one read gave: bytes are handed in as one message, and
     /// no byte is the end. It answers whether there may be more to read at once.
-    fn take_read(&mut self, alloc: Global, read: io::Result<usize>) -> Result<bool, Verdict>
+    fn take_read(&mut self, alloc: Global, read: io::Result<usize>) -> Result<bool, SendOutcome>
         requires { IfOk read (λ n. n ≤ length self.old.room.items) }
         ensures core { self.new.station.core
             ≡ record self.old.station.core { endpoint = self.new.station.core.endpoint } }
@@ -63,7 +63,7 @@ impl<'a, R: Net + Log + Clock + Eprint> Sending<'a, R> {
                 self.gate.pass();
                 return Ok(false);
             }
-            Err(_) => return Err(Verdict::Unread),
+            Err(_) => return Err(SendOutcome::Unread),
         };
         self.gate.pass();
         if count == 0 {
@@ -73,14 +73,14 @@ impl<'a, R: Net + Log + Clock + Eprint> Sending<'a, R> {
         let endpoint = &mut self.station.core.endpoint;
         let handed = hand_in(alloc, endpoint, self.id, &self.room[..count]);
         if handed.is_err() || self.ledger.add(count as u64).is_err() {
-            return Err(Verdict::OutOfMemory);
+            return Err(SendOutcome::OutOfMemory);
         }
         Ok(true)
     }
 
     /// Reads once, and hands in what came as one message. It answers whether something came, or
     /// the end did.
-    fn read_some<I: Read>(&mut self, alloc: Global, reader: &mut I) -> Result<bool, Verdict>
+    fn read_some<I: Read>(&mut self, alloc: Global, reader: &mut I) -> Result<bool, SendOutcome>
         ensures core { self.new.station.core
             ≡ record self.old.station.core { endpoint = self.new.station.core.endpoint } }
         ensures clock { self.new.station.clock ≡ self.old.station.clock }
@@ -107,7 +107,7 @@ impl<'a, R: Net + Log + Clock + Eprint> Sending<'a, R> {
 
     /// Reads where there is something to read and not too much is on its way, and queues the end
     /// behind it. It answers whether anything was queued.
-    pub fn feed<I: Read>(&mut self, alloc: Global, reader: &mut I) -> Result<bool, Verdict>
+    pub fn feed<I: Read>(&mut self, alloc: Global, reader: &mut I) -> Result<bool, SendOutcome>
         ensures core { self.new.station.core
             ≡ record self.old.station.core { endpoint = self.new.station.core.endpoint } }
         ensures clock { self.new.station.clock ≡ self.old.station.clock }
@@ -132,7 +132,7 @@ impl<'a, R: Net + Log + Clock + Eprint> Sending<'a, R> {
     {
         if self.read && !self.closed {
             if self.station.core.endpoint.close(alloc, self.id).is_err() {
-                return Err(Verdict::OutOfMemory);
+                return Err(SendOutcome::OutOfMemory);
             }
             self.closed = true;
             return Ok(true);

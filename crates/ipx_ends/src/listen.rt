@@ -10,7 +10,7 @@ ghost use Rattle.ipx_ends.specs.Hosting.{ListensWell, ServesWell, host};
 ghost use Rattle.ipx_ends.specs.Outlet.{left_of};
 
 use crate::checking::listener_to_text;
-use crate::listening::Listening;
+use crate::listening::ListeningHost;
 use crate::start::{StartFault, tell_start};
 use ipx_site::{HostFile, load_host};
 use log::{Log, info};
@@ -32,7 +32,7 @@ fn run_listening<R: Net + Log + Clock + Eprint, W: Write>(
     alloc: Global,
     path: &str,
     file: &HostFile,
-    started: Result<Listening<'_, R>, StartFault>,
+    started: Result<ListeningHost<'_, R>, StartFault>,
     writer: &mut W,
 ) -> u8
     ensures unstarted { OnErr started.entry ((result ≡ 1) × (writer.new ≡ writer.old)) }
@@ -79,7 +79,7 @@ fn listen_by<R: Net + Log + Clock + Eprint, W: Write>(
         Ok(file) => file,
         Err(status) => return status,
     };
-    let started = Listening::open(rt, alloc, &file, once);
+    let started = ListeningHost::open(rt, alloc, &file, once);
     run_listening(rt, alloc, path, &file, started, writer)
 }
 

@@ -13,8 +13,8 @@ ghost use Rattle.ipx_ends.specs.Passing.{PassesEach, PassesSome};
 ghost use Rattle.ipx_ends.specs.Sleeping.{MayRest};
 ghost use Rattle.ipx_ends.specs.ListenOutcomes.{stop_in, stop_status};
 ghost use Rattle.ipx_ends.specs.declared.callers.Caller.{Caller};
-ghost use Rattle.ipx_ends.specs.declared.listening.Stop.{Stop as AStop};
-ghost use Rattle.ipx_ends.specs.declared.listening.Stop.TheVariants as Stops;
+ghost use Rattle.ipx_ends.specs.declared.listening.ListenOutcome.{ListenOutcome as AStop};
+ghost use Rattle.ipx_ends.specs.declared.listening.ListenOutcome.TheVariants as Stops;
 
 use crate::callers::{Caller, Standing};
 use crate::end_core::{Accepted, Came};
@@ -22,7 +22,7 @@ use crate::gate::Gate;
 use crate::leaving::{MOST_CALLERS, count_if, hear_caller, hold, make_room};
 use crate::outlet::{Outlet, WriteFault};
 use crate::start::StartFault;
-use crate::station::{Station, Turn};
+use crate::station::{RunningHost, Activity};
 use crate::taking::take_each;
 use ipx_site::{Cause, HostFile, WaitFault};
 use log::Log;
@@ -38,7 +38,7 @@ const STDOUT: RawFd = 1;
 
 /// Why a listening host ends.
 #[derive(Clone, Copy, Debug)]
-pub enum Stop {
+pub enum ListenOutcome {
     /// The end of the first connection that was heard came.
     Ended,
     /// That connection was lost.
@@ -49,32 +49,32 @@ pub enum Stop {
     Unwaited,
 }
 
-impl From<WriteFault> for Stop {
+impl From<WriteFault> for ListenOutcome {
     ghost use Rattle.std.specs.Prelude.{◌≡◌};
-    ghost use Rattle.ipx_ends.specs.declared.listening.Stop.TheVariants.{Unwritten};
+    ghost use Rattle.ipx_ends.specs.declared.listening.ListenOutcome.TheVariants.{Unwritten};
 
     ghost from_gives = { λ _ e. e ≡ Unwritten };
 
-    fn from(_fault: WriteFault) -> Stop {
-        Stop::Unwritten
+    fn from(_fault: WriteFault) -> ListenOutcome {
+        ListenOutcome::Unwritten
     }
 }
 
-impl From<WaitFault> for Stop {
+impl From<WaitFault> for ListenOutcome {
     ghost use Rattle.std.specs.Prelude.{◌≡◌};
-    ghost use Rattle.ipx_ends.specs.declared.listening.Stop.TheVariants.{Unwaited};
+    ghost use Rattle.ipx_ends.specs.declared.listening.ListenOutcome.TheVariants.{Unwaited};
 
     ghost from_gives = { λ _ e. e ≡ Unwaited };
 
-    fn from(_fault: WaitFault) -> Stop {
-        Stop::Unwaited
+    fn from(_fault: WaitFault) -> ListenOutcome {
+        ListenOutcome::Unwaited
     }
 }
 
 /// A host that listens.
 #[derive(Drop)]
-pub struct Listening<'a, R: Clock> {
-    pub station: Station<'a, R>,
+pub struct ListeningHost<'a, R: Clock> {
+    pub station: RunningHost<'a, R>,
     pub callers: Vec<Caller>,
     pub outlet: Outlet,
     pub once: bool,
@@ -85,14 +85,14 @@ pub struct Listening<'a, R: Clock> {
     ghost one: { KeepsOne once callers.items (left_of outlet) } by { keeps_one_prop once callers.items (left_of outlet) },
 }
 
-impl<'a, R: Net + Log + Clock> Listening<'a, R> {
+impl<'a, R: Net + Log + Clock> ListeningHost<'a, R> {
     /// A host that listens at the socket of its file. It holds no connection yet.
     pub fn open(
         rt: &'a R,
         alloc: Global,
         file: &HostFile,
         once: bool,
-    ) -> Result<Listening<'a, R>, StartFault>
+    ) -> Result<ListeningHost<'a, R>, StartFault>
         ensures nobody { IfOk result (λ l. l.callers.items ≡ []) }
         ensures nothing { IfOk result (λ l. left_of l.outlet ≡ []) }
         ensures once { IfOk result (λ l. l.once ≡ once) }
@@ -116,14 +116,14 @@ impl<'a, R: Net + Log + Clock> Listening<'a, R> {
         ensures peers { IfOk result (λ l.
             peers_of l.station.wire.peers.items ≡ (file.now.router ∷ []) ∷ []) }
     {
-        let mut station = Station::open(rt, alloc, file, None)?;
+        let mut station = RunningHost::open(rt, alloc, file, None)?;
         station
             .core
             .endpoint
             .listen(alloc, file.socket, file.buffers)?;
         let gate = Gate::new(rt, alloc, STDOUT, Interest::WRITABLE);
         station.watch(gate.fd());
-        Ok(Listening {
+        Ok(ListeningHost {
             station,
             callers: Vec::with_capacity(alloc, MOST_CALLERS)?,
             outlet: Outlet::new(alloc, gate),
@@ -269,7 +269,7 @@ impl<'a, R: Net + Log + Clock> Listening<'a, R> {
     }
 
     /// Takes a turn, and notes the datagram that it heard.
-    fn hear(&mut self, rt: &R, alloc: Global) -> Turn
+    fn hear(&mut self, rt: &R, alloc: Global) -> Activity
         ensures hears { HearsAndNotesAll self.old.station.clock self.new.station.clock
             self.old.station.core self.new.station.core
             self.old.callers.items self.new.callers.items self.old.once
@@ -289,7 +289,7 @@ impl<'a, R: Net + Log + Clock> Listening<'a, R> {
     }
 
     /// Takes a turn, and all that came. It answers whether there may be more to do at once.
-    fn step<W: Write>(&mut self, rt: &R, alloc: Global, writer: &mut W) -> Result<bool, Stop>
+    fn step<W: Write>(&mut self, rt: &R, alloc: Global, writer: &mut W) -> Result<bool, ListenOutcome>
         ensures steps { (bytes : List ℕ) × StepsTo
             (host self.old.station.clock self.old.station.core
             self.old.callers.items (left_of self.old.outlet) (W.contents writer.old))
@@ -311,7 +311,7 @@ impl<'a, R: Net + Log + Clock> Listening<'a, R> {
     }
 
     /// Takes a turn, and waits where there is nothing to do.
-    fn step_or_wait<W: Write>(&mut self, rt: &R, alloc: Global, writer: &mut W) -> Result<(), Stop>
+    fn step_or_wait<W: Write>(&mut self, rt: &R, alloc: Global, writer: &mut W) -> Result<(), ListenOutcome>
         ensures steps { (bytes : List ℕ) × StepsTo
             (host self.old.station.clock self.old.station.core
             self.old.callers.items (left_of self.old.outlet) (W.contents writer.old))
@@ -336,7 +336,7 @@ impl<'a, R: Net + Log + Clock> Listening<'a, R> {
     }
 
     /// Runs until it is to end.
-    fn serve<W: Write>(&mut self, rt: &R, alloc: Global, writer: &mut W) -> Stop
+    fn serve<W: Write>(&mut self, rt: &R, alloc: Global, writer: &mut W) -> ListenOutcome
         // What was left to write, and then the bodies that the takes gave, are what the writer
         // took, and then what is left to write: also from one step to the next.
         ensures serves { (bytes : List ℕ) × Serves
@@ -358,11 +358,11 @@ impl<'a, R: Net + Log + Clock> Listening<'a, R> {
                 return stop;
             }
         }
-        Stop::Lost
+        ListenOutcome::Lost
     }
 }
 
-impl<'a, R: Net + Log + Clock + Eprint> Listening<'a, R> {
+impl<'a, R: Net + Log + Clock + Eprint> ListeningHost<'a, R> {
     /// Runs until it is to end, prints why it ends, and answers the status: 0 only with `once`, and
     /// where all that was taken is written.
     pub fn finish<W: Write>(&mut self, rt: &R, alloc: Global, writer: &mut W) -> u8
@@ -386,14 +386,14 @@ impl<'a, R: Net + Log + Clock + Eprint> Listening<'a, R> {
 }
 
 /// Prints why a host stopped, where that is to be said, and answers its status.
-fn tell_stop<R: Eprint>(rt: &R, stopped: Stop) -> u8
+fn tell_stop<R: Eprint>(rt: &R, stopped: ListenOutcome) -> u8
     ensures { result ≡ stop_status stopped }
 {
     let _ = match stopped {
-        Stop::Ended => return 0,
-        Stop::Lost => return 1,
-        Stop::Unwritten => eprintln!(rt; "standard output can't be written"),
-        Stop::Unwaited => eprintln!(rt; "the system can't wait for the socket"),
+        ListenOutcome::Ended => return 0,
+        ListenOutcome::Lost => return 1,
+        ListenOutcome::Unwritten => eprintln!(rt; "standard output can't be written"),
+        ListenOutcome::Unwaited => eprintln!(rt; "the system can't wait for the socket"),
     };
     1
 }

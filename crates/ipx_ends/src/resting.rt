@@ -2,8 +2,8 @@
 
 ghost use Rattle.ipx_ends.specs.Sleeping.{AllStayFor, StaysFor};
 
-use crate::callers::{CALL, Caller, Fate, LINGER, SILENCE, Standing};
-use crate::listening::Listening;
+use crate::callers::{CALL, Caller, CallerAction, LINGER, SILENCE, Standing};
+use crate::listening::ListeningHost;
 use log::Log;
 use std::net::Net;
 use std::rt::Clock;
@@ -11,12 +11,12 @@ use std::rt::Clock;
 /// The longest wait, in milliseconds.
 const LONG: u64 = 3_600_000;
 
-impl<'a, R: Net + Log + Clock> Listening<'a, R> {
+impl<'a, R: Net + Log + Clock> ListeningHost<'a, R> {
     /// How long a connection just stays, by its silence: none where something is to be done now.
     fn stay_of(&self, caller: &Caller) -> u64
         ensures { StaysFor self.now.station.core caller.now result }
     {
-        if self.fate_of(caller) != Fate::Stays {
+        if self.fate_of(caller) != CallerAction::Stays {
             return 0;
         }
         let end = match caller.standing {

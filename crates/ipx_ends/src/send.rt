@@ -12,7 +12,7 @@ ghost use Rattle.ipx_ends.specs.Sent.{SendsWholeInput};
 ghost use Rattle.ipx_ends.specs.SendSteps.{noted};
 ghost use Rattle.ipx_ends.specs.Target.{NamesAddress};
 
-use crate::sending::Sending;
+use crate::sending::SendingHost;
 use crate::start::{StartFault, tell_start};
 use crate::target::Target;
 use ipx_site::{HostFile, load_host};
@@ -28,7 +28,7 @@ fn send_opened<R: Net + Log + Clock + Eprint, I: Read>(
     rt: &R,
     alloc: Global,
     path: &str,
-    opened: Result<Sending<'_, R>, StartFault>,
+    opened: Result<SendingHost<'_, R>, StartFault>,
     to: Address,
     reader: &mut I,
 ) -> u8
@@ -74,7 +74,7 @@ fn send_loaded<R: Net + Log + Clock + Eprint, I: Read>(
         Ok(file) => file,
         Err(status) => return status,
     };
-    let opened = Sending::open(rt, alloc, &file, to, shows);
+    let opened = SendingHost::open(rt, alloc, &file, to, shows);
     send_opened(rt, alloc, path, opened, to, reader)
 }
 

@@ -11,7 +11,7 @@ ghost use Rattle.ipx_ends.specs.Sent.{IsDialing};
 ghost use Rattle.ipx_ends.specs.Sleeping.{MayWait, longest_wait};
 ghost use Rattle.ipx_ends.specs.SendSteps.{IsFeedFault, IsStepFault, noted};
 ghost use Rattle.ipx_ends.specs.Transfer.{IsWaiting, IsWholeAt, joined_at, left_at, state_at};
-ghost use Rattle.ipx_ends.specs.declared.verdict.Verdict.TheVariants as Verdicts;
+ghost use Rattle.ipx_ends.specs.declared.verdict.SendOutcome.TheVariants as Verdicts;
 
 use crate::company::dialed_ip;
 use crate::gate::Gate;
@@ -19,8 +19,8 @@ use crate::handing::drop_what_came;
 use crate::ids::{dialed, passed_ids};
 use crate::ledger::Ledger;
 use crate::start::StartFault;
-use crate::station::Station;
-use crate::verdict::{Verdict, ended_by, verdict_of};
+use crate::station::RunningHost;
+use crate::verdict::{SendOutcome, ended_by, verdict_of};
 use ipx_site::HostFile;
 use ipx_wire::Address;
 use log::Log;
@@ -47,8 +47,8 @@ const STDIN: RawFd = 0;
 
 /// A host that sends.
 #[derive(Drop)]
-pub struct Sending<'a, R: Clock> {
-    pub station: Station<'a, R>,
+pub struct SendingHost<'a, R: Clock> {
+    pub station: RunningHost<'a, R>,
     pub id: u16,
     pub gate: Gate,
     pub room: Vec<u8>,
@@ -69,7 +69,7 @@ pub struct Sending<'a, R: Clock> {
     ghost roomy: { 0 < length room.items },
 }
 
-impl<'a, R: Net + Log + Clock + Eprint> Sending<'a, R> {
+impl<'a, R: Net + Log + Clock + Eprint> SendingHost<'a, R> {
     /// A host that asks for a connection. Nothing was read, and nothing seen.
     pub fn open(
         rt: &'a R,
@@ -77,20 +77,20 @@ impl<'a, R: Net + Log + Clock + Eprint> Sending<'a, R> {
         file: &HostFile,
         to: Address,
         shows: bool,
-    ) -> Result<Sending<'a, R>, StartFault>
+    ) -> Result<SendingHost<'a, R>, StartFault>
         ensures { IfOk result (λ s. (known : Option (List ℕ)) → IsDialing file.now to
             (place s.station.clock s.station.core (noted s.joined s.left)
             s.read s.closed s.ledger known)
             (peers_of s.station.wire.peers.items) s.id) }
     {
-        let mut station = Station::open(rt, alloc, file, dialed_ip(file, to))?;
+        let mut station = RunningHost::open(rt, alloc, file, dialed_ip(file, to))?;
         let gate = Gate::new(rt, alloc, STDIN, Interest::READABLE);
         station.watch(gate.fd());
         let count = passed_ids(rt);
         let Ok(id) = dialed(alloc, &mut station.core.endpoint, file, to, count) else {
             return Err(StartFault::OutOfMemory);
         };
-        Ok(Sending {
+        Ok(SendingHost {
             station,
             id,
             gate,
@@ -180,7 +180,7 @@ impl<'a, R: Net + Log + Clock + Eprint> Sending<'a, R> {
     }
 
     /// Takes a turn, and reads. It answers whether there may be more to do at once.
-    fn step<I: Read>(&mut self, rt: &R, alloc: Global, reader: &mut I) -> Result<bool, Verdict>
+    fn step<I: Read>(&mut self, rt: &R, alloc: Global, reader: &mut I) -> Result<bool, SendOutcome>
         ensures id { self.new.id ≡ self.old.id }
         // It notes, tells and feeds by what the turn left.
         ensures steps { IsSendStep IsFeedFault
@@ -231,7 +231,7 @@ impl<'a, R: Net + Log + Clock + Eprint> Sending<'a, R> {
         rt: &R,
         alloc: Global,
         reader: &mut I,
-    ) -> Result<(), Verdict>
+    ) -> Result<(), SendOutcome>
         ensures id { self.new.id ≡ self.old.id }
         // It notes, tells and feeds by what the turn left.
         ensures steps { IsSendStep IsStepFault
@@ -262,12 +262,12 @@ impl<'a, R: Net + Log + Clock + Eprint> Sending<'a, R> {
         let longest = self.longest();
         match self.station.wait(longest) {
             Ok(()) => Ok(()),
-            Err(_) => Err(Verdict::Unwaited),
+            Err(_) => Err(SendOutcome::Unwaited),
         }
     }
 
     /// Runs until the transfer is over.
-    fn serve<I: Read>(&mut self, rt: &R, alloc: Global, reader: &mut I) -> Verdict
+    fn serve<I: Read>(&mut self, rt: &R, alloc: Global, reader: &mut I) -> SendOutcome
         ensures id { self.new.id ≡ self.old.id }
         // Round by round: all that left the reader was handed in, in its order, one body behind the
         // other.
@@ -313,24 +313,24 @@ impl<'a, R: Net + Log + Clock + Eprint> Sending<'a, R> {
                 return verdict;
             }
         }
-        Verdict::GivenUp
+        SendOutcome::GivenUp
     }
 
     /// Prints how a transfer ended. Where all went well that is a line on a terminal alone.
-    fn tell(&self, rt: &R, to: Address, verdict: Verdict) {
+    fn tell(&self, rt: &R, to: Address, verdict: SendOutcome) {
         let given = self.ledger.given();
         let acknowledged = self.ledger.acknowledged();
         if self.shows {
             let _ = eprintln!(rt; "\r{acknowledged} of {given} bytes acknowledged");
         }
         let what = match verdict {
-            Verdict::Done => return,
-            Verdict::Unanswered => return tell_nobody(rt, to),
-            Verdict::GivenUp => "the connection is lost",
-            Verdict::PeerLeft => "the other end ended the connection",
-            Verdict::Unread => "standard input can't be read",
-            Verdict::OutOfMemory => "out of memory",
-            Verdict::Unwaited => "the system can't wait for the socket",
+            SendOutcome::Done => return,
+            SendOutcome::Unanswered => return tell_nobody(rt, to),
+            SendOutcome::GivenUp => "the connection is lost",
+            SendOutcome::PeerLeft => "the other end ended the connection",
+            SendOutcome::Unread => "standard input can't be read",
+            SendOutcome::OutOfMemory => "out of memory",
+            SendOutcome::Unwaited => "the system can't wait for the socket",
         };
         let _ = eprintln!(rt; "{what}: {acknowledged} of {given} bytes acknowledged");
     }

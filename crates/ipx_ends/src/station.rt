@@ -32,7 +32,7 @@ use std::rt::Clock;
 
 /// What a turn did.
 #[derive(Clone, Copy, Debug)]
-pub struct Turn {
+pub struct Activity {
     /// A datagram was heard.
     pub heard: bool,
     /// One was kept back.
@@ -54,7 +54,7 @@ struct Wire {
 
 /// A host that runs.
 #[derive(Drop)]
-pub struct Station<'a, R: Clock> {
+pub struct RunningHost<'a, R: Clock> {
     pub core: EndCore,
     wire: Wire,
     clock: SteadyClock<'a, R>,
@@ -104,7 +104,7 @@ impl Wire {
     }
 }
 
-impl<'a, R: Net + Log + Clock> Station<'a, R> {
+impl<'a, R: Net + Log + Clock> RunningHost<'a, R> {
     /// A host that is bound as its file says. It hears whom its file names, and the node at the IP
     /// address that it dials, or everybody.
     pub fn open(
@@ -112,7 +112,7 @@ impl<'a, R: Net + Log + Clock> Station<'a, R> {
         alloc: Global,
         file: &HostFile,
         dials: Option<[u8; 4]>,
-    ) -> Result<Station<'a, R>, StartFault>
+    ) -> Result<RunningHost<'a, R>, StartFault>
         ensures network { IfOk result (λ s. s.core.endpoint.network ≡ file.now.network) }
         ensures node { IfOk result (λ s. s.core.endpoint.node ≡ node_at file.now.address) }
         ensures router { IfOk result (λ s. s.core.endpoint.router ≡ node_at file.now.router) }
@@ -145,7 +145,7 @@ impl<'a, R: Net + Log + Clock> Station<'a, R> {
         let sockets = SiteSockets::bind_one(rt, alloc, file.address, file.udp_port)?;
         tell_room(rt, &sockets, file.buffers);
         let readiness = Readiness::new(rt, alloc, &sockets)?;
-        Ok(Station {
+        Ok(RunningHost {
             core: EndCore::new(endpoint, file.network, copy_origins(alloc, &file.from)?),
             wire: Wire::new(sockets, guards, peers),
             clock: SteadyClock::new(rt),
@@ -174,7 +174,7 @@ impl<'a, R: Net + Log + Clock> Station<'a, R> {
     }
 
     /// Takes one turn. What the system or memory refuses is counted and told, and goes on.
-    pub fn turn(&mut self, rt: &R, alloc: Global) -> Turn
+    pub fn turn(&mut self, rt: &R, alloc: Global) -> Activity
         ensures core { TakesTurn self.old.clock self.new.clock
             (λ old moment new. (old.last ≤ moment) × (new.last ≡ moment))
             (peers_of self.old.wire.peers.items) self.old.core self.new.core result }
@@ -199,7 +199,7 @@ impl<'a, R: Net + Log + Clock> Station<'a, R> {
     }
 
     /// One turn over the socket. The datagram of a turn that memory ends is lost.
-    fn take_turn(&mut self, alloc: Global) -> Turn
+    fn take_turn(&mut self, alloc: Global) -> Activity
         ensures core { TakesTurn self.old.clock self.new.clock
             (λ old moment new. (old.last ≤ moment) × (new.last ≡ moment))
             (peers_of self.old.wire.peers.items) self.old.core self.new.core result }
@@ -214,14 +214,14 @@ impl<'a, R: Net + Log + Clock> Station<'a, R> {
         let ran = self.wire.run(alloc, &mut self.core, &mut self.clock);
         let kept = self.wire.device.kept().total() > before;
         match ran {
-            Ok(report) => Turn {
+            Ok(report) => Activity {
                 heard: report.heard > 0,
                 kept,
                 active: report.heard > 0 || report.sent > 0 || report.unmapped > 0 || kept,
             },
             Err(OutOfMemory) => {
                 self.unheard = self.unheard.saturating_add(1);
-                Turn {
+                Activity {
                     heard: false,
                     kept,
                     active: true,

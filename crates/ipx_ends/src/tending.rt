@@ -8,19 +8,19 @@ ghost use Rattle.ipx_ends.specs.ListenOutcomes.{parted, stop_in};
 ghost use Rattle.ipx_ends.specs.Tending.{IsFateOf, JustStays, Tends, Tidies};
 ghost use Rattle.ipx_ends.specs.declared.callers.Caller.{Caller};
 ghost use Rattle.ipx_ends.specs.declared.callers.Standing.TheVariants as Standings;
-ghost use Rattle.ipx_ends.specs.declared.listening.Stop.TheVariants as Stops;
+ghost use Rattle.ipx_ends.specs.declared.listening.ListenOutcome.TheVariants as Stops;
 
-use crate::callers::{Caller, Fate, Standing, fate_of};
+use crate::callers::{Caller, CallerAction, Standing, fate_of};
 use crate::leaving::{MOST_CALLERS, ask, count_if, let_link_go};
-use crate::listening::{Listening, Stop};
+use crate::listening::{ListeningHost, ListenOutcome};
 use log::{Log, warn};
 use std::alloc::Global;
 use std::net::Net;
 use std::rt::Clock;
 
 /// Logs that a connection is lost, where it was heard and its end did not come.
-fn tell_parted<R: Log>(rt: &R, caller: &Caller, fate: Fate) {
-    let ended = fate == Fate::Over && caller.standing == Standing::Ended;
+fn tell_parted<R: Log>(rt: &R, caller: &Caller, fate: CallerAction) {
+    let ended = fate == CallerAction::Over && caller.standing == Standing::Ended;
     if caller.is_heard() && !ended {
         let from = caller.from;
         warn!(rt; target: "ipx", "{from}: the connection is lost");
@@ -28,7 +28,7 @@ fn tell_parted<R: Log>(rt: &R, caller: &Caller, fate: Fate) {
 }
 
 /// Whether a host stops once a connection of this standing went by this fate.
-fn stop_of(once: bool, fate: Fate, standing: Standing) -> Result<(), Stop>
+fn stop_of(once: bool, fate: CallerAction, standing: Standing) -> Result<(), ListenOutcome>
     ensures stops { stop_in result ≡ parted once fate standing }
     ensures only { OnErr result (IsTrue once) }
     ensures ended { result ≡ Err Stops.Ended → standing ≡ Standings.Ended }
@@ -37,14 +37,14 @@ fn stop_of(once: bool, fate: Fate, standing: Standing) -> Result<(), Stop>
         return Ok(());
     }
     match (fate, standing) {
-        (Fate::Over, Standing::Ended) => Err(Stop::Ended),
-        _ => Err(Stop::Lost),
+        (CallerAction::Over, Standing::Ended) => Err(ListenOutcome::Ended),
+        _ => Err(ListenOutcome::Lost),
     }
 }
 
-impl<'a, R: Net + Log + Clock> Listening<'a, R> {
+impl<'a, R: Net + Log + Clock> ListeningHost<'a, R> {
     /// What becomes of a connection.
-    pub fn fate_of(&self, caller: &Caller) -> Fate
+    pub fn fate_of(&self, caller: &Caller) -> CallerAction
         ensures { IsFateOf self.now.station.core caller.now result }
     {
         let state = self.station.core.endpoint.state(caller.id).ok();
@@ -61,7 +61,7 @@ impl<'a, R: Net + Log + Clock> Listening<'a, R> {
             × IfSome (slice_get self.now.callers.items place) (λ c. JustStays core c → ⊥)) }
     {
         for (place, caller) in self.callers.iter().enumerate() {
-            if self.fate_of(caller) != Fate::Stays {
+            if self.fate_of(caller) != CallerAction::Stays {
                 return Some(place);
             }
         }
@@ -103,7 +103,7 @@ impl<'a, R: Net + Log + Clock> Listening<'a, R> {
     }
 
     /// Lets a connection go. With `once` all is over then, where it was heard.
-    fn let_go(&mut self, rt: &R, place: usize, fate: Fate) -> Result<(), Stop>
+    fn let_go(&mut self, rt: &R, place: usize, fate: CallerAction) -> Result<(), ListenOutcome>
         requires { place < length self.old.callers.items }
         ensures goes { self.new.callers.items ≡ remove self.old.callers.items place }
         ensures released { IfSome (slice_get self.old.callers.items place) (λ c. LetsLinkGo
@@ -132,7 +132,7 @@ impl<'a, R: Net + Log + Clock> Listening<'a, R> {
     }
 
     /// Does what is to be done with the connection at a place.
-    fn tend(&mut self, rt: &R, alloc: Global, place: usize) -> Result<(), Stop>
+    fn tend(&mut self, rt: &R, alloc: Global, place: usize) -> Result<(), ListenOutcome>
         requires { place < length self.old.callers.items }
         ensures tends { IfSome (slice_get self.old.callers.items place) (λ c. Tends
             self.old.once self.old.station.core c place self.new.station.core.endpoint
@@ -149,8 +149,8 @@ impl<'a, R: Net + Log + Clock> Listening<'a, R> {
         ensures once { self.new.once ≡ self.old.once }
     {
         match self.fate_of(&self.callers[place]) {
-            Fate::Stays => Ok(()),
-            Fate::Asks => {
+            CallerAction::Stays => Ok(()),
+            CallerAction::Asks => {
                 self.ask(alloc, place);
                 Ok(())
             }
@@ -159,7 +159,7 @@ impl<'a, R: Net + Log + Clock> Listening<'a, R> {
     }
 
     /// Lets go the connections that are over or given up, and asks those that are silent.
-    pub fn tidy(&mut self, rt: &R, alloc: Global) -> Result<(), Stop>
+    pub fn tidy(&mut self, rt: &R, alloc: Global) -> Result<(), ListenOutcome>
         ensures tidies { Tidies self.old.once self.old.station.core self.new.station.core
             self.old.callers.items self.new.callers.items (stop_in result) }
         ensures ended { result ≡ Err Stops.Ended → EndedAlone self.old.callers.items }

@@ -19,7 +19,7 @@ ghost use Rattle.ipx_hosts.specs.Refusing.{CloseIsRefused, DialIsLeft, Overruns,
 
 use crate::end::EndNow;
 use crate::refusal::Refusal;
-use crate::station::Station;
+use crate::station::HostState;
 use ipx_wire::{Address, Network, Node, OutOfMemory, Socket};
 use spx_link::{Sent, State, Unit};
 use spx_messages::{Arrived, EndFault, Message, MessageFault, Taken};
@@ -29,7 +29,7 @@ use std::marker::Model;
 /// The hosts of a network, and the ends of connections that were ever made, by their numbers.
 #[derive(Drop)]
 pub struct Hosts {
-    stations: Vec<Station>,
+    stations: Vec<HostState>,
     ends: Vec<EndNow>,
 }
 
@@ -67,7 +67,7 @@ impl Hosts {
         ensures unchanged { OnErr result (self.new.stations ≡ self.old.stations) }
         ensures ends { self.new.ends ≡ self.old.ends }
     {
-        let station = Station::listening(alloc, network, node, router, listen)?;
+        let station = HostState::listening(alloc, network, node, router, listen)?;
         self.stations.push(station)?;
         Ok(())
     }

@@ -9,7 +9,7 @@ use Rattle.ipx_log.specs.Scan as Scans
 use Rattle.ipx_net.specs.LogEntries.{entry_note, entry_notes}
 use Rattle.ipx_net.specs.Sights.{role_view}
 use Rattle.ipx_net.specs.declared.entry.Entry.{Entry}
-use Rattle.ipx_net.specs.declared.mark.Mark.{Mark}
+use Rattle.ipx_net.specs.declared.mark.ParcelOrigin.{ParcelOrigin}
 use Rattle.ipx_net.specs.declared.role.Role.{Role}
 
 -- an element of a list of views
@@ -43,10 +43,10 @@ goes_on old added all s t before is after =
     ap (λ (es : List Entry). scan (entry_notes es)) is ∙ ap scan (map-append entry_note old added) ∙ seen_all-append unread (entry_notes old) (entry_notes added)
     ∙ ap (λ (u : Scan). seen_all u (entry_notes added)) before ∙ sym after
 
-more : (n : ℕ) (marks : List Mark) → All (λ m. m.passed ≤ n) marks → All (λ m. m.passed ≤ n + 1) marks
+more : (n : ℕ) (marks : List ParcelOrigin) → All (λ m. m.passed ≤ n) marks → All (λ m. m.passed ≤ n + 1) marks
 more n marks h k d w = let a = h k d w in omega arith
 
 -- one router more passed than any that was marked
-pub one_more_passed : (marks : List Mark) (m : Mark) → All (λ x. x.passed ≤ length marks) marks → m.passed ≤ length marks + 1 → All (λ x. x.passed ≤ length (marks ++ m ∷ [])) (marks ++ m ∷ [])
+pub one_more_passed : (marks : List ParcelOrigin) (m : ParcelOrigin) → All (λ x. x.passed ≤ length marks) marks → m.passed ≤ length marks + 1 → All (λ x. x.passed ≤ length (marks ++ m ∷ [])) (marks ++ m ∷ [])
 one_more_passed marks m old new =
     subst (λ n. All (λ x. x.passed ≤ n) (marks ++ m ∷ [])) (sym (length_push marks m)) (All-push (λ x. x.passed ≤ length marks + 1) marks m (more (length marks) marks old) new)

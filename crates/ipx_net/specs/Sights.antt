@@ -2,7 +2,7 @@
 use Rattle.std.specs.Prelude.{ℕ, ◌≤◌, ◌+◌, map, vec_len, vec_capacity}
 use Rattle.ipx_log.specs.Scan.{Scan}
 use Rattle.ipx_net.specs.declared.mark.Maker.{Maker}
-use Rattle.ipx_net.specs.declared.mark.Mark.{Mark}
+use Rattle.ipx_net.specs.declared.mark.ParcelOrigin.{ParcelOrigin}
 use Rattle.ipx_net.specs.declared.reading.Reading.{Reading}
 use Rattle.ipx_net.specs.declared.role.Role.{Role}
 use Rattle.ipx_net.specs.declared.scanned.Scanned.{Scanned}
@@ -15,7 +15,7 @@ maker_view (Makers.BySystem who) = Scans.BySystem who
 maker_view (Makers.ByRouter router) = Scans.ByRouter router
 maker_view Makers.FromOutside = Scans.FromOutside
 
-abbrev pub mark_view : Mark → Scans.Mark
+abbrev pub mark_view : ParcelOrigin → Scans.Mark
 mark_view m =
     record { origin = m.origin; maker = maker_view m.maker; passed = m.passed; units = m.units }
 

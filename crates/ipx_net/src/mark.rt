@@ -44,19 +44,19 @@ impl Maker {
 /// made that; how many routers it passed; and how many units all ends had sent for the first time
 /// when its origin was made, it among them.
 #[derive(Clone, Copy, Debug, PartialEq, Eq)]
-pub struct Mark {
+pub struct ParcelOrigin {
     pub origin: usize,
     pub maker: Maker,
     pub passed: usize,
     pub units: usize,
 }
 
-impl Mark {
+impl ParcelOrigin {
     /// Of a parcel that no router carried, when so many units had been sent.
-    pub fn made(parcel: usize, maker: Maker, units: usize) -> Mark
+    pub fn made(parcel: usize, maker: Maker, units: usize) -> ParcelOrigin
         ensures { result ≡ record { origin = parcel; maker = maker; passed = 0; units = units } }
     {
-        Mark {
+        ParcelOrigin {
             origin: parcel,
             maker,
             passed: 0,
@@ -66,13 +66,13 @@ impl Mark {
 }
 
 /// The mark of a parcel, by its number.
-pub fn mark_at(marks: &[Mark], parcel: usize) -> Mark
+pub fn mark_at(marks: &[ParcelOrigin], parcel: usize) -> ParcelOrigin
     ensures passed { (most : ℕ) → All (λ m. m.passed ≤ most) marks.now → result.passed ≤ most }
     ensures value { mark_view result ≡ slice_index_or (map mark_view marks.now) parcel nowhere }
 {
     match marks.get(parcel) {
         Some(mark) => *mark,
-        None => Mark {
+        None => ParcelOrigin {
             origin: 0,
             maker: Maker::FromOutside,
             passed: 0,

@@ -4,7 +4,7 @@ ghost use Rattle.std.specs.Prelude.{◌<◌, ◌≤◌, All, length};
 ghost use Rattle.ipx_net.specs.Places.{AreListed};
 
 use crate::entry::Entry;
-use crate::mark::{Maker, Mark, mark_at};
+use crate::mark::{Maker, ParcelOrigin, mark_at};
 use crate::places::UnitPlaces;
 use crate::reading::Reading;
 use crate::role::{Role, join_role};
@@ -14,7 +14,7 @@ use std::alloc::{AllocError, Global};
 /// first time), of each packet read, and of each end.
 #[derive(Drop)]
 pub struct Scanned {
-    pub marks: Vec<Mark>,
+    pub marks: Vec<ParcelOrigin>,
     pub sent: Vec<usize>,
     pub readings: Vec<Reading>,
     pub roles: Vec<Role>,
@@ -67,7 +67,7 @@ impl Scanned {
         ensures scan { scan_of self.new ≡ marked (maker_view maker) (scan_of self.old) }
         ensures room { (more : ℕ) → HasRoom (more + 1) self.old → HasRoom more self.new }
     {
-        let mark = Mark::made(self.marks.len(), maker, self.sent.len());
+        let mark = ParcelOrigin::made(self.marks.len(), maker, self.sent.len());
         self.marks.push_reserved(mark);
         self.newest = None;
     }
@@ -81,7 +81,7 @@ impl Scanned {
     {
         self.places.add(who, self.sent.len());
         self.sent.push_reserved(who);
-        let mark = Mark::made(self.marks.len(), Maker::ByUnit(who), self.sent.len());
+        let mark = ParcelOrigin::made(self.marks.len(), Maker::ByUnit(who), self.sent.len());
         self.marks.push_reserved(mark);
         self.newest = None;
     }
@@ -94,7 +94,7 @@ impl Scanned {
         ensures room { (more : ℕ) → HasRoom (more + 1) self.old → HasRoom more self.new }
     {
         let mark = mark_at(&self.marks, from);
-        self.marks.push_reserved(Mark {
+        self.marks.push_reserved(ParcelOrigin {
             passed: mark.passed + 1,
             ..mark
         });

@@ -22,8 +22,8 @@ use Rattle.ipx_tables.specs.declared.source.Source.{Source}
 use Rattle.ipx_tables.specs.Content.{Table}
 use Rattle.ipx_router.specs.declared.classify.Concern.{Concern}
 use Rattle.ipx_router.specs.declared.classify.Concern.TheVariants as concerns
-use Rattle.ipx_router.specs.declared.forwarding.Fate.{Fate}
-use Rattle.ipx_router.specs.declared.forwarding.Fate.TheVariants as fates
+use Rattle.ipx_router.specs.declared.forwarding.Forwarding.{Forwarding}
+use Rattle.ipx_router.specs.declared.forwarding.Forwarding.TheVariants as fates
 use Rattle.ipx_router.specs.declared.outcome.Outcome.{Outcome}
 use Rattle.ipx_router.specs.declared.port.Port.{Port}
 use Rattle.ipx_router.specs.declared.port.PortNow.{PortNow}
@@ -105,7 +105,7 @@ sap_there_ok count services at is d new (Err e) h = tt
 abbrev RepliesOwn : OutcomeView → Type 0
 RepliesOwn a = AreOwn (replies_of a)
 
-fate_own : (arrived : Port) (d : PacketView) (f : Fate) (a : OutcomeView) → IsForwardingAnswer arrived d f a → RepliesOwn a
+fate_own : (arrived : Port) (d : PacketView) (f : Forwarding) (a : OutcomeView) → IsForwardingAnswer arrived d f a → RepliesOwn a
 fate_own arrived d (fates.Dropped reason) a h = subst RepliesOwn (sym h) (All-nil IsOwn)
 fate_own arrived d (fates.Forward port next) a h = subst RepliesOwn (sym h.1) (All-nil IsOwn)
 

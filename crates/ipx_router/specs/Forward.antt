@@ -7,8 +7,8 @@ use Rattle.ipx_wire.specs.Ipx.{PacketView}
 use Rattle.ipx_router.specs.declared.port.Port.{Port}
 use Rattle.ipx_router.specs.declared.port.PortNow.{PortNow}
 use Rattle.ipx_router.specs.declared.reason.Reason.TheVariants.{NoRoute, HopLimit}
-use Rattle.ipx_router.specs.declared.forwarding.Fate.{Fate}
-use Rattle.ipx_router.specs.declared.forwarding.Fate.TheVariants as fates
+use Rattle.ipx_router.specs.declared.forwarding.Forwarding.{Forwarding}
+use Rattle.ipx_router.specs.declared.forwarding.Forwarding.TheVariants as fates
 use Rattle.ipx_router.specs.declared.route.Route.{Route}
 use Rattle.ipx_router.specs.Knowledge.{Routes}
 use Rattle.ipx_router.specs.RouteChoice.{IsRouteOrNone}
@@ -17,7 +17,7 @@ use Rattle.ipx_router.specs.OutcomeView.{OutcomeView, Forward, Dropped}
 
 -- a packet that fifteen routers forwarded is dropped; the next node is the neighbour, or on a
 -- port's own network the destination
-abbrev pub by_route : IpxHeader → Option Route → Fate
+abbrev pub by_route : IpxHeader → Option Route → Forwarding
 by_route h None = fates.Dropped (NoRoute h.to.network)
 by_route h (Some route) =
     if nat_le 15 h.hops then fates.Dropped HopLimit
@@ -41,7 +41,7 @@ abbrev pub IsForwarded : Port → PacketView → List ℕ → Type 0
 IsForwarded arrived d = AreBytesOf (forward_packet arrived d)
 
 -- the answer is what the fate says
-abbrev pub IsForwardingAnswer : Port → PacketView → Fate → OutcomeView → Type 0
+abbrev pub IsForwardingAnswer : Port → PacketView → Forwarding → OutcomeView → Type 0
 IsForwardingAnswer arrived d (fates.Dropped reason) a = a ≡ Dropped reason
 IsForwardingAnswer arrived d (fates.Forward port next) a =
     (bytes : List ℕ) × (a ≡ Forward port next bytes) × IsForwarded arrived d bytes
@@ -53,6 +53,6 @@ Forwards ports routes at d a = (route : Option Route)
     × IsForwardingAnswer at.port d (by_route d.header route) a
 
 -- a fact of the port that a fate forwards by
-abbrev pub IfForward : Fate → (ℕ → Type 0) → Type 0
+abbrev pub IfForward : Forwarding → (ℕ → Type 0) → Type 0
 IfForward (fates.Forward port next) Fact = Fact port
 IfForward (fates.Dropped reason) Fact = Unit {0}

@@ -67,25 +67,25 @@ fn forwarded_bytes(
 }
 
 /// What becomes of a packet for another network, by its header.
-pub enum Fate {
+pub enum Forwarding {
     /// It leaves by the port of a number, to the next node.
     Forward { port: u8, next: Node },
     Dropped(Reason),
 }
 
-fn fate_by_route(header: IpxHeader, route: Option<Route>) -> Fate
+fn fate_by_route(header: IpxHeader, route: Option<Route>) -> Forwarding
     ensures fate { result ≡ by_route header route }
     ensures port { (count : ℕ) → IfSome route (λ r. IsPortNumber count r.port)
         → IfForward result (IsPortNumber count) }
     ensures hops { IfForward result (λ _. header.hops < 15) }
 {
     let Some(route) = route else {
-        return Fate::Dropped(Reason::NoRoute(header.to.network));
+        return Forwarding::Dropped(Reason::NoRoute(header.to.network));
     };
     if header.hops >= 15 {
-        return Fate::Dropped(Reason::HopLimit);
+        return Forwarding::Dropped(Reason::HopLimit);
     }
-    Fate::Forward {
+    Forwarding::Forward {
         port: route.port,
         next: route.neighbour.unwrap_or(header.to.node),
     }
@@ -114,8 +114,8 @@ pub fn forward(
 {
     let route = route_to(ports, routes, packet.header.to.network, at.now);
     match fate_by_route(packet.header, route) {
-        Fate::Dropped(reason) => return Ok(Outcome::Dropped(reason)),
-        Fate::Forward { port, next } => {
+        Forwarding::Dropped(reason) => return Ok(Outcome::Dropped(reason)),
+        Forwarding::Forward { port, next } => {
             let bytes = forwarded_bytes(alloc, at.port, datagram, &packet)?;
             return Ok(Outcome::Forward(Reply { port, next, bytes }));
         }

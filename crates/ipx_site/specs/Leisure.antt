@@ -4,7 +4,7 @@ use Rattle.ipx_carrier.specs.RouterCore.{CoreView}
 use Rattle.ipx_router.specs.Telling.{is_due}
 use Rattle.ipx_site.specs.declared.figures.Figures.{Figures}
 use Rattle.ipx_site.specs.declared.peers.KeptBack.{KeptBack}
-use Rattle.ipx_site.specs.declared.tally.Tally.{Tally}
+use Rattle.ipx_site.specs.declared.tally.RouterCounts.{RouterCounts}
 use Rattle.ipx_site.specs.declared.troubles.Troubles.{Troubles}
 use Rattle.ipx_site.specs.Bursts.{counted}
 use Rattle.ipx_site.specs.Moments.{HasPassed, IsDue, IsToAskAgain}
@@ -39,7 +39,7 @@ happened_in f = record {
 }
 
 -- by what it tallies, what its core counts, and what its device kept back, did not send and lost
-abbrev pub happened : Tally → SparingView CoreView → KeptBack → ℕ → ℕ → Happened
+abbrev pub happened : RouterCounts → SparingView CoreView → KeptBack → ℕ → ℕ → Happened
 happened tally core kept refused lost = record {
   strangers = kept.strangers.count;
   forged = kept.forged.count;

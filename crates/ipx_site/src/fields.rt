@@ -16,7 +16,7 @@ use crate::neighbours::{among, neighbours_of};
 use crate::origin::{Origin, origins_of};
 use crate::site::Accept;
 use crate::values::{
-    accept_of, address_of, count_of, network_of, peers_of, routers_of, socket_of, text_of,
+    accept_of, parse_address, count_of, parse_network, parse_peers, routers_of, parse_socket, text_of,
 };
 use ipx_wire::{Network, OutOfMemory, Socket};
 use std::alloc::Global;
@@ -73,7 +73,7 @@ pub fn required(table: &Table, number: usize, key: Key) -> Result<&Value, FileFa
 pub fn network_in(table: &Table, number: usize) -> Result<Network, FileFault>
     ensures { Gives IsNetwork Key.Network (table_view table.now) number result }
 {
-    match network_of(required(table, number, Key::Network)?) {
+    match parse_network(required(table, number, Key::Network)?) {
         Some(network) => Ok(network),
         None => Err(FileFault::Wrong(number, Key::Network)),
     }
@@ -83,7 +83,7 @@ pub fn network_in(table: &Table, number: usize) -> Result<Network, FileFault>
 pub fn address_in(table: &Table, number: usize, key: Key) -> Result<[u8; 4], FileFault>
     ensures { Gives IsIpAddress key (table_view table.now) number result }
 {
-    match address_of(required(table, number, key)?) {
+    match parse_address(required(table, number, key)?) {
         Some(ip) => Ok(ip),
         None => Err(FileFault::Wrong(number, key)),
     }
@@ -112,7 +112,7 @@ pub fn count_in(
 pub fn peers_in(alloc: Global, table: &Table, number: usize) -> Result<Vec<[u8; 4]>, FileFault>
     ensures { Gives AreAddressesOf Key.Peers (table_view table.now) number result }
 {
-    match peers_of(alloc, required(table, number, Key::Peers)?)? {
+    match parse_peers(alloc, required(table, number, Key::Peers)?)? {
         Some(peers) => Ok(peers),
         None => Err(FileFault::Wrong(number, Key::Peers)),
     }
@@ -153,7 +153,7 @@ pub fn accept_in(table: &Table, number: usize) -> Result<Accept, FileFault>
 pub fn socket_in(table: &Table, number: usize) -> Result<Socket, FileFault>
     ensures { Gives IsSocket Key.Socket (table_view table.now) number result }
 {
-    match socket_of(required(table, number, Key::Socket)?) {
+    match parse_socket(required(table, number, Key::Socket)?) {
         Some(socket) => Ok(socket),
         None => Err(FileFault::Wrong(number, Key::Socket)),
     }

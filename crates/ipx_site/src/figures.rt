@@ -1,7 +1,7 @@
 //! What a router counts, as a text for Prometheus.
 
 use crate::peers::{Kept, KeptBack};
-use ipx_carrier::Fates;
+use ipx_carrier::OutcomeCounts;
 use std::alloc::{AllocError, Global};
 
 /// What a router counted since it started.
@@ -11,7 +11,7 @@ pub struct Figures {
     pub heard: u64,
     pub sent: u64,
     /// What became of those that it heard.
-    pub fates: Fates,
+    pub fates: OutcomeCounts,
     /// The packets that found no room in its queue, and those whose node has no IP address.
     pub queue_full: u64,
     pub unmapped: u64,
@@ -134,7 +134,7 @@ fn put_each(
     Ok(())
 }
 
-fn put_fates(text: &mut String, fates: &Fates) -> Result<(), AllocError> {
+fn put_fates(text: &mut String, fates: &OutcomeCounts) -> Result<(), AllocError> {
     let figures = [
         ("forwarded", fates.forwarded),
         ("answered", fates.answered),

@@ -15,7 +15,7 @@ use crate::site::{Accept, SiteFile, SitePort};
 use crate::sockets::SiteSockets;
 use crate::sparing::Sparing;
 use crate::start_lines::port_to_text;
-use crate::station::{Parts, Station};
+use crate::station::{Parts, RunningRouter};
 use ipx_carrier::{RouterCore, node_of};
 use ipx_router::{NewFault, Port, Router};
 use log::{Log, info, warn};
@@ -178,7 +178,7 @@ fn start<'a, R: Net + Log + SystemClock>(
     rt: &'a R,
     alloc: Global,
     site: SiteFile,
-) -> Result<Station<'a, R>, RouteFault>
+) -> Result<RunningRouter<'a, R>, RouteFault>
     requires { All IsOwnNetwork (router_ports site.ports.items) }
     // The router has the ports of the file, and each of them its peers and its guard.
     ensures ports { IfOk result (λ s. s.core.core.router.ports ≡ router_ports site.ports.items) }
@@ -207,7 +207,7 @@ fn start<'a, R: Net + Log + SystemClock>(
         ready,
         status: site.status,
     };
-    Ok(Station::new(alloc, parts))
+    Ok(RunningRouter::new(alloc, parts))
 }
 
 /// Runs a router of a file for as long as it can.

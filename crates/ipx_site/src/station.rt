@@ -16,7 +16,7 @@ use crate::readiness::{Readiness, WaitFault};
 use crate::sockets::SiteSockets;
 use crate::sparing::Sparing;
 use crate::status::write_whole;
-use crate::tally::Tally;
+use crate::tally::RouterCounts;
 use crate::troubles::Troubles;
 use crate::turns::{Burst, run_burst};
 use crate::watch::Known;
@@ -39,14 +39,14 @@ const TURNS: u32 = 256;
 
 /// A router that runs.
 #[derive(Drop)]
-pub struct Station<'a, R: SystemClock> {
+pub struct RunningRouter<'a, R: SystemClock> {
     core: Sparing<RouterCore>,
     device: PeersOnly<SiteSockets>,
     peers: Vec<Vec<[u8; 4]>>,
     clock: SteadyClock<'a, R>,
     ready: Readiness,
     status: Option<String>,
-    tally: Tally,
+    tally: RouterCounts,
     known: Known,
     troubles: Troubles,
     /// How often it asked again.
@@ -72,9 +72,9 @@ pub struct Parts<'a, R: SystemClock> {
     pub status: Option<String>,
 }
 
-impl<'a, R: SystemClock> Station<'a, R> {
+impl<'a, R: SystemClock> RunningRouter<'a, R> {
     /// A router that begins to run. The caller owes a socket and a list of peers for each port.
-    pub fn new(alloc: Global, parts: Parts<'a, R>) -> Station<'a, R>
+    pub fn new(alloc: Global, parts: Parts<'a, R>) -> RunningRouter<'a, R>
         requires sockets { length parts.device.device.sockets.items
             ≡ length parts.core.core.router.ports }
         requires lists { length parts.peers.items ≡ length parts.core.core.router.ports }
@@ -84,14 +84,14 @@ impl<'a, R: SystemClock> Station<'a, R> {
         ensures clock { result.clock ≡ parts.entry.clock }
         ensures asked { result.asked ≡ 0 }
     {
-        Station {
+        RunningRouter {
             core: parts.core,
             device: parts.device,
             peers: parts.peers,
             clock: parts.clock,
             ready: parts.ready,
             status: parts.status,
-            tally: Tally::new(),
+            tally: RouterCounts::new(),
             known: Known::new(alloc),
             troubles: Troubles::new(),
             asked: 0,

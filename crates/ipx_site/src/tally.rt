@@ -13,7 +13,7 @@ use ipx_carrier::{RouterCore, RunFault};
 
 /// What a router that runs counts itself. Each count stays at the greatest u64.
 #[derive(Clone, Copy, Debug, PartialEq, Eq)]
-pub struct Tally {
+pub struct RouterCounts {
     pub heard: u64,
     pub unmapped: u64,
     pub device_faults: u64,
@@ -21,9 +21,9 @@ pub struct Tally {
     pub file_faults: u64,
 }
 
-impl Tally {
-    pub fn new() -> Tally {
-        Tally {
+impl RouterCounts {
+    pub fn new() -> RouterCounts {
+        RouterCounts {
             heard: 0,
             unmapped: 0,
             device_faults: 0,

@@ -28,7 +28,7 @@ fn hex_number(text: &str, digits: usize) -> Option<u32>
 }
 
 /// The network that a value names.
-pub fn network_of(value: &Value) -> Option<Network>
+pub fn parse_network(value: &Value) -> Option<Network>
     ensures { Reads IsNetwork (view value.now) result }
 {
     let number = hex_number(value.as_str()?, 8)?;
@@ -40,7 +40,7 @@ pub fn network_of(value: &Value) -> Option<Network>
 }
 
 /// The IP address that a value writes. 0.0.0.0 is none.
-pub fn address_of(value: &Value) -> Option<[u8; 4]>
+pub fn parse_address(value: &Value) -> Option<[u8; 4]>
     ensures { Reads IsIpAddress (view value.now) result }
 {
     let text = value.as_str()?;
@@ -76,7 +76,7 @@ pub fn accept_of(value: &Value) -> Option<Accept>
 }
 
 /// The socket that a value names.
-pub fn socket_of(value: &Value) -> Option<Socket>
+pub fn parse_socket(value: &Value) -> Option<Socket>
     ensures { Reads IsSocket (view value.now) result }
 {
     let number = hex_number(value.as_str()?, 4)?;
@@ -102,7 +102,7 @@ pub fn addresses_of(alloc: Global, values: &[Value]) -> Result<Option<Vec<[u8; 4
 {
     let mut ips = Vec::new(alloc);
     for value in values {
-        let Some(ip) = address_of(value) else {
+        let Some(ip) = parse_address(value) else {
             return Ok(None);
         };
         ips.push(ip)?;
@@ -111,7 +111,7 @@ pub fn addresses_of(alloc: Global, values: &[Value]) -> Result<Option<Vec<[u8; 4
 }
 
 /// The peers that a value lists.
-pub fn peers_of(alloc: Global, value: &Value) -> Result<Option<Vec<[u8; 4]>>, OutOfMemory>
+pub fn parse_peers(alloc: Global, value: &Value) -> Result<Option<Vec<[u8; 4]>>, OutOfMemory>
     ensures { IfOk result (Reads AreAddressesOf (view value.now)) }
 {
     match value.as_array() {
@@ -135,7 +135,7 @@ pub fn routers_of(
 ) -> Result<Option<Vec<[u8; 4]>>, OutOfMemory>
     ensures { IfOk result (Reads (AreRouterPeers peers.now) (view value.now)) }
 {
-    let Some(ips) = peers_of(alloc, value)? else {
+    let Some(ips) = parse_peers(alloc, value)? else {
         return Ok(None);
     };
     if are_among(&ips, peers) {

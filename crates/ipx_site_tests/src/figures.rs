@@ -1,6 +1,6 @@
 //! The text of figures, in the text form of Prometheus.
 
-use ipx_carrier::Fates;
+use ipx_carrier::OutcomeCounts;
 use ipx_site::{Figures, Kept, KeptBack};
 use std::alloc::AllocError;
 
@@ -8,7 +8,7 @@ use std::alloc::AllocError;
 pub const FIGURES: Figures = Figures {
     heard: 1,
     sent: 2,
-    fates: Fates {
+    fates: OutcomeCounts {
         forwarded: 3,
         answered: 4,
         heard: 5,

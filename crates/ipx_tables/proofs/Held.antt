@@ -13,7 +13,7 @@ use Rattle.std.proofs.lemmas.List.Edits.{length-remove, get_or-remove_below, get
 use Rattle.std.proofs.lemmas.List.{get_or_default}
 use Rattle.std.proofs.lemmas.Bool.{cases_lt}
 use Rattle.std.proofs.lemmas.Cmp.{then_total, on_total, nat_cmp_total}
-use Rattle.ipx_tables.specs.declared.mark.Mark.{Mark}
+use Rattle.ipx_tables.specs.declared.mark.ExpiryKey.{ExpiryKey}
 use Rattle.ipx_tables.specs.ExpiryKeys.{mark_cmp}
 use Rattle.ipx_tables.proofs.Lists.{source_total}
 use Rattle.ipx_tables.specs.Sorted.{IsRising, IsAtKey, IsGapFor}
@@ -66,4 +66,4 @@ module _ {X K : Type 0} {cmp : K → K → Ordering} (o : IsTotalOrder cmp) (key
 
 module _ {K : Type 0} {cmp : K → K → Ordering} (o : IsTotalOrder cmp) where
   pub mark_total : IsTotalOrder (mark_cmp cmp)
-  mark_total = then_total (on_total (λ (m : Mark K). m.moment) nat_cmp_total) (then_total (on_total (λ (m : Mark K). m.key) o) (on_total (λ (m : Mark K). m.source) source_total))
+  mark_total = then_total (on_total (λ (m : ExpiryKey K). m.moment) nat_cmp_total) (then_total (on_total (λ (m : ExpiryKey K). m.key) o) (on_total (λ (m : ExpiryKey K). m.source) source_total))

@@ -13,7 +13,7 @@ use Rattle.std.proofs.lemmas.List.Folds.{Any-from_list_any}
 use Rattle.std.proofs.lemmas.Cmp.{alike_right, tied_itself}
 use Rattle.ipx_tables.specs.declared.source.Source.{Source}
 use Rattle.ipx_tables.specs.declared.offer.Offer.{Offer}
-use Rattle.ipx_tables.specs.declared.mark.Mark.{Mark}
+use Rattle.ipx_tables.specs.declared.mark.ExpiryKey.{ExpiryKey}
 use Rattle.ipx_tables.specs.Content.{content, said_of, is_same, pair_of, pair_cmp}
 use Rattle.ipx_tables.specs.Expiry.{IsOldest}
 use Rattle.ipx_tables.specs.ExpiryKeys.{mark_at, mark_cmp, mark_itself, expiry_key_of, has_expiry_key, is_heard_at, AreAlike, IsPaired}
@@ -64,25 +64,25 @@ equal_first a b Equal h = grind (arith, nat_tests)
 equal_first a b Greater h = grind (arith, nat_tests)
 
 module _ {K : Type 0} (cmp : K → K → Ordering) where
-  moment_less : (x y : Mark K) → mark_cmp cmp x y ≡ Less → x.moment ≤ y.moment
+  moment_less : (x y : ExpiryKey K) → mark_cmp cmp x y ≡ Less → x.moment ≤ y.moment
   moment_less x y h = less_first x.moment y.moment _ h
 
-  moment_equal : (x y : Mark K) → mark_cmp cmp x y ≡ Equal → x.moment ≤ y.moment
+  moment_equal : (x y : ExpiryKey K) → mark_cmp cmp x y ≡ Equal → x.moment ≤ y.moment
   moment_equal x y h = equal_first x.moment y.moment _ h
 
 module _ {K M : Type 0} {cmp : K → K → Ordering} (o : IsTotalOrder cmp) where
   -- the mark of what is said of a key and source, if anything is, ties with this one
-  abbrev pub marks_said : K × Source → Option (M × ℕ) → Mark K → Bool
+  abbrev pub marks_said : K × Source → Option (M × ℕ) → ExpiryKey K → Bool
   marks_said p None m = false
   marks_said p (Some v) m = is_eq (mark_cmp cmp (mark_at v.1 p) m)
 
-  said_parts : (p : K × Source) (v : Option (M × ℕ)) (m : Mark K) → marks_said p v m ≡ (is_heard_at m.moment v && is_same cmp p (m.key, m.source))
+  said_parts : (p : K × Source) (v : Option (M × ℕ)) (m : ExpiryKey K) → marks_said p v m ≡ (is_heard_at m.moment v && is_same cmp p (m.key, m.source))
   said_parts p None m = refl
   said_parts p (Some v) m = mark_parts v.1 m.moment _
 
-  module _ (os new_os : List (Offer K M)) (ms new_ms : List (Mark K)) (alike : AreAlike cmp os ms) (p : K × Source) (v w : Option (M × ℕ)) (stood : content cmp os p ≡ v) (offers : (q : K × Source) → content cmp new_os q ≡ cond (is_same cmp p q) w (content cmp os q)) where
+  module _ (os new_os : List (Offer K M)) (ms new_ms : List (ExpiryKey K)) (alike : AreAlike cmp os ms) (p : K × Source) (v w : Option (M × ℕ)) (stood : content cmp os p ≡ v) (offers : (q : K × Source) → content cmp new_os q ≡ cond (is_same cmp p q) w (content cmp os q)) where
     -- what was said of a key and source gives way to what is said now
-    pub alike_changed : ((m : Mark K) → has_expiry_key cmp new_ms m ≡ (marks_said p w m || (has_expiry_key cmp ms m && not (marks_said p v m)))) → AreAlike cmp new_os new_ms
+    pub alike_changed : ((m : ExpiryKey K) → has_expiry_key cmp new_ms m ≡ (marks_said p w m || (has_expiry_key cmp ms m && not (marks_said p v m)))) → AreAlike cmp new_os new_ms
     alike_changed marks m =
         let q : K × Source = (m.key, m.source) in
         let heard : Option (M × ℕ) → Bool = is_heard_at m.moment in
@@ -110,7 +110,7 @@ module _ {K M : Type 0} {cmp : K → K → Ordering} (o : IsTotalOrder cmp) wher
         ] refl in
         alike m ∙ rest ∙ ap heard (sym (offers q))
 
-  module _ (os : List (Offer K M)) (ms : List (Mark K)) (paired : IsPaired cmp os ms) where
+  module _ (os : List (Offer K M)) (ms : List (ExpiryKey K)) (paired : IsPaired cmp os ms) where
     -- each offer has its mark
     pub marked_at : (i : ℕ) (x : Offer K M) → i < length os → x ≡ get_or os i x → has_expiry_key cmp ms (expiry_key_of x) ≡ true
     marked_at i x within read = paired.alike (expiry_key_of x) ∙ ap (is_heard_at x.heard) (said_at o os paired.by_pair i x within read) ∙ eq-eqb x.heard x.heard refl
@@ -120,14 +120,14 @@ module _ {K M : Type 0} {cmp : K → K → Ordering} (o : IsTotalOrder cmp) wher
     unmarked p t none = paired.alike (mark_at t p) ∙ ap (is_heard_at t) none
 
     -- the first mark is that of an offer
-    pub first_heard : (x : Mark K) → 0 < length ms → x ≡ get_or ms 0 x → is_heard_at x.moment (content cmp os (x.key, x.source)) ≡ true
+    pub first_heard : (x : ExpiryKey K) → 0 < length ms → x ≡ get_or ms 0 x → is_heard_at x.moment (content cmp os (x.key, x.source)) ≡ true
     first_heard x some read = sym (paired.alike x) ∙ has_at (mark_total o) mark_itself ms x 0 (at_read (mark_total o) mark_itself ms 0 x x some read (tied_itself (mark_total o) x))
 
     heard_then : (v : Option (M × ℕ)) (w : M × ℕ) (t : ℕ) → v ≡ Some w → is_heard_at t v ≡ true → w.1 ≡ t
     heard_then v w t is heard = eqb-true w.1 t (ap (is_heard_at t) (sym is) ∙ heard)
 
     -- the first mark is no later than the mark of an offer
-    no_later : (x y : Mark K) → 0 < length ms → x ≡ get_or ms 0 x → has_expiry_key cmp ms y ≡ true → x.moment ≤ y.moment
+    no_later : (x y : ExpiryKey K) → 0 < length ms → x ≡ get_or ms 0 x → has_expiry_key cmp ms y ≡ true → x.moment ≤ y.moment
     no_later x y some read there =
         let at = Any-from_list_any (λ v. is_eq (mark_cmp cmp v y)) ms there in
         let tie : mark_cmp cmp at.1 y ≡ Equal = is_equal _ at.4 in
@@ -135,16 +135,16 @@ module _ {K M : Type 0} {cmp : K → K → Ordering} (o : IsTotalOrder cmp) wher
           | inl later ↦
               let up : mark_cmp cmp (get_or ms 0 x) (get_or ms at.0 x) ≡ Less = paired.by_moment 0 at.0 x later at.2 in
               let is : get_or ms at.0 x ≡ at.1 = get_or_default ms at.0 x at.1 at.2 ∙ at.3 in
-              let less : mark_cmp cmp x at.1 ≡ Less = ap (λ (v : Mark K). mark_cmp cmp v at.1) read ∙ ap (mark_cmp cmp (get_or ms 0 x)) (sym is) ∙ up in
+              let less : mark_cmp cmp x at.1 ≡ Less = ap (λ (v : ExpiryKey K). mark_cmp cmp v at.1) read ∙ ap (mark_cmp cmp (get_or ms 0 x)) (sym is) ∙ up in
               moment_less cmp x y (sym (alike_right (mark_total o) at.1 y x tie) ∙ less)
           | inr first ↦
               let zeroth : at.0 ≡ 0 = omega arith in
               let is : get_or ms 0 x ≡ at.1 = get_or_default ms 0 x at.1 some ∙ ap (λ k. get_or ms k at.1) (sym zeroth) ∙ at.3 in
-              moment_equal cmp x y (ap (λ (v : Mark K). mark_cmp cmp v y) (read ∙ is) ∙ tie)
+              moment_equal cmp x y (ap (λ (v : ExpiryKey K). mark_cmp cmp v y) (read ∙ is) ∙ tie)
         ]
 
     -- the offer of the first mark was heard first
-    pub first_is_oldest : (x : Mark K) (i : ℕ) → 0 < length ms → x ≡ get_or ms 0 x → IsAtKey (pair_cmp cmp) pair_of os (x.key, x.source) i → IsOldest os i x.moment
+    pub first_is_oldest : (x : ExpiryKey K) (i : ℕ) → 0 < length ms → x ≡ get_or ms 0 x → IsAtKey (pair_cmp cmp) pair_of os (x.key, x.source) i → IsOldest os i x.moment
     first_is_oldest x i some read at = record {
       in_range = at.in_range;
       heard = λ d.
@@ -170,7 +170,7 @@ module _ {K M : Type 0} {cmp : K → K → Ordering} (o : IsTotalOrder cmp) wher
     ] refl
 
     -- an offer and its mark go
-    pub paired_removed : (new_ms : List (Mark K)) (i : ℕ) (x : Offer K M) → i < length os → x ≡ get_or os i x → IsRising (mark_cmp cmp) mark_itself new_ms → ((m : Mark K) → has_expiry_key cmp new_ms m ≡ (has_expiry_key cmp ms m && not (is_eq (mark_cmp cmp (expiry_key_of x) m)))) → IsPaired cmp (remove os i) new_ms
+    pub paired_removed : (new_ms : List (ExpiryKey K)) (i : ℕ) (x : Offer K M) → i < length os → x ≡ get_or os i x → IsRising (mark_cmp cmp) mark_itself new_ms → ((m : ExpiryKey K) → has_expiry_key cmp new_ms m ≡ (has_expiry_key cmp ms m && not (is_eq (mark_cmp cmp (expiry_key_of x) m)))) → IsPaired cmp (remove os i) new_ms
     paired_removed new_ms i x within read up marks = record {
       by_pair = remove_rising (pair_total o) pair_of os paired.by_pair i within;
       by_moment = up;
@@ -178,7 +178,7 @@ module _ {K M : Type 0} {cmp : K → K → Ordering} (o : IsTotalOrder cmp) wher
     }
 
     -- a new offer comes with its mark
-    pub paired_inserted : (new_ms : List (Mark K)) (i : ℕ) (x : Offer K M) → IsGapFor (pair_cmp cmp) pair_of os (pair_of x) i → IsRising (mark_cmp cmp) mark_itself new_ms → ((m : Mark K) → has_expiry_key cmp new_ms m ≡ (is_eq (mark_cmp cmp (expiry_key_of x) m) || has_expiry_key cmp ms m)) → IsPaired cmp (insert os i x) new_ms
+    pub paired_inserted : (new_ms : List (ExpiryKey K)) (i : ℕ) (x : Offer K M) → IsGapFor (pair_cmp cmp) pair_of os (pair_of x) i → IsRising (mark_cmp cmp) mark_itself new_ms → ((m : ExpiryKey K) → has_expiry_key cmp new_ms m ≡ (is_eq (mark_cmp cmp (expiry_key_of x) m) || has_expiry_key cmp ms m)) → IsPaired cmp (insert os i x) new_ms
     paired_inserted new_ms i x gap up marks =
         let none = unsaid o os (pair_of x) i gap in
         record {
@@ -197,14 +197,14 @@ module _ {K M : Type 0} {cmp : K → K → Ordering} (o : IsTotalOrder cmp) wher
       said_after : (q : K × Source) → content cmp (set os i after) q ≡ cond (is_same cmp (pair_of after) q) (Some (said_of after)) (content cmp os q)
       said_after = found_set (same_equiv o) said_of os (pair_of after) after i (apart_rising o os paired.by_pair) (at_same o os (pair_of after) i at) ((same_equiv o).refl (pair_of after))
 
-      tied_before : (m : Mark K) → is_eq (mark_cmp cmp (expiry_key_of before) m) ≡ marks_said (pair_of after) (Some (said_of before)) m
+      tied_before : (m : ExpiryKey K) → is_eq (mark_cmp cmp (expiry_key_of before) m) ≡ marks_said (pair_of after) (Some (said_of before)) m
       tied_before m =
           said_parts (pair_of before) (Some (said_of before)) m
           ∙ ap (λ b. eqb before.heard m.moment && b) ((same_equiv o).congr (pair_of before) (pair_of after) (m.key, m.source) same_pair)
           ∙ sym (said_parts (pair_of after) (Some (said_of before)) m)
 
       -- an offer that is heard at another moment moves its mark
-      pub paired_moved : (new_ms : List (Mark K)) → IsRising (mark_cmp cmp) mark_itself new_ms → ((m : Mark K) → has_expiry_key cmp new_ms m ≡ (is_eq (mark_cmp cmp (expiry_key_of after) m) || (has_expiry_key cmp ms m && not (is_eq (mark_cmp cmp (expiry_key_of before) m))))) → IsPaired cmp (set os i after) new_ms
+      pub paired_moved : (new_ms : List (ExpiryKey K)) → IsRising (mark_cmp cmp) mark_itself new_ms → ((m : ExpiryKey K) → has_expiry_key cmp new_ms m ≡ (is_eq (mark_cmp cmp (expiry_key_of after) m) || (has_expiry_key cmp ms m && not (is_eq (mark_cmp cmp (expiry_key_of before) m))))) → IsPaired cmp (set os i after) new_ms
       paired_moved new_ms up marks = record {
         by_pair = set_rising (pair_total o) pair_of os paired.by_pair after i at;
         by_moment = up;
@@ -220,7 +220,7 @@ module _ {K M : Type 0} {cmp : K → K → Ordering} (o : IsTotalOrder cmp) wher
       }
 
       -- the mark of another moment is not there
-      pub unmarked_after : (new_ms : List (Mark K)) → (before.heard ≡ after.heard → ⊥) → ((m : Mark K) → has_expiry_key cmp new_ms m ≡ (has_expiry_key cmp ms m && not (is_eq (mark_cmp cmp (expiry_key_of before) m)))) → has_expiry_key cmp new_ms (expiry_key_of after) ≡ false
+      pub unmarked_after : (new_ms : List (ExpiryKey K)) → (before.heard ≡ after.heard → ⊥) → ((m : ExpiryKey K) → has_expiry_key cmp new_ms m ≡ (has_expiry_key cmp ms m && not (is_eq (mark_cmp cmp (expiry_key_of before) m)))) → has_expiry_key cmp new_ms (expiry_key_of after) ≡ false
       unmarked_after new_ms other marks =
           let none : has_expiry_key cmp ms (expiry_key_of after) ≡ false = paired.alike (expiry_key_of after) ∙ ap (is_heard_at after.heard) said_before ∙ ne_eqb before.heard after.heard other in
           marks (expiry_key_of after) ∙ ap (λ b. b && not (is_eq (mark_cmp cmp (expiry_key_of before) (expiry_key_of after)))) none

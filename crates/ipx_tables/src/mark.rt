@@ -9,17 +9,17 @@ use crate::source::Source;
 /// The moment at which an offer was heard, and whose offer it is. The earlier one comes first, and
 /// of one moment the lower key and source.
 #[derive(Clone, Copy, Debug, PartialEq, Eq, PartialOrd, Ord)]
-pub struct Mark<K> {
+pub struct ExpiryKey<K> {
     pub moment: u64,
     pub key: K,
     pub source: Source,
 }
 
 /// The mark of an offer.
-pub fn mark_by<K: Copy, M: Copy>(offer: Offer<K, M>) -> Mark<K>
+pub fn mark_by<K: Copy, M: Copy>(offer: Offer<K, M>) -> ExpiryKey<K>
     ensures { result ≡ expiry_key_of offer }
 {
-    Mark {
+    ExpiryKey {
         moment: offer.heard,
         key: offer.key,
         source: offer.source,

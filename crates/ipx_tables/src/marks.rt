@@ -6,15 +6,15 @@ ghost use Rattle.std.specs.VecDeque.{deque_len, deque_capacity};
 ghost use Rattle.ipx_tables.specs.ExpiryKeys.{has_expiry_key, mark_cmp, mark_itself};
 ghost use Rattle.ipx_tables.specs.Sorted.{IsAtKey, IsGapFor, IsRising};
 
-use crate::mark::Mark;
+use crate::mark::ExpiryKey;
 use std::cmp::Ordering;
 use std::collections::VecDeque;
 
 /// The place of a mark, or where it would go, if that is at an end: offers are mostly heard again
 /// in the order in which they were heard before, and then the new mark is the last one.
 fn place_at_an_end<K: Ord + Copy>(
-    marks: &VecDeque<Mark<K>>,
-    mark: Mark<K>,
+    marks: &VecDeque<ExpiryKey<K>>,
+    mark: ExpiryKey<K>,
 ) -> Option<Result<usize, usize>>
     requires { IsRising (mark_cmp K.cmp) mark_itself marks.now.items }
     ensures { IfSome result (λ r. MatchResult r
@@ -37,7 +37,7 @@ fn place_at_an_end<K: Ord + Copy>(
 }
 
 /// Where a mark is, or where it would go.
-fn place_of_mark<K: Ord + Copy>(marks: &VecDeque<Mark<K>>, mark: Mark<K>) -> Result<usize, usize>
+fn place_of_mark<K: Ord + Copy>(marks: &VecDeque<ExpiryKey<K>>, mark: ExpiryKey<K>) -> Result<usize, usize>
     requires { IsRising (mark_cmp K.cmp) mark_itself marks.now.items }
     ensures found { IfOk result (IsAtKey (mark_cmp K.cmp) mark_itself marks.now.items mark) }
     ensures absent { IfErr result (IsGapFor (mark_cmp K.cmp) mark_itself marks.now.items mark) }
@@ -49,11 +49,11 @@ fn place_of_mark<K: Ord + Copy>(marks: &VecDeque<Mark<K>>, mark: Mark<K>) -> Res
 }
 
 /// Takes a mark out.
-pub fn unmark<K: Ord + Copy>(marks: &mut VecDeque<Mark<K>>, mark: Mark<K>)
+pub fn unmark<K: Ord + Copy>(marks: &mut VecDeque<ExpiryKey<K>>, mark: ExpiryKey<K>)
     requires rising { IsRising (mark_cmp K.cmp) mark_itself marks.old.items }
     requires there { has_expiry_key K.cmp marks.old.items mark ≡ true }
     ensures rising { IsRising (mark_cmp K.cmp) mark_itself marks.new.items }
-    ensures marked { (m : Mark K) → has_expiry_key K.cmp marks.new.items m
+    ensures marked { (m : ExpiryKey K) → has_expiry_key K.cmp marks.new.items m
         ≡ (has_expiry_key K.cmp marks.old.items m && not (is_eq (mark_cmp K.cmp mark m))) }
     ensures len { deque_len marks.new + 1 ≡ deque_len marks.old }
     ensures room { deque_capacity marks.new ≡ deque_capacity marks.old }
@@ -64,12 +64,12 @@ pub fn unmark<K: Ord + Copy>(marks: &mut VecDeque<Mark<K>>, mark: Mark<K>)
 }
 
 /// Puts a mark in, for which there is room.
-pub fn put_mark<K: Ord + Copy>(marks: &mut VecDeque<Mark<K>>, mark: Mark<K>)
+pub fn put_mark<K: Ord + Copy>(marks: &mut VecDeque<ExpiryKey<K>>, mark: ExpiryKey<K>)
     requires rising { IsRising (mark_cmp K.cmp) mark_itself marks.old.items }
     requires absent { has_expiry_key K.cmp marks.old.items mark ≡ false }
     requires room { deque_len marks.old < deque_capacity marks.old }
     ensures rising { IsRising (mark_cmp K.cmp) mark_itself marks.new.items }
-    ensures marked { (m : Mark K) → has_expiry_key K.cmp marks.new.items m
+    ensures marked { (m : ExpiryKey K) → has_expiry_key K.cmp marks.new.items m
         ≡ (is_eq (mark_cmp K.cmp mark m) || has_expiry_key K.cmp marks.old.items m) }
 {
     if let Err(at) = place_of_mark(marks, mark) {

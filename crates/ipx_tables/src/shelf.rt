@@ -6,7 +6,7 @@ ghost use Rattle.ipx_tables.specs.Content.{pair_cmp, pair_of};
 ghost use Rattle.ipx_tables.specs.Expiry.{IsOldest};
 ghost use Rattle.ipx_tables.specs.Sorted.{IsAtKey, IsGapFor, IsRising};
 
-use crate::mark::{Mark, mark_by};
+use crate::mark::{ExpiryKey, mark_by};
 use crate::marks::{put_mark, unmark};
 use crate::offer::Offer;
 use crate::source::Source;
@@ -20,7 +20,7 @@ use std::marker::Model;
 pub struct Shelf<K: Ord + Copy, M: Copy> {
     offers: Vec<Offer<K, M>>,
     /// A mark of each offer.
-    marks: VecDeque<Mark<K>>,
+    marks: VecDeque<ExpiryKey<K>>,
     /// The place behind the offer that was heard last, where the next one is sought first.
     next: usize,
 }

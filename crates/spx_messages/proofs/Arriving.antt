@@ -19,7 +19,7 @@ use Rattle.spx_messages.specs.declared.arrived.Arrived.{Arrived}
 use Rattle.spx_messages.specs.declared.arrived.Arrived.TheVariants as Arriveds
 use Rattle.spx_messages.specs.declared.listening.Listener.{Listener}
 use Rattle.spx_messages.specs.declared.parts.Part.{Part}
-use Rattle.spx_messages.specs.declared.receive.reading.Reading.{Reading}
+use Rattle.spx_messages.specs.declared.receive.reading.ConnectionPacket.{ConnectionPacket}
 
 -- the endpoint with other links, messages in part, and what was heard last
 abbrev pub heard_with : EndpointView → LinksView → List Part → Option ℕ → EndpointView
@@ -33,15 +33,15 @@ same_self e links parts heard = record { network = refl; node = refl; router = r
 ours : (e : EndpointView) (p : PacketView) → IsTo (home_of e) p.header → IsOurs e p
 ours e p t = record { kind = t.kind; node = t.node; network = t.network }
 
-comes : (e : EndpointView) (bytes : List ℕ) (r : Reading) (x : IsRead (home_of e) bytes r) → Comes e x.packet r.header r.body.now bytes
+comes : (e : EndpointView) (bytes : List ℕ) (r : ConnectionPacket) (x : IsRead (home_of e) bytes r) → Comes e x.packet r.header r.body.now bytes
 comes e bytes r x = record { is = x.is; ours = ours e x.packet x.ours }
 
-new_request : (e : EndpointView) (bytes : List ℕ) (r : Reading) (x : IsRead (home_of e) bytes r) → IsRequestFor r.header → IsNew e.links r → IsNewRequest e x.packet r.header r.body.now bytes
+new_request : (e : EndpointView) (bytes : List ℕ) (r : ConnectionPacket) (x : IsRead (home_of e) bytes r) → IsRequestFor r.header → IsNew e.links r → IsNewRequest e x.packet r.header r.body.now bytes
 new_request e bytes r x request new =
     let P : Address → Type 0 = λ a. (id : ℕ) → ¬ IsAcceptedFrom e.links a r.header.from_id id in
     record { comes = comes e bytes r x; request = request; new = subst P (sym x.from) new }
 
-buffers_to : (e : EndpointView) (bytes : List ℕ) (r : Reading) (x : IsRead (home_of e) bytes r) (b : Option ℕ) → buffers_in e.listening r.to.0 ≡ b → buffers_at e x.packet.header.to.socket ≡ b
+buffers_to : (e : EndpointView) (bytes : List ℕ) (r : ConnectionPacket) (x : IsRead (home_of e) bytes r) (b : Option ℕ) → buffers_in e.listening r.to.0 ≡ b → buffers_at e x.packet.header.to.socket ≡ b
 buffers_to e bytes r x b is =
     let P : Socket → Type 0 = λ s. buffers_at e s ≡ b in
     subst P (sym x.to) is
@@ -91,7 +91,7 @@ adds_end e links parts heard id l a f = record {
 
 -- ---- a request
 
-again : (e : EndpointView) (bytes : List ℕ) (r : Reading) (links : LinksView) (id : ℕ) → IsRead (home_of e) bytes r → IsRequestFor r.header → OwesReplyAgain e.links links r id → IsAskedAgain e bytes id (heard_with e links e.parts None)
+again : (e : EndpointView) (bytes : List ℕ) (r : ConnectionPacket) (links : LinksView) (id : ℕ) → IsRead (home_of e) bytes r → IsRequestFor r.header → OwesReplyAgain e.links links r id → IsAskedAgain e bytes id (heard_with e links e.parts None)
 again e bytes r links id x request a =
     let P : Address → Type 0 = λ b. IsLeast (IsAcceptedFrom e.links b r.header.from_id) id in
     record {
@@ -107,7 +107,7 @@ again e bytes r links id x request a =
       heard = refl;
     }
 
-accepted : (e : EndpointView) (bytes : List ℕ) (r : Reading) (now : ℕ) (links : LinksView) (parts : List Part) (id : ℕ) → IsRead (home_of e) bytes r → IsRequestFor r.header → Accepts e.listening e.links links e.parts parts r now id → IsAccepted e bytes now id (heard_with e links parts None)
+accepted : (e : EndpointView) (bytes : List ℕ) (r : ConnectionPacket) (now : ℕ) (links : LinksView) (parts : List Part) (id : ℕ) → IsRead (home_of e) bytes r → IsRequestFor r.header → Accepts e.listening e.links links e.parts parts r now id → IsAccepted e bytes now id (heard_with e links parts None)
 accepted e bytes r now links parts id x request a =
     let P : Socket → Address → Type 0 = λ s b. AddsEnd e (heard_with e links parts None) id (accepted_from id s b r.header a.room.buffers now) in
     let made : P r.to r.from = adds_end e links parts None id (accepted_from id r.to r.from r.header a.room.buffers now) a.adds a.forgets in
@@ -124,7 +124,7 @@ accepted e bytes r now links parts id x request a =
       heard = refl;
     }
 
-deaf : (e : EndpointView) (bytes : List ℕ) (r : Reading) → IsRead (home_of e) bytes r → IsRequestFor r.header → IsDeafTo e.listening e.links r → IsUnheard e bytes
+deaf : (e : EndpointView) (bytes : List ℕ) (r : ConnectionPacket) → IsRead (home_of e) bytes r → IsRequestFor r.header → IsDeafTo e.listening e.links r → IsUnheard e bytes
 deaf e bytes r x request d = record {
   packet = x.packet;
   header = r.header;
@@ -133,7 +133,7 @@ deaf e bytes r x request d = record {
   deaf = buffers_to e bytes r x None d.deaf;
 }
 
-full : (e : EndpointView) (bytes : List ℕ) (r : Reading) → IsRead (home_of e) bytes r → IsRequestFor r.header → IsFullFor e.listening e.links r → IsOneTooMany e bytes
+full : (e : EndpointView) (bytes : List ℕ) (r : ConnectionPacket) → IsRead (home_of e) bytes r → IsRequestFor r.header → IsFullFor e.listening e.links r → IsOneTooMany e bytes
 full e bytes r x request f = record {
   packet = x.packet;
   header = r.header;
@@ -144,7 +144,7 @@ full e bytes r x request f = record {
   full = f.full;
 }
 
-acceptable : (e : EndpointView) (bytes : List ℕ) (r : Reading) → IsRead (home_of e) bytes r → IsRequestFor r.header → IsOpenTo e.listening e.links r → IsAcceptable e bytes
+acceptable : (e : EndpointView) (bytes : List ℕ) (r : ConnectionPacket) → IsRead (home_of e) bytes r → IsRequestFor r.header → IsOpenTo e.listening e.links r → IsAcceptable e bytes
 acceptable e bytes r x request o = record {
   packet = x.packet;
   header = r.header;
@@ -155,12 +155,12 @@ acceptable e bytes r x request o = record {
   room = o.room;
 }
 
-again_with : (e : EndpointView) (bytes : List ℕ) (r : Reading) (links : LinksView) (parts : List Part) (id : ℕ) → IsRead (home_of e) bytes r → IsRequestFor r.header → OwesReplyAgain e.links links r id → parts ≡ e.parts → IsAskedAgain e bytes id (heard_with e links parts None)
+again_with : (e : EndpointView) (bytes : List ℕ) (r : ConnectionPacket) (links : LinksView) (parts : List Part) (id : ℕ) → IsRead (home_of e) bytes r → IsRequestFor r.header → OwesReplyAgain e.links links r id → parts ≡ e.parts → IsAskedAgain e bytes id (heard_with e links parts None)
 again_with e bytes r links parts id x request a same =
     let P : List Part → Type 0 = λ ps. IsAskedAgain e bytes id (heard_with e links ps None) in
     subst P (sym same) (again e bytes r links id x request a)
 
-answers : (e : EndpointView) (bytes : List ℕ) (r : Reading) (now : ℕ) (links : LinksView) (parts : List Part) (a : Arrived) → IsRead (home_of e) bytes r → IsRequestFor r.header → IsAsked e.listening e.links links e.parts parts r now a → Answers e bytes now a (heard_with e links parts None)
+answers : (e : EndpointView) (bytes : List ℕ) (r : ConnectionPacket) (now : ℕ) (links : LinksView) (parts : List Part) (a : Arrived) → IsRead (home_of e) bytes r → IsRequestFor r.header → IsAsked e.listening e.links links e.parts parts r now a → Answers e bytes now a (heard_with e links parts None)
 answers e bytes r now links parts (Arriveds.Bad f) x request asked = absurd asked
 answers e bytes r now links parts Arriveds.NotOurs x request asked = absurd asked
 answers e bytes r now links parts (Arriveds.BadSpx f) x request asked = absurd asked
@@ -170,22 +170,22 @@ answers e bytes r now links parts Arriveds.Stranger x request asked = absurd ask
 answers e bytes r now links parts (Arriveds.Accepted id) x request asked = accepted e bytes r now links parts id x request asked
 answers e bytes r now links parts (Arriveds.Link id answer) x request asked = inl (again_with e bytes r links parts id x request asked.0 asked.2, asked.1)
 
-if_asked : {E : Type 0} (e : EndpointView) (bytes : List ℕ) (r : Reading) (now : ℕ) (links : LinksView) (parts : List Part) (result : Result Arrived E) → IsRead (home_of e) bytes r → IsRequestFor r.header → IfOk result (IsAsked e.listening e.links links e.parts parts r now) → IfOk result (λ a. Arrives e bytes now a (heard_with e links parts None))
+if_asked : {E : Type 0} (e : EndpointView) (bytes : List ℕ) (r : ConnectionPacket) (now : ℕ) (links : LinksView) (parts : List Part) (result : Result Arrived E) → IsRead (home_of e) bytes r → IsRequestFor r.header → IfOk result (IsAsked e.listening e.links links e.parts parts r now) → IfOk result (λ a. Arrives e bytes now a (heard_with e links parts None))
 if_asked {E} e bytes r now links parts (Ok a) x request asked = record { answers = answers e bytes r now links parts a x request asked; said = refl }
 if_asked {E} e bytes r now links parts (Err f) x request asked = tt
 
 -- a request was answered
-pub asked_arrives : {E : Type 0} (old e : EndpointView) → e ≡ old → (bytes : List ℕ) (r : Reading) (now : ℕ) (listening : List Listener) (links : LinksView) (parts : List Part) (result : Result Arrived E) → listening ≡ e.listening → IsRead (home_of e) bytes r → IsRequestFor r.header → IfOk result (IsAsked listening e.links links e.parts parts r now) → IfOk result (λ a. Arrives old bytes now a (heard_with e links parts None))
+pub asked_arrives : {E : Type 0} (old e : EndpointView) → e ≡ old → (bytes : List ℕ) (r : ConnectionPacket) (now : ℕ) (listening : List Listener) (links : LinksView) (parts : List Part) (result : Result Arrived E) → listening ≡ e.listening → IsRead (home_of e) bytes r → IsRequestFor r.header → IfOk result (IsAsked listening e.links links e.parts parts r now) → IfOk result (λ a. Arrives old bytes now a (heard_with e links parts None))
 asked_arrives {E} old e view bytes r now listening links parts result same x request asked =
     let P : EndpointView → Type 0 = λ o. IfOk result (λ a. Arrives o bytes now a (heard_with e links parts None)) in
     let Q : List Listener → Type 0 = λ ls. IfOk result (IsAsked ls e.links links e.parts parts r now) in
     subst P view (if_asked e bytes r now links parts result x request (subst Q same asked))
 
-if_acceptable : {A E : Type 0} (e : EndpointView) (bytes : List ℕ) (r : Reading) (result : Result A E) → IsRead (home_of e) bytes r → IsRequestFor r.header → OnErr result (IsOpenTo e.listening e.links r) → OnErr result (IsAcceptable e bytes)
+if_acceptable : {A E : Type 0} (e : EndpointView) (bytes : List ℕ) (r : ConnectionPacket) (result : Result A E) → IsRead (home_of e) bytes r → IsRequestFor r.header → OnErr result (IsOpenTo e.listening e.links r) → OnErr result (IsAcceptable e bytes)
 if_acceptable {A} {E} e bytes r (Ok a) x request open' = tt
 if_acceptable {A} {E} e bytes r (Err f) x request open' = acceptable e bytes r x request open'
 
-pub acceptable_if : {A E : Type 0} (old e : EndpointView) → e ≡ old → (bytes : List ℕ) (r : Reading) (listening : List Listener) (result : Result A E) → listening ≡ e.listening → IsRead (home_of e) bytes r → IsRequestFor r.header → OnErr result (IsOpenTo listening e.links r) → OnErr result (IsAcceptable old bytes)
+pub acceptable_if : {A E : Type 0} (old e : EndpointView) → e ≡ old → (bytes : List ℕ) (r : ConnectionPacket) (listening : List Listener) (result : Result A E) → listening ≡ e.listening → IsRead (home_of e) bytes r → IsRequestFor r.header → OnErr result (IsOpenTo listening e.links r) → OnErr result (IsAcceptable old bytes)
 acceptable_if {A} {E} old e view bytes r listening result same x request open' =
     let P : EndpointView → Type 0 = λ o. OnErr result (IsAcceptable o bytes) in
     let Q : List Listener → Type 0 = λ ls. OnErr result (IsOpenTo ls e.links r) in
@@ -194,7 +194,7 @@ acceptable_if {A} {E} old e view bytes r listening result same x request open' =
 -- ---- another packet
 
 -- the link of an id read it
-pub heard_arrives : (old e : EndpointView) → e ≡ old → (bytes : List ℕ) (r : Reading) (now : ℕ) (links : LinksView) (id : ℕ) (answer : Received) → IsRead (home_of e) bytes r → ¬ IsRequestFor r.header → IsReadBy e.links links r id answer → Arrives old bytes now (Arriveds.Link id answer) (heard_with e links e.parts (Some id))
+pub heard_arrives : (old e : EndpointView) → e ≡ old → (bytes : List ℕ) (r : ConnectionPacket) (now : ℕ) (links : LinksView) (id : ℕ) (answer : Received) → IsRead (home_of e) bytes r → ¬ IsRequestFor r.header → IsReadBy e.links links r id answer → Arrives old bytes now (Arriveds.Link id answer) (heard_with e links e.parts (Some id))
 heard_arrives old e view bytes r now links id answer x other h =
     let there : IsHeard e bytes id answer (heard_with e links e.parts (Some id)) = record {
       packet = x.packet;
@@ -216,7 +216,7 @@ heard_arrives old e view bytes r now links id answer x other h =
     subst P view (record { answers = inr there; said = refl })
 
 -- no link read it
-pub strange_arrives : (old e : EndpointView) → e ≡ old → (bytes : List ℕ) (r : Reading) (now : ℕ) (links : LinksView) → IsRead (home_of e) bytes r → ¬ IsRequestFor r.header → IsOfNobody e.links r → SameLinks e.links links → Arrives old bytes now Arriveds.Stranger (heard_with e links e.parts None)
+pub strange_arrives : (old e : EndpointView) → e ≡ old → (bytes : List ℕ) (r : ConnectionPacket) (now : ℕ) (links : LinksView) → IsRead (home_of e) bytes r → ¬ IsRequestFor r.header → IsOfNobody e.links r → SameLinks e.links links → Arrives old bytes now Arriveds.Stranger (heard_with e links e.parts None)
 strange_arrives old e view bytes r now links x other nobody same =
     let there : IsStrange e bytes = record {
       packet = x.packet;

@@ -11,13 +11,13 @@ use Rattle.spx_messages.specs.EndpointView.{EndpointView, Held, held_at, held_wi
 use Rattle.spx_messages.specs.Polls.{Polls, RestsAt, home_of}
 use Rattle.spx_messages.specs.EndpointTurns.{AllRest, IsPacketBetween, Rests, Turned, address_at}
 use Rattle.spx_messages.specs.declared.poll.turn.Given.{Given}
-use Rattle.spx_messages.specs.declared.poll.writing.Place.{Place}
+use Rattle.spx_messages.specs.declared.poll.writing.HostAddress.{HostAddress}
 
 -- an endpoint with other links, of which the last poll said this
 abbrev pub with_links : EndpointView → LinksView → Option (ℕ × Sent) → EndpointView
 with_links e links said = record e { links = links; said = said }
 
-abbrev pub place_of : EndpointView → Place
+abbrev pub place_of : EndpointView → HostAddress
 place_of e = record { network = e.network; node = e.node; router = e.router }
 
 -- ---- what is held where a link is

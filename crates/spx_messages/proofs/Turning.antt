@@ -6,7 +6,7 @@ use Rattle.spx_link.specs.LinkView.{LinkView}
 use Rattle.spx_link.specs.Links.{LinksView, link_at, polled, ChangesOnly, IsAbove, IsLeast, IsLive}
 use Rattle.spx_link.specs.Poll.{poll_link}
 use Rattle.spx_messages.specs.declared.poll.turn.Given.{Given}
-use Rattle.spx_messages.specs.declared.poll.writing.Place.{Place}
+use Rattle.spx_messages.specs.declared.poll.writing.HostAddress.{HostAddress}
 use Rattle.spx_messages.specs.EndpointTurns.{AllRest, GivesPacket, Rests, RestsTo, Turned}
 
 -- ---- options
@@ -161,7 +161,7 @@ gave_before old mid new now below next q l a ids c away least low at (inr over) 
     let le : q ≤ next = omega arith in
     absurd (away (least_is mid below next q least live over le))
 
-gave : (place : Place) (old mid new : LinksView) (now below next : ℕ) (g : Given) (bytes : List ℕ) → RestsTo old mid now below → HasIds mid → IsLeast (IsAbove mid below) next → IfSome (link_at mid next) (λ l. ChangesOnly mid new next (poll_link l now).1) → GivesPacket place mid next now g bytes → Turned place old new now g bytes
+gave : (place : HostAddress) (old mid new : LinksView) (now below next : ℕ) (g : Given) (bytes : List ℕ) → RestsTo old mid now below → HasIds mid → IsLeast (IsAbove mid below) next → IfSome (link_at mid next) (λ l. ChangesOnly mid new next (poll_link l now).1) → GivesPacket place mid next now g bytes → Turned place old new now g bytes
 gave place old mid new now below next g bytes a ids least changes gives =
     let over : below < next = least.holds.above in
     let is : g.id ≡ next = gives.giver in
@@ -197,6 +197,6 @@ gave place old mid new now below next g bytes a ids least changes gives =
       count = c.count ∙ a.count;
     }
 
-pub gave_if : (place : Place) (old mid new : LinksView) (now below next : ℕ) (r : Option Given) (bytes : Given → List ℕ) → RestsTo old mid now below → HasIds mid → IsLeast (IsAbove mid below) next → IfSome (link_at mid next) (λ l. ChangesOnly mid new next (poll_link l now).1) → IfSome r (λ g. GivesPacket place mid next now g (bytes g)) → IfSome r (λ g. Turned place old new now g (bytes g))
+pub gave_if : (place : HostAddress) (old mid new : LinksView) (now below next : ℕ) (r : Option Given) (bytes : Given → List ℕ) → RestsTo old mid now below → HasIds mid → IsLeast (IsAbove mid below) next → IfSome (link_at mid next) (λ l. ChangesOnly mid new next (poll_link l now).1) → IfSome r (λ g. GivesPacket place mid next now g (bytes g)) → IfSome r (λ g. Turned place old new now g (bytes g))
 gave_if place old mid new now below next None bytes a ids least changes gives = tt
 gave_if place old mid new now below next (Some g) bytes a ids least changes gives = gave place old mid new now below next g (bytes g) a ids least changes gives

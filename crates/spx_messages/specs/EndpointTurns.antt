@@ -11,14 +11,14 @@ use Rattle.spx_link.specs.LinkView.{LinkView}
 use Rattle.spx_link.specs.Links.{LinksView, count_of, link_at}
 use Rattle.spx_link.specs.Poll.{OutgoingView, poll_link}
 use Rattle.spx_messages.specs.declared.poll.turn.Given.{Given}
-use Rattle.spx_messages.specs.declared.poll.writing.Place.{Place}
+use Rattle.spx_messages.specs.declared.poll.writing.HostAddress.{HostAddress}
 
 -- a socket of a host
-abbrev pub address_at : Place → Socket → Address
+abbrev pub address_at : HostAddress → Socket → Address
 address_at p socket = record { network = p.network; node = p.node; socket = socket }
 
 -- the node that a packet goes to first
-abbrev pub node_towards : Place → Address → Node
+abbrev pub node_towards : HostAddress → Address → Node
 node_towards p to =
     if (to.network.0 == p.network.0) || (to.network.0 == 0) then to.node else p.router
 
@@ -33,7 +33,7 @@ pub record IsPacketBetween (from to : Address) (g : OutgoingView) (bytes : List 
   }) bytes []
 
 -- what the link of an id gave
-pub record GivesPacket (place : Place) (s : LinksView) (id now : ℕ) (g : Given)
+pub record GivesPacket (place : HostAddress) (s : LinksView) (id now : ℕ) (g : Given)
     (bytes : List ℕ) : Type 0 where
   pub link : LinkView
   pub given : OutgoingView
@@ -68,7 +68,7 @@ pub record AllRest (old new : LinksView) (now : ℕ) : Type 0 where
 
 -- the link of an id gave a packet: those below were asked and gave nothing, those above were not
 -- asked
-pub record Turned (place : Place) (old new : LinksView) (now : ℕ) (g : Given)
+pub record Turned (place : HostAddress) (old new : LinksView) (now : ℕ) (g : Given)
     (bytes : List ℕ) : Type 0 where
   pub gives : GivesPacket place old g.id now g bytes
   pub before : (q : ℕ) (l : LinkView) → q < g.id → link_at old q ≡ Some l

@@ -20,7 +20,7 @@ use Rattle.spx_messages.specs.declared.arrived.Arrived.{Arrived}
 use Rattle.spx_messages.specs.declared.arrived.Arrived.TheVariants as Arriveds
 use Rattle.spx_messages.specs.declared.listening.Listener.{Listener}
 use Rattle.spx_messages.specs.declared.parts.Part.{Part}
-use Rattle.spx_messages.specs.declared.receive.reading.Reading.{Reading}
+use Rattle.spx_messages.specs.declared.receive.reading.ConnectionPacket.{ConnectionPacket}
 
 -- a packet of a connection, to this host
 pub record IsTo (home : Home) (h : IpxHeader) : Type 0 where
@@ -29,7 +29,7 @@ pub record IsTo (home : Home) (h : IpxHeader) : Type 0 where
   pub network : (h.to.network ≡ home.network) ⊎ (h.to.network.0 ≡ 0)
 
 -- the datagram is read as this
-pub record IsRead (home : Home) (bytes : List ℕ) (r : Reading) : Type 0 where
+pub record IsRead (home : Home) (bytes : List ℕ) (r : ConnectionPacket) : Type 0 where
   pub packet : PacketView
   pub is : IsConnectionPacket packet r.header r.body.now bytes
   pub ours : IsTo home packet.header
@@ -67,7 +67,7 @@ pub record SameLinks (old new : LinksView) : Type 0 where
   pub count : count_of new ≡ count_of old
 
 -- the link of the id, between that socket and that address, read it
-pub record IsReadBy (old new : LinksView) (r : Reading) (id : ℕ) (answer : Received) : Type 0 where
+pub record IsReadBy (old new : LinksView) (r : ConnectionPacket) (id : ℕ) (answer : Received) : Type 0 where
   pub to : r.header.to_id ≡ id
   pub link : LinkView
   pub at : link_at old id ≡ Some link
@@ -78,13 +78,13 @@ pub record IsReadBy (old new : LinksView) (r : Reading) (id : ℕ) (answer : Rec
   pub changes : ChangesOnly old new id (receive_link link r.header r.body.now).1
 
 -- no link, or none that reads it
-abbrev pub IsOfNobody : LinksView → Reading → Type 0
+abbrev pub IsOfNobody : LinksView → ConnectionPacket → Type 0
 IsOfNobody s r =
     (l : LinkView) → link_at s r.header.to_id ≡ Some l → l.local ≡ r.to → l.remote ≡ r.from
     → (receive_link l r.header r.body.now).0 ≡ Receiveds.Stranger
 
 -- of the packets from an address and an id there, no link was accepted
-abbrev pub IsNew : LinksView → Reading → Type 0
+abbrev pub IsNew : LinksView → ConnectionPacket → Type 0
 IsNew s r = (id : ℕ) → ¬ IsAcceptedFrom s r.from r.header.from_id id
 
 -- the part of a message that came under an id is gone, and the others stay
@@ -93,26 +93,26 @@ pub record Forgets (old new : List Part) (id : ℕ) : Type 0 where
   pub others : (q : ℕ) → q ≢ id → rest_in new q ≡ rest_in old q
 
 -- a request came again: the link that it made owes its reply once more
-pub record OwesReplyAgain (old new : LinksView) (r : Reading) (id : ℕ) : Type 0 where
+pub record OwesReplyAgain (old new : LinksView) (r : ConnectionPacket) (id : ℕ) : Type 0 where
   pub least : IsLeast (IsAcceptedFrom old r.from r.header.from_id) id
   pub link : LinkView
   pub at : link_at old id ≡ Some link
   pub changes : ChangesOnly old new id (owe_reply_link link)
 
 -- no socket listens that the request is for
-pub record IsDeafTo (listening : List Listener) (s : LinksView) (r : Reading) : Type 0 where
+pub record IsDeafTo (listening : List Listener) (s : LinksView) (r : ConnectionPacket) : Type 0 where
   pub new : IsNew s r
   pub deaf : buffers_in listening r.to.0 ≡ None
 
 -- a socket listens, and each link is held that may be
-pub record IsFullFor (listening : List Listener) (s : LinksView) (r : Reading) : Type 0 where
+pub record IsFullFor (listening : List Listener) (s : LinksView) (r : ConnectionPacket) : Type 0 where
   pub new : IsNew s r
   pub buffers : ℕ
   pub listens : buffers_in listening r.to.0 ≡ Some buffers
   pub full : most_links ≤ count_of s
 
 -- a socket listens, and there is room for a link
-pub record IsOpenTo (listening : List Listener) (s : LinksView) (r : Reading) : Type 0 where
+pub record IsOpenTo (listening : List Listener) (s : LinksView) (r : ConnectionPacket) : Type 0 where
   pub new : IsNew s r
   pub buffers : ℕ
   pub listens : buffers_in listening r.to.0 ≡ Some buffers
@@ -120,7 +120,7 @@ pub record IsOpenTo (listening : List Listener) (s : LinksView) (r : Reading) : 
 
 -- a link is made of the request, with no part of a message
 pub record Accepts (listening : List Listener) (old new : LinksView) (before after : List Part)
-    (r : Reading) (now id : ℕ) : Type 0 where
+    (r : ConnectionPacket) (now id : ℕ) : Type 0 where
   pub room : IsOpenTo listening old r
   pub free : IsNextFree old id
   pub adds : Adds old new id (accepted_from id r.to r.from r.header room.buffers now)
@@ -132,7 +132,7 @@ pub record Unasked (old new : LinksView) (before after : List Part) : Type 0 whe
   pub parts : after ≡ before
 
 -- what a request is answered, and what it does
-abbrev pub IsAsked : List Listener → LinksView → LinksView → List Part → List Part → Reading → ℕ
+abbrev pub IsAsked : List Listener → LinksView → LinksView → List Part → List Part → ConnectionPacket → ℕ
     → Arrived → Type 0
 IsAsked listening old new before after r now (Arriveds.Bad f) = ⊥
 IsAsked listening old new before after r now Arriveds.NotOurs = ⊥

@@ -9,7 +9,7 @@ mod writing;
 
 use crate::endpoint::Endpoint;
 use crate::poll::turn::poll_links;
-use crate::poll::writing::Place;
+use crate::poll::writing::HostAddress;
 use ipx_wire::Node;
 
 impl Endpoint {
@@ -23,7 +23,7 @@ impl Endpoint {
         requires { spx_max_packet_size ≤ length room.old }
         ensures { Polls self.old now result room.old room.new self.new }
     {
-        let place = Place {
+        let place = HostAddress {
             network: self.network,
             node: self.node,
             router: self.router,

@@ -6,7 +6,7 @@ ghost use Rattle.spx_link.specs.Links.{ChangesOnly, IsLive, link_at, polled};
 ghost use Rattle.spx_link.specs.Poll.{poll_link};
 ghost use Rattle.spx_messages.specs.EndpointTurns.{AllRest, GivesPacket, Turned};
 
-use crate::poll::writing::{Place, write_packet};
+use crate::poll::writing::{HostAddress, write_packet};
 use ipx_wire::Node;
 use spx_link::{Links, Sent};
 
@@ -21,7 +21,7 @@ pub struct Given {
 }
 
 /// Asks the link of a live id, and writes the packet that it gives.
-fn poll_one(place: Place, links: &mut Links, id: u16, now: u64, room: &mut [u8]) -> Option<Given>
+fn poll_one(place: HostAddress, links: &mut Links, id: u16, now: u64, room: &mut [u8]) -> Option<Given>
     requires live { IsLive links.old id }
     requires room { spx_max_packet_size ≤ length room.old }
     ensures leaves { IfSome (link_at links.old id) (λ l.
@@ -47,7 +47,7 @@ fn poll_one(place: Place, links: &mut Links, id: u16, now: u64, room: &mut [u8])
 }
 
 /// Asks the links in the order of their ids, up to the first that gives a packet, and writes that.
-pub fn poll_links(place: Place, links: &mut Links, now: u64, room: &mut [u8]) -> Option<Given>
+pub fn poll_links(place: HostAddress, links: &mut Links, now: u64, room: &mut [u8]) -> Option<Given>
     requires room { spx_max_packet_size ≤ length room.old }
     ensures rests { IfNone result (AllRest links.old links.new now × (room.new ≡ room.old)) }
     ensures gives { IfSome result (λ g.

@@ -14,13 +14,13 @@ use spx_link::Outgoing;
 
 /// Where a host is, and the node that its packets for other networks go to.
 #[derive(Clone, Copy)]
-pub struct Place {
+pub struct HostAddress {
     pub network: Network,
     pub node: Node,
     pub router: Node,
 }
 
-impl Place {
+impl HostAddress {
     /// A socket of this host.
     pub fn at(self, socket: Socket) -> Address
         ensures { result ≡ spec.address_at self socket }

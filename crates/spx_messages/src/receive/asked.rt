@@ -7,7 +7,7 @@ ghost use Rattle.spx_messages.specs.Readings.{IsAsked, IsNew, IsOpenTo, Unasked}
 use crate::arrived::Arrived;
 use crate::listening::{Listener, buffers_of};
 use crate::parts::{Part, forget};
-use crate::receive::reading::Reading;
+use crate::receive::reading::ConnectionPacket;
 use ipx_wire::{OutOfMemory, SpxHeader};
 use spx_link::{Links, LinksFault, Received};
 use std::alloc::Global;
@@ -36,7 +36,7 @@ pub fn ask(
     links: &mut Links,
     parts: &mut Vec<Part>,
     alloc: Global,
-    reading: &Reading<'_>,
+    reading: &ConnectionPacket<'_>,
     now: u64,
 ) -> Result<Arrived, OutOfMemory>
     ensures asked { IfOk result (IsAsked listening.now links.old links.new
@@ -58,7 +58,7 @@ fn accept(
     links: &mut Links,
     parts: &mut Vec<Part>,
     alloc: Global,
-    reading: &Reading<'_>,
+    reading: &ConnectionPacket<'_>,
     now: u64,
 ) -> Result<Arrived, OutOfMemory>
     requires { IsNew links.old reading.now }

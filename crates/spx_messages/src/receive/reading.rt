@@ -10,7 +10,7 @@ use ipx_wire::{
 
 /// A packet of a connection, as a host reads it. Its body is lent from the datagram.
 #[derive(Clone, Copy)]
-pub struct Reading<'a> {
+pub struct ConnectionPacket<'a> {
     pub to: Socket,
     pub from: Address,
     pub header: SpxHeader,
@@ -29,7 +29,7 @@ fn is_to(header: &IpxHeader, network: Network, node: Node) -> bool
 
 /// The packet of a connection that a datagram is, to the host at this network and node. The error
 /// is the answer where it is none.
-pub fn read(network: Network, node: Node, bytes: &[u8]) -> Result<Reading<'_>, Arrived>
+pub fn read(network: Network, node: Node, bytes: &[u8]) -> Result<ConnectionPacket<'_>, Arrived>
     ensures read { IfOk result (IsRead (record { network = network; node = node }) bytes.now) }
     ensures unread { IfErr result (IsUnread (record { network = network; node = node }) bytes.now) }
 {
@@ -41,7 +41,7 @@ pub fn read(network: Network, node: Node, bytes: &[u8]) -> Result<Reading<'_>, A
         return Err(Arrived::NotOurs);
     }
     match decode_spx(packet.body) {
-        Ok((header, body)) => Ok(Reading {
+        Ok((header, body)) => Ok(ConnectionPacket {
             to: packet.header.to.socket,
             from: packet.header.from,
             header,

@@ -1,6 +1,6 @@
 use Rattle.std.proofs.Common.{rules, arith, Option, Some, subst}
 use Rattle.std.proofs.lemmas.Result.{err_from_is_err_and}
-use Rattle.ipx_carrier.specs.declared.segments.Sent.{Sent}
+use Rattle.ipx_carrier.specs.declared.segments.PacketSent.{PacketSent}
 use Rattle.ipx_carrier.specs.Parts.{SendsNext}
 use Rattle.ipx_carrier.specs.SendingView.{copies_view}
 use Rattle.ipx_carrier.specs.Segments.{count_in}
@@ -20,7 +20,7 @@ loop-asked-preserved g c =
     let t = g.S.Segments.traffic c.loop-asked.segments in
     let u = g.S.Segments.traffic c.send_next.new.segments in
     let next : SendsNext g.C.Core.gives c.args.now there t u c.loop-asked.core c.send_next.new.core (Some (count_in c.in-Some.sent)) =
-    subst (λ (o : Option Sent). SendsNext g.C.Core.gives c.args.now there t u c.loop-asked.core c.send_next.new.core (copies_view o)) c.in-Some.is c.in_ok-sent.ensures.sent in
+    subst (λ (o : Option PacketSent). SendsNext g.C.Core.gives c.args.now there t u c.loop-asked.core c.send_next.new.core (copies_view o)) c.in-Some.is c.in_ok-sent.ensures.sent in
     record {
       sent = sends_more_there g.C.Core.gives c.loop-asked._asked c.args.now ways there _ t u _ c.loop-asked.core c.send_next.new.core c.loop-asked.tally c.with_packet-tally.result (count_in c.in-Some.sent) c.loop-asked.invariant.ways c.loop-asked.invariant.sent next c.with_packet-tally.ensures.added;
       few = omega arith;

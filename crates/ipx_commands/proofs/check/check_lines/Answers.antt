@@ -5,7 +5,7 @@ use Rattle.std.specs.Slice.Iter as slice
 use Rattle.std.proofs.lemmas.Iterator.Consumers.{YieldsList-turn, YieldsList-end}
 use Rattle.std.proofs.lemmas.Iterator.Splits.{YieldsList-from_slice_split}
 use Rattle.std.proofs.lemmas.List.{length_push}
-use Rattle.ipx_commands.specs.declared.check.Verdict as code
+use Rattle.ipx_commands.specs.declared.check.VectorOutcome as code
 use Rattle.ipx_commands.specs.CheckLine.{Malformed, input_lines, line_form}
 use Rattle.ipx_commands.specs.Check.{IsVectorOutcome, vector_outcome_view}
 use Rattle.ipx_commands.proofs.Tallies.{checked_to_bad_line, checked_to_end, few_lines, lines_more}
@@ -30,7 +30,7 @@ loop-line-preserved c =
     let there = YieldsList-turn (YieldsList-from_slice_split _ (λ (b : ℕ). b == 10) c.args.input.now (ap slice.split_rest into ∙ c.split-line-items.ensures.rest) (ap slice.split_done into ∙ c.split-line-items.ensures.done) (ap slice.split_callee into ∙ c.split-line-items.ensures.closure) (λ x r q k. search (rules, tests)))
     c.loop-line.yielded _ c.loop-line.yielded_by _ _ c.in-Some.line c.in-Some.is c.next.ensures.steps in
     let v = vector_outcome_view c.in-Some-2.verdict in
-    let told = subst (λ (o : Option code.Verdict). MatchOption o (line_form line ≡ Malformed) (λ w. IsVectorOutcome (line_form line) (vector_outcome_view w))) c.in-Some-2.is c.in_ok-verdict.ensures in
+    let told = subst (λ (o : Option code.VectorOutcome). MatchOption o (line_form line ≡ Malformed) (λ w. IsVectorOutcome (line_form line) (vector_outcome_view w))) c.in-Some-2.is c.in_ok-verdict.ensures in
     let are = lines_more lines (length c.loop-line.yielded) line v inv.0 there.0 there.1 told inv.1 in (
       inv.0 ++ v ∷ [],
       subst (λ (k : ℕ). AllZip IsVectorOutcome (map line_form (take k lines)) (inv.0 ++ v ∷ [])) (sym (length_push c.loop-line.yielded c.in-Some.line)) are,
@@ -45,7 +45,7 @@ returns-in-None-2 c =
     let into = c.into_iter-line-iterator.ensures.into_iter_gives in
     let there = YieldsList-turn (YieldsList-from_slice_split _ (λ (b : ℕ). b == 10) c.args.input.now (ap slice.split_rest into ∙ c.split-line-items.ensures.rest) (ap slice.split_done into ∙ c.split-line-items.ensures.done) (ap slice.split_callee into ∙ c.split-line-items.ensures.closure) (λ x r q k. search (rules, tests)))
     c.loop-line.yielded _ c.loop-line.yielded_by _ _ c.in-Some.line c.in-Some.is c.next.ensures.steps in
-    let bad = subst (λ (o : Option code.Verdict). MatchOption o (line_form line ≡ Malformed) (λ w. IsVectorOutcome (line_form line) (vector_outcome_view w))) c.in-None-2.is c.in_ok-verdict.ensures in
+    let bad = subst (λ (o : Option code.VectorOutcome). MatchOption o (line_form line ≡ Malformed) (λ w. IsVectorOutcome (line_form line) (vector_outcome_view w))) c.in-None-2.is c.in_ok-verdict.ensures in
     checked_to_bad_line c.lines_at_bad_line.result (λ l. string_bytes l.0) (λ l. l.1) lines (length c.loop-line.yielded) line c.loop-line.tally inv.0 there.0 there.1 bad inv.1 inv.2 c.lines_at_bad_line.ensures
 
 pub returns : goal.returns
