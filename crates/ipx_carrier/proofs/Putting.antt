@@ -7,7 +7,7 @@ use borrow.Author.Tests.{leb-true}
 use Rattle.ipx_router.specs.RouterView.{RouterView}
 use Rattle.ipx_router.specs.declared.outcome.Reply.{Reply}
 use Rattle.ipx_router.specs.RouterPackets.{SendingView, sending_of, sendings}
-use Rattle.ipx_carrier.specs.declared.fates.OutcomeCounts.{OutcomeCounts}
+use Rattle.ipx_carrier.specs.declared.outcome_counts.OutcomeCounts.{OutcomeCounts}
 use Rattle.ipx_carrier.specs.Turns.{Given}
 use Rattle.ipx_carrier.specs.RouterCore.{AreGivable, CoreView, RouterGives, IsGivable, IsNotTold, Withholds, first_given, most_queued, put_in_queue}
 use Rattle.ipx_carrier.specs.Queued.{Puts, PutsStart, PutsTold}

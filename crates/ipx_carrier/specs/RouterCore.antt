@@ -10,7 +10,7 @@ use Rattle.ipx_router.specs.WantOfMemory.{WantsMemory}
 use Rattle.ipx_router.specs.Starting.{AreStarts}
 use Rattle.ipx_router.specs.Knowledge.{HoldsKnown, KeepsAllButOffers, known_at, tables}
 use Rattle.ipx_router.specs.Telling as telling
-use Rattle.ipx_carrier.specs.declared.fates.OutcomeCounts.{OutcomeCounts}
+use Rattle.ipx_carrier.specs.declared.outcome_counts.OutcomeCounts.{OutcomeCounts}
 use Rattle.ipx_carrier.specs.OutcomeCounts.{fated}
 use Rattle.ipx_carrier.specs.Turns.{Given}
 

@@ -4,7 +4,7 @@ ghost use Rattle.std.specs.Prelude.{◌≡◌, ◌≤◌, [], false, length};
 ghost use Rattle.ipx_carrier.specs.OutcomeCounts.{none};
 
 use crate::cores::Core;
-use crate::fates::OutcomeCounts;
+use crate::outcome_counts::OutcomeCounts;
 use crate::queue::{put_outcome, put_start, put_told, take_first};
 use ipx_router::{Reply, Router};
 use ipx_wire::{Node, OutOfMemory};

@@ -10,10 +10,10 @@ use Rattle.ipx_wire.specs.Spx.{IsSpx, spx_fault}
 use Rattle.ipx_control.specs.declared.fault.ControlFault.{ControlFault}
 use Rattle.ipx_control.specs.Rip.{RipView, IsRip, rip_fault, rip_view}
 use Rattle.ipx_control.specs.Sap.{SapView, IsSap, sap_fault, sap_view}
-use Rattle.ipx_commands.specs.declared.reading.Contents as code
-use Rattle.ipx_commands.specs.declared.reading.Contents.TheVariants as bodies
-use Rattle.ipx_commands.specs.declared.reading.Decoded as readings_of
-use Rattle.ipx_commands.specs.declared.reading.Decoded.TheVariants as readings
+use Rattle.ipx_commands.specs.declared.decoded.Contents as code
+use Rattle.ipx_commands.specs.declared.decoded.Contents.TheVariants as bodies
+use Rattle.ipx_commands.specs.declared.decoded.Decoded as readings_of
+use Rattle.ipx_commands.specs.declared.decoded.Decoded.TheVariants as readings
 
 -- what a body is read as
 pub data Protocol : Type 0 where

@@ -10,7 +10,7 @@ mod laws;
 mod line;
 mod output;
 mod place;
-mod reading;
+mod decoded;
 mod show;
 mod show_line;
 

@@ -6,7 +6,7 @@ ghost use Rattle.ipx_commands.specs.Output.{LeavesWritten};
 ghost use Rattle.ipx_commands.specs.Show.{ShowWrites, Shows};
 
 use crate::output::write_lines;
-use crate::reading::read_datagram;
+use crate::decoded::read_datagram;
 use crate::show_line::{reading_to_lines, reading_to_status};
 use hex::FromHexError;
 use ipx_wire::OutOfMemory;

@@ -10,7 +10,7 @@ ghost use Rattle.ipx_commands.specs.ShowLine.{address_text, bit_text, contents_l
 
 use crate::line::{control_fault_to_text, fault_to_text, spx_fault_to_text};
 use crate::place::place_of;
-use crate::reading::{Contents, Decoded};
+use crate::decoded::{Contents, Decoded};
 use ipx_control::{Rip, RipEntry, Sap, ServiceEntry};
 use ipx_wire::{Address, Packet, SpxHeader};
 use std::alloc::{AllocError, Global};

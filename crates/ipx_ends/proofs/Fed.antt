@@ -24,11 +24,11 @@ use Rattle.ipx_ends.specs.SendSteps.{FeedsOn, GoesOnOrEnds, IsFeedFault, IsStepF
 use Rattle.ipx_ends.specs.Transfer.{IsWaiting, IsWholeAt, ended_at, joined_at, left_at, state_at, verdict_at}
 use Rattle.ipx_carrier.specs.Turns.{Peers}
 use Rattle.ipx_ends.specs.Turning.{TakesTurn}
-use Rattle.ipx_ends.specs.declared.station.Activity.{Activity}
+use Rattle.ipx_ends.specs.declared.running_host.Activity.{Activity}
 use Rattle.ipx_ends.specs.declared.end_core.EndCore.{EndCore}
 use Rattle.ipx_ends.specs.declared.ledger.Ledger.{Ledger}
-use Rattle.ipx_ends.specs.declared.verdict.SendOutcome.{SendOutcome}
-use Rattle.ipx_ends.specs.declared.verdict.SendOutcome.TheVariants.{Unwaited}
+use Rattle.ipx_ends.specs.declared.send_outcome.SendOutcome.{SendOutcome}
+use Rattle.ipx_ends.specs.declared.send_outcome.SendOutcome.TheVariants.{Unwaited}
 
 -- ---- what came is taken
 

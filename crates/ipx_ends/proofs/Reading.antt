@@ -8,8 +8,8 @@ use Rattle.ipx_ends.specs.Books.{Enters, EntersRead}
 use Rattle.ipx_ends.specs.Feeding.{HandsIn, HandsOn, ReadsOn, intake}
 use Rattle.ipx_ends.specs.declared.end_core.EndCore.{EndCore}
 use Rattle.ipx_ends.specs.declared.ledger.Ledger.{Ledger}
-use Rattle.ipx_ends.specs.declared.verdict.SendOutcome.{SendOutcome}
-use Rattle.ipx_ends.specs.declared.verdict.SendOutcome.TheVariants as Verdicts
+use Rattle.ipx_ends.specs.declared.send_outcome.SendOutcome.{SendOutcome}
+use Rattle.ipx_ends.specs.declared.send_outcome.SendOutcome.TheVariants as Verdicts
 
 kept_bytes : (k k' : Option (List ℕ)) → Keeps k k' → Consumes k k' []
 kept_bytes None k' kept = tt

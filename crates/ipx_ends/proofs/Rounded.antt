@@ -16,8 +16,8 @@ use Rattle.ipx_ends.specs.SendSteps.{GoesOnOrEnds, IsStepFault, Sees}
 use Rattle.ipx_ends.specs.Transfer.{state_at}
 use Rattle.ipx_ends.specs.Turning.{TakesTurn}
 use Rattle.ipx_ends.specs.declared.end_core.EndCore.{EndCore}
-use Rattle.ipx_ends.specs.declared.verdict.SendOutcome.{SendOutcome}
-use Rattle.ipx_ends.specs.declared.verdict.SendOutcome.TheVariants.{Done}
+use Rattle.ipx_ends.specs.declared.send_outcome.SendOutcome.{SendOutcome}
+use Rattle.ipx_ends.specs.declared.send_outcome.SendOutcome.TheVariants.{Done}
 
 consumes_none : (a : Option (List ℕ)) → Consumes a a []
 consumes_none None = tt

@@ -18,7 +18,7 @@ use Rattle.ipx_ends.specs.declared.callers.Caller.{Caller}
 use Rattle.ipx_ends.specs.declared.end_core.EndCore.{EndCore}
 use Rattle.ipx_ends.specs.declared.listening.ListenOutcome.{ListenOutcome}
 use Rattle.ipx_ends.specs.declared.listening.ListenOutcome.TheVariants.{Ended, Lost, Unwritten, Unwaited}
-use Rattle.ipx_ends.specs.declared.station.Activity.{Activity}
+use Rattle.ipx_ends.specs.declared.running_host.Activity.{Activity}
 
 -- where it is between two steps: its clock and its core, its connections, what is left to write, and
 -- what its writer took, where that is known

@@ -14,9 +14,9 @@ use Rattle.ipx_ends.specs.Transfer.{IsWholeAt}
 use Rattle.ipx_ends.specs.Turning.{TakesTurn}
 use Rattle.ipx_ends.specs.declared.end_core.EndCore.{EndCore}
 use Rattle.ipx_ends.specs.declared.ledger.Ledger.{Ledger}
-use Rattle.ipx_ends.specs.declared.station.Activity.{Activity}
-use Rattle.ipx_ends.specs.declared.verdict.SendOutcome.{SendOutcome}
-use Rattle.ipx_ends.specs.declared.verdict.SendOutcome.TheVariants.{Done, GivenUp}
+use Rattle.ipx_ends.specs.declared.running_host.Activity.{Activity}
+use Rattle.ipx_ends.specs.declared.send_outcome.SendOutcome.{SendOutcome}
+use Rattle.ipx_ends.specs.declared.send_outcome.SendOutcome.TheVariants.{Done, GivenUp}
 
 -- where a run is: its clock and its core, what is noted of the connection, whether all is read,
 -- whether the end is queued, what is counted, and what the reader has left, where that is known

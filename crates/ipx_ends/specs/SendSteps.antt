@@ -10,8 +10,8 @@ use Rattle.ipx_ends.specs.Dropping.{DropsCame}
 use Rattle.ipx_ends.specs.Feeding.{Feeds, Intake, LeavesIntake}
 use Rattle.ipx_ends.specs.Transfer.{IsWaiting, IsWholeAt, ended_at, joined_at, left_at, state_at, verdict_at}
 use Rattle.ipx_ends.specs.declared.ledger.Ledger.{Ledger}
-use Rattle.ipx_ends.specs.declared.verdict.SendOutcome.{SendOutcome}
-use Rattle.ipx_ends.specs.declared.verdict.SendOutcome.TheVariants as Verdicts
+use Rattle.ipx_ends.specs.declared.send_outcome.SendOutcome.{SendOutcome}
+use Rattle.ipx_ends.specs.declared.send_outcome.SendOutcome.TheVariants as Verdicts
 
 -- what is noted of a connection: whether it was open, and when the end of its peer was seen
 pub record SeenSoFar : Type 0 where

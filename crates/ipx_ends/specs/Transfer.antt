@@ -6,8 +6,8 @@ use Rattle.spx_link.specs.declared.state.State.{State}
 use Rattle.spx_link.specs.declared.state.State.TheVariants.{Opening, Live, Ending}
 use Rattle.spx_link.specs.declared.state.State.TheVariants.{PeerEnded, Confirmed, Lost}
 use Rattle.spx_messages.specs.EndpointView.{EndpointView, Held, held_at}
-use Rattle.ipx_ends.specs.declared.verdict.SendOutcome.{SendOutcome}
-use Rattle.ipx_ends.specs.declared.verdict.SendOutcome.TheVariants as Verdicts
+use Rattle.ipx_ends.specs.declared.send_outcome.SendOutcome.{SendOutcome}
+use Rattle.ipx_ends.specs.declared.send_outcome.SendOutcome.TheVariants as Verdicts
 
 -- what a link that is whole or is not, and has a state or is gone, tells of a transfer: done where the
 -- peer has acknowledged all, the end too, and nowhere else; whether it confirmed that end as well does

@@ -7,7 +7,7 @@ use Rattle.ipx_carrier.specs.Runs.{EndsEarly, Runs}
 use Rattle.ipx_carrier.specs.Turns.{Given, Peers}
 use Rattle.ipx_ends.specs.Barring.{HearsAllowed}
 use Rattle.ipx_ends.specs.declared.end_core.EndCore.{EndCore}
-use Rattle.ipx_ends.specs.declared.station.Activity.{Activity}
+use Rattle.ipx_ends.specs.declared.running_host.Activity.{Activity}
 
 -- a core of one port hears all but requests of those who may not ask, gives and misses as its endpoint
 -- does, and withholds nothing. It notes what the datagram was that it heard last, and the moment

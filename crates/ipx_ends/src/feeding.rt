@@ -7,11 +7,11 @@ ghost use Rattle.std.specs.declared.io.ErrorKind.TheVariants.{Interrupted, Would
 ghost use Rattle.ipx_ends.specs.Books.{EntersRead};
 ghost use Rattle.ipx_ends.specs.Feeding.{Feeds, HandsOn, ReadsOn, intake};
 ghost use Rattle.ipx_ends.specs.SendSteps.{IsReadFault};
-ghost use Rattle.ipx_ends.specs.declared.verdict.SendOutcome.TheVariants as Verdicts;
+ghost use Rattle.ipx_ends.specs.declared.send_outcome.SendOutcome.TheVariants as Verdicts;
 
 use crate::handing::hand_in;
 use crate::sending::SendingHost;
-use crate::verdict::SendOutcome;
+use crate::send_outcome::SendOutcome;
 use log::Log;
 use std::alloc::Global;
 use std::io::{self, ErrorKind, Read};

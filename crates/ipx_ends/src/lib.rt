@@ -25,12 +25,12 @@ mod room;
 mod send;
 mod sending;
 mod start;
-mod station;
+mod running_host;
 mod taking;
 mod target;
 mod telling;
 mod tending;
-mod verdict;
+mod send_outcome;
 
 pub use checking::check_host;
 pub use listen::do_listen;

@@ -22,7 +22,7 @@ use crate::gate::Gate;
 use crate::leaving::{MOST_CALLERS, count_if, hear_caller, hold, make_room};
 use crate::outlet::{Outlet, WriteFault};
 use crate::start::StartFault;
-use crate::station::{RunningHost, Activity};
+use crate::running_host::{RunningHost, Activity};
 use crate::taking::take_each;
 use ipx_site::{Cause, HostFile, WaitFault};
 use log::Log;

@@ -19,7 +19,7 @@ ghost use Rattle.ipx_hosts.specs.Refusing.{CloseIsRefused, DialIsLeft, Overruns,
 
 use crate::end::EndNow;
 use crate::refusal::Refusal;
-use crate::station::HostState;
+use crate::host_state::HostState;
 use ipx_wire::{Address, Network, Node, OutOfMemory, Socket};
 use spx_link::{Sent, State, Unit};
 use spx_messages::{Arrived, EndFault, Message, MessageFault, Taken};

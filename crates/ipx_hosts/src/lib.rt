@@ -7,7 +7,7 @@
 mod end;
 mod hosts;
 mod refusal;
-mod station;
+mod host_state;
 
 pub use hosts::Hosts;
 pub use refusal::Refusal;

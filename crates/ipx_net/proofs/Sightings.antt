@@ -9,7 +9,7 @@ use Rattle.ipx_log.specs.Scan as Scans
 use Rattle.ipx_net.specs.LogEntries.{entry_note, entry_notes}
 use Rattle.ipx_net.specs.Sights.{role_view}
 use Rattle.ipx_net.specs.declared.entry.Entry.{Entry}
-use Rattle.ipx_net.specs.declared.mark.ParcelOrigin.{ParcelOrigin}
+use Rattle.ipx_net.specs.declared.parcel_origin.ParcelOrigin.{ParcelOrigin}
 use Rattle.ipx_net.specs.declared.role.Role.{Role}
 
 -- an element of a list of views

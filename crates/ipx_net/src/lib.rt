@@ -23,7 +23,7 @@ mod handed;
 mod happening;
 mod host;
 mod making;
-mod mark;
+mod parcel_origin;
 mod net;
 mod parcel;
 mod place;

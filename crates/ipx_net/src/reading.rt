@@ -1,6 +1,6 @@
 //! A packet that an end read.
 
-use crate::mark::Maker;
+use crate::parcel_origin::Maker;
 
 /// Of a packet that an end read: the end, who made the packet's origin, and the units that all ends
 /// sent for the first time since then, as a range of all units sent.

@@ -4,7 +4,7 @@ ghost use Rattle.std.specs.Prelude.{◌≡◌, false, true, None, map, set, slic
 ghost use Rattle.ipx_log.specs.Scan.{asker, joined_by, no_role};
 ghost use Rattle.ipx_net.specs.Sights.{maker_view, role_view};
 
-use crate::mark::Maker;
+use crate::parcel_origin::Maker;
 
 /// Of an end: its buffers, whether it called, whether it was made by a request or joined, and the
 /// end whose packet without a unit did that.

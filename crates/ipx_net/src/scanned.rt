@@ -4,7 +4,7 @@ ghost use Rattle.std.specs.Prelude.{◌<◌, ◌≤◌, All, length};
 ghost use Rattle.ipx_net.specs.Places.{AreListed};
 
 use crate::entry::Entry;
-use crate::mark::{Maker, ParcelOrigin, mark_at};
+use crate::parcel_origin::{Maker, ParcelOrigin, mark_at};
 use crate::places::UnitPlaces;
 use crate::reading::Reading;
 use crate::role::{Role, join_role};

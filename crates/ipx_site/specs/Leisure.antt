@@ -4,7 +4,7 @@ use Rattle.ipx_carrier.specs.RouterCore.{CoreView}
 use Rattle.ipx_router.specs.Telling.{is_due}
 use Rattle.ipx_site.specs.declared.figures.Figures.{Figures}
 use Rattle.ipx_site.specs.declared.peers.KeptBack.{KeptBack}
-use Rattle.ipx_site.specs.declared.tally.RouterCounts.{RouterCounts}
+use Rattle.ipx_site.specs.declared.router_counts.RouterCounts.{RouterCounts}
 use Rattle.ipx_site.specs.declared.troubles.Troubles.{Troubles}
 use Rattle.ipx_site.specs.Bursts.{counted}
 use Rattle.ipx_site.specs.Moments.{HasPassed, IsDue, IsToAskAgain}

@@ -15,7 +15,7 @@ use crate::site::{Accept, SiteFile, SitePort};
 use crate::sockets::SiteSockets;
 use crate::sparing::Sparing;
 use crate::start_lines::port_to_text;
-use crate::station::{Parts, RunningRouter};
+use crate::running_router::{Parts, RunningRouter};
 use ipx_carrier::{RouterCore, node_of};
 use ipx_router::{NewFault, Port, Router};
 use log::{Log, info, warn};

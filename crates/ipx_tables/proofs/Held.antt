@@ -13,7 +13,7 @@ use Rattle.std.proofs.lemmas.List.Edits.{length-remove, get_or-remove_below, get
 use Rattle.std.proofs.lemmas.List.{get_or_default}
 use Rattle.std.proofs.lemmas.Bool.{cases_lt}
 use Rattle.std.proofs.lemmas.Cmp.{then_total, on_total, nat_cmp_total}
-use Rattle.ipx_tables.specs.declared.mark.ExpiryKey.{ExpiryKey}
+use Rattle.ipx_tables.specs.declared.expiry_key.ExpiryKey.{ExpiryKey}
 use Rattle.ipx_tables.specs.ExpiryKeys.{mark_cmp}
 use Rattle.ipx_tables.proofs.Lists.{source_total}
 use Rattle.ipx_tables.specs.Sorted.{IsRising, IsAtKey, IsGapFor}

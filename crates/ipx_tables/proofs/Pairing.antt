@@ -13,7 +13,7 @@ use Rattle.std.proofs.lemmas.List.Folds.{Any-from_list_any}
 use Rattle.std.proofs.lemmas.Cmp.{alike_right, tied_itself}
 use Rattle.ipx_tables.specs.declared.source.Source.{Source}
 use Rattle.ipx_tables.specs.declared.offer.Offer.{Offer}
-use Rattle.ipx_tables.specs.declared.mark.ExpiryKey.{ExpiryKey}
+use Rattle.ipx_tables.specs.declared.expiry_key.ExpiryKey.{ExpiryKey}
 use Rattle.ipx_tables.specs.Content.{content, said_of, is_same, pair_of, pair_cmp}
 use Rattle.ipx_tables.specs.Expiry.{IsOldest}
 use Rattle.ipx_tables.specs.ExpiryKeys.{mark_at, mark_cmp, mark_itself, expiry_key_of, has_expiry_key, is_heard_at, AreAlike, IsPaired}

@@ -6,7 +6,7 @@ use Rattle.std.specs.declared.cmp.Ordering.{Ordering}
 use Rattle.std.specs.Ordering.{ordering_then, is_eq, nat_cmp}
 use Rattle.ipx_tables.specs.declared.source.Source.{Source}
 use Rattle.ipx_tables.specs.declared.offer.Offer.{Offer}
-use Rattle.ipx_tables.specs.declared.mark.ExpiryKey.{ExpiryKey}
+use Rattle.ipx_tables.specs.declared.expiry_key.ExpiryKey.{ExpiryKey}
 use Rattle.ipx_tables.specs.Content.{pair_of, pair_cmp, content, source_cmp}
 use Rattle.ipx_tables.specs.Sorted.{IsRising}
 

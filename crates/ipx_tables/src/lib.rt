@@ -10,7 +10,7 @@
 mod fault;
 mod finding;
 mod laws;
-mod mark;
+mod expiry_key;
 mod marks;
 mod metric;
 mod moments;

@@ -6,7 +6,7 @@ ghost use Rattle.std.specs.VecDeque.{deque_len, deque_capacity};
 ghost use Rattle.ipx_tables.specs.ExpiryKeys.{has_expiry_key, mark_cmp, mark_itself};
 ghost use Rattle.ipx_tables.specs.Sorted.{IsAtKey, IsGapFor, IsRising};
 
-use crate::mark::ExpiryKey;
+use crate::expiry_key::ExpiryKey;
 use std::cmp::Ordering;
 use std::collections::VecDeque;
 

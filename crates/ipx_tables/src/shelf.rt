@@ -6,7 +6,7 @@ ghost use Rattle.ipx_tables.specs.Content.{pair_cmp, pair_of};
 ghost use Rattle.ipx_tables.specs.Expiry.{IsOldest};
 ghost use Rattle.ipx_tables.specs.Sorted.{IsAtKey, IsGapFor, IsRising};
 
-use crate::mark::{ExpiryKey, mark_by};
+use crate::expiry_key::{ExpiryKey, mark_by};
 use crate::marks::{put_mark, unmark};
 use crate::offer::Offer;
 use crate::source::Source;

@@ -5,7 +5,7 @@ use Rattle.spx_link.specs.declared.state.State.TheVariants.{Live}
 use Rattle.ipx_ends.specs.Feeding.{Feeds, Intake, LeavesIntake, intake}
 use Rattle.ipx_ends.specs.declared.end_core.EndCore.{EndCore}
 use Rattle.ipx_ends.specs.Transfer.{ended_at, state_at}
-use Rattle.ipx_ends.specs.declared.verdict.SendOutcome.{SendOutcome}
+use Rattle.ipx_ends.specs.declared.send_outcome.SendOutcome.{SendOutcome}
 use Rattle.ipx_ends.proofs.Fed.{same_core, same_intake, sees, sees_later, stepped, turned, went_on}
 use Rattle.ipx_ends.proofs.sending.SendingHost.step.Goals as goal
 use Rattle.ipx_ends.proofs.sending.SendingHost.step.Goals.{then-eq+in_ok-fed, else-eq}

@@ -2,7 +2,7 @@ use Rattle.std.proofs.Common.{◌≡◌, ◌∙◌, ap, sym, Err, None}
 use Rattle.spx_messages.specs.EndpointView.{held_at}
 use Rattle.ipx_steps.specs.World.{HostState}
 use Rattle.ipx_hosts.proofs.Placing.{unheld}
-use Rattle.ipx_hosts.proofs.station.HostState.release.Goals as goal
+use Rattle.ipx_hosts.proofs.host_state.HostState.release.Goals as goal
 
 pub returns-in-Err-clause-done : goal.returns-in-Err-clause-done
 returns-in-Err-clause-done c =

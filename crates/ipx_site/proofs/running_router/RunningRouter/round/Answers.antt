@@ -2,7 +2,7 @@ use Rattle.std.proofs.Common.{◌∙◌, ap, arith, length}
 use Rattle.ipx_carrier.specs.Turns.{peers_of}
 use Rattle.ipx_site.specs.SitePeers.{kept_in}
 use Rattle.ipx_site.proofs.Rounds.{is_round}
-use Rattle.ipx_site.proofs.station.RunningRouter.round.Goals as goal
+use Rattle.ipx_site.proofs.running_router.RunningRouter.round.Goals as goal
 
 pub returns-clause-core : goal.returns-clause-core
 returns-clause-core g c =

@@ -2,7 +2,7 @@ use Rattle.std.proofs.Common.{◌≡◌, ◌≤◌, ◌∙◌, ℕ, ap, refl, sy
 use Rattle.ipx_site.specs.Leisure.{IsToDo, agenda, happened}
 use Rattle.ipx_site.specs.declared.clock.SteadyClock.{SteadyClock}
 use Rattle.ipx_site.proofs.Rounds.{goes_on, rests, sleeps}
-use Rattle.ipx_site.proofs.station.RunningRouter.step.Goals as goal
+use Rattle.ipx_site.proofs.running_router.RunningRouter.step.Goals as goal
 
 abbrev tells : {R : Type 0} → SteadyClock R → ℕ → SteadyClock R → Type 0
 tells old moment new = (old.last ≤ moment) × (new.last ≡ moment)

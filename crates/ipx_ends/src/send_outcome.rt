@@ -2,7 +2,7 @@
 
 ghost use Rattle.std.specs.Prelude.{◌≡◌, ◌≢◌, ◌↔◌, IsTrue, Some};
 ghost use Rattle.ipx_ends.specs.Transfer.{IsClosing, ended_at, verdict_at};
-ghost use Rattle.ipx_ends.specs.declared.verdict.SendOutcome.TheVariants as Verdicts;
+ghost use Rattle.ipx_ends.specs.declared.send_outcome.SendOutcome.TheVariants as Verdicts;
 
 use spx_link::State;
 

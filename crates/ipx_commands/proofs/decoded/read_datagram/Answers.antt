@@ -2,7 +2,7 @@ use Rattle.std.proofs.Common.{◌≡◌, Some, inl, inr, rules, subst, sym}
 use Rattle.ipx_wire.specs.Ipx.{packet_view}
 use Rattle.ipx_commands.specs.Decoded.{IsContents, Protocol, body_fault, contents_view}
 use Rattle.ipx_commands.proofs.Protocols.{protocol_of_other}
-use Rattle.ipx_commands.proofs.reading.read_datagram.Goals as goal
+use Rattle.ipx_commands.proofs.decoded.read_datagram.Goals as goal
 
 pub returns-in-Ok-contents_at : goal.returns-in-Ok-contents_at
 returns-in-Ok-contents_at c =

@@ -3,7 +3,7 @@ use Rattle.ipx_router.specs.Telling.{IsNextTelling}
 use Rattle.ipx_site.specs.Leisure.{IsLineDue, IsToDo, agenda, happened}
 use Rattle.ipx_site.specs.Moments.{HasPassed, IsReached, askings}
 use Rattle.ipx_site.proofs.Parts.{as_long, both, reached, regrouped, telling, then}
-use Rattle.ipx_site.proofs.station.RunningRouter.leisure.Goals as goal
+use Rattle.ipx_site.proofs.running_router.RunningRouter.leisure.Goals as goal
 
 pub returns : goal.returns
 returns g c =

@@ -2,7 +2,7 @@ use Rattle.std.proofs.Common.{◌≡◌, ◌≤◌, ap}
 use Rattle.ipx_carrier.specs.Turns.{peers_of}
 use Rattle.ipx_carrier.specs.declared.report.Report.{Report}
 use Rattle.ipx_ends.proofs.Turning.{broken_off, no_device}
-use Rattle.ipx_ends.proofs.station.Wire.run.Goals as goal
+use Rattle.ipx_ends.proofs.running_host.Wire.run.Goals as goal
 
 pub returns-in-Err-clause-fault : goal.returns-in-Err-clause-fault
 returns-in-Err-clause-fault g c =

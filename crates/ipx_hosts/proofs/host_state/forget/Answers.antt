@@ -2,7 +2,7 @@ use Rattle.std.proofs.Common.{◌≡◌, ◌≢◌, ℕ, List, not, ◌==◌, ru
 use Rattle.std.proofs.lemmas.Fn.{filter_same}
 use Rattle.ipx_steps.specs.World.{end_at}
 use Rattle.ipx_hosts.proofs.Known.{gone, stays, without}
-use Rattle.ipx_hosts.proofs.station.forget.Goals as goal
+use Rattle.ipx_hosts.proofs.host_state.forget.Goals as goal
 
 kept : (c : goal.After-retain) → c.retain.new.self.items ≡ without c.args.id c.args.here.now.items
 kept c =

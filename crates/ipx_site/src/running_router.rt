@@ -16,7 +16,7 @@ use crate::readiness::{Readiness, WaitFault};
 use crate::sockets::SiteSockets;
 use crate::sparing::Sparing;
 use crate::status::write_whole;
-use crate::tally::RouterCounts;
+use crate::router_counts::RouterCounts;
 use crate::troubles::Troubles;
 use crate::turns::{Burst, run_burst};
 use crate::watch::Known;
