@@ -10,8 +10,8 @@ use Rattle.ipx_log.proofs.Stepping.{Later, was_later}
 use Rattle.ipx_log.specs.Scan.{Mark, times, nowhere}
 use Rattle.ipx_log.specs.Peers.{end_of}
 use Rattle.ipx_log.specs.PairLog.{Half}
-use Rattle.ipx_pairs.specs.Tracks.{Formed, Follows}
-use Rattle.ipx_pairs.specs.Spelling.{Carries}
+use Rattle.theory_pairs.specs.Tracks.{Formed, Follows}
+use Rattle.theory_pairs.specs.Spelling.{Carries}
 use Rattle.ipx_log.specs.Scene.{Stand}
 use Rattle.ipx_log.proofs.Lists.{get_before, get_last, get_here, read_there}
 use Rattle.ipx_log.proofs.Tied.{mark_at, Letter, Tied}

@@ -14,7 +14,7 @@ use Rattle.ipx_log.specs.SentUnits.{sent_by}
 use Rattle.ipx_log.proofs.Growing.{IsAllowing, is_allowed, role_stays}
 use Rattle.ipx_log.proofs.GivenUnits.{GaveUnit, cut}
 use Rattle.ipx_log.proofs.WithPeers.{caller_within, callee_within}
-use Rattle.ipx_pairs.specs.Allowances.{GivesAs, SendsAs}
+use Rattle.theory_pairs.specs.Allowances.{GivesAs, SendsAs}
 use Rattle.ipx_log.proofs.WithoutPeers.{AloneReads, AloneAt, alone_before, alone_along}
 use Rattle.spx_link.specs.declared.outgoing.Sent.TheVariants as Sents
 use Rattle.ipx_log.specs.Below.{LawsBelow}

@@ -22,7 +22,7 @@ use Rattle.ipx_log.proofs.Lists.{get_last, get_set, times-append}
 use Rattle.ipx_log.proofs.Speaking.{eqb_same}
 use Rattle.ipx_log.proofs.Folding.{seen_all-append}
 use Rattle.ipx_log.proofs.Held.{calmed, outs_seen}
-use Rattle.ipx_pairs.specs.Lasting.{Lasting, lasting, NextBy, NextOf}
+use Rattle.theory_pairs.specs.Lasting.{Lasting, lasting, NextBy, NextOf}
 use Rattle.spx_link.specs.declared.outgoing.Sent.TheVariants as Sents
 use Rattle.spx_link.specs.declared.received.Received.TheVariants as Rs
 use Rattle.ipx_log.specs.Below.{LawsBelow}

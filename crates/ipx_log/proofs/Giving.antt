@@ -14,8 +14,8 @@ use Rattle.ipx_wire.specs.Connection.{IsConnectionPacket}
 use Rattle.ipx_log.specs.Scan.{Mark, times}
 use Rattle.ipx_log.specs.Peers.{end_of}
 use Rattle.ipx_log.specs.PairLog.{Half, not_mine}
-use Rattle.ipx_pairs.specs.Tracks.{core, Follows, IsOpen}
-use Rattle.ipx_pairs.specs.Spelling.{Spells, Carries, Says}
+use Rattle.theory_pairs.specs.Tracks.{core, Follows, IsOpen}
+use Rattle.theory_pairs.specs.Spelling.{Spells, Carries, Says}
 use Rattle.ipx_log.specs.Scene.{Stand, linked}
 use Rattle.ipx_log.proofs.Lists.{get_last}
 use Rattle.ipx_log.proofs.Tied.{mark_at, Letter, Whole}

@@ -5,7 +5,7 @@ use Rattle.ipx_log.specs.Scan.{scan, role_of}
 use Rattle.ipx_log.specs.Handed.{units_of, taken_of}
 use Rattle.spx_link.specs.LinkView.{LinkView}
 use Rattle.spx_link.specs.Machine.{End}
-use Rattle.ipx_pairs.specs.Tracks.{Follows}
+use Rattle.theory_pairs.specs.Tracks.{Follows}
 use Rattle.ipx_log.specs.PairLog.{Pair, new_half}
 use Rattle.ipx_log.proofs.Lists.{take_parts}
 use Rattle.ipx_log.specs.Scene.{Scene}

@@ -27,8 +27,8 @@ use Rattle.ipx_log.proofs.PairPremises.{all_grew}
 use Rattle.ipx_log.proofs.HeldReads.{notes_cases}
 use Rattle.ipx_log.proofs.NextFacts.{FactsAt}
 use Rattle.ipx_log.proofs.Along.{LogGrows, facts_along}
-use Rattle.ipx_pairs.specs.Confirmed.{ConfirmedIsDone, PollLeaves}
-use Rattle.ipx_pairs.specs.Tracks.{IsOpen, may_end}
+use Rattle.theory_pairs.specs.Confirmed.{ConfirmedIsDone, PollLeaves}
+use Rattle.theory_pairs.specs.Tracks.{IsOpen, may_end}
 use Rattle.spx_link.specs.declared.received.Received.TheVariants as R
 use Rattle.ipx_log.proofs.SenderScenes.{senders_along}
 use Rattle.spx_link.specs.declared.outgoing.Sent.TheVariants as Sents

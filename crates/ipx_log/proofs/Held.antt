@@ -9,7 +9,7 @@ use Rattle.spx_units.specs.Message.{MessageView}
 use Rattle.ipx_log.specs.Note.{Note}
 use Rattle.ipx_log.specs.Scan.{Scan, Mark, Role, seen, seen_all, scan, unread}
 use Rattle.ipx_log.specs.PairLog.{Half, Pair, pair_after, pair_from, pair_between}
-use Rattle.ipx_pairs.specs.States.{is_quiet}
+use Rattle.theory_pairs.specs.States.{is_quiet}
 use Rattle.ipx_log.specs.Scene.{Scene, Stand}
 use Rattle.ipx_log.specs.PacketsOnWay.{out_notes}
 use Rattle.ipx_log.proofs.Tied.{Whole}

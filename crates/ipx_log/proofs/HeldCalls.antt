@@ -10,8 +10,8 @@ use Rattle.spx_link.specs.Machine.{End}
 use Rattle.ipx_log.specs.Note.{Note, TakesUnit}
 use Rattle.ipx_log.specs.Scan.{Scan, seen}
 use Rattle.ipx_log.specs.PairLog.{Half, Pair, half_after, pair_after, one_taken, gained}
-use Rattle.ipx_pairs.specs.Tracks.{Formed, Follows}
-use Rattle.ipx_pairs.specs.States.{is_quiet}
+use Rattle.theory_pairs.specs.Tracks.{Formed, Follows}
+use Rattle.theory_pairs.specs.States.{is_quiet}
 use Rattle.ipx_log.specs.Scene.{Stand}
 use Rattle.ipx_log.proofs.Tied.{Whole}
 use Rattle.ipx_log.proofs.Moving.{other_end, this_end}

@@ -25,9 +25,9 @@ use Rattle.ipx_log.specs.Scan.{Scan, Role, seen, seen_all, mark_of, asker}
 use Rattle.ipx_log.specs.Peers.{end_of}
 use Rattle.ipx_log.proofs.OfTwo.{AreRoles}
 use Rattle.ipx_log.specs.PairLog.{Half, Pair, half_after, pair_from, got_mail, mail_of}
-use Rattle.ipx_pairs.specs.Tracks.{Formed, Follows}
-use Rattle.ipx_pairs.specs.Spelling.{Carries}
-use Rattle.ipx_pairs.specs.States.{is_quiet}
+use Rattle.theory_pairs.specs.Tracks.{Formed, Follows}
+use Rattle.theory_pairs.specs.Spelling.{Carries}
+use Rattle.theory_pairs.specs.States.{is_quiet}
 use Rattle.ipx_log.specs.Scene.{Stand}
 use Rattle.spx_units.specs.WrittenPackets.{IsRequestFor}
 use Rattle.ipx_log.proofs.Lists.{get_last, get_before, get_here, read_there}

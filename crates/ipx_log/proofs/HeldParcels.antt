@@ -14,9 +14,9 @@ use Rattle.ipx_log.specs.Note.{Note, SendsUnit, SendsAgain, SendsSystem}
 use Rattle.ipx_log.specs.Scan.{Scan, Mark, seen, ByUnit, BySystem}
 use Rattle.ipx_log.specs.Peers.{end_of}
 use Rattle.ipx_log.specs.PairLog.{Half, Pair, half_after, not_mine, posted, pair_after}
-use Rattle.ipx_pairs.specs.Spelling.{Spoke, PolledTo}
-use Rattle.ipx_pairs.specs.Tracks.{core}
-use Rattle.ipx_pairs.specs.States.{is_quiet}
+use Rattle.theory_pairs.specs.Spelling.{Spoke, PolledTo}
+use Rattle.theory_pairs.specs.Tracks.{core}
+use Rattle.theory_pairs.specs.States.{is_quiet}
 use Rattle.ipx_log.specs.Scene.{Stand, linked}
 use Rattle.ipx_log.specs.PacketsOnWay.{note_of}
 use Rattle.ipx_log.proofs.Tied.{Whole}

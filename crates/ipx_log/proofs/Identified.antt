@@ -14,7 +14,7 @@ use Rattle.ipx_log.proofs.Lists.{get_before, get_last, get_here, get_set}
 use Rattle.ipx_log.proofs.Held.{set_other, set_here}
 use Rattle.ipx_log.proofs.Tied.{mark_at}
 use Rattle.ipx_log.proofs.Adding.{mark_before, mark_here}
-use Rattle.ipx_pairs.specs.Names.{names}
+use Rattle.theory_pairs.specs.Names.{names}
 use Rattle.ipx_log.proofs.Identities.{Identity, Shows, IdentityIs, AreIdentities, DifferIn, IsFromOrOutside, AreFrom, IsTold, AreTold, IdentityLater, IdentitiesLater, identity_comes, identity_joins, are_from_later, are_told_later, identity_is_later}
 use Rattle.ipx_log.proofs.Lists.{same_element}
 

@@ -22,7 +22,7 @@ use Rattle.ipx_log.proofs.Folding.{seen_all-append}
 use Rattle.ipx_log.proofs.NextFacts.{FactsAt}
 use Rattle.ipx_log.proofs.HeldReads.{notes_cases}
 use Rattle.ipx_log.proofs.Speaking.{eqb_same}
-use Rattle.ipx_pairs.specs.Names.{Names, names}
+use Rattle.theory_pairs.specs.Names.{Names, names}
 use Rattle.ipx_log.proofs.Identities.{Identity, Shows, IdentityIs, IsFrom, IsFromOrOutside, IsTold, IdentityLater, HomesDiffer, HaveNetworks, ComesTo, answers, told_by}
 use Rattle.ipx_log.proofs.Identified.{Identified, IdentityOf, identity_of, identified_put, identified_got, identified_first, identified_new, identified_joined}
 use Rattle.spx_link.specs.declared.received.Received.TheVariants as Rs

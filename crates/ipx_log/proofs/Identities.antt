@@ -18,7 +18,7 @@ use Rattle.spx_units.specs.WrittenPackets.{Home}
 use Rattle.ipx_log.proofs.Lists.{get_before}
 use Rattle.ipx_log.proofs.Held.{set_other, set_here}
 use Rattle.ipx_log.proofs.Tied.{mark_at}
-use Rattle.ipx_pairs.specs.Names.{Names, names}
+use Rattle.theory_pairs.specs.Names.{Names, names}
 use Rattle.ipx_log.proofs.Lists.{same_element}
 
 pub record Identity : Type 0 where

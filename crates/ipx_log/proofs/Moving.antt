@@ -8,8 +8,8 @@ use Rattle.spx_link.specs.Machine.{End, Packet}
 use Rattle.ipx_log.proofs.Stepping.{Later, was_later}
 use Rattle.ipx_log.specs.Scan.{Mark}
 use Rattle.ipx_log.specs.PairLog.{Half}
-use Rattle.ipx_pairs.specs.Tracks.{Formed, Follows}
-use Rattle.ipx_pairs.specs.Spelling.{Carries}
+use Rattle.theory_pairs.specs.Tracks.{Formed, Follows}
+use Rattle.theory_pairs.specs.Spelling.{Carries}
 use Rattle.ipx_log.specs.Scene.{Stand, linked}
 use Rattle.ipx_log.proofs.Lists.{get_before, get_set}
 use Rattle.ipx_log.proofs.Tied.{Letter, Tied}

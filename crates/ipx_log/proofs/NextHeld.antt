@@ -17,9 +17,9 @@ use Rattle.ipx_log.specs.Note.{Note, Opened, Accepted, Got, HandsIn, AsksEnd, Ta
 use Rattle.ipx_log.specs.Scan.{Each, Scan, seen_all, scan, unread, ByRouter, FromOutside}
 use Rattle.ipx_log.proofs.OfTwo.{AreRoles, ReadsOf, PairPremises}
 use Rattle.ipx_log.specs.PairLog.{Half, Pair, pair_after, pair_from, pair_between}
-use Rattle.ipx_pairs.specs.Tracks.{Formed, core, Follows, may_end}
-use Rattle.ipx_pairs.specs.Spelling.{PolledTo}
-use Rattle.ipx_pairs.specs.States.{is_quiet}
+use Rattle.theory_pairs.specs.Tracks.{Formed, core, Follows, may_end}
+use Rattle.theory_pairs.specs.Spelling.{PolledTo}
+use Rattle.theory_pairs.specs.States.{is_quiet}
 use Rattle.ipx_log.specs.Scene.{Scene, Stand, linked}
 use Rattle.ipx_log.specs.PacketsOnWay.{note_of, notes_of, out_notes}
 use Rattle.spx_units.specs.WrittenPackets.{Home, IsWrittenPacket}

@@ -28,7 +28,7 @@ use Rattle.ipx_log.specs.Deeds.{Deed, DoesDeed, DoesDial, DoesGive, DoesCarry, D
 use Rattle.ipx_log.proofs.Bytes.{written_says}
 use Rattle.ipx_log.proofs.NextFacts.{FactsAt, given_mark}
 use Rattle.ipx_log.proofs.Held.{calmed, outs_seen, set_here}
-use Rattle.ipx_pairs.specs.Names.{Names, names, GaveNames, is_plain}
+use Rattle.theory_pairs.specs.Names.{Names, names, GaveNames, is_plain}
 use Rattle.ipx_log.proofs.Identities.{Identity, Shows, IdentityIs, IsFrom, IsFromOrOutside, HomesDiffer, HaveNetworks, address_at}
 use Rattle.ipx_log.proofs.Identified.{Identified, IdentityOf, identity_of, identified_put, identified_sent, identified_new}
 use Rattle.ipx_log.proofs.IdentifiedReads.{IdentifiedIn, IdentifiedAt, identified_at, opening_called, accepts, reads}

@@ -33,7 +33,7 @@ use Rattle.ipx_log.proofs.Speaking.{eqb_same}
 use Rattle.ipx_log.proofs.NextFacts.{FactsAt}
 use Rattle.ipx_log.proofs.Along.{facts_along}
 use Rattle.ipx_log.proofs.Growing.{IsPosted, posted_more, role_stays}
-use Rattle.ipx_pairs.specs.Allowances.{HasTakenAndFits, SameReceived, GivesAs, Took}
+use Rattle.theory_pairs.specs.Allowances.{HasTakenAndFits, SameReceived, GivesAs, Took}
 use Rattle.spx_link.specs.declared.outgoing.Sent.TheVariants as Sents
 use Rattle.spx_link.specs.declared.received.Received.TheVariants as R
 use Rattle.spx_link.specs.declared.state.State.TheVariants as S

@@ -17,7 +17,7 @@ use Rattle.ipx_wire.specs.Connection.{IsConnectionPacket}
 use Rattle.ipx_log.specs.Scan.{Mark, times}
 use Rattle.ipx_log.specs.Peers.{end_of}
 use Rattle.ipx_log.specs.PairLog.{Half, mail_of, got_mail}
-use Rattle.ipx_pairs.specs.Tracks.{Formed, Follows}
+use Rattle.theory_pairs.specs.Tracks.{Formed, Follows}
 use Rattle.ipx_log.specs.Scene.{Stand, linked}
 use Rattle.ipx_log.proofs.Lists.{read_there, times-parts}
 use Rattle.std.proofs.lemmas.List.{append-nil}

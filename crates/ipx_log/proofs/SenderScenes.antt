@@ -24,7 +24,7 @@ use Rattle.ipx_log.specs.Deeds.{Deed, DoesDeed, Dials, Accepts, Reads, OwesReply
 use Rattle.ipx_log.specs.PacketsOnWay.{note_of, notes_of, out_notes}
 use Rattle.spx_units.specs.WrittenPackets.{Home, IsWrittenPacket}
 use Rattle.ipx_log.specs.SentUnits.{sent_by, IsUnitPacket, CarriesUnit, UnitsAreSentInOrder, LinksSendInOrder, PositionsAreGreatest}
-use Rattle.ipx_pairs.specs.PairQueues.{SendsFrom, Queues, GivesUnit, IsGivenOut, PolledFrom}
+use Rattle.theory_pairs.specs.PairQueues.{SendsFrom, Queues, GivesUnit, IsGivenOut, PolledFrom}
 use Rattle.ipx_log.proofs.Lists.{get_last, get_set, get_here, read_there, times-append}
 use Rattle.ipx_log.proofs.Bytes.{written_says}
 use Rattle.ipx_log.proofs.Folding.{seen_all-append}

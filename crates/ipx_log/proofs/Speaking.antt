@@ -16,8 +16,8 @@ use Rattle.ipx_wire.specs.Connection.{sequence_in}
 use Rattle.ipx_log.specs.Note.{Note, SendsUnit, SendsAgain, SendsSystem}
 use Rattle.ipx_log.specs.Scan.{Scan, Mark, times, seen, ByUnit, BySystem}
 use Rattle.ipx_log.specs.PairLog.{Half, half_after, not_mine, posted, posted_next, position_of}
-use Rattle.ipx_pairs.specs.Spelling.{Says, Spoke}
-use Rattle.ipx_pairs.specs.Tracks.{core, IsOpen}
+use Rattle.theory_pairs.specs.Spelling.{Says, Spoke}
+use Rattle.theory_pairs.specs.Tracks.{core, IsOpen}
 use Rattle.ipx_log.specs.Scene.{Stand, linked}
 use Rattle.ipx_log.specs.PacketsOnWay.{note_of}
 use Rattle.ipx_log.proofs.Lists.{times-append, read_there, get_here}

@@ -9,7 +9,7 @@ use Rattle.ipx_log.proofs.Running.{gained_runs, taken_runs}
 use Rattle.ipx_log.proofs.Stepping.{taken_sound, gained_sound}
 use Rattle.ipx_log.specs.Scan.{Mark}
 use Rattle.ipx_log.specs.PairLog.{Half, one_taken, gained}
-use Rattle.ipx_pairs.specs.Tracks.{Formed, Follows}
+use Rattle.theory_pairs.specs.Tracks.{Formed, Follows}
 use Rattle.ipx_log.specs.Scene.{Stand}
 use Rattle.ipx_log.proofs.Lists.{get_before}
 use Rattle.ipx_log.proofs.Tied.{Whole}

@@ -16,7 +16,7 @@ use Rattle.ipx_log.specs.Scan.{Scan, Reading, scan, role_of}
 use Rattle.ipx_log.specs.Peers.{AreJoined, ArePeersIn, Premises, FromOwnPeer}
 use Rattle.ipx_log.specs.Handed.{handed_in, handed_out, units_of, taken_of}
 use Rattle.ipx_log.specs.PairLog.{Pair, new_half}
-use Rattle.ipx_pairs.specs.Tracks.{Formed, Follows}
+use Rattle.theory_pairs.specs.Tracks.{Formed, Follows}
 use Rattle.ipx_log.specs.Scene.{Scene, Stand, Stands}
 use Rattle.ipx_log.specs.Deeds.{Reached}
 use Rattle.ipx_log.specs.InStep.{pair_in, PeersFollow}
@@ -28,7 +28,7 @@ use Rattle.ipx_log.proofs.PairPremises.{to_pair}
 use Rattle.ipx_log.proofs.Telling.{AreOk, Said}
 use Rattle.ipx_log.proofs.Ranges.{in_range}
 use Rattle.ipx_log.proofs.Along.{held_along, joined_differ}
-use Rattle.ipx_pairs.specs.Confirmed.{HasAllAcknowledged}
+use Rattle.theory_pairs.specs.Confirmed.{HasAllAcknowledged}
 use Rattle.ipx_log.proofs.WholeUnits.{whole_joined, joined_on, taken_there}
 use Rattle.ipx_log.proofs.Heard.{HasRead, heard_along}
 use Rattle.ipx_log.specs.Below.{LawsBelow}

@@ -11,8 +11,8 @@ use Rattle.ipx_wire.specs.Connection.{IsConnectionPacket}
 use Rattle.ipx_log.specs.Scan.{Mark, times, nowhere}
 use Rattle.ipx_log.specs.Peers.{end_of}
 use Rattle.ipx_log.specs.PairLog.{Half}
-use Rattle.ipx_pairs.specs.Tracks.{Formed, Follows}
-use Rattle.ipx_pairs.specs.Spelling.{Spells, Carries}
+use Rattle.theory_pairs.specs.Tracks.{Formed, Follows}
+use Rattle.theory_pairs.specs.Spelling.{Spells, Carries}
 use Rattle.ipx_log.specs.Scene.{Stand}
 
 abbrev pub mark_at : List Mark → ℕ → Mark

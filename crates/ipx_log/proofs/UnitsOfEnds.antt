@@ -14,7 +14,7 @@ use Rattle.spx_link.specs.Offer.{refusal, the_end}
 use Rattle.spx_link.specs.Receive.{receive_link}
 use Rattle.spx_units.specs.Message.{MessageView}
 use Rattle.spx_units.specs.Cut.{cut_of}
-use Rattle.ipx_pairs.specs.Tracks.{Formed, may_end}
+use Rattle.theory_pairs.specs.Tracks.{Formed, may_end}
 use Rattle.ipx_log.specs.Below.{LawsBelow}
 use Rattle.ipx_log.specs.Note.{Note, HandsIn, AsksEnd, TakesUnit}
 use Rattle.ipx_log.specs.Handed.{in_by, units_by, handed_in, units_of}

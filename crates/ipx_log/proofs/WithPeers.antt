@@ -7,8 +7,8 @@ use Rattle.ipx_log.specs.Scan.{scan, role_of}
 use Rattle.ipx_log.specs.Peers.{AreJoined, Premises}
 use Rattle.ipx_log.proofs.OfTwo.{PairPremises}
 use Rattle.ipx_log.specs.PairLog.{Half, pair_between}
-use Rattle.ipx_pairs.specs.Spelling.{Spoke, PolledTo}
-use Rattle.ipx_pairs.specs.Tracks.{core}
+use Rattle.theory_pairs.specs.Spelling.{Spoke, PolledTo}
+use Rattle.theory_pairs.specs.Tracks.{core}
 use Rattle.ipx_log.specs.Scene.{Scene}
 use Rattle.ipx_log.specs.Deeds.{Reached}
 use Rattle.ipx_log.specs.SentUnits.{sent_by}

@@ -20,7 +20,7 @@ use Rattle.ipx_wire.specs.Connection.{IsConnectionPacket}
 use Rattle.ipx_log.specs.Note.{Note, Opened, Accepted, Joined, HandsIn, TakesUnit, AsksEnd, Got, Released, Told, Carried, Injected}
 use Rattle.ipx_log.specs.Scan.{Each, times, Scan, Mark, Reading, FromOutside, seen, seen_all, scan, unread, mark_of, role_of, is_now}
 use Rattle.ipx_log.specs.Handed.{taken_by, taken_of, handed_out, out_by}
-use Rattle.ipx_pairs.specs.States.{is_quiet}
+use Rattle.theory_pairs.specs.States.{is_quiet}
 use Rattle.ipx_log.specs.Scene.{Scene, Stand, Stands, linked}
 use Rattle.ipx_log.specs.Deeds.{Deed, DoesDeed, Dials, Accepts, Reads, OwesReply, Gives, Rests, Sends, Takes, Overruns, Closes, Releases, Carries, Tells, Injects, Reached, begun, happened}
 use Rattle.ipx_log.specs.PacketsOnWay.{note_of, notes_of, out_notes}
@@ -35,7 +35,7 @@ use Rattle.ipx_log.proofs.Gathering.{gathered-append}
 use Rattle.ipx_log.proofs.NextFacts.{FactsAt}
 use Rattle.ipx_log.proofs.Along.{facts_along, log_grows}
 use Rattle.ipx_log.proofs.Growing.{IsPosted, IsAllowing, allowing_more, posted_more, mark_stays, role_stays}
-use Rattle.ipx_pairs.specs.Allowances.{GivesAs, SendsAs, Took}
+use Rattle.theory_pairs.specs.Allowances.{GivesAs, SendsAs, Took}
 use Rattle.ipx_log.proofs.PacketsAllow.{SidesAt, sides_along, IsSilent, read_silent, read_scan, posting}
 use Rattle.spx_link.specs.declared.outgoing.Sent.TheVariants as Sents
 use Rattle.spx_link.specs.declared.state.State.TheVariants as S

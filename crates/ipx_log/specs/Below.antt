@@ -1,18 +1,18 @@
 -- What is proved below of bytes, of the machine and of one link, as the proofs here are given it:
--- each field is a clause of a public function of `ipx_wire`, `spx_link` or `ipx_pairs`.
+-- each field is a clause of a public function of `ipx_wire`, `spx_link` or `theory_pairs`.
 use Rattle.std.specs.Prelude.{ℕ, ◌≡◌, List}
 use Rattle.ipx_wire.specs.Connection.{IsConnectionPacket, sequence_in}
 use Rattle.ipx_wire.specs.Ipx.{PacketView, IsIpx}
 use Rattle.ipx_wire.specs.Spx.{IsSpx}
 use Rattle.ipx_wire.specs.declared.spx.packet.SpxHeader.{SpxHeader}
 use Rattle.spx_link.specs.Machine.{End, Machine, Packet, Step, Grows, IsRun, IsStep, WasSent, AreSound, new_end, got}
-use Rattle.ipx_pairs.specs.Allowances.{AllowanceLaws}
-use Rattle.ipx_pairs.specs.Confirmed.{CloseLaws}
-use Rattle.ipx_pairs.specs.Lasting.{LastingLaws}
-use Rattle.ipx_pairs.specs.Names.{NameLaws}
-use Rattle.ipx_pairs.specs.PairQueues.{QueueLaws}
-use Rattle.ipx_pairs.specs.States.{StateLaws}
-use Rattle.ipx_pairs.specs.PairSteps.{StepLaws}
+use Rattle.theory_pairs.specs.Allowances.{AllowanceLaws}
+use Rattle.theory_pairs.specs.Confirmed.{CloseLaws}
+use Rattle.theory_pairs.specs.Lasting.{LastingLaws}
+use Rattle.theory_pairs.specs.Names.{NameLaws}
+use Rattle.theory_pairs.specs.PairQueues.{QueueLaws}
+use Rattle.theory_pairs.specs.States.{StateLaws}
+use Rattle.theory_pairs.specs.PairSteps.{StepLaws}
 
 pub record LawsBelow : Type 0 where
   -- bytes are one packet at most

@@ -9,7 +9,7 @@ use Rattle.spx_link.specs.SequenceMarks.{mark}
 use Rattle.spx_link.specs.Receive.{is_system}
 use Rattle.spx_link.specs.Units.{unit_in}
 use Rattle.ipx_wire.specs.Connection.{IsConnectionPacket, sequence_in}
-use Rattle.ipx_pairs.specs.PairQueues.{SendsFrom}
+use Rattle.theory_pairs.specs.PairQueues.{SendsFrom}
 use Rattle.ipx_log.specs.Note.{Note, SendsUnit, SendsAgain}
 use Rattle.ipx_log.specs.Scan.{times, scan}
 use Rattle.ipx_log.specs.Handed.{units_of}

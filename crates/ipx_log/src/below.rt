@@ -2,7 +2,7 @@
 
 ghost use Rattle.ipx_log.specs.Below.{LawsBelow};
 
-use ipx_pairs::{
+use theory_pairs::{
     calls_are_steps, calls_keep_names, calls_keep_what_lasts, confirmed_links_are_done,
     links_send_their_queue, packets_allow_what_was_taken, states_go_on,
 };

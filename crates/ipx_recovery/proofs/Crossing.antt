@@ -7,14 +7,14 @@ use Rattle.spx_link.specs.Limits.{most_sends}
 use Rattle.spx_link.specs.LinkView.{LinkView, due, is_working}
 use Rattle.spx_link.specs.Machine.{End, got, packet_now}
 use Rattle.spx_link.specs.LinkTurns.{is_joined}
-use Rattle.ipx_pairs.specs.Tracks.{IsOpen}
+use Rattle.theory_pairs.specs.Tracks.{IsOpen}
 use Rattle.ipx_recovery.specs.LinkLaws.{LinkLaws}
 use Rattle.ipx_recovery.specs.LosslessRounds.{Conveys, stops, goes}
 use Rattle.ipx_recovery.proofs.PollCases.{IsResting}
 use Rattle.ipx_recovery.proofs.Ending.{not_yet}
-use Rattle.ipx_pairs.specs.Spelling.{PolledTo}
-use Rattle.ipx_pairs.specs.Tracks.{core}
-use Rattle.ipx_pairs.specs.PairSteps.{Polled}
+use Rattle.theory_pairs.specs.Spelling.{PolledTo}
+use Rattle.theory_pairs.specs.Tracks.{core}
+use Rattle.theory_pairs.specs.PairSteps.{Polled}
 use Rattle.spx_link.specs.Limits.{most_units}
 use Rattle.spx_link.specs.Offer.{the_end, queued}
 use Rattle.spx_link.specs.Poll.{late, late_if_working, is_waiting}

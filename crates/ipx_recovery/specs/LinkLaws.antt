@@ -1,13 +1,13 @@
 -- What is proved below of the machine and of one link, as the proofs here are given it: each field is
--- a clause of a public function of `spx_link` or `ipx_pairs`.
+-- a clause of a public function of `spx_link` or `theory_pairs`.
 use Rattle.std.specs.Prelude.{ℕ}
 use Rattle.spx_link.specs.PolledPackets.{StaysOrIsLost}
 use Rattle.spx_link.specs.LinkView.{LinkView}
 use Rattle.spx_link.specs.Poll.{poll_link}
 use Rattle.spx_link.specs.Units.{SameEndings, SameUnits}
 use Rattle.spx_link.specs.Machine.{End, Machine, Packet, Step, IsStep, WasSent, AreSound, got}
-use Rattle.ipx_pairs.specs.Allowances.{AllowanceLaws}
-use Rattle.ipx_pairs.specs.PairSteps.{StepLaws}
+use Rattle.theory_pairs.specs.Allowances.{AllowanceLaws}
+use Rattle.theory_pairs.specs.PairSteps.{StepLaws}
 
 pub record LinkLaws : Type 0 where
   -- the machine, a step at a time

@@ -7,7 +7,7 @@ use Rattle.spx_link.specs.declared.state.State.TheVariants as States
 use Rattle.spx_link.specs.Limits.{end_stream, most_sends}
 use Rattle.spx_link.specs.LinkView.{LinkView}
 use Rattle.spx_link.specs.Machine.{End, AreSound}
-use Rattle.ipx_pairs.specs.Tracks.{Follows}
+use Rattle.theory_pairs.specs.Tracks.{Follows}
 use Rattle.ipx_log.specs.Named.{AreNamed}
 use Rattle.ipx_recovery.specs.LosslessRounds.{LosslessRounds, rounds_for}
 
