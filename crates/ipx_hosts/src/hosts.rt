@@ -4,7 +4,7 @@ ghost use Rattle.std.specs.Prelude.{◌≡◌, ◌≢◌, ◌<◌, ◌≤◌, �
 ghost use Rattle.ipx_wire.specs.Assigned.{spx_max_packet_size};
 ghost use Rattle.spx_link.specs.Limits.{most_units};
 ghost use Rattle.spx_units.specs.Message.{message_view};
-ghost use Rattle.ipx_log.specs.Note.{AsksEnd, HandsIn, Opened, Released};
+ghost use Rattle.theory_log.specs.Note.{AsksEnd, HandsIn, Opened, Released};
 ghost use Rattle.ipx_steps.specs.EndCalls.{Closes, DialsFrom, ReleasesOf, SendsTo};
 ghost use Rattle.ipx_steps.specs.HostSteps.{TakesOf, buffers_of, unit_notes, whole_notes};
 ghost use Rattle.ipx_steps.specs.World.{end_at};

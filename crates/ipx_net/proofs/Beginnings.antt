@@ -8,7 +8,7 @@ use Rattle.std.proofs.lemmas.List.Elements.{filter_map-append}
 use Rattle.ipx_wire.specs.declared.address.Network.{Network}
 use Rattle.ipx_wire.specs.declared.address.Socket.{Socket}
 use Rattle.spx_link.specs.Limits.{most_units}
-use Rattle.ipx_log.specs.Deeds.{Reached}
+use Rattle.theory_log.specs.Deeds.{Reached}
 use Rattle.ipx_hosts.specs.HostBeginnings.{AddsHost, listens_at}
 use Rattle.ipx_hosts.specs.Hosts.{HostsView, world_of}
 use Rattle.ipx_router.specs.NewRouter.{ports_fault}

@@ -8,7 +8,7 @@ use Rattle.spx_link.specs.declared.outgoing.Sent.{Sent}
 use Rattle.spx_link.specs.declared.unit.Unit.{Unit}
 use Rattle.spx_messages.specs.declared.fault.EndFault.{EndFault}
 use Rattle.spx_messages.specs.Taking.{TakenView, overlong}
-use Rattle.ipx_log.specs.Note.{Note}
+use Rattle.theory_log.specs.Note.{Note}
 use Rattle.ipx_steps.specs.HostSteps.{TakesOf, said_notes, given_notes, unit_notes, whole_notes}
 use Rattle.ipx_steps.specs.EndCalls.{RefusesAt}
 use Rattle.ipx_steps.specs.World.{AtHost, ParcelView, HostState, World, end_at}

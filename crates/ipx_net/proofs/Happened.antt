@@ -12,9 +12,9 @@ use Rattle.ipx_router.specs.OutcomeView as Outcomes
 use Rattle.ipx_router.specs.RouterPackets.{AreOwn, SendingView}
 use Rattle.ipx_router.specs.RouterView.{RouterView}
 use Rattle.ipx_router.specs.declared.port.Port.{Port}
-use Rattle.ipx_log.specs.Note.{Note}
-use Rattle.ipx_log.specs.Note as Notes
-use Rattle.ipx_log.specs.PacketsOnWay.{IsOneOn}
+use Rattle.theory_log.specs.Note.{Note}
+use Rattle.theory_log.specs.Note as Notes
+use Rattle.theory_log.specs.PacketsOnWay.{IsOneOn}
 use Rattle.ipx_steps.specs.Routers.{GivesOwnLetters, told_notes}
 use Rattle.ipx_steps.specs.World.{ParcelView, World}
 use Rattle.ipx_hosts.specs.Hosts.{HostsView, world_of}

@@ -5,21 +5,21 @@ use Rattle.std.proofs.lemmas.Bool.{cond-false}
 use Rattle.ipx_wire.specs.declared.address.Network.{Network}
 use Rattle.spx_units.specs.WrittenPackets.{Home}
 use Rattle.spx_messages.specs.EndpointView.{Held}
-use Rattle.ipx_log.specs.Addresses.{AddressesTellPeers}
-use Rattle.ipx_log.specs.Allocation.{AloneReadsNothing, WithinAllocation}
-use Rattle.ipx_log.specs.Carried.{RoutersAlterHopsAlone}
-use Rattle.ipx_log.specs.Close.{AcknowledgedIsRead, ConfirmedIsRead, EndTakenIsWhole}
-use Rattle.ipx_log.specs.Deeds.{Reached}
-use Rattle.ipx_log.specs.EndsTold.{EndsAreTold}
-use Rattle.ipx_log.specs.EntriesOfEnds.{EntriesTellEnds}
-use Rattle.ipx_log.specs.HandedOut.{HandsOutWhatItTook}
-use Rattle.ipx_log.specs.InStep.{PeersAreInStep}
-use Rattle.ipx_log.specs.InSteps.{PairsTakeSteps}
-use Rattle.ipx_log.specs.Note.{Note}
-use Rattle.ipx_log.specs.Numbered.{NumbersAreInOrder}
-use Rattle.ipx_log.specs.Scene.{Scene, Stand}
-use Rattle.ipx_log.specs.SentUnits.{LinksSendInOrder, UnitsAreSentInOrder}
-use Rattle.ipx_log.specs.UnitsOfEnds.{UnitsAreCuts}
+use Rattle.theory_log.specs.Addresses.{AddressesTellPeers}
+use Rattle.theory_log.specs.Allocation.{AloneReadsNothing, WithinAllocation}
+use Rattle.theory_log.specs.Carried.{RoutersAlterHopsAlone}
+use Rattle.theory_log.specs.Close.{AcknowledgedIsRead, ConfirmedIsRead, EndTakenIsWhole}
+use Rattle.theory_log.specs.Deeds.{Reached}
+use Rattle.theory_log.specs.EndsTold.{EndsAreTold}
+use Rattle.theory_log.specs.EntriesOfEnds.{EntriesTellEnds}
+use Rattle.theory_log.specs.HandedOut.{HandsOutWhatItTook}
+use Rattle.theory_log.specs.InStep.{PeersAreInStep}
+use Rattle.theory_log.specs.InSteps.{PairsTakeSteps}
+use Rattle.theory_log.specs.Note.{Note}
+use Rattle.theory_log.specs.Numbered.{NumbersAreInOrder}
+use Rattle.theory_log.specs.Scene.{Scene, Stand}
+use Rattle.theory_log.specs.SentUnits.{LinksSendInOrder, UnitsAreSentInOrder}
+use Rattle.theory_log.specs.UnitsOfEnds.{UnitsAreCuts}
 use Rattle.ipx_recovery.specs.Stuck.{NoPairIsStuck, NoStateIsStuck, NothingIsStuckByAddresses}
 use Rattle.ipx_steps.specs.World.{EndNow, InOrder, HostState, World, bytes_of, held_in, held_of, home_at, scene_of, segment_of, stand_of, stand_with}
 use Rattle.ipx_net.specs.NetReach.{GoesOn, IsKept}
@@ -29,7 +29,7 @@ use Rattle.ipx_net.specs.Theorems.{AloneHandsOutNothing, AreNumbered, AreRelease
 abbrev pub IsLaw : (Scene → Type 0) → Type 0
 IsLaw P = (s : Scene) → Reached s → P s
 
--- the laws of scenes, each a clause of a function of `ipx_log` or `ipx_recovery`
+-- the laws of scenes, each a clause of a function of `theory_log` or `ipx_recovery`
 pub record SceneLaws : Type 0 where
   pub carried : IsLaw RoutersAlterHopsAlone
   pub sent : IsLaw UnitsAreSentInOrder

@@ -5,11 +5,11 @@ use Rattle.std.specs.Option.{option_eq}
 use Rattle.std.proofs.lemmas.Option.{slice_get-get_or, slice_get-map}
 use Rattle.std.proofs.lemmas.Bool.{not-false}
 use Rattle.std.proofs.lemmas.List.{length-map}
-use Rattle.ipx_log.specs.Note.{Note}
-use Rattle.ipx_log.specs.Scan.{Each, Scan, scan}
-use Rattle.ipx_log.specs.Peers.{ArePeers, IsFresh, IsRecent}
-use Rattle.ipx_log.specs.Handed.{handed_in, handed_out, IsBeginning}
-use Rattle.ipx_log.specs.EndsTold.{PeerIsFound, peer_in, peer_of}
+use Rattle.theory_log.specs.Note.{Note}
+use Rattle.theory_log.specs.Scan.{Each, Scan, scan}
+use Rattle.theory_log.specs.Peers.{ArePeers, IsFresh, IsRecent}
+use Rattle.theory_log.specs.Handed.{handed_in, handed_out, IsBeginning}
+use Rattle.theory_log.specs.EndsTold.{PeerIsFound, peer_in, peer_of}
 use Rattle.ipx_net.specs.Begins.{Begins}
 use Rattle.ipx_net.specs.Sights.{reading_view, scan_of}
 use Rattle.ipx_net.specs.declared.scanned.Scanned.{Scanned}

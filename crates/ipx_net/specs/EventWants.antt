@@ -17,7 +17,7 @@ use Rattle.ipx_router.specs.RouterPackets.{SendingView}
 use Rattle.ipx_router.specs.RouterView.{RouterView}
 use Rattle.ipx_router.specs.Telling.{HasToTell, is_due}
 use Rattle.ipx_router.specs.WantOfMemory.{WantsMemory}
-use Rattle.ipx_log.specs.Note.{Note}
+use Rattle.theory_log.specs.Note.{Note}
 use Rattle.ipx_steps.specs.HostSteps.{arrival_notes, unit_notes, whole_notes}
 use Rattle.ipx_steps.specs.World.{ParcelView, HostState}
 use Rattle.ipx_hosts.specs.Hosts.{DeliveredAt, HostsView, PolledAt}

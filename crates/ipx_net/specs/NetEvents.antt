@@ -7,7 +7,7 @@ use Rattle.ipx_steps.specs.World.{World}
 use Rattle.ipx_net.specs.AnswerView.{AnswerView, Done, Parcels}
 use Rattle.ipx_wire.specs.declared.address.Network.{Network}
 use Rattle.ipx_wire.specs.declared.address.Node.{Node}
-use Rattle.ipx_log.specs.Note as Notes
+use Rattle.theory_log.specs.Note as Notes
 use Rattle.ipx_net.specs.GrowthView.{GrowthView}
 use Rattle.ipx_net.specs.HostEvents.{Closing, DeliveringToHost, Dialling, PollingHost, Releasing, Sending, TakingFrom}
 use Rattle.ipx_net.specs.NetView.{NetNow}

@@ -1,13 +1,13 @@
 -- What is read off a log, as the code keeps it.
 use Rattle.std.specs.Prelude.{ℕ, ◌≤◌, ◌+◌, map, vec_len, vec_capacity}
-use Rattle.ipx_log.specs.Scan.{Scan}
+use Rattle.theory_log.specs.Scan.{Scan}
 use Rattle.ipx_net.specs.declared.parcel_origin.Maker.{Maker}
 use Rattle.ipx_net.specs.declared.parcel_origin.ParcelOrigin.{ParcelOrigin}
 use Rattle.ipx_net.specs.declared.reading.Reading.{Reading}
 use Rattle.ipx_net.specs.declared.role.Role.{Role}
 use Rattle.ipx_net.specs.declared.scanned.Scanned.{Scanned}
 use Rattle.ipx_net.specs.declared.parcel_origin.Maker.TheVariants as Makers
-use Rattle.ipx_log.specs.Scan as Scans
+use Rattle.theory_log.specs.Scan as Scans
 
 abbrev pub maker_view : Maker → Scans.Maker
 maker_view (Makers.ByUnit who) = Scans.ByUnit who

@@ -1,23 +1,23 @@
 -- What is so of every network: one list of its theorems, each a field. They are read off its log and
 -- its parcels alone, or, while no memory was refused, off its links too.
 use Rattle.std.specs.Prelude.{ℕ, ◌≡◌, ◌↔◌, true, false, List, [], ◌∷◌, ◌++◌, Some, Contains, slice_get}
-use Rattle.ipx_log.specs.Addresses.{AddressesTellPeers}
-use Rattle.ipx_log.specs.Allocation.{AloneReadsNothing, HasNoPeer, WithinAllocation}
-use Rattle.ipx_log.specs.Carried.{RoutersAlterHopsAlone}
-use Rattle.ipx_log.specs.Close.{AcknowledgedIsRead, ConfirmedIsRead, EndTakenIsWhole}
-use Rattle.ipx_log.specs.EndsTold.{EndsAreTold}
-use Rattle.ipx_log.specs.EntriesOfEnds.{QueuedWereAsked}
-use Rattle.ipx_log.specs.Handed.{IsBeginning, handed_in, handed_out, taken_of}
-use Rattle.ipx_log.specs.HandedOut.{HandsOutWhatItTook}
-use Rattle.ipx_log.specs.InStep.{PeersAreInStep}
-use Rattle.ipx_log.specs.InSteps.{PairsTakeSteps}
-use Rattle.ipx_log.specs.Note.{Note, Opened, Released}
-use Rattle.ipx_log.specs.Numbered.{IsNumbered, NumbersAreInOrder}
-use Rattle.ipx_log.specs.Peers.{AreJoined, Premises}
-use Rattle.ipx_log.specs.Scan.{scan}
-use Rattle.ipx_log.specs.Scene.{Scene}
-use Rattle.ipx_log.specs.SentUnits.{LinksSendInOrder, UnitsAreSentInOrder}
-use Rattle.ipx_log.specs.UnitsOfEnds.{UnitsAreCuts}
+use Rattle.theory_log.specs.Addresses.{AddressesTellPeers}
+use Rattle.theory_log.specs.Allocation.{AloneReadsNothing, HasNoPeer, WithinAllocation}
+use Rattle.theory_log.specs.Carried.{RoutersAlterHopsAlone}
+use Rattle.theory_log.specs.Close.{AcknowledgedIsRead, ConfirmedIsRead, EndTakenIsWhole}
+use Rattle.theory_log.specs.EndsTold.{EndsAreTold}
+use Rattle.theory_log.specs.EntriesOfEnds.{QueuedWereAsked}
+use Rattle.theory_log.specs.Handed.{IsBeginning, handed_in, handed_out, taken_of}
+use Rattle.theory_log.specs.HandedOut.{HandsOutWhatItTook}
+use Rattle.theory_log.specs.InStep.{PeersAreInStep}
+use Rattle.theory_log.specs.InSteps.{PairsTakeSteps}
+use Rattle.theory_log.specs.Note.{Note, Opened, Released}
+use Rattle.theory_log.specs.Numbered.{IsNumbered, NumbersAreInOrder}
+use Rattle.theory_log.specs.Peers.{AreJoined, Premises}
+use Rattle.theory_log.specs.Scan.{scan}
+use Rattle.theory_log.specs.Scene.{Scene}
+use Rattle.theory_log.specs.SentUnits.{LinksSendInOrder, UnitsAreSentInOrder}
+use Rattle.theory_log.specs.UnitsOfEnds.{UnitsAreCuts}
 use Rattle.ipx_recovery.specs.Stuck.{NoPairIsStuck, NoStateIsStuck, NothingIsStuckByAddresses}
 use Rattle.ipx_steps.specs.World.{EndNow, InOrder, World, scene_of}
 use Rattle.ipx_net.specs.NetView.{NetView}

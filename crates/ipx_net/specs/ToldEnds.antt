@@ -2,11 +2,11 @@
 use Rattle.std.specs.Prelude.{ℕ, ◌≡◌, ◌≢◌, ◌<◌, ◌+◌, Bool, true, false, List, [], ◌∷◌, ◌++◌, Option, Some, None, length, option_map, set, slice_get}
 use Rattle.spx_link.specs.declared.state.State.{State}
 use Rattle.spx_link.specs.SequenceMarks.{mark}
-use Rattle.ipx_log.specs.EndsTold.{peer_of}
-use Rattle.ipx_log.specs.Handed.{handed_in, handed_out}
-use Rattle.ipx_log.specs.Note.{Note, Opened, Accepted, Joined, HandsIn, HandsOut, SendsUnit}
-use Rattle.ipx_log.specs.Scan.{scan}
-use Rattle.ipx_log.specs.SentUnits.{sent_by}
+use Rattle.theory_log.specs.EndsTold.{peer_of}
+use Rattle.theory_log.specs.Handed.{handed_in, handed_out}
+use Rattle.theory_log.specs.Note.{Note, Opened, Accepted, Joined, HandsIn, HandsOut, SendsUnit}
+use Rattle.theory_log.specs.Scan.{scan}
+use Rattle.theory_log.specs.SentUnits.{sent_by}
 use Rattle.ipx_steps.specs.World.{World, end_at}
 use Rattle.ipx_hosts.specs.Hosts.{HostsView}
 use Rattle.ipx_hosts.specs.EndTelling.{here_at, state_on_host}

@@ -1,8 +1,8 @@
 //! The log of a network, and its parcels.
 
 ghost use Rattle.std.specs.Prelude.{◌≡◌, ◌+◌, ◌++◌, ◌<◌, ◌≤◌, ◌↔◌, IsTrue, OnErr, OnOk, length, vec_capacity, vec_len};
-ghost use Rattle.ipx_log.specs.EndsTold.{peer_of};
-ghost use Rattle.ipx_log.specs.Peers.{IsFresh};
+ghost use Rattle.theory_log.specs.EndsTold.{peer_of};
+ghost use Rattle.theory_log.specs.Peers.{IsFresh};
 ghost use Rattle.ipx_net.specs.Begins.{Begins};
 ghost use Rattle.ipx_net.specs.BookView.{BookView, blank, written_on};
 ghost use Rattle.ipx_net.specs.LogEntries.{entry_notes};
@@ -12,7 +12,7 @@ use crate::entry::Entry;
 use crate::handed::{is_beginning, is_silent};
 use crate::parcel::Parcel;
 use crate::scanned::Scanned;
-use ipx_log::peer_is_found;
+use theory_log::peer_is_found;
 use ipx_wire::OutOfMemory;
 use std::alloc::Global;
 use std::marker::Model;
@@ -27,7 +27,7 @@ pub struct Book {
 
 impl Model for Book {
     ghost use Rattle.std.specs.Prelude.{◌≡◌};
-    ghost use Rattle.ipx_log.specs.Scan.{scan};
+    ghost use Rattle.theory_log.specs.Scan.{scan};
     ghost use Rattle.ipx_net.specs.BookView.{BookView};
     ghost use Rattle.ipx_net.specs.LogEntries.{entry_notes};
     ghost use Rattle.ipx_net.specs.Parcels.{parcel_views};

@@ -2,7 +2,7 @@
 //! ends.
 
 ghost use Rattle.std.specs.Prelude.{◌≡◌, ◌≤◌, ◌+◌, ◌-◌, ◌↔◌, All, IfErr, IfOk, IsTrue, None, OnOk, false, length, take, true, unwrap_or, vec_capacity, vec_len};
-ghost use Rattle.ipx_log.specs.Peers.{IsFresh};
+ghost use Rattle.theory_log.specs.Peers.{IsFresh};
 ghost use Rattle.ipx_router.specs.declared.fault.NewFault.TheVariants as NewFaults;
 ghost use Rattle.ipx_net.specs.AnswerView.{answer_view};
 ghost use Rattle.ipx_net.specs.NetBeginnings.{ArePortsOwed, IsHostOwed, IsNewNet, first_refusal};
@@ -32,7 +32,7 @@ use crate::place::Place;
 use crate::routers::RouterNow;
 use crate::told::EndsTold;
 use ipx_hosts::Hosts;
-use ipx_log::{
+use theory_log::{
     acknowledged_end_is_read, addresses_tell_peers, alone_reads_nothing, confirmed_is_read,
     end_taken_is_whole, ends_are_told, entries_tell_ends, hands_out_what_it_took,
     links_send_in_order, numbers_are_in_order, pairs_take_steps, peers_are_in_step,

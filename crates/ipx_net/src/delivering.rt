@@ -1,8 +1,8 @@
 //! A parcel is delivered to a host.
 
 ghost use Rattle.std.specs.Prelude.{◌≡◌, ◌<◌, ◌≤◌, ◌∷◌, [], IfOk, IfSome, OnErr, Some, length, slice_get};
-ghost use Rattle.ipx_log.specs.Note as Notes;
-ghost use Rattle.ipx_log.specs.PacketsOnWay.{notes_of};
+ghost use Rattle.theory_log.specs.Note as Notes;
+ghost use Rattle.theory_log.specs.PacketsOnWay.{notes_of};
 ghost use Rattle.ipx_steps.specs.HostSteps.{arrival_notes, read_notes};
 ghost use Rattle.ipx_hosts.specs.Hosts.{SameHomes};
 ghost use Rattle.ipx_net.specs.LogEntries.{entry_notes};

@@ -1,8 +1,8 @@
 //! A network in memory, step by step.
 
 ghost use Rattle.std.specs.Prelude.{◌≡◌, ◌≢◌, ◌<◌, ◌↔◌, All, Err, IfErr, IfOk, IsTrue, None, OnOk, Some, false, length, true, unwrap_or};
-ghost use Rattle.ipx_log.specs.Peers.{IsFresh, Premises};
-ghost use Rattle.ipx_log.specs.Scan.{scan};
+ghost use Rattle.theory_log.specs.Peers.{IsFresh, Premises};
+ghost use Rattle.theory_log.specs.Scan.{scan};
 ghost use Rattle.ipx_router.specs.declared.fault.NewFault.TheVariants as NewFaults;
 ghost use Rattle.ipx_net.specs.AnswerView.{answer_view};
 ghost use Rattle.ipx_net.specs.NetBeginnings.{ArePortsOwed, IsHostOwed, IsNewNet, first_refusal};
@@ -25,7 +25,7 @@ use crate::fault::NetFault;
 use crate::host::Host;
 use crate::parcel::Parcel;
 use crate::told::EndsTold;
-use ipx_log::peer_is_found;
+use theory_log::peer_is_found;
 use ipx_router::{NewFault, Port};
 use std::alloc::Global;
 use std::marker::Model;

@@ -1,7 +1,7 @@
 //! A host is polled.
 
 ghost use Rattle.std.specs.Prelude.{◌≡◌, ◌<◌, ◌∷◌, [], IfOk, Some, length};
-ghost use Rattle.ipx_log.specs.PacketsOnWay.{note_of};
+ghost use Rattle.theory_log.specs.PacketsOnWay.{note_of};
 ghost use Rattle.ipx_steps.specs.World.{AtHost};
 ghost use Rattle.ipx_hosts.specs.Hosts.{SameHomes};
 ghost use Rattle.ipx_net.specs.AnswerView as views;

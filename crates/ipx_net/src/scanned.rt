@@ -28,8 +28,8 @@ pub struct Scanned {
 
 impl Scanned {
     ghost use Rattle.std.specs.Prelude.{◌≡◌, ◌+◌, ℕ, OnErr, OnOk};
-    ghost use Rattle.ipx_log.specs.Note.{Accepted, Carried, Got, Joined, Opened, SendsUnit};
-    ghost use Rattle.ipx_log.specs.Scan.{marked, seen, seen_all, unread};
+    ghost use Rattle.theory_log.specs.Note.{Accepted, Carried, Got, Joined, Opened, SendsUnit};
+    ghost use Rattle.theory_log.specs.Scan.{marked, seen, seen_all, unread};
     ghost use Rattle.ipx_net.specs.LogEntries.{entry_note, entry_notes};
     ghost use Rattle.ipx_net.specs.Sights.{HasRoom, maker_view, scan_of};
 

@@ -3,8 +3,8 @@
 ghost use Rattle.std.specs.Prelude.{◌≡◌, ◌≢◌, ◌<◌, ◌≤◌, ◌+◌, ◌-◌, ◌^◌, ℕ, [], OnErr, OnOk, Some, length, set, slice_get, take, vec_capacity, vec_len};
 ghost use Rattle.ipx_hosts.specs.Hosts.{FitTogether};
 ghost use Rattle.ipx_hosts.specs.EndTelling.{here_at, state_on_host};
-ghost use Rattle.ipx_log.specs.EndsTold.{peer_of};
-ghost use Rattle.ipx_log.specs.Scan.{scan};
+ghost use Rattle.theory_log.specs.EndsTold.{peer_of};
+ghost use Rattle.theory_log.specs.Scan.{scan};
 ghost use Rattle.ipx_steps.specs.World.{end_at};
 ghost use Rattle.ipx_net.specs.Ends.{nobody, told_of};
 ghost use Rattle.ipx_net.specs.LogEntries.{entry_note, entry_notes};
@@ -15,7 +15,7 @@ use crate::book::Book;
 use crate::endinfo::EndInfo;
 use crate::entry::Entry;
 use ipx_hosts::Hosts;
-use ipx_log::peer_is_found;
+use theory_log::peer_is_found;
 use spx_link::State;
 use std::alloc::{AllocError, Global};
 

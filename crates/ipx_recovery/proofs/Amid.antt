@@ -25,7 +25,7 @@ use Rattle.ipx_recovery.proofs.Giving.{Gave, KindOf, Owed}
 use Rattle.ipx_recovery.proofs.Entries.{Entry, IsMet, Told, carries_unit, entry, owes_on, position_low}
 use Rattle.ipx_recovery.proofs.Hearers.{Fed, HeardBy, fed_got, heard_on}
 use Rattle.ipx_recovery.proofs.Lists.{slice_get-behind, slice_get-drop, slice_get-take}
-use Rattle.ipx_log.specs.Named.{AreNamed}
+use Rattle.theory_log.specs.Named.{AreNamed}
 
 -- unless the peer ended, no unit that was read is its end
 abbrev pub Unread : LinkView → End → End → Type 0

@@ -25,7 +25,7 @@ use Rattle.ipx_recovery.proofs.Giving.{Gave, KindsBy, GivesUp, Owed, poll_kinds}
 use Rattle.ipx_recovery.proofs.Amid.{Mid, outstanding_there, step}
 use Rattle.ipx_recovery.proofs.Entries.{Told}
 use Rattle.ipx_recovery.proofs.Lists.{and_both, no_place, slice_get-take}
-use Rattle.ipx_log.specs.Named.{AreNamed}
+use Rattle.theory_log.specs.Named.{AreNamed}
 
 pub record Crossed (now : ℕ) (a0 b0 : LinkView) (c0 d0 : End) (a b : LinkView) : Type 0 where
   pub one : End

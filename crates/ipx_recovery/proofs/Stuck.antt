@@ -7,16 +7,16 @@ use Rattle.ipx_recovery.specs.LinkLaws.{LinkLaws}
 use Rattle.spx_link.specs.LinkView.{LinkView}
 use Rattle.spx_link.specs.Machine.{End, AreSound}
 use Rattle.theory_pairs.specs.Tracks.{Follows}
-use Rattle.ipx_log.specs.Deeds.{Reached}
-use Rattle.ipx_log.specs.Handed.{taken_of, units_of}
-use Rattle.ipx_log.specs.InStep.{PeersAreInStep, PeersFollow, pair_in}
-use Rattle.ipx_log.specs.Peers.{ArePeersIn, Premises}
-use Rattle.ipx_log.specs.Scan.{scan}
-use Rattle.ipx_log.specs.Scene.{Scene, Stand, Stands}
+use Rattle.theory_log.specs.Deeds.{Reached}
+use Rattle.theory_log.specs.Handed.{taken_of, units_of}
+use Rattle.theory_log.specs.InStep.{PeersAreInStep, PeersFollow, pair_in}
+use Rattle.theory_log.specs.Peers.{ArePeersIn, Premises}
+use Rattle.theory_log.specs.Scan.{scan}
+use Rattle.theory_log.specs.Scene.{Scene, Stand, Stands}
 use Rattle.ipx_recovery.specs.RoundsDeliver.{CanDeliver, IsDelivered, RoundsDeliver, RoundsDeliverBothWays}
 use Rattle.ipx_recovery.specs.Stuck.{CanGoOn, NoPairIsStuck, NoStateIsStuck, NothingIsStuckByAddresses}
-use Rattle.ipx_log.specs.Named.{AreNamed, PeersAreNamed}
-use Rattle.ipx_log.specs.Addresses.{AddressesTellPeers}
+use Rattle.theory_log.specs.Named.{AreNamed, PeersAreNamed}
+use Rattle.theory_log.specs.Addresses.{AddressesTellPeers}
 use Rattle.ipx_recovery.proofs.Speaking.{swapped}
 use Rattle.ipx_recovery.proofs.Lists.{slice_get-take}
 use Rattle.ipx_recovery.proofs.Well.{WellAt, none_is_end, wells}

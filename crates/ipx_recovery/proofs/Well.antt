@@ -18,11 +18,11 @@ use Rattle.spx_link.specs.Receive.{any_end, after_end, is_own, is_reply, joined_
 use Rattle.spx_units.specs.Message.{MessageView}
 use Rattle.spx_units.specs.Cut.{cut_of}
 use Rattle.theory_pairs.specs.Tracks.{may_end}
-use Rattle.ipx_log.specs.Note.{Note, Opened, Accepted, Got, HandsIn, AsksEnd, TakesUnit, Released, Told, Carried, Injected}
-use Rattle.ipx_log.specs.Handed.{taken_by, taken_of}
-use Rattle.ipx_log.specs.Scene.{Scene, Stand, Stands, linked}
-use Rattle.ipx_log.specs.PacketsOnWay.{note_of, notes_of, out_notes}
-use Rattle.ipx_log.specs.Deeds.{Deed, DoesDeed, Dials, Accepts, Reads, OwesReply, Gives, Rests, Sends, Takes, Overruns, Closes, Releases, Carries, Tells, Injects, Reached, begun, happened}
+use Rattle.theory_log.specs.Note.{Note, Opened, Accepted, Got, HandsIn, AsksEnd, TakesUnit, Released, Told, Carried, Injected}
+use Rattle.theory_log.specs.Handed.{taken_by, taken_of}
+use Rattle.theory_log.specs.Scene.{Scene, Stand, Stands, linked}
+use Rattle.theory_log.specs.PacketsOnWay.{note_of, notes_of, out_notes}
+use Rattle.theory_log.specs.Deeds.{Deed, DoesDeed, Dials, Accepts, Reads, OwesReply, Gives, Rests, Sends, Takes, Overruns, Closes, Releases, Carries, Tells, Injects, Reached, begun, happened}
 use Rattle.ipx_recovery.specs.LinkLaws.{LinkLaws}
 use Rattle.ipx_recovery.proofs.Hearing as Hearing
 use Rattle.ipx_recovery.proofs.Lists.{get_last, get_set, or_false, or_first, or_second}

@@ -1,15 +1,15 @@
 //! The laws of rounds.
 
 ghost use Rattle.std.specs.Prelude.{ℕ, List};
-ghost use Rattle.ipx_log.specs.Deeds.{Reached};
-ghost use Rattle.ipx_log.specs.Scene.{Scene};
+ghost use Rattle.theory_log.specs.Deeds.{Reached};
+ghost use Rattle.theory_log.specs.Scene.{Scene};
 ghost use Rattle.ipx_recovery.specs.LinkLaws.{LinkLaws};
 ghost use Rattle.ipx_recovery.specs.RoundsDeliver.{RoundsDeliver, RoundsDeliverBothWays};
 ghost use Rattle.ipx_recovery.specs.LosslessRounds.{RoundIsOne, RoundsExist};
 ghost use Rattle.ipx_recovery.specs.Stuck.{NoPairIsStuck, NoStateIsStuck, NothingIsStuckByAddresses};
 ghost use Rattle.spx_link.specs.LinkView.{LinkView};
 
-use ipx_log::{addresses_tell_peers, peers_are_in_step, peers_are_named, peers_follow};
+use theory_log::{addresses_tell_peers, peers_are_in_step, peers_are_named, peers_follow};
 use theory_pairs::{calls_are_steps, packets_allow_what_was_taken};
 use spx_link::{poll_keeps_units, soundness};
 

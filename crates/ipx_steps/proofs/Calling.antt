@@ -9,9 +9,9 @@ use Rattle.spx_link.specs.LinkView.{LinkView}
 use Rattle.spx_link.specs.Offer.{offer_link, end_link, dialed}
 use Rattle.spx_units.specs.Message.{MessageView}
 use Rattle.spx_units.specs.Cut.{cut_of}
-use Rattle.ipx_log.specs.Note.{Note}
-use Rattle.ipx_log.specs.Scene.{Stands, linked, with_entries, put_end}
-use Rattle.ipx_log.specs.Deeds.{Deed, DoesDeed}
+use Rattle.theory_log.specs.Note.{Note}
+use Rattle.theory_log.specs.Scene.{Stands, linked, with_entries, put_end}
+use Rattle.theory_log.specs.Deeds.{Deed, DoesDeed}
 use Rattle.spx_messages.specs.EndpointView.{Held, held_at}
 use Rattle.ipx_steps.specs.World.{World, HostState, EndNow, ParcelView, stand_with, stand_of, home_at, bytes_of, segment_of, scene_of, InOrder, StandsAt, IsHostInOrder}
 use Rattle.ipx_steps.specs.EndCalls.{DialsFrom, ChangesLink, SendsTo, Closes, InjectsInto, Ticks}
@@ -22,8 +22,8 @@ use Rattle.ipx_steps.proofs.Standing.{none_held, held_same, held_stands, held_th
 use Rattle.ipx_steps.proofs.Finding.{free_id}
 use Rattle.ipx_steps.proofs.Keeping.{same_ends, ids_kept, id_comes}
 use Rattle.ipx_steps.proofs.KeptBy.{ids_changed}
-use Rattle.ipx_log.specs.Note as Notes
-use Rattle.ipx_log.specs.Deeds as Scenes
+use Rattle.theory_log.specs.Note as Notes
+use Rattle.theory_log.specs.Deeds as Scenes
 
 -- ---- an end is opened
 

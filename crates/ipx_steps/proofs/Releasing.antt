@@ -12,8 +12,8 @@ use Rattle.ipx_steps.proofs.Places.{one_of_it, get_set_here, get_set_other, map_
 use Rattle.ipx_steps.proofs.Doing.{one_deed}
 use Rattle.ipx_steps.proofs.Standing.{held_same, held_there, stands_there, the_only, scene_after}
 use Rattle.ipx_steps.proofs.Taking.{set_twice}
-use Rattle.ipx_log.specs.Note as Notes
-use Rattle.ipx_log.specs.Deeds as Scenes
+use Rattle.theory_log.specs.Note as Notes
+use Rattle.theory_log.specs.Deeds as Scenes
 
 module _ (old new : World) (who : ℕ) (o : InOrder old) (d : ReleasesOf old who new) where
   abbrev e : EndNow

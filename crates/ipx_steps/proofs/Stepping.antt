@@ -1,7 +1,7 @@
 -- Each step is a list of deeds, and leaves a world in order.
 use Rattle.std.proofs.Common.{sym, ◌∙◌}
 use Rattle.std.proofs.lemmas.List.{append-nil}
-use Rattle.ipx_log.specs.Deeds.{Reached}
+use Rattle.theory_log.specs.Deeds.{Reached}
 use Rattle.ipx_steps.specs.World.{World, scene_of, InOrder}
 use Rattle.ipx_steps.specs.DeedRuns.{Deeds}
 use Rattle.ipx_steps.specs.WorldStep.{WorldStep, Delivered, Polled, Taken, Dialled, Sent, Closed, Released, Refused, Injected, Ticked, Told, Carried}

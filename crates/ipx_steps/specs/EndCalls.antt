@@ -10,11 +10,11 @@ use Rattle.spx_link.specs.Links.{count_of, IsNextFree}
 use Rattle.spx_link.specs.Offer.{refusal, offer_link, end_link, dialed}
 use Rattle.spx_units.specs.Message.{MessageView}
 use Rattle.spx_units.specs.Cut.{cut_of}
-use Rattle.ipx_log.specs.Note.{Note}
+use Rattle.theory_log.specs.Note.{Note}
 use Rattle.spx_messages.specs.Changes.{AddsEnd, ChangesEnd, ReleasesEnd, SameBut}
 use Rattle.spx_messages.specs.EndpointView.{Held, held_at}
 use Rattle.ipx_steps.specs.World.{World, HostState, EndNow, end_at}
-use Rattle.ipx_log.specs.Note as Notes
+use Rattle.theory_log.specs.Note as Notes
 
 pub record DialsFrom (old : World) (host : ℕ) (socket : Socket) (to : Address) (buffers id : ℕ)
     (new : World) : Type 0 where

@@ -1,5 +1,5 @@
 use Rattle.std.proofs.Common.{◌≡◌, ◌++◌, List, refl}
-use Rattle.ipx_log.specs.Scan.{seen_all}
+use Rattle.theory_log.specs.Scan.{seen_all}
 use Rattle.ipx_net.specs.LogEntries.{entry_notes}
 use Rattle.ipx_net.specs.Sights.{scan_of}
 use Rattle.ipx_net.specs.declared.entry.Entry.{Entry}

@@ -1,6 +1,6 @@
 use Rattle.std.proofs.Common.{◌≡◌, ap, sym, ◌∙◌}
 use Rattle.std.specs.Prelude.{IsTrue}
-use Rattle.ipx_log.specs.Scan.{scan}
+use Rattle.theory_log.specs.Scan.{scan}
 use Rattle.ipx_net.specs.BookView.{BookView}
 use Rattle.ipx_net.specs.Sights.{scan_of}
 use Rattle.ipx_net.proofs.Peering.{fresh_by}

@@ -1,5 +1,5 @@
 use Rattle.std.proofs.Common.{◌≡◌, ◌∙◌, List, ap, subst, sym, take}
-use Rattle.ipx_log.specs.Note.{Note}
+use Rattle.theory_log.specs.Note.{Note}
 use Rattle.ipx_net.specs.Ends.{TellsLog}
 use Rattle.ipx_net.specs.LogEntries.{entry_notes}
 use Rattle.ipx_net.specs.NetView.{NetView}

@@ -1,5 +1,5 @@
 use Rattle.std.proofs.Common.{refl, arith, ap, length}
-use Rattle.ipx_log.specs.Peers.{IsRecent}
+use Rattle.theory_log.specs.Peers.{IsRecent}
 use Rattle.ipx_net.specs.Sights.{reading_view, scan_of}
 use Rattle.ipx_net.specs.declared.reading.Reading.{Reading}
 use Rattle.ipx_net.proofs.Passing.{none_fails, one_passes}

@@ -1,6 +1,6 @@
 use Rattle.std.proofs.Common.{ℕ, ◌<◌}
 use Rattle.std.specs.Prelude.{slice_index_or}
-use Rattle.ipx_log.specs.Peers.{IsRecent}
+use Rattle.theory_log.specs.Peers.{IsRecent}
 use Rattle.ipx_net.specs.Sights.{reading_view, scan_of}
 use Rattle.ipx_net.specs.declared.reading.Reading.{Reading}
 use Rattle.ipx_net.proofs.scanned.Scanned.are_recent.Given as goal

@@ -1,6 +1,6 @@
 use Rattle.std.proofs.Common.{◌≡◌, Some, sym, ◌∙◌}
-use Rattle.ipx_log.specs.Peers.{ArePeersIn}
-use Rattle.ipx_log.specs.EndsTold.{peer_in}
+use Rattle.theory_log.specs.Peers.{ArePeersIn}
+use Rattle.theory_log.specs.EndsTold.{peer_in}
 use Rattle.ipx_net.specs.Sights.{scan_of}
 use Rattle.ipx_net.proofs.Peering.{is_this}
 use Rattle.ipx_net.proofs.scanned.Scanned.is_recent.Goals as goal

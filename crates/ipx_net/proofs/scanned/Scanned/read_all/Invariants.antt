@@ -1,5 +1,5 @@
 use Rattle.std.proofs.Common.{◌≡◌, ◌-◌, length, drop}
-use Rattle.ipx_log.specs.Scan.{seen_all}
+use Rattle.theory_log.specs.Scan.{seen_all}
 use Rattle.ipx_net.specs.LogEntries.{entry_notes}
 use Rattle.ipx_net.specs.Sights.{HasRoom, scan_of}
 use Rattle.ipx_net.proofs.scanned.Scanned.read_all.Given as goal

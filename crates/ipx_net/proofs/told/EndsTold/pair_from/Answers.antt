@@ -1,7 +1,7 @@
 use Rattle.std.proofs.Common.{◌≡◌, ◌∙◌, List, ap, length, subst, sym, take}
-use Rattle.ipx_log.specs.EndsTold.{peer_of}
-use Rattle.ipx_log.specs.Note.{Note}
-use Rattle.ipx_log.specs.Scan.{scan}
+use Rattle.theory_log.specs.EndsTold.{peer_of}
+use Rattle.theory_log.specs.Note.{Note}
+use Rattle.theory_log.specs.Scan.{scan}
 use Rattle.ipx_net.specs.LogEntries.{entry_note}
 use Rattle.ipx_net.specs.Theorems.{AreNumbered}
 use Rattle.ipx_net.specs.ToldEnds.{joins, paired_by}
