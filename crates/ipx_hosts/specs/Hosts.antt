@@ -10,11 +10,11 @@ use Rattle.spx_messages.specs.declared.fault.EndFault.TheVariants as EndFaults
 use Rattle.spx_units.specs.declared.fault.MessageFault.TheVariants as MessageFaults
 use Rattle.spx_messages.specs.EndpointView.{Held, held_at}
 use Rattle.theory_log.specs.Note.{Note}
-use Rattle.ipx_steps.specs.EndCalls.{RefusesAt}
-use Rattle.ipx_steps.specs.HostSteps.{ends_after, here_after}
+use Rattle.theory_steps.specs.EndCalls.{RefusesAt}
+use Rattle.theory_steps.specs.HostSteps.{ends_after, here_after}
 use Rattle.ipx_hosts.specs.declared.refusal.Refusal.{Refusal}
 use Rattle.ipx_hosts.specs.declared.refusal.Refusal.TheVariants as Refusals
-use Rattle.ipx_steps.specs.World.{EndNow, InOrder, ParcelView, HostState, World, end_at, home_at}
+use Rattle.theory_steps.specs.World.{EndNow, InOrder, ParcelView, HostState, World, end_at, home_at}
 
 pub record HostsView : Type 0 where
   pub stations : List HostState

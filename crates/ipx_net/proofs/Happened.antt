@@ -15,8 +15,8 @@ use Rattle.ipx_router.specs.declared.port.Port.{Port}
 use Rattle.theory_log.specs.Note.{Note}
 use Rattle.theory_log.specs.Note as Notes
 use Rattle.theory_log.specs.PacketsOnWay.{IsOneOn}
-use Rattle.ipx_steps.specs.Routers.{GivesOwnLetters, told_notes}
-use Rattle.ipx_steps.specs.World.{ParcelView, World}
+use Rattle.theory_steps.specs.Routers.{GivesOwnLetters, told_notes}
+use Rattle.theory_steps.specs.World.{ParcelView, World}
 use Rattle.ipx_hosts.specs.Hosts.{HostsView, world_of}
 use Rattle.ipx_net.specs.AnswerView.{AnswerView, Parcels}
 use Rattle.ipx_net.specs.BookView.{BookView}

@@ -21,7 +21,7 @@ use Rattle.theory_log.specs.Scene.{Scene, Stand}
 use Rattle.theory_log.specs.SentUnits.{LinksSendInOrder, UnitsAreSentInOrder}
 use Rattle.theory_log.specs.UnitsOfEnds.{UnitsAreCuts}
 use Rattle.ipx_recovery.specs.Stuck.{NoPairIsStuck, NoStateIsStuck, NothingIsStuckByAddresses}
-use Rattle.ipx_steps.specs.World.{EndNow, InOrder, HostState, World, bytes_of, held_in, held_of, home_at, scene_of, segment_of, stand_of, stand_with}
+use Rattle.theory_steps.specs.World.{EndNow, InOrder, HostState, World, bytes_of, held_in, held_of, home_at, scene_of, segment_of, stand_of, stand_with}
 use Rattle.ipx_net.specs.NetReach.{GoesOn, IsKept}
 use Rattle.ipx_net.specs.NetView.{NetView}
 use Rattle.ipx_net.specs.Theorems.{AloneHandsOutNothing, AreNumbered, AreReleasedByLog, AreWhereOpened, LinkTheorems, PeersHandOn, Theorems}

@@ -2,8 +2,8 @@
 use Rattle.std.proofs.Common.{ℕ, ◌≡◌, ◌++◌, List, Bool, true, false, cond, Option, None, Some, Result, Ok, Err, OnOk, refl, sym, subst}
 use Rattle.std.specs.Result.{is_err}
 use Rattle.theory_log.specs.Deeds.{Reached}
-use Rattle.ipx_steps.specs.WorldStep.{WorldStep}
-use Rattle.ipx_steps.specs.World.{InOrder, World, scene_of}
+use Rattle.theory_steps.specs.WorldStep.{WorldStep}
+use Rattle.theory_steps.specs.World.{InOrder, World, scene_of}
 use Rattle.ipx_hosts.specs.Hosts.{HostsView, world_of}
 use Rattle.ipx_net.specs.BookView.{BookView, written_on}
 use Rattle.ipx_net.specs.GrowthView.{GrowthView}

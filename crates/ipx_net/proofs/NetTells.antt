@@ -4,7 +4,7 @@ use Rattle.std.proofs.lemmas.List.{length-map}
 use Rattle.theory_log.specs.EndsTold.{EndsAreTold}
 use Rattle.theory_log.specs.Note.{Note}
 use Rattle.std.specs.Prelude.{slice_get}
-use Rattle.ipx_steps.specs.World.{EndNow, InOrder, World, scene_of, stand_of}
+use Rattle.theory_steps.specs.World.{EndNow, InOrder, World, scene_of, stand_of}
 use Rattle.ipx_net.specs.AnswerView.{AnswerView}
 use Rattle.ipx_net.specs.Ends.{TellsEnds, TellsLog, TellsNext}
 use Rattle.ipx_net.specs.NetEvents.{Happens}

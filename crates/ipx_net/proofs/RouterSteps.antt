@@ -13,7 +13,7 @@ use Rattle.ipx_router.specs.Ports.{IsPort}
 use Rattle.ipx_router.specs.RouterView.{RouterView}
 use Rattle.theory_log.specs.PacketsOnWay.{IsOneOn}
 use Rattle.theory_log.specs.Scan.{Each}
-use Rattle.ipx_steps.specs.Routers.{IsOwnLetter}
+use Rattle.theory_steps.specs.Routers.{IsOwnLetter}
 use Rattle.ipx_net.specs.RouterMembers.{letter_of, letters_of, network_of, port_at}
 
 -- what a router made itself is of no connection

@@ -1,7 +1,7 @@
 -- What a book holds: the parcels by their numbers, and the log.
 use Rattle.std.specs.Prelude.{List, [], ◌++◌}
 use Rattle.theory_log.specs.Note.{Note}
-use Rattle.ipx_steps.specs.World.{ParcelView}
+use Rattle.theory_steps.specs.World.{ParcelView}
 
 pub record BookView : Type 0 where
   pub parcels : List ParcelView

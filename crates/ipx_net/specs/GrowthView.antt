@@ -1,7 +1,7 @@
 -- What an event adds to the book of a network, and its answer, without where they lie in memory.
 use Rattle.std.specs.Prelude.{ℕ, ◌≡◌, List, ◌++◌, length}
 use Rattle.theory_log.specs.Note.{Note}
-use Rattle.ipx_steps.specs.World.{ParcelView, World}
+use Rattle.theory_steps.specs.World.{ParcelView, World}
 use Rattle.ipx_hosts.specs.Hosts.{HostsView, world_of}
 use Rattle.ipx_net.specs.AnswerView.{AnswerView, answer_view}
 use Rattle.ipx_net.specs.LogEntries.{entry_notes}

@@ -2,8 +2,8 @@
 use Rattle.std.specs.Prelude.{ℕ, ◌≡◌, ◌<◌, ◌≤◌, List, [], ◌∷◌, None, length}
 use Rattle.spx_link.specs.Limits.{most_units}
 use Rattle.spx_units.specs.Message.{message_view}
-use Rattle.ipx_steps.specs.EndCalls.{InjectsInto, Ticks}
-use Rattle.ipx_steps.specs.World.{World}
+use Rattle.theory_steps.specs.EndCalls.{InjectsInto, Ticks}
+use Rattle.theory_steps.specs.World.{World}
 use Rattle.ipx_net.specs.AnswerView.{AnswerView, Done, Parcels}
 use Rattle.ipx_wire.specs.declared.address.Network.{Network}
 use Rattle.ipx_wire.specs.declared.address.Node.{Node}

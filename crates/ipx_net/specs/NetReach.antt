@@ -3,7 +3,7 @@
 use Rattle.std.specs.Prelude.{◌≡◌, Bool, true, false, map}
 use Rattle.theory_log.specs.Deeds.{Reached}
 use Rattle.theory_log.specs.Scene.{Scene}
-use Rattle.ipx_steps.specs.World.{InOrder, World, bytes_of, home_at, scene_of, segment_of}
+use Rattle.theory_steps.specs.World.{InOrder, World, bytes_of, home_at, scene_of, segment_of}
 
 pub record GoesOn (w : World) : Type 0 where
   pub order : InOrder w

@@ -2,7 +2,7 @@
 -- it gave up.
 use Rattle.std.specs.Prelude.{ℕ, Bool, List}
 use Rattle.theory_log.specs.Note.{Note}
-use Rattle.ipx_steps.specs.World.{ParcelView, World}
+use Rattle.theory_steps.specs.World.{ParcelView, World}
 use Rattle.ipx_hosts.specs.Hosts.{HostsView, world_of}
 use Rattle.ipx_net.specs.declared.routers.RouterNow.{RouterNow}
 

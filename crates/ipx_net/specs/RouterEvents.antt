@@ -9,8 +9,8 @@ use Rattle.ipx_router.specs.OutcomeView as Outcomes
 use Rattle.ipx_router.specs.RouterPackets.{AreOwn, SendingView}
 use Rattle.ipx_router.specs.declared.port.Port.{Port}
 use Rattle.theory_log.specs.Note as Notes
-use Rattle.ipx_steps.specs.Routers.{CarriesOn, GivesOwnLetters, told_notes}
-use Rattle.ipx_steps.specs.World.{ParcelView, World}
+use Rattle.theory_steps.specs.Routers.{CarriesOn, GivesOwnLetters, told_notes}
+use Rattle.theory_steps.specs.World.{ParcelView, World}
 use Rattle.ipx_net.specs.AnswerView.{AnswerView, Dropped, Heard, Parcels}
 use Rattle.ipx_net.specs.GrowthView.{GrowthView}
 use Rattle.ipx_net.specs.NetView.{NetNow}

@@ -19,7 +19,7 @@ use Rattle.theory_log.specs.Scene.{Scene}
 use Rattle.theory_log.specs.SentUnits.{LinksSendInOrder, UnitsAreSentInOrder}
 use Rattle.theory_log.specs.UnitsOfEnds.{UnitsAreCuts}
 use Rattle.ipx_recovery.specs.Stuck.{NoPairIsStuck, NoStateIsStuck, NothingIsStuckByAddresses}
-use Rattle.ipx_steps.specs.World.{EndNow, InOrder, World, scene_of}
+use Rattle.theory_steps.specs.World.{EndNow, InOrder, World, scene_of}
 use Rattle.ipx_net.specs.NetView.{NetView}
 
 -- if nothing injected is read, and each end reads its own peer alone and lately, then what an end

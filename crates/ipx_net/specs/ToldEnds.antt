@@ -7,7 +7,7 @@ use Rattle.theory_log.specs.Handed.{handed_in, handed_out}
 use Rattle.theory_log.specs.Note.{Note, Opened, Accepted, Joined, HandsIn, HandsOut, SendsUnit}
 use Rattle.theory_log.specs.Scan.{scan}
 use Rattle.theory_log.specs.SentUnits.{sent_by}
-use Rattle.ipx_steps.specs.World.{World, end_at}
+use Rattle.theory_steps.specs.World.{World, end_at}
 use Rattle.ipx_hosts.specs.Hosts.{HostsView}
 use Rattle.ipx_hosts.specs.EndTelling.{here_at, state_on_host}
 use Rattle.ipx_net.specs.Ends.{nobody, told_of}

@@ -40,7 +40,7 @@ use theory_log::{
 };
 use ipx_recovery::{no_pair_is_stuck, no_state_is_stuck, nothing_is_stuck_by_addresses};
 use ipx_router::{NewFault, Port};
-use ipx_steps::{peers_of_worlds_are_in_step, steps_are_deeds};
+use theory_steps::{peers_of_worlds_are_in_step, steps_are_deeds};
 use std::alloc::Global;
 use std::marker::Model;
 

@@ -3,7 +3,7 @@
 ghost use Rattle.std.specs.Prelude.{◌≡◌, ◌<◌, ◌≤◌, ◌∷◌, [], IfOk, IfSome, OnErr, Some, length, slice_get};
 ghost use Rattle.theory_log.specs.Note as Notes;
 ghost use Rattle.theory_log.specs.PacketsOnWay.{notes_of};
-ghost use Rattle.ipx_steps.specs.HostSteps.{arrival_notes, read_notes};
+ghost use Rattle.theory_steps.specs.HostSteps.{arrival_notes, read_notes};
 ghost use Rattle.ipx_hosts.specs.Hosts.{SameHomes};
 ghost use Rattle.ipx_net.specs.LogEntries.{entry_notes};
 ghost use Rattle.ipx_net.specs.GrowthView.{growth_view};

@@ -11,7 +11,7 @@ use Rattle.theory_log.specs.Close.{HoldsAll}
 use Rattle.theory_log.specs.Peers.{ArePeers, Premises}
 use Rattle.theory_log.specs.Scan.{scan}
 use Rattle.theory_log.specs.Scene.{Stand}
-use Rattle.ipx_steps.specs.World.{EndNow, World, held_of, scene_of, stand_of, stand_with}
+use Rattle.theory_steps.specs.World.{EndNow, World, held_of, scene_of, stand_of, stand_with}
 use Rattle.ipx_hosts.specs.EndTelling.{state_of}
 use Rattle.ipx_net.specs.Ends.{TellsClosed, TellsEnds, nobody, told_of}
 use Rattle.ipx_net.specs.NetView.{NetView}

@@ -1,5 +1,5 @@
 use Rattle.std.proofs.Common.{◌≡◌, get_or, sym, subst}
-use Rattle.ipx_steps.specs.World.{EndNow}
+use Rattle.theory_steps.specs.World.{EndNow}
 use Rattle.ipx_hosts.proofs.Placing.{standing}
 use Rattle.ipx_hosts.proofs.hosts.Hosts.place.Goals as goal
 

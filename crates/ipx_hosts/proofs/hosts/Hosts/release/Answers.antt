@@ -1,5 +1,5 @@
 use Rattle.std.proofs.Common.{◌≡◌, ◌<◌, length, arith, get_or, sym, subst}
-use Rattle.ipx_steps.specs.World.{EndNow}
+use Rattle.theory_steps.specs.World.{EndNow}
 use Rattle.ipx_hosts.proofs.Placing.{end_within, homes_set, known_held, released}
 use Rattle.ipx_hosts.proofs.hosts.Hosts.release.Goals as goal
 

@@ -2,7 +2,7 @@ use Rattle.std.proofs.Common.{◌↔◌, ◌<◌, length, subst}
 use Rattle.std.specs.Prelude.{IsTrue}
 use Rattle.theory_log.specs.Peers.{Premises}
 use Rattle.theory_log.specs.Scan.{scan}
-use Rattle.ipx_steps.specs.World.{scene_of}
+use Rattle.theory_steps.specs.World.{scene_of}
 use Rattle.ipx_net.specs.Begins.{Begins}
 use Rattle.ipx_net.specs.NetView.{NetView}
 use Rattle.ipx_net.specs.Theorems.{Theorems}

@@ -13,7 +13,7 @@ use Rattle.spx_units.specs.Cut.{cut_of}
 use Rattle.theory_log.specs.Note.{Note}
 use Rattle.spx_messages.specs.Changes.{AddsEnd, ChangesEnd, ReleasesEnd, SameBut}
 use Rattle.spx_messages.specs.EndpointView.{Held, held_at}
-use Rattle.ipx_steps.specs.World.{World, HostState, EndNow, end_at}
+use Rattle.theory_steps.specs.World.{World, HostState, EndNow, end_at}
 use Rattle.theory_log.specs.Note as Notes
 
 pub record DialsFrom (old : World) (host : ℕ) (socket : Socket) (to : Address) (buffers id : ℕ)

@@ -10,14 +10,14 @@ use Rattle.theory_log.specs.Deeds.{Gives}
 use Rattle.theory_log.specs.PacketsOnWay.{note_of}
 use Rattle.spx_messages.specs.EndpointView.{Held, held_at}
 use Rattle.spx_messages.specs.Polls.{RestsAt, polled_held, GivesNothing, Polls, home_of}
-use Rattle.ipx_steps.specs.World.{World, HostState, EndNow, stand_with, stand_of, home_at, bytes_of, segment_of, scene_of, InOrder}
-use Rattle.ipx_steps.specs.HostSteps.{PollsHost, said_notes, given_notes, sent_letters}
-use Rattle.ipx_steps.specs.DeedRuns.{Deeds}
-use Rattle.ipx_steps.proofs.Places.{one_of_it, get_map, map_got, get_set_here, map_more, map_length, set_back}
-use Rattle.ipx_steps.proofs.Doing.{one_deed, then, RestsOr, with_ends, all_rest}
-use Rattle.ipx_steps.proofs.Standing.{held_same, held_stands, held_there, stands_there, the_only, made, made_same, scene_after, homes_same}
-use Rattle.ipx_steps.proofs.Finding.{Found, found}
-use Rattle.ipx_steps.proofs.Lists.{get_set}
+use Rattle.theory_steps.specs.World.{World, HostState, EndNow, stand_with, stand_of, home_at, bytes_of, segment_of, scene_of, InOrder}
+use Rattle.theory_steps.specs.HostSteps.{PollsHost, said_notes, given_notes, sent_letters}
+use Rattle.theory_steps.specs.DeedRuns.{Deeds}
+use Rattle.theory_steps.proofs.Places.{one_of_it, get_map, map_got, get_set_here, map_more, map_length, set_back}
+use Rattle.theory_steps.proofs.Doing.{one_deed, then, RestsOr, with_ends, all_rest}
+use Rattle.theory_steps.proofs.Standing.{held_same, held_stands, held_there, stands_there, the_only, made, made_same, scene_after, homes_same}
+use Rattle.theory_steps.proofs.Finding.{Found, found}
+use Rattle.theory_steps.proofs.Lists.{get_set}
 use Rattle.spx_messages.specs.Polls as Polled
 
 -- the end rests if its id did, where it is of this host; and stays as it is elsewhere

@@ -1,10 +1,10 @@
 //! What an event does to a world, it does to its scene by deeds, and leaves the world in order.
 
 ghost use Rattle.theory_log.specs.Deeds.{Reached};
-ghost use Rattle.ipx_steps.specs.World.{World, InOrder, scene_of};
-ghost use Rattle.ipx_steps.specs.WorldStep.{WorldStep};
-ghost use Rattle.ipx_steps.specs.DeedRuns.{Deeds};
-ghost use Rattle.ipx_steps.specs.Reach.{CameTo};
+ghost use Rattle.theory_steps.specs.World.{World, InOrder, scene_of};
+ghost use Rattle.theory_steps.specs.WorldStep.{WorldStep};
+ghost use Rattle.theory_steps.specs.DeedRuns.{Deeds};
+ghost use Rattle.theory_steps.specs.Reach.{CameTo};
 ghost use Rattle.theory_log.specs.InStep.{PeersAreInStep};
 
 use theory_log::peers_are_in_step;

@@ -3,10 +3,10 @@ use Rattle.std.proofs.Common.{◌≡◌, ◌≢◌, ℕ, [], map, Some, sym, ◌
 use Rattle.std.specs.Prelude.{slice_get}
 use Rattle.spx_units.specs.WrittenPackets.{Home}
 use Rattle.theory_log.specs.Deeds.{IsBegun, Reached, begun}
-use Rattle.ipx_steps.specs.World.{World, EndNow, end_at, stand_of, home_at, bytes_of, segment_of, scene_of, InOrder}
-use Rattle.ipx_steps.specs.Reach.{HasNoLinks, IsNewWorld, CameTo, new, stepped}
-use Rattle.ipx_steps.proofs.Places.{map_got}
-use Rattle.ipx_steps.proofs.Stepping.{step_kept, step_reaches}
+use Rattle.theory_steps.specs.World.{World, EndNow, end_at, stand_of, home_at, bytes_of, segment_of, scene_of, InOrder}
+use Rattle.theory_steps.specs.Reach.{HasNoLinks, IsNewWorld, CameTo, new, stepped}
+use Rattle.theory_steps.proofs.Places.{map_got}
+use Rattle.theory_steps.proofs.Stepping.{step_kept, step_reaches}
 
 new_in_order : (w : World) → IsNewWorld w → InOrder w
 new_in_order w n =

@@ -7,7 +7,7 @@ use Rattle.ipx_wire.specs.Ipx.{PacketView, IsIpx}
 use Rattle.theory_log.specs.Note.{Note}
 use Rattle.theory_log.specs.Scan.{Each}
 use Rattle.theory_log.specs.PacketsOnWay.{IsOneOn}
-use Rattle.ipx_steps.specs.World.{World, ParcelView, AtPort}
+use Rattle.theory_steps.specs.World.{World, ParcelView, AtPort}
 use Rattle.theory_log.specs.Note as Notes
 
 -- a packet of a router's own, which is of no connection

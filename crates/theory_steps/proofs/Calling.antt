@@ -13,15 +13,15 @@ use Rattle.theory_log.specs.Note.{Note}
 use Rattle.theory_log.specs.Scene.{Stands, linked, with_entries, put_end}
 use Rattle.theory_log.specs.Deeds.{Deed, DoesDeed}
 use Rattle.spx_messages.specs.EndpointView.{Held, held_at}
-use Rattle.ipx_steps.specs.World.{World, HostState, EndNow, ParcelView, stand_with, stand_of, home_at, bytes_of, segment_of, scene_of, InOrder, StandsAt, IsHostInOrder}
-use Rattle.ipx_steps.specs.EndCalls.{DialsFrom, ChangesLink, SendsTo, Closes, InjectsInto, Ticks}
-use Rattle.ipx_steps.specs.DeedRuns.{Deeds}
-use Rattle.ipx_steps.proofs.Places.{get_map, get_set_here, map_more, map_same, map_length}
-use Rattle.ipx_steps.proofs.Doing.{no_deed, one_deed}
-use Rattle.ipx_steps.proofs.Standing.{none_held, held_same, held_stands, held_there, stands_there, ends_changed, made_same, scene_after}
-use Rattle.ipx_steps.proofs.Finding.{free_id}
-use Rattle.ipx_steps.proofs.Keeping.{same_ends, ids_kept, id_comes}
-use Rattle.ipx_steps.proofs.KeptBy.{ids_changed}
+use Rattle.theory_steps.specs.World.{World, HostState, EndNow, ParcelView, stand_with, stand_of, home_at, bytes_of, segment_of, scene_of, InOrder, StandsAt, IsHostInOrder}
+use Rattle.theory_steps.specs.EndCalls.{DialsFrom, ChangesLink, SendsTo, Closes, InjectsInto, Ticks}
+use Rattle.theory_steps.specs.DeedRuns.{Deeds}
+use Rattle.theory_steps.proofs.Places.{get_map, get_set_here, map_more, map_same, map_length}
+use Rattle.theory_steps.proofs.Doing.{no_deed, one_deed}
+use Rattle.theory_steps.proofs.Standing.{none_held, held_same, held_stands, held_there, stands_there, ends_changed, made_same, scene_after}
+use Rattle.theory_steps.proofs.Finding.{free_id}
+use Rattle.theory_steps.proofs.Keeping.{same_ends, ids_kept, id_comes}
+use Rattle.theory_steps.proofs.KeptBy.{ids_changed}
 use Rattle.theory_log.specs.Note as Notes
 use Rattle.theory_log.specs.Deeds as Scenes
 

@@ -5,8 +5,8 @@ use Rattle.spx_link.specs.LinkView.{LinkView}
 use Rattle.spx_link.specs.Poll.{poll_link}
 use Rattle.theory_log.specs.Scene.{Scene, Stand, linked}
 use Rattle.theory_log.specs.Deeds.{Deed, DoesDeed, Rests, Reached, happened}
-use Rattle.ipx_steps.specs.DeedRuns.{DoesAll, Deeds}
-use Rattle.ipx_steps.proofs.Places.{get_past, set_past}
+use Rattle.theory_steps.specs.DeedRuns.{DoesAll, Deeds}
+use Rattle.theory_steps.proofs.Places.{get_past, set_past}
 
 pub no_deed : (old new : Scene) → new ≡ old → Deeds old new
 no_deed old new e = ([], e)
