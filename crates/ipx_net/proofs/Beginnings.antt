@@ -9,8 +9,8 @@ use Rattle.ipx_wire.specs.declared.address.Network.{Network}
 use Rattle.ipx_wire.specs.declared.address.Socket.{Socket}
 use Rattle.spx_link.specs.Limits.{most_units}
 use Rattle.theory_log.specs.Deeds.{Reached}
-use Rattle.ipx_hosts.specs.HostBeginnings.{AddsHost, listens_at}
-use Rattle.ipx_hosts.specs.Hosts.{HostsView, world_of}
+use Rattle.ipx_net_hosts.specs.HostBeginnings.{AddsHost, listens_at}
+use Rattle.ipx_net_hosts.specs.Hosts.{HostsView, world_of}
 use Rattle.ipx_router.specs.NewRouter.{ports_fault}
 use Rattle.ipx_router.specs.declared.fault.NewFault.{NewFault}
 use Rattle.ipx_router.specs.declared.port.Port.{Port}

@@ -12,16 +12,16 @@ use Rattle.theory_log.specs.Note.{Note}
 use Rattle.theory_steps.specs.HostSteps.{TakesOf, said_notes, given_notes, unit_notes, whole_notes}
 use Rattle.theory_steps.specs.EndCalls.{RefusesAt}
 use Rattle.theory_steps.specs.World.{AtHost, ParcelView, HostState, World, end_at}
-use Rattle.ipx_hosts.specs.Hosts.{HostsView, LeftAs, Noting, PolledAt, world_of}
-use Rattle.ipx_hosts.specs.Refusing.{PushesTo, TakeIsRefused, end_held, want}
-use Rattle.ipx_hosts.specs.HostStates.{given_as, speaker}
+use Rattle.ipx_net_hosts.specs.Hosts.{HostsView, LeftAs, Noting, PolledAt, world_of}
+use Rattle.ipx_net_hosts.specs.Refusing.{PushesTo, TakeIsRefused, end_held, want}
+use Rattle.ipx_net_hosts.specs.HostStates.{given_as, speaker}
 use Rattle.ipx_net.specs.AnswerView.{Parcels, Refused, Taken}
 use Rattle.ipx_net.specs.GrowthView.{GrowthView, GrowsWorld}
 use Rattle.ipx_net.specs.HostEvents.{DeliversSo, PollingHost, TakingFrom}
 use Rattle.ipx_net.specs.Speaking.{spoken_notes}
 use Rattle.spx_messages.specs.declared.arrived.Arrived.{Arrived}
 use Rattle.theory_steps.specs.HostSteps.{arrival_notes}
-use Rattle.ipx_hosts.specs.Hosts.{DeliveredAt}
+use Rattle.ipx_net_hosts.specs.Hosts.{DeliveredAt}
 use Rattle.ipx_net.specs.AnswerView.{ArrivedAt}
 use Rattle.ipx_net.specs.HostEvents.{end_for}
 

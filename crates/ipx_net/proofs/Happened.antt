@@ -17,7 +17,7 @@ use Rattle.theory_log.specs.Note as Notes
 use Rattle.theory_log.specs.PacketsOnWay.{IsOneOn}
 use Rattle.theory_steps.specs.Routers.{GivesOwnLetters, told_notes}
 use Rattle.theory_steps.specs.World.{ParcelView, World}
-use Rattle.ipx_hosts.specs.Hosts.{HostsView, world_of}
+use Rattle.ipx_net_hosts.specs.Hosts.{HostsView, world_of}
 use Rattle.ipx_net.specs.AnswerView.{AnswerView, Parcels}
 use Rattle.ipx_net.specs.BookView.{BookView}
 use Rattle.ipx_net.specs.GrowthView.{GrowsWorld, GrowthView, growth_view}

@@ -4,7 +4,7 @@ use Rattle.std.specs.Result.{is_err}
 use Rattle.theory_log.specs.Deeds.{Reached}
 use Rattle.theory_steps.specs.WorldStep.{WorldStep}
 use Rattle.theory_steps.specs.World.{InOrder, World, scene_of}
-use Rattle.ipx_hosts.specs.Hosts.{HostsView, world_of}
+use Rattle.ipx_net_hosts.specs.Hosts.{HostsView, world_of}
 use Rattle.ipx_net.specs.BookView.{BookView, written_on}
 use Rattle.ipx_net.specs.GrowthView.{GrowthView}
 use Rattle.ipx_net.specs.NetEvents.{Happens}

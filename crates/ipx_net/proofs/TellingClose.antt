@@ -8,7 +8,7 @@ use Rattle.theory_log.specs.EndsTold.{PeerIsFound}
 use Rattle.theory_log.specs.Peers.{ArePeersIn}
 use Rattle.theory_log.specs.Scan.{Scan, scan}
 use Rattle.theory_steps.specs.World.{EndNow, World, held_of, stand_of, stand_with}
-use Rattle.ipx_hosts.specs.EndTelling.{state_of}
+use Rattle.ipx_net_hosts.specs.EndTelling.{state_of}
 use Rattle.ipx_net.specs.Ends.{TellsClosed, TellsEnded, TellsLog, TellsOpened, TellsReleased, TellsStands, told_of}
 use Rattle.ipx_net.specs.NetView.{NetView}
 use Rattle.ipx_net.specs.Theorems.{LinkTheorems, Theorems}

@@ -17,8 +17,8 @@ use Rattle.theory_steps.specs.HostSteps.{TakesOf, ends_after, marked_over}
 use Rattle.theory_steps.specs.World.{EndNow, InOrder, IsEndOf, HostState, World, end_at, held_in, held_of}
 use Rattle.ipx_wire.specs.declared.address.Address.{Address}
 use Rattle.ipx_wire.specs.declared.address.Socket.{Socket}
-use Rattle.ipx_hosts.specs.Hosts.{HostsView}
-use Rattle.ipx_hosts.specs.EndTelling.{here_at, here_in, state_on_host, state_of}
+use Rattle.ipx_net_hosts.specs.Hosts.{HostsView}
+use Rattle.ipx_net_hosts.specs.EndTelling.{here_at, here_in, state_on_host, state_of}
 use Rattle.ipx_net.specs.AnswerView.{AnswerView}
 use Rattle.ipx_net.specs.Ends.{TellsLog, TellsStand, TellsStands, told_of}
 use Rattle.ipx_net.specs.HostEvents.{RefusedOf}

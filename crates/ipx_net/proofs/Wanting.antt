@@ -17,8 +17,8 @@ use Rattle.ipx_router.specs.declared.port.Port.{Port}
 use Rattle.theory_log.specs.Note.{Note}
 use Rattle.theory_steps.specs.HostSteps.{TakesOf, arrival_notes, unit_notes, whole_notes}
 use Rattle.theory_steps.specs.World.{EndNow, ParcelView, HostState}
-use Rattle.ipx_hosts.specs.Hosts.{DeliveredAt, HostsView, Noting}
-use Rattle.ipx_hosts.specs.Refusing.{end_held, held_by}
+use Rattle.ipx_net_hosts.specs.Hosts.{DeliveredAt, HostsView, Noting}
+use Rattle.ipx_net_hosts.specs.Refusing.{end_held, held_by}
 use Rattle.ipx_net.specs.AnswerView.{AnswerView}
 use Rattle.ipx_net.specs.GrowthView.{GrowthView, growth_view}
 use Rattle.ipx_net.specs.HostEvents.{DeliversSo}

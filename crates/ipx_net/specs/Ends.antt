@@ -15,7 +15,7 @@ use Rattle.theory_log.specs.Scan.{scan}
 use Rattle.theory_log.specs.Scene.{Stand, Stands}
 use Rattle.theory_log.specs.SentUnits.{sent_by}
 use Rattle.theory_steps.specs.World.{EndNow, HostState, World, held_of, scene_of}
-use Rattle.ipx_hosts.specs.EndTelling.{state_of}
+use Rattle.ipx_net_hosts.specs.EndTelling.{state_of}
 use Rattle.ipx_net.specs.NetView.{NetView}
 use Rattle.ipx_net.specs.declared.endinfo.EndInfo.{EndInfo}
 

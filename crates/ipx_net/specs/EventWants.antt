@@ -20,8 +20,8 @@ use Rattle.ipx_router.specs.WantOfMemory.{WantsMemory}
 use Rattle.theory_log.specs.Note.{Note}
 use Rattle.theory_steps.specs.HostSteps.{arrival_notes, unit_notes, whole_notes}
 use Rattle.theory_steps.specs.World.{ParcelView, HostState}
-use Rattle.ipx_hosts.specs.Hosts.{DeliveredAt, HostsView, PolledAt}
-use Rattle.ipx_hosts.specs.Refusing.{close_fault, dial_fault, send_fault}
+use Rattle.ipx_net_hosts.specs.Hosts.{DeliveredAt, HostsView, PolledAt}
+use Rattle.ipx_net_hosts.specs.Refusing.{close_fault, dial_fault, send_fault}
 use Rattle.ipx_net.specs.GrowthView.{growth_view}
 use Rattle.ipx_net.specs.HostEvents.{held_under}
 use Rattle.ipx_net.specs.NetView.{NetNow}

@@ -2,7 +2,7 @@
 use Rattle.std.specs.Prelude.{ℕ, ◌≡◌, List, ◌++◌, length}
 use Rattle.theory_log.specs.Note.{Note}
 use Rattle.theory_steps.specs.World.{ParcelView, World}
-use Rattle.ipx_hosts.specs.Hosts.{HostsView, world_of}
+use Rattle.ipx_net_hosts.specs.Hosts.{HostsView, world_of}
 use Rattle.ipx_net.specs.AnswerView.{AnswerView, answer_view}
 use Rattle.ipx_net.specs.LogEntries.{entry_notes}
 use Rattle.ipx_net.specs.Parcels.{parcel_views}

@@ -9,8 +9,8 @@ use Rattle.spx_messages.specs.declared.fault.EndFault.{EndFault}
 use Rattle.spx_messages.specs.EndpointView.{Held}
 use Rattle.spx_messages.specs.Taking.{TakenView, overlong}
 use Rattle.spx_units.specs.Message.{MessageView}
-use Rattle.ipx_hosts.specs.Hosts.{DeliveredAt, HostsView}
-use Rattle.ipx_hosts.specs.Refusing.{CloseIsRefused, DialIsRefused, PushesTo, SendIsRefused, close_fault, dial_fault, end_held, send_fault, want}
+use Rattle.ipx_net_hosts.specs.Hosts.{DeliveredAt, HostsView}
+use Rattle.ipx_net_hosts.specs.Refusing.{CloseIsRefused, DialIsRefused, PushesTo, SendIsRefused, close_fault, dial_fault, end_held, send_fault, want}
 use Rattle.theory_steps.specs.EndCalls.{Closes, DialsFrom, RefusesAt, ReleasesOf, SendsTo}
 use Rattle.theory_steps.specs.HostSteps.{Delivers, PollsHost, TakesOf, arrival_notes}
 use Rattle.theory_steps.specs.World.{EndNow, HostState, World, end_at}

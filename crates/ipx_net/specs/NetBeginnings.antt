@@ -7,7 +7,7 @@ use Rattle.spx_link.specs.Limits.{most_units}
 use Rattle.ipx_router.specs.NewRouter.{IsOwnNetwork, ports_fault}
 use Rattle.ipx_router.specs.declared.fault.NewFault.{NewFault}
 use Rattle.ipx_router.specs.declared.port.Port.{Port}
-use Rattle.ipx_hosts.specs.HostBeginnings.{BeginsAt}
+use Rattle.ipx_net_hosts.specs.HostBeginnings.{BeginsAt}
 use Rattle.theory_steps.specs.World.{HostState}
 use Rattle.ipx_net.specs.NetView.{NetView}
 use Rattle.ipx_net.specs.declared.host.Host.{Host}

@@ -3,7 +3,7 @@
 use Rattle.std.specs.Prelude.{ℕ, Bool, List}
 use Rattle.theory_log.specs.Note.{Note}
 use Rattle.theory_steps.specs.World.{ParcelView, World}
-use Rattle.ipx_hosts.specs.Hosts.{HostsView, world_of}
+use Rattle.ipx_net_hosts.specs.Hosts.{HostsView, world_of}
 use Rattle.ipx_net.specs.declared.routers.RouterNow.{RouterNow}
 
 pub record NetNow : Type 0 where

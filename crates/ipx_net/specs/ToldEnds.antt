@@ -8,8 +8,8 @@ use Rattle.theory_log.specs.Note.{Note, Opened, Accepted, Joined, HandsIn, Hands
 use Rattle.theory_log.specs.Scan.{scan}
 use Rattle.theory_log.specs.SentUnits.{sent_by}
 use Rattle.theory_steps.specs.World.{World, end_at}
-use Rattle.ipx_hosts.specs.Hosts.{HostsView}
-use Rattle.ipx_hosts.specs.EndTelling.{here_at, state_on_host}
+use Rattle.ipx_net_hosts.specs.Hosts.{HostsView}
+use Rattle.ipx_net_hosts.specs.EndTelling.{here_at, state_on_host}
 use Rattle.ipx_net.specs.Ends.{nobody, told_of}
 use Rattle.ipx_net.specs.declared.endinfo.EndInfo.{EndInfo}
 use Rattle.ipx_net.specs.declared.event.Event.{Event}

@@ -31,7 +31,7 @@ use crate::parcel::Parcel;
 use crate::place::Place;
 use crate::routers::RouterNow;
 use crate::told::EndsTold;
-use ipx_hosts::Hosts;
+use ipx_net_hosts::Hosts;
 use theory_log::{
     acknowledged_end_is_read, addresses_tell_peers, alone_reads_nothing, confirmed_is_read,
     end_taken_is_whole, ends_are_told, entries_tell_ends, hands_out_what_it_took,
@@ -58,7 +58,7 @@ pub struct Course {
 }
 
 impl Model for Course {
-    ghost use Rattle.ipx_hosts.specs.Hosts.{world_of};
+    ghost use Rattle.ipx_net_hosts.specs.Hosts.{world_of};
     ghost use Rattle.ipx_net.specs.NetReach.{IsKept};
     ghost use Rattle.ipx_net.specs.NetView.{NetView, net_of};
 

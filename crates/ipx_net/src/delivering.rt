@@ -4,7 +4,7 @@ ghost use Rattle.std.specs.Prelude.{◌≡◌, ◌<◌, ◌≤◌, ◌∷◌, []
 ghost use Rattle.theory_log.specs.Note as Notes;
 ghost use Rattle.theory_log.specs.PacketsOnWay.{notes_of};
 ghost use Rattle.theory_steps.specs.HostSteps.{arrival_notes, read_notes};
-ghost use Rattle.ipx_hosts.specs.Hosts.{SameHomes};
+ghost use Rattle.ipx_net_hosts.specs.Hosts.{SameHomes};
 ghost use Rattle.ipx_net.specs.LogEntries.{entry_notes};
 ghost use Rattle.ipx_net.specs.GrowthView.{growth_view};
 ghost use Rattle.ipx_net.specs.HostEvents.{DeliversSo, end_for};
@@ -13,7 +13,7 @@ ghost use Rattle.ipx_net.specs.EventWants.{HostWantsMemory, IsMade};
 use crate::answer::Answer;
 use crate::entry::Entry;
 use crate::growth::Growth;
-use ipx_hosts::Hosts;
+use ipx_net_hosts::Hosts;
 use ipx_wire::OutOfMemory;
 use spx_link::Received;
 use spx_messages::Arrived;

@@ -1,7 +1,7 @@
 //! What an event meets before anything is done.
 
 ghost use Rattle.std.specs.Prelude.{◌≡◌, ◌<◌, ℕ, length, nat_lt, option_map, slice_get};
-ghost use Rattle.ipx_hosts.specs.Hosts.{stands};
+ghost use Rattle.ipx_net_hosts.specs.Hosts.{stands};
 ghost use Rattle.ipx_net.specs.NetFaults.{end_fault, fault_before, member_fault, network_at, place_fault, poll_fault};
 ghost use Rattle.ipx_net.specs.BookView.{BookView};
 ghost use Rattle.ipx_net.specs.NetView.{net_of};
@@ -13,7 +13,7 @@ use crate::fault::NetFault;
 use crate::parcel::Parcel;
 use crate::place::Place;
 use crate::routers::{RouterNow, network_at};
-use ipx_hosts::Hosts;
+use ipx_net_hosts::Hosts;
 use ipx_wire::Network;
 
 /// There is no such end, or it was released.

@@ -1,7 +1,7 @@
 //! What an event does, with the book as it is: what is to be added to that.
 
 ghost use Rattle.std.specs.Prelude.{◌≡◌, ◌++◌, None, IfOk, slice_get};
-ghost use Rattle.ipx_hosts.specs.Hosts.{FitTogether, SameHomes};
+ghost use Rattle.ipx_net_hosts.specs.Hosts.{FitTogether, SameHomes};
 ghost use Rattle.ipx_net.specs.GrowthView.{growth_view};
 ghost use Rattle.ipx_net.specs.NetEvents.{DeliversTo, Happens, IsOwed, PollsOf, injected};
 ghost use Rattle.ipx_net.specs.NetFaults.{fault_before, network_at, place_fault, poll_fault};
@@ -21,7 +21,7 @@ use crate::place::Place;
 use crate::polling::poll_host;
 use crate::routers::RouterNow;
 use crate::routing::{deliver_member, poll_member};
-use ipx_hosts::Hosts;
+use ipx_net_hosts::Hosts;
 use ipx_wire::{Network, Node, OutOfMemory};
 use std::alloc::Global;
 

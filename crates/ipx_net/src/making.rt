@@ -6,7 +6,7 @@ ghost use Rattle.ipx_net.specs.NetBeginnings.{AreHosts, ArePortsOwed, AreRouters
 
 use crate::host::Host;
 use crate::routers::RouterNow;
-use ipx_hosts::Hosts;
+use ipx_net_hosts::Hosts;
 use ipx_router::{NewFault, Port, Router};
 use ipx_wire::OutOfMemory;
 use std::alloc::Global;

@@ -3,7 +3,7 @@
 ghost use Rattle.std.specs.Prelude.{◌≡◌, ◌<◌, ◌∷◌, [], IfOk, Some, length};
 ghost use Rattle.theory_log.specs.PacketsOnWay.{note_of};
 ghost use Rattle.theory_steps.specs.World.{AtHost};
-ghost use Rattle.ipx_hosts.specs.Hosts.{SameHomes};
+ghost use Rattle.ipx_net_hosts.specs.Hosts.{SameHomes};
 ghost use Rattle.ipx_net.specs.AnswerView as views;
 ghost use Rattle.ipx_net.specs.LogEntries.{entry_note, entry_notes};
 ghost use Rattle.ipx_net.specs.GrowthView.{GrowsWorld, growth_view};
@@ -17,7 +17,7 @@ use crate::entry::Entry;
 use crate::growth::{Growth, quiet};
 use crate::parcel::Parcel;
 use crate::place::Place;
-use ipx_hosts::Hosts;
+use ipx_net_hosts::Hosts;
 use ipx_wire::{Network, Node, OutOfMemory, SPX_MAX_PACKET_SIZE};
 use spx_link::Sent;
 use std::alloc::Global;

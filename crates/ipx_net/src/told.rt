@@ -1,8 +1,8 @@
 //! What is told of the ends of a network, kept as its log grows.
 
 ghost use Rattle.std.specs.Prelude.{◌≡◌, ◌≢◌, ◌<◌, ◌≤◌, ◌+◌, ◌-◌, ◌^◌, ℕ, [], OnErr, OnOk, Some, length, set, slice_get, take, vec_capacity, vec_len};
-ghost use Rattle.ipx_hosts.specs.Hosts.{FitTogether};
-ghost use Rattle.ipx_hosts.specs.EndTelling.{here_at, state_on_host};
+ghost use Rattle.ipx_net_hosts.specs.Hosts.{FitTogether};
+ghost use Rattle.ipx_net_hosts.specs.EndTelling.{here_at, state_on_host};
 ghost use Rattle.theory_log.specs.EndsTold.{peer_of};
 ghost use Rattle.theory_log.specs.Scan.{scan};
 ghost use Rattle.theory_steps.specs.World.{end_at};
@@ -14,7 +14,7 @@ ghost use Rattle.ipx_net.specs.ToldEnds.{AreCounted, StandsSo, StayAlone, StayAs
 use crate::book::Book;
 use crate::endinfo::EndInfo;
 use crate::entry::Entry;
-use ipx_hosts::Hosts;
+use ipx_net_hosts::Hosts;
 use theory_log::peer_is_found;
 use spx_link::State;
 use std::alloc::{AllocError, Global};

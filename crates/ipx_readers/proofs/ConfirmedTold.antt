@@ -12,7 +12,7 @@ use Rattle.theory_log.specs.Peers.{ArePeers, Premises}
 use Rattle.theory_log.specs.Scan.{scan}
 use Rattle.theory_log.specs.Scene.{Stand}
 use Rattle.theory_steps.specs.World.{EndNow, World, held_of, scene_of, stand_of, stand_with}
-use Rattle.ipx_hosts.specs.EndTelling.{state_of}
+use Rattle.ipx_net_hosts.specs.EndTelling.{state_of}
 use Rattle.ipx_net.specs.Ends.{TellsClosed, TellsEnds, nobody, told_of}
 use Rattle.ipx_net.specs.NetView.{NetView}
 use Rattle.ipx_net.specs.Theorems.{LinkTheorems, Theorems}

@@ -1,7 +1,7 @@
 use Rattle.std.proofs.Common.{◌++◌, Err, sym, ◌∙◌, ap, subst}
 use Rattle.theory_steps.specs.HostSteps.{TakesOf, unit_notes, whole_notes}
-use Rattle.ipx_hosts.specs.Hosts.{Noting}
-use Rattle.ipx_hosts.specs.Refusing.{TakeIsRefused}
+use Rattle.ipx_net_hosts.specs.Hosts.{Noting}
+use Rattle.ipx_net_hosts.specs.Refusing.{TakeIsRefused}
 use Rattle.std.specs.Prelude.{IfErr}
 use Rattle.spx_messages.specs.Taking.{result_view, taken_view}
 use Rattle.ipx_net.specs.GrowthView.{growth_view}

@@ -1,6 +1,0 @@
-use Rattle.std.proofs.Common.{◌∙◌, sym}
-use Rattle.ipx_hosts.proofs.Known.{end_found}
-use Rattle.ipx_hosts.proofs.host_state.end_of.Goals as goal
-
-pub returns : goal.returns
-returns c = c.number_of.ensures ∙ sym (end_found c.args.here.now c.args.id)

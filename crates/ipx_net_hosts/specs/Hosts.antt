@@ -1,0 +1,105 @@
+-- The hosts of a network and their ends, by their numbers; and the world that they are a part of.
+use Rattle.std.specs.Prelude.{ℕ, ◌≡◌, Bool, false, true, not, List, ◌++◌, length, map, set, Option, Some, None, Result, Ok, Err, slice_get}
+use Rattle.ipx_wire.specs.declared.address.Node.{Node}
+use Rattle.spx_messages.specs.Arrives.{Arrives}
+use Rattle.spx_messages.specs.Polls.{Polls}
+use Rattle.spx_messages.specs.Taking.{TakenView}
+use Rattle.spx_messages.specs.declared.arrived.Arrived.{Arrived}
+use Rattle.spx_messages.specs.declared.fault.EndFault.{EndFault}
+use Rattle.spx_messages.specs.declared.fault.EndFault.TheVariants as EndFaults
+use Rattle.spx_units.specs.declared.fault.MessageFault.TheVariants as MessageFaults
+use Rattle.spx_messages.specs.EndpointView.{Held, held_at}
+use Rattle.theory_log.specs.Note.{Note}
+use Rattle.theory_steps.specs.EndCalls.{RefusesAt}
+use Rattle.theory_steps.specs.HostSteps.{ends_after, here_after}
+use Rattle.ipx_net_hosts.specs.declared.refusal.Refusal.{Refusal}
+use Rattle.ipx_net_hosts.specs.declared.refusal.Refusal.TheVariants as Refusals
+use Rattle.theory_steps.specs.World.{EndNow, InOrder, ParcelView, HostState, World, end_at, home_at}
+
+pub record HostsView : Type 0 where
+  pub stations : List HostState
+  pub ends : List EndNow
+
+-- with these parcels and this log, at a moment
+abbrev pub world_of : HostsView → List ParcelView → List Note → ℕ → World
+world_of v parcels log now =
+    record { hosts = v.stations; ends = v.ends; parcels = parcels; log = log; moment = now }
+
+-- whatever parcels and log there are, and with these entries behind it
+abbrev pub Noting : HostsView → HostsView → ℕ → List Note → (World → World → Type 0) → Type 0
+Noting old new now notes P = (parcels : List ParcelView) (log : List Note)
+    → P (world_of old parcels log now) (world_of new parcels (log ++ notes) now)
+
+-- hosts and ends that fit one another
+abbrev pub FitTogether : HostsView → Type 0
+FitTogether v = (parcels : List ParcelView) (log : List Note) (now : ℕ)
+    → InOrder (world_of v parcels log now)
+
+abbrev pub stands_now : Option EndNow → Bool
+stands_now None = false
+stands_now (Some e) = not e.released
+
+-- hosts keep their addresses, whatever is called and whatever is refused
+abbrev pub SameHomes : HostsView → HostsView → Type 0
+SameHomes old new = map home_at new.stations ≡ map home_at old.stations
+
+-- there is such an end, and it is not released
+abbrev pub stands : HostsView → ℕ → Bool
+stands v who = stands_now (slice_get v.ends who)
+
+-- an end that is not released: its host, its id there, and what is held under that
+pub record Standing (v : HostsView) (who host id : ℕ) : Type 0 where
+  pub end' : EndNow
+  pub at : slice_get v.ends who ≡ Some end'
+  pub stands : end'.released ≡ false
+  pub host_is : end'.host ≡ host
+  pub id_is : end'.id ≡ id
+  pub station : HostState
+  pub there : slice_get v.stations host ≡ Some station
+  pub known : end_at station.here id ≡ Some who
+  pub held : Held
+  pub live : held_at station.endpoint id ≡ Some held
+
+-- a host refused, and the world is as it was
+abbrev pub LeftAt : ℕ → HostsView → HostsView → ℕ → Type 0
+LeftAt host old new now = (parcels : List ParcelView) (log : List Note)
+    → RefusesAt (world_of old parcels log now) host (world_of new parcels log now)
+
+-- the host of an end refused, and the world is as it was
+pub record LeftAs (who : ℕ) (old new : HostsView) (now : ℕ) : Type 0 where
+  pub end' : EndNow
+  pub at : slice_get old.ends who ≡ Some end'
+  pub left : LeftAt end'.host old new now
+
+-- a refusal by a host leaves the world as it was. Of want of memory nothing is said
+abbrev pub LeftBy : Refusal → ℕ → HostsView → HostsView → ℕ → Type 0
+LeftBy (Refusals.ByEnd f) host old new now = LeftAt host old new now
+LeftBy Refusals.OutOfMemory host old new now = Unit {0}
+
+-- a take was refused, and not for want of memory
+abbrev pub is_lost : Result TakenView EndFault → Bool
+is_lost (Ok t) = false
+is_lost (Err (EndFaults.Message MessageFaults.OutOfMemory)) = false
+is_lost (Err f) = true
+
+-- a host was polled, and nothing else changed
+pub record PolledAt (old : HostsView) (host now : ℕ) (result : Option (Node × ℕ))
+    (room written : List ℕ) (new : HostsView) : Type 0 where
+  pub before : HostState
+  pub there : slice_get old.stations host ≡ Some before
+  pub after : HostState
+  pub polls : Polls before.endpoint now result room written after.endpoint
+  pub here : after.here ≡ before.here
+  pub stations : new.stations ≡ set old.stations host after
+  pub ends : new.ends ≡ old.ends
+
+-- a datagram came to a host, and nothing else changed
+pub record DeliveredAt (old : HostsView) (host : ℕ) (bytes : List ℕ) (now : ℕ) (answer : Arrived)
+    (new : HostsView) : Type 0 where
+  pub before : HostState
+  pub there : slice_get old.stations host ≡ Some before
+  pub after : HostState
+  pub arrives : Arrives before.endpoint bytes now answer after.endpoint
+  pub here : after.here ≡ here_after answer (length old.ends) before.here
+  pub stations : new.stations ≡ set old.stations host after
+  pub ends : new.ends ≡ ends_after answer host old.ends

@@ -1,0 +1,96 @@
+-- Which fault a call on a host or on an end meets, by what stands there before it, and what it is
+-- refused with: that fault, or want of memory.
+use Rattle.std.specs.Prelude.{ℕ, ◌≡◌, ◌⊎◌, ◌==◌, if◌then◌else◌, List, Option, Some, None, Err, option_map, slice_get}
+use Rattle.std.specs.Option.{option_or}
+use Rattle.spx_link.specs.Limits.{most_links}
+use Rattle.spx_link.specs.Links.{LinksView, count_of}
+use Rattle.spx_link.specs.Offer.{refusal}
+use Rattle.spx_link.specs.declared.fault.LinksFault.TheVariants as LinksFaults
+use Rattle.spx_link.specs.declared.fault.OfferFault.TheVariants as OfferFaults
+use Rattle.spx_units.specs.Message.{MessageView, cut_fault}
+use Rattle.spx_units.specs.declared.fault.MessageFault.TheVariants as MessageFaults
+use Rattle.spx_messages.specs.EndpointView.{Held}
+use Rattle.spx_messages.specs.Taking.{IsPushed, overlong, take_end}
+use Rattle.spx_messages.specs.declared.fault.EndFault.{EndFault}
+use Rattle.spx_messages.specs.declared.fault.EndFault.TheVariants as EndFaults
+use Rattle.theory_steps.specs.World.{EndNow, HostState, held_of}
+use Rattle.ipx_net_hosts.specs.declared.refusal.Refusal.{Refusal}
+use Rattle.ipx_net_hosts.specs.declared.refusal.Refusal.TheVariants as Refusals
+
+-- what stands under the number of an end: nothing once it is released
+abbrev pub held_by : List HostState → Option EndNow → Option Held
+held_by hosts None = None
+held_by hosts (Some e) = held_of hosts e
+
+abbrev pub end_held : List HostState → List EndNow → ℕ → Option Held
+end_held hosts ends who = held_by hosts (slice_get ends who)
+
+-- want of memory, by what it is wanted for: a link, a message that is cut or joined, units that are
+-- queued
+abbrev pub want_of_link : EndFault
+want_of_link = EndFaults.Links LinksFaults.OutOfMemory
+
+abbrev pub want : EndFault
+want = EndFaults.Message MessageFaults.OutOfMemory
+
+abbrev pub want_of_queue : EndFault
+want_of_queue = EndFaults.Offer OfferFaults.OutOfMemory
+
+-- ---- dial: just where 16 links stand
+
+abbrev pub too_many : EndFault
+too_many = EndFaults.Links LinksFaults.TooMany
+
+abbrev pub full_fault : LinksView → Option EndFault
+full_fault s = if count_of s == most_links then Some too_many else None
+
+-- a host that is not there is refused by no end
+abbrev pub dial_fault : Option HostState → Option EndFault
+dial_fault None = None
+dial_fault (Some s) = full_fault s.endpoint.links
+
+abbrev pub DialIsRefused : Option HostState → EndFault → Type 0
+DialIsRefused s f = (dial_fault s ≡ Some f) ⊎ ((f ≡ want_of_link) × (dial_fault s ≡ None))
+
+-- the same, where memory may be refused beside the endpoint
+abbrev pub DialIsLeft : Option HostState → Refusal → Type 0
+DialIsLeft s (Refusals.ByEnd f) = DialIsRefused s f
+DialIsLeft s Refusals.OutOfMemory = dial_fault s ≡ None
+
+-- ---- close: by the state of the link
+
+abbrev pub close_fault : Option Held → Option EndFault
+close_fault None = Some EndFaults.NoSuchEnd
+close_fault (Some h) = option_map EndFaults.Offer (refusal h.link.state)
+
+abbrev pub CloseIsRefused : Option Held → EndFault → Type 0
+CloseIsRefused h f = (close_fault h ≡ Some f) ⊎ ((f ≡ want_of_queue) × (close_fault h ≡ None))
+
+-- ---- send: by the message, else by the state of the link
+
+abbrev pub message_fault : Option Held → MessageView → Option EndFault
+message_fault None m = Some EndFaults.NoSuchEnd
+message_fault (Some h) m = option_map EndFaults.Message (cut_fault m)
+
+abbrev pub send_fault : Option Held → MessageView → Option EndFault
+send_fault h m = option_or (message_fault h m) (close_fault h)
+
+-- the message is cut before the state is looked at: so want of memory for that may come in the
+-- place of the state's fault
+abbrev pub SendIsRefused : Option Held → MessageView → EndFault → Type 0
+SendIsRefused h m f = (send_fault h m ≡ Some f)
+    ⊎ ((f ≡ want) × (message_fault h m ≡ None))
+    ⊎ ((f ≡ want_of_queue) × (send_fault h m ≡ None))
+
+-- ---- take: where a message grew too long; and where a unit joins a message, for want of memory
+
+abbrev pub Overruns : Option Held → Type 0
+Overruns None = ⊥
+Overruns (Some h) = (take_end h).0 ≡ Err overlong
+
+abbrev pub PushesTo : Option Held → Type 0
+PushesTo None = ⊥
+PushesTo (Some h) = IsPushed h
+
+abbrev pub TakeIsRefused : EndFault → Type 0
+TakeIsRefused f = (f ≡ overlong) ⊎ (f ≡ want)
