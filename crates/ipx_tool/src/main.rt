@@ -6,7 +6,7 @@ mod words;
 
 use clap::error::ErrorKind;
 use ipx_commands::{do_check, do_hop, do_show, tell_no_memory};
-use ipx_ends::{check_host, do_listen, do_send};
+use ipx_transfer::{check_host, do_listen, do_send};
 use ipx_sim::do_sim;
 use ipx_site::{check_site, do_route};
 use ipx_udp::do_udp;

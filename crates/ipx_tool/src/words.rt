@@ -8,7 +8,7 @@ use crate::help::whole_command;
 use clap::Error;
 use clap::error::ErrorKind;
 use ipx_carrier::UDP_PORT;
-use ipx_ends::Target;
+use ipx_transfer::Target;
 use std::alloc::Global;
 
 /// A command of the program. The text of `Show` is its packet in hex.

@@ -1,8 +1,0 @@
-use Rattle.std.proofs.Common.{take}
-use Rattle.std.specs.Prelude.{All}
-use Rattle.ipx_ends.specs.Tending.{JustStays}
-use Rattle.ipx_ends.proofs.listening.ListeningHost.first_to_tend.Given as goal
-
--- nothing is to be done with those before
-abbrev pub invariant-loop-place : goal.invariant-loop-place
-invariant-loop-place g l = All (JustStays l.self.station.core) (take l.place l.self.callers.items)

@@ -1,0 +1,131 @@
+-- The connections that a listening host holds, as they come, are heard, and go. All of it is own.
+use Rattle.std.specs.Prelude.{◌≡◌, ◌≢◌, ◌≤◌, ◌⊎◌, ◌==◌, ◌&&◌, ◌-◌, ℕ, Bool, true, false, not, IsTrue, List, [], ◌∷◌, ◌++◌, length, map, position, remove, count_by, slice_get, nat_eq, nat_le, Option, Some, None, IfSome, MatchOption, if◌then◌else◌}
+use Rattle.std.specs.List.{list_any}
+use Rattle.std.specs.Cmp.Lexicographic.{pointwise}
+use Rattle.std.specs.Coded.{Unit-prop}
+use Rattle.std.proofs.Props.{props}
+use Rattle.spx_link.specs.Offer.{offer_link}
+use Rattle.spx_units.specs.Cut.{cut_of}
+use Rattle.spx_messages.specs.Changes.{ChangesEnd, SameBut, SameSelf}
+use Rattle.spx_messages.specs.EndpointView.{EndpointView, Held, held_at}
+use Rattle.ipx_carrier.specs.OutcomeCounts.{raised}
+use Rattle.ipx_wire.specs.declared.address.Address.{Address}
+use Rattle.ipx_transfer.specs.CallerActions.{ends, is_unheard, standing_asked, standing_heard}
+use Rattle.ipx_transfer.specs.declared.callers.Caller.{Caller}
+use Rattle.ipx_transfer.specs.declared.callers.Standing.TheVariants as Standings
+use Rattle.ipx_transfer.specs.declared.end_core.Accepted.{Accepted}
+use Rattle.ipx_transfer.specs.declared.end_core.Came.{Came}
+use Rattle.ipx_transfer.specs.declared.end_core.Came.TheVariants as Cames
+use Rattle.ipx_transfer.specs.declared.end_core.EndCore.{EndCore}
+
+-- a connection that is heard at a moment
+abbrev pub once_heard : ℕ → Caller → Caller
+once_heard now c = record c { heard = now; standing = standing_heard c.standing }
+
+-- a datagram of an id is heard: the connection of that id is heard, and no other one
+abbrev pub heard_by : ℕ → ℕ → Caller → Caller
+heard_by id now c = if c.id == id then once_heard now c else c
+
+-- a connection that was accepted at a moment
+abbrev pub caller_of : Accepted → ℕ → Caller
+caller_of a now = record { id = a.id; from = a.from; heard = now; standing = Standings.Called }
+
+-- the link of an id is forgotten, and nothing else changes
+pub record LetsLinkGo (old new : EndpointView) (id : ℕ) : Type 0 where
+  pub gone : held_at new id ≡ None
+  pub others : (q : ℕ) → q ≢ id → held_at new q ≡ held_at old q
+  pub self : SameSelf old new
+  pub heard : new.heard ≡ old.heard
+
+-- two addresses are of one node of one network
+abbrev pub is_same_node : Address → Address → Bool
+is_same_node a b = a.network.0 == b.network.0 && pointwise nat_eq a.node.0 b.node.0
+
+abbrev pub has_spoken : Caller → Bool
+has_spoken c = not (is_unheard c.standing)
+
+abbrev pub is_ended : Caller → Bool
+is_ended c = ends c.standing
+
+-- a connection was not heard, and is of the node of an address
+abbrev pub is_unheard_of : Address → Caller → Bool
+is_unheard_of from c = is_unheard c.standing && is_same_node c.from from
+
+-- there is no place for one more from an address: with `once` one was heard; or 16 are held; or 4 of its
+-- node were not heard
+abbrev pub HasNoPlaceFor : Bool → Address → List Caller → Type 0
+HasNoPlaceFor once from callers = (IsTrue once × (list_any has_spoken callers ≡ true)) ⊎ (16 ≤ length callers)
+    ⊎ (4 ≤ count_by (is_unheard_of from) callers)
+
+-- a connection comes: where there is a place it is the last one then, and else its link is let go
+abbrev pub Admits : Bool → Caller → EndpointView → EndpointView → List Caller → List Caller → Type 0
+Admits once c old new callers callers' =
+    ((HasNoPlaceFor once c.from callers → ⊥) × (callers' ≡ callers ++ c ∷ []) × (new ≡ old))
+    ⊎ (HasNoPlaceFor once c.from callers × (callers' ≡ callers) × LetsLinkGo old new c.id)
+
+-- the links of connections are forgotten, one after another
+abbrev pub LetsLinksGo : List Caller → EndpointView → EndpointView → Type 0
+LetsLinksGo [] old new = new ≡ old
+LetsLinksGo (c ∷ cs) old new = (mid : EndpointView) × LetsLinkGo old mid c.id × LetsLinksGo cs mid new
+
+-- with `once` the first connection that was heard, if one was, stays alone: the others go
+abbrev pub KeepsHeard : Bool → EndpointView → EndpointView → List Caller → List Caller → Type 0
+KeepsHeard false old new callers callers' = (callers' ≡ callers) × (new ≡ old)
+KeepsHeard true old new callers callers' = MatchOption (position has_spoken callers)
+    ((callers' ≡ callers) × (new ≡ old))
+    (λ place. IfSome (slice_get callers place) (λ c. callers' ≡ c ∷ [])
+    × LetsLinksGo (remove callers place) old new)
+
+-- a connection was not heard, and a second ago or longer it came, or could not be asked
+abbrev pub is_overdue : ℕ → Caller → Bool
+is_overdue now c = is_unheard c.standing && nat_le 1000 (now - c.heard)
+
+-- there was no link for one that asked: the first connection that is overdue goes, if one is
+abbrev pub MakesRoom : ℕ → EndpointView → EndpointView → List Caller → List Caller → Type 0
+MakesRoom now old new callers callers' = MatchOption (position (is_overdue now) callers)
+    ((callers' ≡ callers) × (new ≡ old))
+    (λ place. (callers' ≡ remove callers place)
+    × IfSome (slice_get callers place) (λ c. LetsLinkGo old new c.id))
+
+-- a count, one higher where so it is
+abbrev pub raised_if : Bool → ℕ → ℕ
+raised_if more n = if more then raised n else n
+
+-- what a host does of what its core noted: a connection is heard, or one comes, or one makes room
+abbrev pub DoesNoted : Bool → Option Came → ℕ → EndpointView → EndpointView → List Caller → List Caller → Type 0
+DoesNoted once None now old new callers callers' = (callers' ≡ callers) × (new ≡ old)
+DoesNoted once (Some (Cames.Heard id)) now old new callers callers' =
+    KeepsHeard once old new (map (heard_by id now) callers) callers'
+DoesNoted once (Some (Cames.Accepted a)) now old new callers callers' =
+    Admits once (caller_of a now) old new callers callers'
+DoesNoted once (Some Cames.NoRoom) now old new callers callers' = MakesRoom now old new callers callers'
+
+-- it is done of what the core heard last, which is told once
+abbrev pub NotesHeard : Bool → EndCore → EndCore → List Caller → List Caller → Type 0
+NotesHeard once old new callers callers' =
+    (new ≡ record old { endpoint = new.endpoint; came = None })
+    × DoesNoted once old.came old.moment old.endpoint new.endpoint callers callers'
+
+-- a connection is asked whether it is there: a message of no bytes is queued on its link; or that is
+-- refused, and its silence counts anew
+abbrev pub Asks : ℕ → EndpointView → EndpointView → Caller → Caller → Type 0
+Asks now old new c c' =
+    ((h : Held) × (held_at old c.id ≡ Some h) × ChangesEnd old new c.id
+    (record h { link = offer_link h.link (cut_of (record { stream = 0; body = [] })) })
+    × (c' ≡ record c { standing = standing_asked c.standing }))
+    ⊎ (SameBut old new × (c' ≡ record c { heard = now }))
+
+-- with `once` a connection that was heard is the only one, and where its end was taken nothing is left to
+-- write
+abbrev pub KeepsOne : Bool → List Caller → List ℕ → Type 0
+KeepsOne false callers left = Unit {0}
+KeepsOne true callers left = (list_any has_spoken callers ≡ true → length callers ≡ 1)
+    × (list_any is_ended callers ≡ true → left ≡ [])
+
+-- there is one connection, and its end was taken
+abbrev pub EndedAlone : List Caller → Type 0
+EndedAlone callers = (c : Caller) × (callers ≡ c ∷ []) × (c.standing ≡ Standings.Ended)
+
+pub keeps_one_prop : (once : Bool) (callers : List Caller) (left : List ℕ) → IsProp (KeepsOne once callers left)
+keeps_one_prop false callers left = Unit-prop
+keeps_one_prop true callers left = hlevel props

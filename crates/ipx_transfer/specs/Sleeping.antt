@@ -1,0 +1,59 @@
+-- How long a host waits, and what has nothing to do till then: its links by themselves, and its connections
+-- by their silence. All of it is own.
+use Rattle.std.specs.Prelude.{◌≡◌, ◌≤◌, ◌<◌, ◌⊎◌, ◌^◌, ◌-◌, ◌+◌, ℕ, Bool, List, Option, Some, All, is_some, slice_get, if◌then◌else◌}
+use Rattle.spx_link.specs.Due.{IsQuiet}
+use Rattle.spx_link.specs.LinkView.{LinkView}
+use Rattle.spx_link.specs.Links.{LinksView, link_at}
+use Rattle.ipx_transfer.specs.CallerActions.{IsCallerAction}
+use Rattle.ipx_transfer.specs.Transfer.{state_at}
+use Rattle.ipx_transfer.specs.declared.callers.Caller.{Caller}
+use Rattle.ipx_transfer.specs.declared.callers.CallerAction.TheVariants.{Stays}
+use Rattle.ipx_transfer.specs.declared.end_core.EndCore.{EndCore}
+
+-- so long from now no poll of any link sends anything or gives a link up, at any moment that a clock can
+-- show. That is at most as long as was asked for; and where it is less, the polls of some link do so from
+-- then on
+pub record IsSleep (links : LinksView) (now most time : ℕ) : Type 0 where
+  pub few : time ≤ most
+  pub quiet : (id t : ℕ) (l : LinkView) → link_at links id ≡ Some l
+      → now ≤ t → t < now + time → t < 2 ^ 64 → IsQuiet l t
+  pub due : time < most → (id : ℕ) × (l : LinkView) × (link_at links id ≡ Some l)
+      × ((t : ℕ) → now + time ≤ t → IsQuiet l t → ⊥)
+
+-- at a moment nothing is to be done with a connection of which nothing came, and whose link is as it is
+abbrev pub JustStaysAt : EndCore → ℕ → Caller → Type 0
+JustStaysAt core t c = IsCallerAction Stays c.standing (state_at core.endpoint c.id) (t - c.heard)
+
+-- so long one connection just stays: an hour at most, and where it is less there is something to do with
+-- it then
+pub record StaysFor (core : EndCore) (c : Caller) (time : ℕ) : Type 0 where
+  pub most : time ≤ 3600000
+  pub stays : (t : ℕ) → core.moment ≤ t → t < core.moment + time → t < 2 ^ 64 → JustStaysAt core t c
+  pub over : time < 3600000 → JustStaysAt core (core.moment + time) c → ⊥
+
+-- so long all of these do, and where it is less than an hour, there is something to do with one then. So
+-- it is 0 where something is to be done with one now
+pub record AllStayFor (core : EndCore) (callers : List Caller) (time : ℕ) : Type 0 where
+  pub most : time ≤ 3600000
+  pub stay : (t : ℕ) → core.moment ≤ t → t < core.moment + time → t < 2 ^ 64
+      → All (JustStaysAt core t) callers
+  pub over : time < 3600000 → (place : ℕ) × (c : Caller) × (slice_get callers place ≡ Some c)
+      × (JustStaysAt core (core.moment + time) c → ⊥)
+
+-- the most that a host that sends waits: a second where it shows how far it is, or where the end of its
+-- peer was seen; and else an hour
+abbrev pub longest_wait : Bool → Option ℕ → ℕ
+longest_wait shows left = if shows then 1000 else (if is_some left then 1000 else 3600000)
+
+-- behind a step a host that sends waits so, or not at all. What it waited last before is told too
+abbrev pub MayWait : Bool → Option ℕ → EndCore → Option ℕ → Option ℕ → Type 0
+MayWait shows left core asked asked' = (asked' ≡ asked)
+    ⊎ ((time : ℕ) × IsSleep core.endpoint.links core.moment (longest_wait shows left) time
+    × (asked' ≡ Some time))
+
+-- behind a step a host that listens waits so, or not at all: as long as each connection just stays and no
+-- link has anything to do
+abbrev pub MayRest : EndCore → List Caller → Option ℕ → Option ℕ → Type 0
+MayRest core callers asked asked' = (asked' ≡ asked)
+    ⊎ ((rest time : ℕ) × AllStayFor core callers rest
+    × IsSleep core.endpoint.links core.moment rest time × (asked' ≡ Some time))

@@ -1,0 +1,153 @@
+//! The connections that a listening host accepted.
+
+ghost use Rattle.std.specs.Prelude.{◌≡◌, ◌↔◌, Some, map};
+ghost use Rattle.spx_link.specs.declared.state.State.TheVariants as States;
+ghost use Rattle.ipx_transfer.specs.CallerActions.{IsCallerAction, IsOver, IsToAsk, is_unheard, standing_asked, standing_heard};
+ghost use Rattle.ipx_transfer.specs.Callers.{heard_by, has_spoken, is_overdue, is_unheard_of};
+ghost use Rattle.ipx_transfer.specs.declared.callers.CallerAction.TheVariants as Fates;
+
+use ipx_wire::Address;
+use spx_link::State;
+
+/// How long a connection is kept once its end came, counted from the last datagram of it, in
+/// milliseconds: a peer that lost the confirmation asks again each half second.
+pub const LINGER: u64 = 3000;
+
+/// How long an open connection is silent before it is asked whether it is still there, in
+/// milliseconds.
+pub const SILENCE: u64 = 60_000;
+
+/// How long a connection of which nothing was heard yet is waited for, before it is asked whether
+/// it is there, or makes room, in milliseconds.
+pub const CALL: u64 = 1000;
+
+/// How a connection that was accepted stands with this host.
+#[derive(Clone, Copy, Debug, PartialEq, Eq)]
+pub enum Standing {
+    /// Nothing was heard of it since it was accepted.
+    Called,
+    /// So it is, and it is asked whether it is there.
+    Probed,
+    /// It was heard.
+    Open,
+    /// It was silent, and is asked whether it is still there.
+    Asked,
+    /// Its end was taken: all that came before it, too.
+    Ended,
+}
+
+impl Standing {
+    /// Whether nothing was heard of the connection since it was accepted.
+    pub fn is_unheard(self) -> bool
+        ensures { result ≡ is_unheard self }
+    {
+        matches!(self, Standing::Called | Standing::Probed)
+    }
+
+    /// How it stands once it is asked whether it is there.
+    pub fn asked(self) -> Standing
+        ensures { result ≡ standing_asked self }
+    {
+        match self {
+            Standing::Called => Standing::Probed,
+            Standing::Open => Standing::Asked,
+            standing => standing,
+        }
+    }
+}
+
+/// A connection that was accepted.
+#[derive(Clone, Copy, Debug)]
+pub struct Caller {
+    pub id: u16,
+    pub from: Address,
+    /// The moment at which it came, was heard last, or could not be asked.
+    pub heard: u64,
+    pub standing: Standing,
+}
+
+impl Caller {
+    /// It is heard at a moment, so it is there.
+    pub fn hear(&mut self, now: u64)
+        ensures { self.new ≡ record self.old {
+          heard = now;
+          standing = standing_heard self.old.standing;
+        } }
+    {
+        self.heard = now;
+        if self.standing != Standing::Ended {
+            self.standing = Standing::Open;
+        }
+    }
+
+    /// Whether something was heard of it.
+    pub fn is_heard(&self) -> bool
+        ensures { result ≡ has_spoken self.now }
+    {
+        !self.standing.is_unheard()
+    }
+
+    /// Whether nothing was heard of it, and a second ago or longer it came, or could not be asked.
+    pub fn is_overdue(&self, now: u64) -> bool
+        ensures { result ≡ is_overdue now self.now }
+    {
+        self.standing.is_unheard() && now.saturating_sub(self.heard) >= CALL
+    }
+
+    /// Whether nothing was heard of it, and it is of the node of an address.
+    pub fn is_unheard_of(&self, from: &Address) -> bool
+        ensures { result ≡ is_unheard_of from.now self.now }
+    {
+        let same = self.from.network == from.network && self.from.node == from.node;
+        self.standing.is_unheard() && same
+    }
+
+    /// It is heard at a moment, if it is the one that was heard.
+    fn note(&mut self, heard: u16, now: u64)
+        ensures { self.new ≡ heard_by heard now self.old }
+    {
+        if self.id == heard {
+            self.hear(now);
+        }
+    }
+}
+
+/// Notes in each connection which one was heard at a moment.
+pub fn hear_one(callers: &mut [Caller], heard: u16, moment: u64)
+    ensures { callers.new ≡ map (heard_by heard moment) callers.old }
+{
+    for caller in callers.iter_mut() {
+        caller.note(heard, moment);
+    }
+}
+
+/// What becomes of a connection.
+#[derive(Clone, Copy, Debug, PartialEq, Eq)]
+pub enum CallerAction {
+    /// It is held on.
+    Stays,
+    /// It is held on, and asked whether it is still there.
+    Asks,
+    /// It is over, and its place is free for another.
+    Over,
+    /// It was given up before its end came.
+    GivenUp,
+}
+
+/// What becomes of a connection of this standing, whose link has this state, or is gone, and that
+/// was silent for so many milliseconds.
+pub fn fate_of(standing: Standing, state: Option<State>, silent: u64) -> CallerAction
+    ensures fate { IsCallerAction result standing state silent }
+    ensures given_up { (result ≡ Fates.GivenUp) ↔ (state ≡ Some States.Lost) }
+    ensures over { (result ≡ Fates.Over) ↔ IsOver standing state silent }
+    ensures asks { (result ≡ Fates.Asks) ↔ IsToAsk standing state silent }
+{
+    match (standing, state) {
+        (_, Some(State::Lost)) => CallerAction::GivenUp,
+        (_, None | Some(State::Confirmed)) => CallerAction::Over,
+        (Standing::Ended, _) if silent >= LINGER => CallerAction::Over,
+        (Standing::Open, _) if silent >= SILENCE => CallerAction::Asks,
+        (Standing::Called, _) if silent >= CALL => CallerAction::Asks,
+        _ => CallerAction::Stays,
+    }
+}

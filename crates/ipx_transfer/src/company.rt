@@ -1,0 +1,75 @@
+//! Whom a host hears and sends to.
+
+ghost use Rattle.std.specs.Prelude.{◌≡◌, ◌∷◌, ◌++◌, [], IfOk};
+ghost use Rattle.ipx_site.specs.SitePorts.{guarding, heard_at_port, named};
+ghost use Rattle.ipx_transfer.specs.Company.{dialed_ip, guarded_host, known_ips};
+
+use crate::start::StartFault;
+use ipx_carrier::ip_of;
+use ipx_site::{Accept, Guard, HostFile};
+use ipx_wire::{Address, Network};
+use std::alloc::Global;
+
+/// The IP address of a node of its own network that a host dials. None where it dials another
+/// network, or a node that has none.
+pub fn dialed_ip(file: &HostFile, to: Address) -> Option<[u8; 4]>
+    ensures { result ≡ dialed_ip file.now to }
+{
+    if to.network != file.network && to.network != Network::LOCAL {
+        return None;
+    }
+    ip_of(to.node).ok()
+}
+
+/// IP addresses, and that of the router behind them.
+fn with_router(alloc: Global, file: &HostFile, ips: &[[u8; 4]]) -> Result<Vec<[u8; 4]>, StartFault>
+    ensures { IfOk result (λ all. all.items ≡ ips.now ++ file.now.router ∷ []) }
+{
+    let mut all = Vec::from_slice(alloc, ips)?;
+    all.push(file.router)?;
+    Ok(all)
+}
+
+/// Whom a host knows that dials this IP address: its peers, its router, and that one.
+fn known_ips(
+    alloc: Global,
+    file: &HostFile,
+    dials: Option<[u8; 4]>,
+) -> Result<Vec<[u8; 4]>, StartFault>
+    ensures { IfOk result (λ ips. ips.items ≡ known_ips file.now dials) }
+{
+    let mut ips = with_router(alloc, file, &file.peers)?;
+    if let Some(ip) = dials {
+        ips.push(ip)?;
+    }
+    Ok(ips)
+}
+
+/// Those, or everybody.
+fn heard_ips(
+    alloc: Global,
+    file: &HostFile,
+    dials: Option<[u8; 4]>,
+) -> Result<Option<Vec<[u8; 4]>>, StartFault>
+    ensures { IfOk result (λ ips. named ips ≡ heard_at_port file.now.accept (known_ips file.now dials)) }
+{
+    match file.accept {
+        Accept::Any => Ok(None),
+        Accept::Peers => Ok(Some(known_ips(alloc, file, dials)?)),
+    }
+}
+
+/// The guard of a host that dials this IP address.
+pub fn guard_of(alloc: Global, file: &HostFile, dials: Option<[u8; 4]>) -> Result<Guard, StartFault>
+    ensures { IfOk result (λ g. guarding g ≡ guarded_host file.now dials) }
+{
+    let sends = heard_ips(alloc, file, dials)?;
+    let hears = heard_ips(alloc, file, dials)?;
+    let routers = with_router(alloc, file, &file.routers)?;
+    Ok(Guard {
+        network: file.network,
+        sends,
+        hears,
+        routers: Some(routers),
+    })
+}

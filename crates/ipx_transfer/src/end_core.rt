@@ -1,0 +1,212 @@
+//! The core of a host that one runs.
+
+ghost use Rattle.std.specs.Prelude.{◌≡◌, ◌↔◌, ℕ, IfOk, IfSome, IsTrue, Some};
+ghost use Rattle.ipx_wire.specs.Ipx.{BeginsWith, PacketView};
+ghost use Rattle.spx_messages.specs.Arrives.{Arrives};
+ghost use Rattle.spx_messages.specs.EndpointView.{EndpointView};
+ghost use Rattle.spx_messages.specs.declared.arrived.Arrived.TheVariants as Arriveds;
+ghost use Rattle.ipx_site.specs.Origins.{may_ask as may_be_asked_by, named_in};
+ghost use Rattle.ipx_transfer.specs.Barring.{IsBarred};
+ghost use Rattle.ipx_transfer.specs.Noting.{Notes};
+
+use crate::asking::{asker_of, is_among};
+use ipx_carrier::Core;
+use ipx_site::Origin;
+use ipx_wire::{Address, Network, Node, OutOfMemory, decode};
+use spx_messages::{Arrived, Endpoint};
+use std::alloc::{AllocError, Global};
+
+/// A connection that was accepted: its id, and the address that asked for it.
+#[derive(Clone, Copy, Debug)]
+pub struct Accepted {
+    pub id: u16,
+    pub from: Address,
+}
+
+/// What came with a datagram.
+#[derive(Clone, Copy, Debug)]
+pub enum Came {
+    /// The link of this id read it.
+    Heard(u16),
+    /// It made a connection.
+    Accepted(Accepted),
+    /// It asked for one, and no link was free.
+    NoRoom,
+}
+
+/// A host of one port, as `HostCore` of the carrier is, that says who may ask it for a connection.
+/// It keeps what came last, and the moment at which it was called last.
+#[derive(Drop)]
+pub struct EndCore {
+    pub endpoint: Endpoint,
+    /// The network that it is on.
+    network: Network,
+    /// Who may ask it. None stands for everybody.
+    from: Option<Vec<Origin>>,
+    came: Option<Came>,
+    /// The requests of those who may not ask.
+    barred: u64,
+    moment: u64,
+}
+
+/// A copy of who may ask.
+pub fn copy_origins(
+    alloc: Global,
+    from: &Option<Vec<Origin>>,
+) -> Result<Option<Vec<Origin>>, AllocError>
+    ensures { IfOk result (λ copy. named_in copy ≡ named_in from.now) }
+{
+    match from {
+        Some(origins) => Ok(Some(Vec::from_slice(alloc, origins)?)),
+        None => Ok(None),
+    }
+}
+
+/// The address that a packet is from.
+fn sender_of(bytes: &[u8]) -> Option<Address>
+    ensures { (p : PacketView) → BeginsWith bytes.now p → result ≡ Some p.header.from }
+{
+    match decode(bytes) {
+        Ok(packet) => Some(packet.header.from),
+        Err(_) => None,
+    }
+}
+
+/// The connection that a datagram made.
+fn accepted_by(id: u16, bytes: &[u8]) -> Option<Came>
+    // Of a datagram that an endpoint answered so.
+    ensures { (old new : EndpointView) (now : ℕ)
+        → Arrives old bytes.now now (Arriveds.Accepted id) new
+        → Notes (Arriveds.Accepted id) new.heard bytes.now result }
+{
+    let from = sender_of(bytes)?;
+    Some(Came::Accepted(Accepted { id, from }))
+}
+
+impl EndCore {
+    /// The core of an endpoint on a network, and who may ask it.
+    pub fn new(endpoint: Endpoint, network: Network, from: Option<Vec<Origin>>) -> EndCore
+        ensures endpoint { result.endpoint ≡ endpoint }
+        ensures network { result.network ≡ network }
+        ensures from { result.from ≡ from }
+        ensures nobody { result.came ≡ None }
+    {
+        EndCore {
+            endpoint,
+            network,
+            from,
+            came: None,
+            barred: 0,
+            moment: 0,
+        }
+    }
+
+    /// The moment of the last turn, in milliseconds.
+    pub fn moment(&self) -> u64
+        ensures { result ≡ self.now.moment }
+    {
+        self.moment
+    }
+
+    /// How many requests came of those who may not ask.
+    pub fn barred(&self) -> u64
+        ensures { result ≡ self.now.barred }
+    {
+        self.barred
+    }
+
+    /// What came with the last datagram, told once.
+    pub fn take_came(&mut self) -> Option<Came>
+        ensures told { result ≡ self.old.came }
+        ensures once { self.new ≡ record self.old { came = None } }
+    {
+        self.came.take()
+    }
+
+    /// Whether an address may ask for a connection.
+    fn may_ask(&self, from: &Address) -> bool
+        ensures { result ≡ may_be_asked_by (named_in self.now.from) self.now.network from.now }
+    {
+        match &self.from {
+            Some(origins) => is_among(origins, self.network, from),
+            None => true,
+        }
+    }
+
+    /// Whether bytes are a request of one who may not ask.
+    fn bars(&self, bytes: &[u8]) -> bool
+        ensures { IsTrue result ↔ IsBarred self.now bytes.now }
+    {
+        match asker_of(bytes) {
+            Some(from) => !self.may_ask(&from),
+            None => false,
+        }
+    }
+
+    /// What came with a datagram that the endpoint answered so.
+    fn came_of(&self, arrived: Arrived, bytes: &[u8]) -> Option<Came>
+        ensures { (old : EndpointView) (now : ℕ)
+            → Arrives old bytes.now now arrived self.now.endpoint
+            → Notes arrived self.now.endpoint.heard bytes.now result }
+    {
+        match arrived {
+            Arrived::Accepted(id) => accepted_by(id, bytes),
+            Arrived::NoRoom => Some(Came::NoRoom),
+            Arrived::Link(_, _) => self.endpoint.heard().map(Came::Heard),
+            _ => None,
+        }
+    }
+}
+
+impl Core for EndCore {
+    ghost use Rattle.std.specs.Prelude.{◌≡◌};
+    ghost use Rattle.ipx_carrier.specs.HostCore.{HostGives, Misses};
+    ghost use Rattle.ipx_transfer.specs.Barring.{HearsAllowed};
+
+    ghost port_count = { λ c. 1 };
+
+    ghost hears = { λ old port bytes now new. HearsAllowed old bytes now new };
+
+    ghost gives = { λ old now given new. HostGives old.endpoint now given new.endpoint
+        × (new ≡ record old { endpoint = new.endpoint; moment = now }) };
+
+    ghost misses = { λ old port bytes now new. Misses old.endpoint bytes new.endpoint
+        × (new ≡ record old { endpoint = new.endpoint; moment = now }) };
+
+    ghost withholds = { λ old now new. ⊥ };
+
+    fn ports(&self) -> usize {
+        1
+    }
+
+    fn hear(
+        &mut self,
+        alloc: Global,
+        _port: usize,
+        bytes: &[u8],
+        now: u64,
+    ) -> Result<(), OutOfMemory> {
+        self.moment = now;
+        if self.bars(bytes) {
+            self.came = None;
+            self.barred = self.barred.saturating_add(1);
+            return Ok(());
+        }
+        let arrived = self.endpoint.receive(alloc, bytes, now)?;
+        self.came = self.came_of(arrived, bytes);
+        Ok(())
+    }
+
+    fn next(
+        &mut self,
+        _alloc: Global,
+        now: u64,
+        room: &mut [u8],
+    ) -> Result<Option<(usize, Node, usize)>, OutOfMemory> {
+        self.moment = now;
+        let Some((node, count)) = self.endpoint.poll(now, room) else {
+            return Ok(None);
+        };
+        Ok(Some((0, node, count)))
+    }
+}

@@ -1,0 +1,161 @@
+//! Who keeps a place among the connections of a host that listens, and who goes for others.
+
+ghost use Rattle.std.specs.Prelude.{◌≡◌, ◌↔◌, ◌<◌, ◌≤◌, true, count_by, is_some, length, map, position, vec_capacity, IfSome, IsTrue};
+ghost use Rattle.std.specs.List.{list_any};
+ghost use Rattle.ipx_transfer.specs.Callers.{Admits, Asks, HasNoPlaceFor, KeepsHeard, LetsLinkGo, LetsLinksGo, MakesRoom, heard_by, has_spoken, is_overdue, is_unheard_of, raised_if};
+
+use crate::callers::{Caller, hear_one};
+use ipx_wire::Address;
+use spx_messages::{Endpoint, Message};
+use std::alloc::Global;
+
+/// The most connections that a host holds.
+pub const MOST_CALLERS: usize = 16;
+
+/// The most connections of one node of which nothing was heard yet.
+const MOST_UNHEARD: usize = 4;
+
+/// Forgets the link of an id.
+pub fn let_link_go(endpoint: &mut Endpoint, id: u16)
+    ensures { LetsLinkGo endpoint.old endpoint.new id }
+{
+    let _ = endpoint.release(id);
+}
+
+/// Forgets the links of connections.
+fn let_links_go(endpoint: &mut Endpoint, callers: &[Caller])
+    ensures { LetsLinksGo callers.now endpoint.old endpoint.new }
+{
+    for caller in callers {
+        let_link_go(endpoint, caller.id);
+    }
+}
+
+/// Whether a connection was heard.
+fn is_any_heard(callers: &[Caller]) -> bool
+    ensures { result ≡ list_any has_spoken callers.now }
+{
+    callers.iter().any(|caller| caller.is_heard())
+}
+
+/// How many connections of the node of an address are held of which nothing was heard.
+fn count_unheard_of(callers: &[Caller], from: &Address) -> usize
+    ensures { result ≡ count_by (is_unheard_of from.now) callers.now }
+{
+    callers
+        .iter()
+        .filter(|caller| caller.is_unheard_of(from))
+        .count()
+}
+
+/// Whether a connection that comes from an address is let go at once: with `once` where one was
+/// heard; where 16 are held; and where of its node 4 are, of which nothing was heard.
+fn is_full(once: bool, callers: &[Caller], from: &Address) -> bool
+    ensures { IsTrue result ↔ HasNoPlaceFor once from.now callers.now }
+{
+    if once && is_any_heard(callers) {
+        return true;
+    }
+    callers.len() >= MOST_CALLERS || count_unheard_of(callers, from) >= MOST_UNHEARD
+}
+
+/// Holds a connection that comes, where there is a place for it. Else its link goes.
+pub fn hold(once: bool, endpoint: &mut Endpoint, callers: &mut Vec<Caller>, caller: Caller)
+    requires { 16 ≤ vec_capacity callers.old }
+    ensures admits { Admits once caller endpoint.old endpoint.new
+        callers.old.items callers.new.items }
+    ensures room { 16 ≤ vec_capacity callers.new }
+{
+    if is_full(once, callers, &caller.from) || callers.push(caller).is_err() {
+        let_link_go(endpoint, caller.id);
+    }
+}
+
+/// The place of the first connection that was heard.
+fn place_of_heard(callers: &[Caller]) -> Option<usize>
+    ensures place { result ≡ position has_spoken callers.now }
+    ensures there { IfSome result (λ place. place < length callers.now) }
+{
+    callers.iter().position(|caller| caller.is_heard())
+}
+
+/// The place of the first connection that is overdue at a moment.
+fn place_of_overdue(callers: &[Caller], moment: u64) -> Option<usize>
+    ensures place { result ≡ position (is_overdue moment) callers.now }
+    ensures there { IfSome result (λ place. place < length callers.now) }
+{
+    callers.iter().position(|caller| caller.is_overdue(moment))
+}
+
+/// Keeps the first connection that was heard alone, where one was: the others go, and their links.
+fn keep_heard(endpoint: &mut Endpoint, callers: &mut Vec<Caller>)
+    requires { 16 ≤ vec_capacity callers.old }
+    ensures keeps { KeepsHeard true endpoint.old endpoint.new callers.old.items callers.new.items }
+    ensures room { 16 ≤ vec_capacity callers.new }
+{
+    let Some(place) = place_of_heard(callers) else {
+        return;
+    };
+    let heard = callers.remove(place);
+    let_links_go(endpoint, callers);
+    callers.clear();
+    let _ = callers.push(heard);
+}
+
+/// Notes that a connection was heard at a moment. With `once` it stays alone.
+pub fn hear_caller(
+    once: bool,
+    endpoint: &mut Endpoint,
+    callers: &mut Vec<Caller>,
+    id: u16,
+    moment: u64,
+)
+    requires { 16 ≤ vec_capacity callers.old }
+    ensures heard { KeepsHeard once endpoint.old endpoint.new
+        (map (heard_by id moment) callers.old.items) callers.new.items }
+    ensures room { 16 ≤ vec_capacity callers.new }
+{
+    hear_one(callers, id, moment);
+    if once {
+        keep_heard(endpoint, callers);
+    }
+}
+
+/// Lets the first connection go that is overdue at a moment, and its link. It answers whether there
+/// was one.
+pub fn make_room(endpoint: &mut Endpoint, callers: &mut Vec<Caller>, moment: u64) -> bool
+    requires { 16 ≤ vec_capacity callers.old }
+    ensures makes { MakesRoom moment endpoint.old endpoint.new callers.old.items callers.new.items }
+    ensures one { result ≡ is_some (position (is_overdue moment) callers.old.items) }
+    ensures room { 16 ≤ vec_capacity callers.new }
+{
+    let Some(place) = place_of_overdue(callers, moment) else {
+        return false;
+    };
+    let caller = callers.remove(place);
+    let_link_go(endpoint, caller.id);
+    true
+}
+
+/// A count, one higher where so it is.
+pub fn count_if(more: bool, count: u64) -> u64
+    ensures { result ≡ raised_if more count }
+{
+    if more { count.saturating_add(1) } else { count }
+}
+
+/// Asks whether a connection is still there, by a message of no bytes: a peer that is there
+/// acknowledges it, and without one the link is Lost some five seconds later. Where the message is
+/// refused, nothing goes out: the silence counts anew, and it is asked again after it.
+pub fn ask(alloc: Global, endpoint: &mut Endpoint, caller: &mut Caller, moment: u64)
+    ensures { Asks moment endpoint.old endpoint.new caller.old caller.new }
+{
+    let nothing = Message {
+        stream: 0,
+        body: Vec::new(alloc),
+    };
+    match endpoint.send(alloc, caller.id, &nothing) {
+        Ok(()) => caller.standing = caller.standing.asked(),
+        Err(_) => caller.heard = moment,
+    }
+}

@@ -1,0 +1,252 @@
+//! A host by its file: its endpoint, its socket and its clock.
+
+ghost use Rattle.std.specs.Prelude.{◌≡◌, ◌<◌, ◌≤◌, ◌↔◌, ◌∷◌, [], ℕ, IfOk, IsTrue, None, OnErr, Some, length, map};
+ghost use Rattle.ipx_carrier.specs.Mapping.{node_at};
+ghost use Rattle.ipx_carrier.specs.Runs.{EndsEarly, Runs};
+ghost use Rattle.ipx_carrier.specs.Turns.{peers_of};
+ghost use Rattle.ipx_site.specs.Origins.{named_in};
+ghost use Rattle.ipx_site.specs.SitePeers.{kept_in};
+ghost use Rattle.ipx_site.specs.SitePorts.{access_by, guarding};
+ghost use Rattle.ipx_carrier.specs.declared.fault.RunFault.TheVariants as RunFaults;
+ghost use Rattle.ipx_wire.specs.declared.address.Socket.{Socket};
+ghost use Rattle.spx_link.specs.Links.{count_of};
+ghost use Rattle.spx_messages.specs.EndpointView.{buffers_at, held_at};
+ghost use Rattle.ipx_transfer.specs.Company.{guarded_host};
+ghost use Rattle.ipx_transfer.specs.Sleeping.{IsSleep};
+ghost use Rattle.ipx_transfer.specs.Turning.{TakesTurn, gives, hears, misses, withholds};
+
+use crate::company::guard_of;
+use crate::end_core::{EndCore, copy_origins};
+use crate::room::tell_room;
+use crate::start::{StartFault, check_streams};
+use crate::telling::{Counts, Telling};
+use ipx_carrier::{Report, node_of, run};
+use ipx_site::{Guard, HostFile, PeersOnly, Readiness, SiteSockets, SteadyClock, WaitFault};
+use ipx_wire::OutOfMemory;
+use log::Log;
+use spx_messages::Endpoint;
+use std::alloc::Global;
+use std::net::Net;
+use std::os::fd::RawFd;
+use std::rt::Clock;
+
+/// What a turn did.
+#[derive(Clone, Copy, Debug)]
+pub struct Activity {
+    /// A datagram was heard.
+    pub heard: bool,
+    /// One was kept back.
+    pub kept: bool,
+    /// A datagram was heard, kept back or sent, a packet had no IP address to go to, or memory was
+    /// refused: the next turn may have something to do as well.
+    pub active: bool,
+}
+
+/// The socket of a host with its guard, and the peers that a broadcast goes to: there is one port,
+/// so a turn can always be begun.
+#[derive(Drop)]
+struct Wire {
+    device: PeersOnly<SiteSockets>,
+    peers: Vec<Vec<[u8; 4]>>,
+    ghost one_socket: { length device.device.sockets.items ≡ 1 },
+    ghost one_list: { length peers.items ≡ 1 },
+}
+
+/// A host that runs.
+#[derive(Drop)]
+pub struct RunningHost<'a, R: Clock> {
+    pub core: EndCore,
+    wire: Wire,
+    clock: SteadyClock<'a, R>,
+    readiness: Readiness,
+    unheard: u64,
+    telling: Telling,
+}
+
+impl Wire {
+    /// One socket with its guard, and one list of peers.
+    fn new(sockets: SiteSockets, guards: Vec<Guard>, peers: Vec<Vec<[u8; 4]>>) -> Wire
+        requires one_socket { length sockets.sockets.items ≡ 1 }
+        requires one_list { length peers.items ≡ 1 }
+        ensures sockets { result.device.device ≡ sockets }
+        ensures guards { result.device.guards.items ≡ guards.items }
+        ensures peers { result.peers ≡ peers }
+    {
+        Wire {
+            device: PeersOnly::new(sockets, guards),
+            peers,
+        }
+    }
+
+    /// Takes one turn. Sockets never fail, so what ends one is that memory is refused.
+    fn run<R: Clock>(
+        &mut self,
+        alloc: Global,
+        core: &mut EndCore,
+        clock: &mut SteadyClock<'_, R>,
+    ) -> Result<Report, OutOfMemory>
+        ensures turn { IfOk result (λ report. Runs hears gives
+            (λ old moment new. (old.last ≤ moment) × (new.last ≡ moment))
+            1 (peers_of self.old.peers.items) 1 None None clock.old clock.new
+            core.old core.new report) }
+        ensures fault { OnErr result (EndsEarly hears misses gives withholds
+            (λ old moment new. (old.last ≤ moment) × (new.last ≡ moment))
+            1 (peers_of self.old.peers.items) 1 None None clock.old clock.new
+            RunFaults.OutOfMemory core.old core.new) }
+        ensures peers { self.new.peers ≡ self.old.peers }
+        ensures access { map access_by self.new.device.guards.items
+            ≡ map access_by self.old.device.guards.items }
+    {
+        match run(alloc, core, &mut self.device, &self.peers, clock, 1) {
+            Ok(report) => Ok(report),
+            Err(_) => Err(OutOfMemory),
+        }
+    }
+}
+
+impl<'a, R: Net + Log + Clock> RunningHost<'a, R> {
+    /// A host that is bound as its file says. It hears whom its file names, and the node at the IP
+    /// address that it dials, or everybody.
+    pub fn open(
+        rt: &'a R,
+        alloc: Global,
+        file: &HostFile,
+        dials: Option<[u8; 4]>,
+    ) -> Result<RunningHost<'a, R>, StartFault>
+        ensures network { IfOk result (λ s. s.core.endpoint.network ≡ file.now.network) }
+        ensures node { IfOk result (λ s. s.core.endpoint.node ≡ node_at file.now.address) }
+        ensures router { IfOk result (λ s. s.core.endpoint.router ≡ node_at file.now.router) }
+        // No link is there yet, and no id was given; and no socket listens.
+        ensures links { IfOk result (λ s. (id : ℕ) → held_at s.core.endpoint id ≡ None) }
+        ensures last { IfOk result (λ s. s.core.endpoint.links.last ≡ 0) }
+        ensures count { IfOk result (λ s. count_of s.core.endpoint.links ≡ 0) }
+        ensures deaf { IfOk result (λ s.
+            (socket : Socket) → buffers_at s.core.endpoint socket ≡ None) }
+        ensures nobody { IfOk result (λ s. s.core.endpoint.heard ≡ None) }
+        ensures accepted { IfOk result (λ s. s.core.came ≡ None) }
+        ensures from { IfOk result (λ s. named_in s.core.from ≡ named_in file.now.from) }
+        ensures own { IfOk result (λ s. s.core.network ≡ file.now.network) }
+        // A broadcast goes to its router alone.
+        ensures peers { IfOk result (λ s.
+            peers_of s.wire.peers.items ≡ (file.now.router ∷ []) ∷ []) }
+        // Its one socket has the UDP port of the file.
+        ensures udp_port { IfOk result (λ s.
+            map (λ s. s.udp_port) s.wire.device.device.sockets.items ≡ file.now.udp_port ∷ []) }
+        // Whom it hears and sends to.
+        ensures guard { IfOk result (λ s.
+            map guarding s.wire.device.guards.items ≡ guarded_host file.now dials ∷ []) }
+    {
+        check_streams(rt)?;
+        let node = node_of(file.address);
+        let endpoint = Endpoint::new(alloc, file.network, node, node_of(file.router));
+        let router = vec![in alloc; file.router]?;
+        let peers = vec![in alloc; router]?;
+        let guards = vec![in alloc; guard_of(alloc, file, dials)?]?;
+        let sockets = SiteSockets::bind_one(rt, alloc, file.address, file.udp_port)?;
+        tell_room(rt, &sockets, file.buffers);
+        let readiness = Readiness::new(rt, alloc, &sockets)?;
+        Ok(RunningHost {
+            core: EndCore::new(endpoint, file.network, copy_origins(alloc, &file.from)?),
+            wire: Wire::new(sockets, guards, peers),
+            clock: SteadyClock::new(rt),
+            readiness,
+            unheard: 0,
+            telling: Telling::new(),
+        })
+    }
+
+    /// Ends a wait when this descriptor is readable, too.
+    pub fn watch(&mut self, fd: Option<RawFd>)
+        ensures core { self.new.core ≡ self.old.core }
+        ensures clock { self.new.clock ≡ self.old.clock }
+        ensures peers { self.new.wire.peers ≡ self.old.wire.peers }
+    {
+        if let Some(fd) = fd {
+            let _ = self.readiness.watch_reading(fd);
+        }
+    }
+
+    /// The moment of the last turn, in milliseconds from the start.
+    pub fn moment(&self) -> u64
+        ensures { result ≡ self.now.core.moment }
+    {
+        self.core.moment()
+    }
+
+    /// Takes one turn. What the system or memory refuses is counted and told, and goes on.
+    pub fn turn(&mut self, rt: &R, alloc: Global) -> Activity
+        ensures core { TakesTurn self.old.clock self.new.clock
+            (λ old moment new. (old.last ≤ moment) × (new.last ≡ moment))
+            (peers_of self.old.wire.peers.items) self.old.core self.new.core result }
+        // What was kept back is something that happened: behind it more may lie.
+        ensures kept { IsTrue result.kept
+            ↔ kept_in self.old.wire.device.kept < kept_in self.new.wire.device.kept }
+        ensures peers { self.new.wire.peers ≡ self.old.wire.peers }
+        // Who may speak is as before.
+        ensures access { map access_by self.new.wire.device.guards.items
+            ≡ map access_by self.old.wire.device.guards.items }
+        ensures readiness { self.new.readiness ≡ self.old.readiness }
+    {
+        let turn = self.take_turn(alloc);
+        let counts = Counts {
+            kept: self.wire.device.kept(),
+            barred: self.core.barred(),
+            system: self.wire.device.device().faults(),
+            memory: self.unheard,
+        };
+        self.telling.tell(rt, counts, self.core.moment());
+        turn
+    }
+
+    /// One turn over the socket. The datagram of a turn that memory ends is lost.
+    fn take_turn(&mut self, alloc: Global) -> Activity
+        ensures core { TakesTurn self.old.clock self.new.clock
+            (λ old moment new. (old.last ≤ moment) × (new.last ≡ moment))
+            (peers_of self.old.wire.peers.items) self.old.core self.new.core result }
+        ensures kept { IsTrue result.kept
+            ↔ kept_in self.old.wire.device.kept < kept_in self.new.wire.device.kept }
+        ensures peers { self.new.wire.peers ≡ self.old.wire.peers }
+        ensures access { map access_by self.new.wire.device.guards.items
+            ≡ map access_by self.old.wire.device.guards.items }
+        ensures readiness { self.new.readiness ≡ self.old.readiness }
+    {
+        let before = self.wire.device.kept().total();
+        let ran = self.wire.run(alloc, &mut self.core, &mut self.clock);
+        let kept = self.wire.device.kept().total() > before;
+        match ran {
+            Ok(report) => Activity {
+                heard: report.heard > 0,
+                kept,
+                active: report.heard > 0 || report.sent > 0 || report.unmapped > 0 || kept,
+            },
+            Err(OutOfMemory) => {
+                self.unheard = self.unheard.saturating_add(1);
+                Activity {
+                    heard: false,
+                    kept,
+                    active: true,
+                }
+            }
+        }
+    }
+
+    /// Waits until something may be done: a datagram came, a descriptor that is watched is
+    /// readable, the endpoint has something to send, or so many milliseconds are over.
+    pub fn wait(&mut self, most: u64) -> Result<(), WaitFault>
+        ensures core { self.new.core ≡ self.old.core }
+        ensures clock { self.new.clock ≡ self.old.clock }
+        ensures wire { self.new.wire ≡ self.old.wire }
+        // So long the system is asked to wait, and till then no link has anything to do.
+        ensures sleeps { let core = self.old.core in (time : ℕ)
+            × IsSleep core.endpoint.links core.moment most time
+            × (self.new.readiness.asked ≡ Some time) }
+    {
+        let now = self.core.moment();
+        let due = match self.core.endpoint.next_due() {
+            Some(due) => due.saturating_sub(now),
+            None => most,
+        };
+        self.readiness.wait(most.min(due))?;
+        Ok(())
+    }
+}

@@ -1,0 +1,371 @@
+//! A host that sends: what it sees of its link after each turn, and how its transfer ends.
+
+ghost use Rattle.std.specs.Prelude.{◌≡◌, ◌<◌, ◌≤◌, ◌+◌, ◌↔◌, ◌⊎◌, ℕ, List, false, true, length, IfOk, IsTrue, Err, Ok, None, Option, Some};
+ghost use Rattle.std.specs.Io.KnownBytes.{IsAtEnd};
+ghost use Rattle.ipx_carrier.specs.Turns.{peers_of};
+ghost use Rattle.ipx_wire.specs.declared.address.Address.{Address};
+ghost use Rattle.spx_messages.specs.EndpointView.{held_at};
+ghost use Rattle.ipx_transfer.specs.Books.{EntersAcknowledged};
+ghost use Rattle.ipx_transfer.specs.SendRounds.{EndsWith, IsSendStep, LastsOn, Transfers, place};
+ghost use Rattle.ipx_transfer.specs.Sent.{IsDialing};
+ghost use Rattle.ipx_transfer.specs.Sleeping.{MayWait, longest_wait};
+ghost use Rattle.ipx_transfer.specs.SendSteps.{IsFeedFault, IsStepFault, noted};
+ghost use Rattle.ipx_transfer.specs.Transfer.{IsWaiting, IsWholeAt, joined_at, left_at, state_at};
+ghost use Rattle.ipx_transfer.specs.declared.send_outcome.SendOutcome.TheVariants as Verdicts;
+
+use crate::company::dialed_ip;
+use crate::gate::Gate;
+use crate::handing::drop_what_came;
+use crate::ids::{dialed, passed_ids};
+use crate::ledger::Ledger;
+use crate::start::StartFault;
+use crate::running_host::RunningHost;
+use crate::send_outcome::{SendOutcome, ended_by, verdict_of};
+use ipx_site::HostFile;
+use ipx_wire::Address;
+use log::Log;
+use mio::Interest;
+use spx_link::State;
+use spx_messages::MOST_BYTES;
+use std::alloc::Global;
+use std::io::{self, Read};
+use std::net::Net;
+use std::os::fd::RawFd;
+use std::rt::Clock;
+
+/// How long the rest of the acknowledgements is waited for once the peer ended the connection too,
+/// in milliseconds.
+const PATIENCE: u64 = 6000;
+
+/// The time between two lines of progress, and the longest wait, in milliseconds.
+const SECOND: u64 = 1000;
+
+const LONG: u64 = 3_600_000;
+
+/// The descriptor of standard input.
+const STDIN: RawFd = 0;
+
+/// A host that sends.
+#[derive(Drop)]
+pub struct SendingHost<'a, R: Clock> {
+    pub station: RunningHost<'a, R>,
+    pub id: u16,
+    pub gate: Gate,
+    pub room: Vec<u8>,
+    pub ledger: Ledger,
+    /// Whether the connection was open.
+    pub joined: bool,
+    /// Whether all of the input is read.
+    pub read: bool,
+    /// Whether the end is queued.
+    pub closed: bool,
+    /// When the end of the peer was seen.
+    pub left: Option<u64>,
+    pub shows: bool,
+    pub next_shown: u64,
+    /// The end is queued only where all is read.
+    ghost order: { closed ≡ true → read ≡ true },
+    /// A read always has room.
+    ghost roomy: { 0 < length room.items },
+}
+
+impl<'a, R: Net + Log + Clock + Eprint> SendingHost<'a, R> {
+    /// A host that asks for a connection. Nothing was read, and nothing seen.
+    pub fn open(
+        rt: &'a R,
+        alloc: Global,
+        file: &HostFile,
+        to: Address,
+        shows: bool,
+    ) -> Result<SendingHost<'a, R>, StartFault>
+        ensures { IfOk result (λ s. (known : Option (List ℕ)) → IsDialing file.now to
+            (place s.station.clock s.station.core (noted s.joined s.left)
+            s.read s.closed s.ledger known)
+            (peers_of s.station.wire.peers.items) s.id) }
+    {
+        let mut station = RunningHost::open(rt, alloc, file, dialed_ip(file, to))?;
+        let gate = Gate::new(rt, alloc, STDIN, Interest::READABLE);
+        station.watch(gate.fd());
+        let count = passed_ids(rt);
+        let Ok(id) = dialed(alloc, &mut station.core.endpoint, file, to, count) else {
+            return Err(StartFault::OutOfMemory);
+        };
+        Ok(SendingHost {
+            station,
+            id,
+            gate,
+            room: vec![in alloc; 0; MOST_BYTES]?,
+            ledger: Ledger::new(alloc),
+            joined: false,
+            read: false,
+            closed: false,
+            left: None,
+            shows,
+            next_shown: 0,
+        })
+    }
+
+    /// Notes how the connection stands, and answers its state.
+    fn look(&mut self) -> Option<State>
+        ensures state { result ≡ state_at self.old.station.core.endpoint self.old.id }
+        ensures core { self.new.station.core ≡ self.old.station.core }
+        ensures clock { self.new.station.clock ≡ self.old.station.clock }
+        ensures peers { self.new.station.wire.peers ≡ self.old.station.wire.peers }
+        ensures readiness { self.new.station.readiness ≡ self.old.station.readiness }
+        ensures id { self.new.id ≡ self.old.id }
+        ensures read { self.new.read ≡ self.old.read }
+        ensures closed { self.new.closed ≡ self.old.closed }
+        // What the link acknowledges is counted.
+        ensures ledger { EntersAcknowledged (held_at self.old.station.core.endpoint self.old.id)
+            self.old.ledger self.new.ledger }
+        ensures joined { self.new.joined ≡ joined_at self.old.joined result }
+        ensures left { self.new.left
+            ≡ left_at self.old.left result self.old.station.core.moment }
+    {
+        let endpoint = &self.station.core.endpoint;
+        if let Ok(numbers) = endpoint.numbers(self.id) {
+            self.ledger.acknowledge(numbers);
+        }
+        let state = endpoint.state(self.id).ok();
+        match state {
+            Some(State::Opening | State::Lost) | None => {}
+            Some(_) => self.joined = true,
+        }
+        if state == Some(State::PeerEnded) && self.left.is_none() {
+            self.left = Some(self.station.moment());
+        }
+        state
+    }
+
+    /// Whether the peer has acknowledged all, the end too.
+    fn is_whole(&self) -> bool
+        ensures { IsTrue result ↔ IsWholeAt self.now.station.core.endpoint self.now.id }
+    {
+        let endpoint = &self.station.core.endpoint;
+        endpoint.is_whole(self.id).unwrap_or(false)
+    }
+
+    /// Whether the rest may still be acknowledged, where the peer ended the connection.
+    fn waits(&self) -> bool
+        ensures { IsTrue result
+            ↔ IsWaiting self.now.closed self.now.left self.now.station.core.moment }
+    {
+        match self.left {
+            Some(left) => { self.closed && self.station.moment().saturating_sub(left) < PATIENCE }
+            None => true,
+        }
+    }
+
+    /// Shows how far it is, once a second.
+    fn show(&mut self, rt: &R)
+        ensures core { self.new.station.core ≡ self.old.station.core }
+        ensures clock { self.new.station.clock ≡ self.old.station.clock }
+        ensures peers { self.new.station.wire.peers ≡ self.old.station.wire.peers }
+        ensures readiness { self.new.station.readiness ≡ self.old.station.readiness }
+        ensures id { self.new.id ≡ self.old.id }
+        ensures joined { self.new.joined ≡ self.old.joined }
+        ensures left { self.new.left ≡ self.old.left }
+        ensures read { self.new.read ≡ self.old.read }
+        ensures closed { self.new.closed ≡ self.old.closed }
+        ensures ledger { self.new.ledger ≡ self.old.ledger }
+    {
+        let moment = self.station.moment();
+        if !self.shows || moment < self.next_shown {
+            return;
+        }
+        self.next_shown = moment.saturating_add(SECOND);
+        let acknowledged = self.ledger.acknowledged();
+        let given = self.ledger.given();
+        let _ = eprint!(rt; "\r{acknowledged} of {given} bytes acknowledged");
+    }
+
+    /// Takes a turn, and reads. It answers whether there may be more to do at once.
+    fn step<I: Read>(&mut self, rt: &R, alloc: Global, reader: &mut I) -> Result<bool, SendOutcome>
+        ensures id { self.new.id ≡ self.old.id }
+        // It notes, tells and feeds by what the turn left.
+        ensures steps { IsSendStep IsFeedFault
+            (place self.old.station.clock self.old.station.core
+            (noted self.old.joined self.old.left)
+            self.old.read self.old.closed self.old.ledger (I.remaining reader.old))
+            (place self.new.station.clock self.new.station.core
+            (noted self.new.joined self.new.left)
+            self.new.read self.new.closed self.new.ledger (I.remaining reader.new))
+            result
+            (λ old moment new. (old.last ≤ moment) × (new.last ≡ moment))
+            (peers_of self.old.station.wire.peers.items) self.old.id }
+        ensures peers { self.new.station.wire.peers ≡ self.old.station.wire.peers }
+        ensures readiness { self.new.station.readiness ≡ self.old.station.readiness }
+        ensures done { result ≡ Err Verdicts.Done
+            → IsWholeAt self.new.station.core.endpoint self.new.id }
+        // Then all is read, and the end is queued.
+        ensures ended { result ≡ Err Verdicts.Done
+            → (self.new.closed ≡ true) × (self.new.read ≡ true) }
+        ensures unanswered { result ≡ Err Verdicts.Unanswered → self.new.joined ≡ false }
+    {
+        let turn = self.station.turn(rt, alloc);
+        let state = self.look();
+        let whole = self.is_whole();
+        if let Some(verdict) = verdict_of(state, whole, self.joined, self.waits()) {
+            return Err(ended_by(verdict, self.closed));
+        }
+        drop_what_came(alloc, &mut self.station.core.endpoint, self.id);
+        let fed = state == Some(State::Live) && self.feed(alloc, reader)?;
+        self.show(rt);
+        Ok(turn.active || fed)
+    }
+
+    /// How long it waits at most, in milliseconds.
+    fn longest(&self) -> u64
+        ensures { result ≡ longest_wait self.now.shows self.now.left }
+    {
+        if self.shows || self.left.is_some() {
+            SECOND
+        } else {
+            LONG
+        }
+    }
+
+    /// Takes a turn, and waits where there is nothing to do.
+    fn step_or_wait<I: Read>(
+        &mut self,
+        rt: &R,
+        alloc: Global,
+        reader: &mut I,
+    ) -> Result<(), SendOutcome>
+        ensures id { self.new.id ≡ self.old.id }
+        // It notes, tells and feeds by what the turn left.
+        ensures steps { IsSendStep IsStepFault
+            (place self.old.station.clock self.old.station.core
+            (noted self.old.joined self.old.left)
+            self.old.read self.old.closed self.old.ledger (I.remaining reader.old))
+            (place self.new.station.clock self.new.station.core
+            (noted self.new.joined self.new.left)
+            self.new.read self.new.closed self.new.ledger (I.remaining reader.new))
+            result
+            (λ old moment new. (old.last ≤ moment) × (new.last ≡ moment))
+            (peers_of self.old.station.wire.peers.items) self.old.id }
+        ensures peers { self.new.station.wire.peers ≡ self.old.station.wire.peers }
+        // It waits only as long as no link has anything to do; and a second at most where it shows
+        // how far it is, or the end of the peer was seen.
+        ensures waits { MayWait self.new.shows self.new.left self.new.station.core
+            self.old.station.readiness.asked self.new.station.readiness.asked }
+        ensures done { result ≡ Err Verdicts.Done
+            → IsWholeAt self.new.station.core.endpoint self.new.id }
+        // Then all is read, and the end is queued.
+        ensures ended { result ≡ Err Verdicts.Done
+            → (self.new.closed ≡ true) × (self.new.read ≡ true) }
+        ensures unanswered { result ≡ Err Verdicts.Unanswered → self.new.joined ≡ false }
+    {
+        if self.step(rt, alloc, reader)? {
+            return Ok(());
+        }
+        let longest = self.longest();
+        match self.station.wait(longest) {
+            Ok(()) => Ok(()),
+            Err(_) => Err(SendOutcome::Unwaited),
+        }
+    }
+
+    /// Runs until the transfer is over.
+    fn serve<I: Read>(&mut self, rt: &R, alloc: Global, reader: &mut I) -> SendOutcome
+        ensures id { self.new.id ≡ self.old.id }
+        // Round by round: all that left the reader was handed in, in its order, one body behind the
+        // other.
+        ensures fed { result ≡ Verdicts.Done → Transfers
+            (place self.old.station.clock self.old.station.core
+            (noted self.old.joined self.old.left)
+            self.old.read self.old.closed self.old.ledger (I.remaining reader.old))
+            (place self.new.station.clock self.new.station.core
+            (noted self.new.joined self.new.left)
+            self.new.read self.new.closed self.new.ledger (I.remaining reader.new))
+            (λ old moment new. (old.last ≤ moment) × (new.last ≡ moment))
+            (peers_of self.old.station.wire.peers.items) self.old.id }
+        // And the reader has nothing left.
+        ensures all { result ≡ Verdicts.Done → (self.old.read ≡ true → IsAtEnd (I.remaining reader.old))
+            → IsAtEnd (I.remaining reader.new) }
+        ensures done { result ≡ Verdicts.Done
+            → IsWholeAt self.new.station.core.endpoint self.new.id }
+        ensures unanswered { result ≡ Verdicts.Unanswered → self.new.joined ≡ false }
+        // Any verdict is that of a step, behind some rounds; or they never end.
+        ensures ends { EndsWith
+            (place self.old.station.clock self.old.station.core
+            (noted self.old.joined self.old.left)
+            self.old.read self.old.closed self.old.ledger (I.remaining reader.old))
+            (place self.new.station.clock self.new.station.core
+            (noted self.new.joined self.new.left)
+            self.new.read self.new.closed self.new.ledger (I.remaining reader.new))
+            result
+            (λ old moment new. (old.last ≤ moment) × (new.last ≡ moment))
+            (peers_of self.old.station.wire.peers.items) self.old.id
+            ⊎ LastsOn
+            (place self.old.station.clock self.old.station.core
+            (noted self.old.joined self.old.left)
+            self.old.read self.old.closed self.old.ledger (I.remaining reader.old))
+            (place self.new.station.clock self.new.station.core
+            (noted self.new.joined self.new.left)
+            self.new.read self.new.closed self.new.ledger (I.remaining reader.new))
+            result
+            (λ old moment new. (old.last ≤ moment) × (new.last ≡ moment))
+            (peers_of self.old.station.wire.peers.items) self.old.id }
+    {
+        for _ in 0..u64::MAX {
+            if let Err(verdict) = self.step_or_wait(rt, alloc, reader) {
+                return verdict;
+            }
+        }
+        SendOutcome::GivenUp
+    }
+
+    /// Prints how a transfer ended. Where all went well that is a line on a terminal alone.
+    fn tell(&self, rt: &R, to: Address, verdict: SendOutcome) {
+        let given = self.ledger.given();
+        let acknowledged = self.ledger.acknowledged();
+        if self.shows {
+            let _ = eprintln!(rt; "\r{acknowledged} of {given} bytes acknowledged");
+        }
+        let what = match verdict {
+            SendOutcome::Done => return,
+            SendOutcome::Unanswered => return tell_nobody(rt, to),
+            SendOutcome::GivenUp => "the connection is lost",
+            SendOutcome::PeerLeft => "the other end ended the connection",
+            SendOutcome::Unread => "standard input can't be read",
+            SendOutcome::OutOfMemory => "out of memory",
+            SendOutcome::Unwaited => "the system can't wait for the socket",
+        };
+        let _ = eprintln!(rt; "{what}: {acknowledged} of {given} bytes acknowledged");
+    }
+
+    /// Runs until the transfer is over, prints how it ended, and answers the status: 0 only where
+    /// the peer has acknowledged all, the end too.
+    pub fn finish<I: Read>(&mut self, rt: &R, alloc: Global, to: Address, reader: &mut I) -> u8
+        ensures id { self.new.id ≡ self.old.id }
+        ensures status { result < 2 }
+        ensures done { result ≡ 0 → IsWholeAt self.new.station.core.endpoint self.new.id }
+        // Then, round by round, all that left the reader was handed in, in its order, one body
+        // behind the other.
+        ensures fed { result ≡ 0 → Transfers
+            (place self.old.station.clock self.old.station.core
+            (noted self.old.joined self.old.left)
+            self.old.read self.old.closed self.old.ledger (I.remaining reader.old))
+            (place self.new.station.clock self.new.station.core
+            (noted self.new.joined self.new.left)
+            self.new.read self.new.closed self.new.ledger (I.remaining reader.new))
+            (λ old moment new. (old.last ≤ moment) × (new.last ≡ moment))
+            (peers_of self.old.station.wire.peers.items) self.old.id }
+        // And the reader has nothing left.
+        ensures all { result ≡ 0 → (self.old.read ≡ true → IsAtEnd (I.remaining reader.old))
+            → IsAtEnd (I.remaining reader.new) }
+    {
+        let verdict = self.serve(rt, alloc, reader);
+        self.tell(rt, to, verdict);
+        verdict.status()
+    }
+}
+
+/// Prints that nobody answers at an address.
+fn tell_nobody<R: Eprint>(rt: &R, to: Address) {
+    let network = to.network;
+    let node = to.node;
+    let socket = to.socket;
+    let _ = eprintln!(rt; "nobody answers at {network} {node} {socket}");
+}

@@ -1,0 +1,59 @@
+//! The address that words name.
+
+ghost use Rattle.std.specs.Prelude.{IfErr, IfOk};
+ghost use Rattle.ipx_transfer.specs.Target.{IsTargetFault, NamesAddress};
+
+use byteorder::{BigEndian, ByteOrder};
+use hex::FromHex;
+use ipx_wire::{Address, Network, Node, Socket};
+use std::fmt;
+
+/// The words that name the address of a socket: its network, node and socket in hex.
+#[derive(Clone, Copy, Debug)]
+pub struct Target<'a> {
+    pub network: &'a str,
+    pub node: &'a str,
+    pub socket: &'a str,
+}
+
+/// The word that is wrong, the first of those that are.
+#[derive(Clone, Copy, Debug, PartialEq, Eq)]
+pub enum TargetFault {
+    Network,
+    Node,
+    Socket,
+}
+
+/// One line without its end.
+impl fmt::Display for TargetFault {
+    fn fmt<W: fmt::Write>(&self, f: &mut fmt::Formatter<W>) -> fmt::Result {
+        f.write_str(match self {
+            TargetFault::Network => "NET is to be eight hex digits, as 00000033",
+            TargetFault::Node => "NODE is to be twelve hex digits, as 00007f000104",
+            TargetFault::Socket => "SOCKET is to be four hex digits, as 4002",
+        })
+    }
+}
+
+impl Target<'_> {
+    /// The address: eight, twelve and four hex digits, and nothing else.
+    pub(crate) fn address(&self) -> Result<Address, TargetFault>
+        ensures named { IfOk result (NamesAddress self.now) }
+        ensures fault { IfErr result (IsTargetFault self.now) }
+    {
+        let Ok(network) = <[u8; 4] as FromHex>::from_hex(self.network) else {
+            return Err(TargetFault::Network);
+        };
+        let Ok(node) = <[u8; 6] as FromHex>::from_hex(self.node) else {
+            return Err(TargetFault::Node);
+        };
+        let Ok(socket) = <[u8; 2] as FromHex>::from_hex(self.socket) else {
+            return Err(TargetFault::Socket);
+        };
+        Ok(Address {
+            network: Network(BigEndian::read_u32(&network)),
+            node: Node(node),
+            socket: Socket(BigEndian::read_u16(&socket)),
+        })
+    }
+}
