@@ -2,7 +2,7 @@
 
 use crate::texts::{CHECKED, FIELDS, FORWARD, PACKET, VECTOR};
 use ipx_commands::{do_check, do_hop, do_show};
-use ipx_failing::Failing;
+use failing_io::Failing;
 use std::alloc::Global;
 
 /// Whether a reader that fails after so many calls makes `hop` answer so, having written this.
