@@ -9,7 +9,7 @@ ghost use Rattle.ipx_carrier.specs.Turns.{by_ip, peers_of};
 use crate::datagrams::Datagrams;
 use crate::fault::DeviceFault;
 use crate::mapping::ip_of;
-use crate::segments::{Segments, PacketSent};
+use crate::segments::{PacketSent, Segments};
 use ipx_wire::Node;
 
 /// Segments of a device of datagrams: a broadcast goes to each peer of its port, in order, another

@@ -9,7 +9,7 @@ ghost use Rattle.ipx_carrier.specs.Parts.{SendsAll, SendsNext, SendsSome};
 use crate::cores::Core;
 use crate::fault::RunFault;
 use crate::report::SendCounts;
-use crate::segments::{Segments, PacketSent};
+use crate::segments::{PacketSent, Segments};
 use std::alloc::Global;
 
 /// Asks a core for a packet, and sends it if there is one.

@@ -1,7 +1,7 @@
 //! A router that asks again, and what it counts.
 
 use crate::fixture::{no_peers, one_peer_each, one_turn, two_ports};
-use ipx_carrier::{OutcomeCounts, MemoryDatagrams};
+use ipx_carrier::{MemoryDatagrams, OutcomeCounts};
 use std::test::Fail;
 
 /// In its first turn it asks for routes and services on each port, and tells a network on each;

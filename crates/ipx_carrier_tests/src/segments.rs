@@ -3,7 +3,7 @@
 use crate::fixture::{one_peer_each, text_of, two_ports};
 use crate::turns::are_first;
 use ipx_carrier::{
-    ByIp, Datagrams, DeviceFault, MemoryDatagrams, Segments, PacketSent, SteppedClock, run_segments,
+    ByIp, Datagrams, DeviceFault, MemoryDatagrams, PacketSent, Segments, SteppedClock, run_segments,
 };
 use ipx_wire::Node;
 use std::alloc::Global;

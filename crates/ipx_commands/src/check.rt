@@ -10,9 +10,9 @@ ghost use Rattle.ipx_commands.specs.Check.{CheckWrites, ChecksLines, Failed as t
 ghost use Rattle.ipx_commands.specs.CheckCounts.{IsTally};
 
 use crate::check_line::{VectorLine, read_line};
+use crate::decoded::{Decoded, read_datagram};
 use crate::input::{InputFault, MOST_INPUT, read_up_to};
 use crate::output::{tell_no_memory, write_lines};
-use crate::decoded::{Decoded, read_datagram};
 use ipx_wire::OutOfMemory;
 use std::alloc::{AllocError, Global};
 use std::io::{Read, Write};

@@ -4,13 +4,13 @@
 
 mod check;
 mod check_line;
+mod decoded;
 mod hop;
 mod input;
 mod laws;
 mod line;
 mod output;
 mod place;
-mod decoded;
 mod show;
 mod show_line;
 

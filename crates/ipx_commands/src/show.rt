@@ -5,8 +5,8 @@ ghost use Rattle.std.specs.Io.KnownBytes.{Appends};
 ghost use Rattle.ipx_commands.specs.Output.{LeavesWritten};
 ghost use Rattle.ipx_commands.specs.Show.{ShowWrites, Shows};
 
-use crate::output::write_lines;
 use crate::decoded::read_datagram;
+use crate::output::write_lines;
 use crate::show_line::{reading_to_lines, reading_to_status};
 use hex::FromHexError;
 use ipx_wire::OutOfMemory;

@@ -8,9 +8,9 @@ ghost use Rattle.ipx_control.specs.Sap.{sap_view};
 ghost use Rattle.ipx_commands.specs.Decoded.{contents_view, decoded_view};
 ghost use Rattle.ipx_commands.specs.ShowLine.{address_text, bit_text, contents_lines, control_text, counts_text, header_lines, ids_text, name_byte, name_text, reach, reading_lines, reading_status, rip_entry_line, rip_lines, sap_lines, service_line, spx_line, word_text};
 
+use crate::decoded::{Contents, Decoded};
 use crate::line::{control_fault_to_text, fault_to_text, spx_fault_to_text};
 use crate::place::place_of;
-use crate::decoded::{Contents, Decoded};
 use ipx_control::{Rip, RipEntry, Sap, ServiceEntry};
 use ipx_wire::{Address, Packet, SpxHeader};
 use std::alloc::{AllocError, Global};

@@ -1,8 +1,8 @@
 //! A read or write fault is status 1, and after it nothing more is written.
 
 use crate::texts::{CHECKED, FIELDS, FORWARD, PACKET, VECTOR};
-use ipx_commands::{do_check, do_hop, do_show};
 use failing_io::Failing;
+use ipx_commands::{do_check, do_hop, do_show};
 use std::alloc::Global;
 
 /// Whether a reader that fails after so many calls makes `hop` answer so, having written this.

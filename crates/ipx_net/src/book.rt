@@ -12,10 +12,10 @@ use crate::entry::Entry;
 use crate::handed::{is_beginning, is_silent};
 use crate::parcel::Parcel;
 use crate::scanned::Scanned;
-use theory_log::peer_is_found;
 use ipx_wire::OutOfMemory;
 use std::alloc::Global;
 use std::marker::Model;
+use theory_log::peer_is_found;
 
 /// What happened in a network, in order, and the parcels by their numbers.
 #[derive(Drop)]

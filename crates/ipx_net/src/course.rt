@@ -32,17 +32,17 @@ use crate::place::Place;
 use crate::routers::RouterNow;
 use crate::told::EndsTold;
 use ipx_net_hosts::Hosts;
+use ipx_recovery::{no_pair_is_stuck, no_state_is_stuck, nothing_is_stuck_by_addresses};
+use ipx_router::{NewFault, Port};
+use std::alloc::Global;
+use std::marker::Model;
 use theory_log::{
     acknowledged_end_is_read, addresses_tell_peers, alone_reads_nothing, confirmed_is_read,
     end_taken_is_whole, ends_are_told, entries_tell_ends, hands_out_what_it_took,
     links_send_in_order, numbers_are_in_order, pairs_take_steps, peers_are_in_step,
     routers_alter_hops_alone, units_are_cuts, units_are_sent_in_order, within_allocation,
 };
-use ipx_recovery::{no_pair_is_stuck, no_state_is_stuck, nothing_is_stuck_by_addresses};
-use ipx_router::{NewFault, Port};
 use theory_steps::{peers_of_worlds_are_in_step, steps_are_deeds};
-use std::alloc::Global;
-use std::marker::Model;
 
 /// How many entries the log holds before no more steps are taken.
 const MOST_ENTRIES: usize = 1_000_000;

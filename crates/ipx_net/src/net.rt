@@ -25,10 +25,10 @@ use crate::fault::NetFault;
 use crate::host::Host;
 use crate::parcel::Parcel;
 use crate::told::EndsTold;
-use theory_log::peer_is_found;
 use ipx_router::{NewFault, Port};
 use std::alloc::Global;
 use std::marker::Model;
+use theory_log::peer_is_found;
 
 /// A network in memory: its hosts and routers, the packets on their way, and the log; and what is
 /// told of its ends.

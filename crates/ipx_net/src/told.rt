@@ -15,9 +15,9 @@ use crate::book::Book;
 use crate::endinfo::EndInfo;
 use crate::entry::Entry;
 use ipx_net_hosts::Hosts;
-use theory_log::peer_is_found;
 use spx_link::State;
 use std::alloc::{AllocError, Global};
+use theory_log::peer_is_found;
 
 /// What is told of each end, by its number.
 #[derive(Drop)]

@@ -18,8 +18,8 @@ ghost use Rattle.ipx_net_hosts.specs.Hosts.{DeliveredAt, FitTogether, LeftAs, Le
 ghost use Rattle.ipx_net_hosts.specs.Refusing.{CloseIsRefused, DialIsLeft, Overruns, PushesTo, SendIsRefused, TakeIsRefused, close_fault, dial_fault, end_held, send_fault, want};
 
 use crate::end::EndNow;
-use crate::refusal::Refusal;
 use crate::host_state::HostState;
+use crate::refusal::Refusal;
 use ipx_wire::{Address, Network, Node, OutOfMemory, Socket};
 use spx_link::{Sent, State, Unit};
 use spx_messages::{Arrived, EndFault, Message, MessageFault, Taken};

@@ -5,9 +5,9 @@
 #![tactic(auto)]
 
 mod end;
+mod host_state;
 mod hosts;
 mod refusal;
-mod host_state;
 
 pub use hosts::Hosts;
 pub use refusal::Refusal;

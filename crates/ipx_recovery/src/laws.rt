@@ -9,9 +9,9 @@ ghost use Rattle.ipx_recovery.specs.LosslessRounds.{RoundIsOne, RoundsExist};
 ghost use Rattle.ipx_recovery.specs.Stuck.{NoPairIsStuck, NoStateIsStuck, NothingIsStuckByAddresses};
 ghost use Rattle.spx_link.specs.LinkView.{LinkView};
 
+use spx_link::{poll_keeps_units, soundness};
 use theory_log::{addresses_tell_peers, peers_are_in_step, peers_are_named, peers_follow};
 use theory_pairs::{calls_are_steps, packets_allow_what_was_taken};
-use spx_link::{poll_keeps_units, soundness};
 
 /// The laws of the machine and of one link, on which the theorems stand.
 fn link_laws()

@@ -16,7 +16,8 @@ use crate::neighbours::{among, neighbours_of};
 use crate::origin::{Origin, origins_of};
 use crate::site::Accept;
 use crate::values::{
-    accept_of, parse_address, count_of, parse_network, parse_peers, routers_of, parse_socket, text_of,
+    accept_of, count_of, parse_address, parse_network, parse_peers, parse_socket, routers_of,
+    text_of,
 };
 use ipx_wire::{Network, OutOfMemory, Socket};
 use std::alloc::Global;

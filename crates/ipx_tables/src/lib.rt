@@ -7,10 +7,10 @@
 //! moment.
 #![tactic(auto)]
 
+mod expiry_key;
 mod fault;
 mod finding;
 mod laws;
-mod expiry_key;
 mod marks;
 mod metric;
 mod moments;

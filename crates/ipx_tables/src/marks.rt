@@ -37,7 +37,10 @@ fn place_at_an_end<K: Ord + Copy>(
 }
 
 /// Where a mark is, or where it would go.
-fn place_of_mark<K: Ord + Copy>(marks: &VecDeque<ExpiryKey<K>>, mark: ExpiryKey<K>) -> Result<usize, usize>
+fn place_of_mark<K: Ord + Copy>(
+    marks: &VecDeque<ExpiryKey<K>>,
+    mark: ExpiryKey<K>,
+) -> Result<usize, usize>
     requires { IsRising (mark_cmp K.cmp) mark_itself marks.now.items }
     ensures found { IfOk result (IsAtKey (mark_cmp K.cmp) mark_itself marks.now.items mark) }
     ensures absent { IfErr result (IsGapFor (mark_cmp K.cmp) mark_itself marks.now.items mark) }

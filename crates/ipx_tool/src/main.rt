@@ -6,9 +6,9 @@ mod words;
 
 use clap::error::ErrorKind;
 use ipx_commands::{do_check, do_hop, do_show, tell_no_memory};
-use ipx_transfer::{check_host, do_listen, do_send};
 use ipx_sim::do_sim;
 use ipx_site::{check_site, do_route};
+use ipx_transfer::{check_host, do_listen, do_send};
 use ipx_udp::do_udp;
 use std::io::IsTerminal;
 use std::process::ExitCode;

@@ -10,8 +10,8 @@ ghost use Rattle.ipx_transfer.specs.SendSteps.{IsReadFault};
 ghost use Rattle.ipx_transfer.specs.declared.send_outcome.SendOutcome.TheVariants as Verdicts;
 
 use crate::handing::hand_in;
-use crate::sending::SendingHost;
 use crate::send_outcome::SendOutcome;
+use crate::sending::SendingHost;
 use log::Log;
 use std::alloc::Global;
 use std::io::{self, ErrorKind, Read};

@@ -22,15 +22,15 @@ mod listening;
 mod outlet;
 mod resting;
 mod room;
+mod running_host;
 mod send;
+mod send_outcome;
 mod sending;
 mod start;
-mod running_host;
 mod taking;
 mod target;
 mod telling;
 mod tending;
-mod send_outcome;
 
 pub use checking::check_host;
 pub use listen::do_listen;

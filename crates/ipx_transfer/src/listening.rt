@@ -21,8 +21,8 @@ use crate::end_core::{Accepted, Came};
 use crate::gate::Gate;
 use crate::leaving::{MOST_CALLERS, count_if, hear_caller, hold, make_room};
 use crate::outlet::{Outlet, WriteFault};
+use crate::running_host::{Activity, RunningHost};
 use crate::start::StartFault;
-use crate::running_host::{RunningHost, Activity};
 use crate::taking::take_each;
 use ipx_site::{Cause, HostFile, WaitFault};
 use log::Log;
@@ -289,7 +289,12 @@ impl<'a, R: Net + Log + Clock> ListeningHost<'a, R> {
     }
 
     /// Takes a turn, and all that came. It answers whether there may be more to do at once.
-    fn step<W: Write>(&mut self, rt: &R, alloc: Global, writer: &mut W) -> Result<bool, ListenOutcome>
+    fn step<W: Write>(
+        &mut self,
+        rt: &R,
+        alloc: Global,
+        writer: &mut W,
+    ) -> Result<bool, ListenOutcome>
         ensures steps { (bytes : List ℕ) × StepsTo
             (host self.old.station.clock self.old.station.core
             self.old.callers.items (left_of self.old.outlet) (W.contents writer.old))
@@ -311,7 +316,12 @@ impl<'a, R: Net + Log + Clock> ListeningHost<'a, R> {
     }
 
     /// Takes a turn, and waits where there is nothing to do.
-    fn step_or_wait<W: Write>(&mut self, rt: &R, alloc: Global, writer: &mut W) -> Result<(), ListenOutcome>
+    fn step_or_wait<W: Write>(
+        &mut self,
+        rt: &R,
+        alloc: Global,
+        writer: &mut W,
+    ) -> Result<(), ListenOutcome>
         ensures steps { (bytes : List ℕ) × StepsTo
             (host self.old.station.clock self.old.station.core
             self.old.callers.items (left_of self.old.outlet) (W.contents writer.old))

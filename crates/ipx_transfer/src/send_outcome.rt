@@ -40,14 +40,21 @@ impl SendOutcome {
 /// What the state of a link tells of a transfer, if it is over. `whole` says whether the peer has
 /// acknowledged all, the end too; `joined` whether the connection was open at any time; and `waits`
 /// whether the rest may still be acknowledged.
-pub fn verdict_of(state: Option<State>, whole: bool, joined: bool, waits: bool) -> Option<SendOutcome>
+pub fn verdict_of(
+    state: Option<State>,
+    whole: bool,
+    joined: bool,
+    waits: bool,
+) -> Option<SendOutcome>
     // Done just where the link is whole, and Ending, PeerEnded or Confirmed.
     ensures done { (result ≡ Some Verdicts.Done) ↔ (IsTrue whole × IsClosing state) }
     ensures verdict { result ≡ verdict_at whole joined waits state }
 {
     match state {
         Some(State::Opening | State::Live) => None,
-        Some(State::Ending | State::PeerEnded | State::Confirmed) if whole => Some(SendOutcome::Done),
+        Some(State::Ending | State::PeerEnded | State::Confirmed) if whole => Some(
+            SendOutcome::Done,
+        ),
         Some(State::Ending) => None,
         Some(State::PeerEnded) if waits => None,
         Some(State::PeerEnded) => Some(SendOutcome::PeerLeft),

@@ -12,7 +12,7 @@ ghost use Rattle.ipx_transfer.specs.declared.listening.ListenOutcome.TheVariants
 
 use crate::callers::{Caller, CallerAction, Standing, fate_of};
 use crate::leaving::{MOST_CALLERS, ask, count_if, let_link_go};
-use crate::listening::{ListeningHost, ListenOutcome};
+use crate::listening::{ListenOutcome, ListeningHost};
 use log::{Log, warn};
 use std::alloc::Global;
 use std::net::Net;

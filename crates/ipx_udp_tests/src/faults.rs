@@ -1,7 +1,7 @@
 //! A read or write fault is status 1, and after it nothing more is written.
 
-use ipx_carrier::UdpDatagrams;
 use failing_io::Failing;
+use ipx_carrier::UdpDatagrams;
 use ipx_udp::do_udp;
 use log::Log;
 use std::alloc::Global;

@@ -21,7 +21,13 @@ pub struct Given {
 }
 
 /// Asks the link of a live id, and writes the packet that it gives.
-fn poll_one(place: HostAddress, links: &mut Links, id: u16, now: u64, room: &mut [u8]) -> Option<Given>
+fn poll_one(
+    place: HostAddress,
+    links: &mut Links,
+    id: u16,
+    now: u64,
+    room: &mut [u8],
+) -> Option<Given>
     requires live { IsLive links.old id }
     requires room { spx_max_packet_size ≤ length room.old }
     ensures leaves { IfSome (link_at links.old id) (λ l.
