@@ -39,7 +39,7 @@ impl Model for Router {
 
     ghost Value = { RouterView };
 
-    ghost router_outcome = { λ r. record {
+    ghost view = { λ r. record {
       ports = r.ports.items;
       routes = r.routes;
       services = r.services;
