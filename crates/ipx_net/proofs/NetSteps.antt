@@ -4,7 +4,7 @@ use Rattle.ipx_router.specs.OutcomeView as Outcomes
 use Rattle.ipx_router.specs.OutcomeView.{OutcomeView}
 use Rattle.ipx_router.specs.declared.port.Port.{Port}
 use Rattle.spx_messages.specs.declared.fault.EndFault.{EndFault}
-use Rattle.theory_steps.specs.WorldStep.{WorldStep, Delivered, Polled, Taken, Dialled, Sent, Closed, Released, Refused, Injected, Ticked, Told, Carried}
+use Rattle.theory_steps.specs.WorldStep.{WorldStep, Delivered, Polled, Taken, Dialled, Sent, Closed, Released, Paced, AskedAgain, Refused, Injected, Ticked, Told, Carried}
 use Rattle.theory_steps.specs.World.{World}
 use Rattle.spx_messages.specs.Taking.{overlong}
 use Rattle.spx_units.specs.Message.{message_view}
@@ -42,6 +42,8 @@ happens_step (Events.Take who) a o n h = elim h.0 [
   | inr more ↦ elim more [ inl l ↦ Taken who (Err overlong) l.1 | inr r ↦ refusal who _ a o.world n.world r.1 ]
 ]
 happens_step (Events.Close who) a o n h = elim h.0 [ inl d ↦ Closed who d.2 | inr r ↦ refusal who r.0 a o.world n.world r.2 ]
+happens_step (Events.Pace who window by_hand) a o n h = Paced who window by_hand h.0.1
+happens_step (Events.Again who place) a o n h = AskedAgain who place h.0.1
 happens_step (Events.Release who) a o n h = Released who h.0.1
 happens_step (Events.Tick now) a o n h = Ticked now h.0.1
 happens_step (Events.Poll (Members.Host host)) a o n h = Polled host h.0.0 h.0.1

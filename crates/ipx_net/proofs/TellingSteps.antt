@@ -12,7 +12,7 @@ use Rattle.spx_messages.specs.declared.arrived.Arrived.TheVariants as Arriveds
 use Rattle.spx_messages.specs.declared.fault.EndFault.{EndFault}
 use Rattle.spx_messages.specs.Taking.{TakenView, overlong}
 use Rattle.spx_link.specs.LinkView.{LinkView}
-use Rattle.theory_steps.specs.EndCalls.{ChangesLink, DialsFrom, RefusesAt, ReleasesOf}
+use Rattle.theory_steps.specs.EndCalls.{ChangesLink, ChangesQuietly, DialsFrom, RefusesAt, ReleasesOf}
 use Rattle.theory_steps.specs.HostSteps.{TakesOf, ends_after, marked_over}
 use Rattle.theory_steps.specs.World.{EndNow, InOrder, IsEndOf, HostState, World, end_at, held_in, held_of}
 use Rattle.ipx_wire.specs.declared.address.Address.{Address}
@@ -75,6 +75,13 @@ host_is w who e at = ap (option_map (λ (n : EndNow). n.host)) at
 
 changes_only : (o n : World) (who : ℕ) (f : LinkView → LinkView) (note : Note) → ChangesLink o who f note n → OnlyAt (host_there o who) o n
 changes_only o n who f note c =
+    record {
+      elsewhere = at_host (host_there o who) o n c.end'.host c.after c.hosts (host_is o who c.end' c.at);
+      stay = stay_same (host_there o who) o n c.ends;
+    }
+
+quiet_only : (o n : World) (who : ℕ) (f : LinkView → LinkView) → ChangesQuietly o who f n → OnlyAt (host_there o who) o n
+quiet_only o n who f c =
     record {
       elsewhere = at_host (host_there o who) o n c.end'.host c.after c.hosts (host_is o who c.end' c.at);
       stay = stay_same (host_there o who) o n c.ends;
@@ -154,6 +161,8 @@ happens_only (Events.Take who) a o n h = elim h.0 [
   | inr more ↦ elim more [ inl l ↦ takes_only o.world n.world who (Err overlong) l.1 | inr r ↦ refused_of who _ a o.world n.world r.1 ]
 ]
 happens_only (Events.Close who) a o n h = elim h.0 [ inl d ↦ changes_only o.world n.world who _ _ d.2 | inr r ↦ refused_of who r.0 a o.world n.world r.2 ]
+happens_only (Events.Pace who window by_hand) a o n h = quiet_only o.world n.world who _ h.0.1
+happens_only (Events.Again who place) a o n h = quiet_only o.world n.world who _ h.0.1
 happens_only (Events.Release who) a o n h = releases_only o.world n.world who h.0.1
 happens_only (Events.Tick now) a o n h = unmoved None o.world n.world h.0.1.hosts h.0.1.ends
 happens_only (Events.Poll (Members.Host host)) a o n h =

@@ -98,7 +98,7 @@ DeliveryWantsMemory n parcel bytes (Places.Port router port) =
 
 -- an event may want memory: a call that no end refuses, a take that is told, a poll that gives a
 -- packet, a delivery that is told, sent on or makes a router's table grow, and each release and
--- packet from outside. A moment wants none
+-- packet from outside. A moment wants none, nor do a window and a place that is asked for
 abbrev pub EventWantsMemory : NetNow → Event → Type 0
 EventWantsMemory n (Events.Dial host socket to buffers) =
     dial_fault (slice_get n.world.hosts host) ≡ None
@@ -106,6 +106,8 @@ EventWantsMemory n (Events.Send who message) =
     send_fault (held_under n.world who) (message_view message) ≡ None
 EventWantsMemory n (Events.Take who) = TakeIsTold (held_under n.world who) who
 EventWantsMemory n (Events.Close who) = close_fault (held_under n.world who) ≡ None
+EventWantsMemory n (Events.Pace who window by_hand) = ⊥
+EventWantsMemory n (Events.Again who place) = ⊥
 EventWantsMemory n (Events.Release who) = Unit {0}
 EventWantsMemory n (Events.Tick now) = ⊥
 EventWantsMemory n (Events.Poll member) = PollWantsMemory n member

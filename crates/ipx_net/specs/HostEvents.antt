@@ -1,5 +1,5 @@
 -- What events at hosts do to a world, with their answers.
-use Rattle.std.specs.Prelude.{ℕ, ◌≡◌, ◌⊎◌, List, [], ◌∷◌, length, Option, Some, None, Ok, Err, slice_get}
+use Rattle.std.specs.Prelude.{ℕ, Bool, ◌≡◌, ◌⊎◌, List, [], ◌∷◌, length, Option, Some, None, Ok, Err, slice_get}
 use Rattle.ipx_wire.specs.declared.address.Address.{Address}
 use Rattle.ipx_wire.specs.declared.address.Node.{Node}
 use Rattle.ipx_wire.specs.declared.address.Socket.{Socket}
@@ -11,7 +11,7 @@ use Rattle.spx_messages.specs.Taking.{TakenView, overlong}
 use Rattle.spx_units.specs.Message.{MessageView}
 use Rattle.ipx_net_hosts.specs.Hosts.{DeliveredAt, HostsView}
 use Rattle.ipx_net_hosts.specs.Refusing.{CloseIsRefused, DialIsRefused, PushesTo, SendIsRefused, close_fault, dial_fault, end_held, send_fault, want}
-use Rattle.theory_steps.specs.EndCalls.{Closes, DialsFrom, RefusesAt, ReleasesOf, SendsTo}
+use Rattle.theory_steps.specs.EndCalls.{AsksAgainOf, Closes, DialsFrom, PacesOf, RefusesAt, ReleasesOf, SendsTo}
 use Rattle.theory_steps.specs.HostSteps.{Delivers, PollsHost, TakesOf, arrival_notes}
 use Rattle.theory_steps.specs.World.{EndNow, HostState, World, end_at}
 use Rattle.ipx_net.specs.AnswerView.{AnswerView, ArrivedAt, Done, End, Parcels, Refused, Taken}
@@ -51,6 +51,13 @@ Sending who m = IsDoneOrRefused (λ old new. SendsTo old who m new) (λ w. send_
 abbrev pub Closing : ℕ → AnswerView → World → World → Type 0
 Closing who = IsDoneOrRefused (λ old new. Closes old who new) (λ w. close_fault (held_under w who))
     (λ w. CloseIsRefused (held_under w who)) who
+
+-- the link of an end that stands gets a window, or a place of it is asked for: neither is refused
+abbrev pub Pacing : ℕ → ℕ → Bool → AnswerView → World → World → Type 0
+Pacing who window by_hand a old new = (a ≡ Done) × PacesOf old who window by_hand new
+
+abbrev pub AskingAgain : ℕ → ℕ → AnswerView → World → World → Type 0
+AskingAgain who place a old new = (a ≡ Done) × AsksAgainOf old who place new
 
 -- an end that stands goes, and is not refused
 abbrev pub Releasing : ℕ → AnswerView → World → World → Type 0

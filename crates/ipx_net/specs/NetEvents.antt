@@ -9,7 +9,7 @@ use Rattle.ipx_wire.specs.declared.address.Network.{Network}
 use Rattle.ipx_wire.specs.declared.address.Node.{Node}
 use Rattle.theory_log.specs.Note as Notes
 use Rattle.ipx_net.specs.GrowthView.{GrowthView}
-use Rattle.ipx_net.specs.HostEvents.{Closing, DeliveringToHost, Dialling, PollingHost, Releasing, Sending, TakingFrom}
+use Rattle.ipx_net.specs.HostEvents.{AskingAgain, Closing, DeliveringToHost, Dialling, Pacing, PollingHost, Releasing, Sending, TakingFrom}
 use Rattle.ipx_net.specs.NetView.{NetNow}
 use Rattle.ipx_net.specs.RouterEvents.{DeliveringToRouter, PollingRouter}
 use Rattle.ipx_net.specs.declared.event.Event.{Event}
@@ -37,6 +37,8 @@ Happens (Events.Dial host socket to buffers) = BesideRouters (Dialling host sock
 Happens (Events.Send who message) = BesideRouters (Sending who (message_view message))
 Happens (Events.Take who) = BesideRouters (TakingFrom who)
 Happens (Events.Close who) = BesideRouters (Closing who)
+Happens (Events.Pace who window by_hand) = BesideRouters (Pacing who window by_hand)
+Happens (Events.Again who place) = BesideRouters (AskingAgain who place)
 Happens (Events.Release who) = BesideRouters (Releasing who)
 Happens (Events.Tick now) = BesideRouters (λ a old new. (a ≡ Done) × Ticks old now new)
 Happens (Events.Poll member) = PollsOf member
@@ -50,6 +52,8 @@ IsOwed (Events.Dial host socket to buffers) = (0 < buffers) × (buffers ≤ most
 IsOwed (Events.Send who message) = Unit {0}
 IsOwed (Events.Take who) = Unit {0}
 IsOwed (Events.Close who) = Unit {0}
+IsOwed (Events.Pace who window by_hand) = Unit {0}
+IsOwed (Events.Again who place) = Unit {0}
 IsOwed (Events.Release who) = Unit {0}
 IsOwed (Events.Tick now) = Unit {0}
 IsOwed (Events.Poll member) = Unit {0}

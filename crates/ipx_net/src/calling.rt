@@ -10,7 +10,7 @@ ghost use Rattle.theory_steps.specs.HostSteps.{unit_notes, whole_notes};
 ghost use Rattle.ipx_net.specs.AnswerView as views;
 ghost use Rattle.ipx_net.specs.LogEntries.{taken_unit};
 ghost use Rattle.ipx_net.specs.GrowthView.{GrowsWorld, growth_view};
-ghost use Rattle.ipx_net.specs.HostEvents.{Closing, Dialling, Releasing, Sending, TakingFrom};
+ghost use Rattle.ipx_net.specs.HostEvents.{AskingAgain, Closing, Dialling, Pacing, Releasing, Sending, TakingFrom};
 ghost use Rattle.ipx_net.specs.EventWants.{IsMade, TakeIsTold};
 
 use crate::answer::Answer;
@@ -94,6 +94,48 @@ pub fn close(
         Ok(()) => noted(alloc, Entry::EndAsked { who }, Answer::Done),
         Err(fault) => Ok(quiet(alloc, Answer::Refused(fault))),
     }
+}
+
+/// The link of an end that stands gets a window. No end refuses that, and it wants no memory.
+pub fn pace(
+    alloc: Global,
+    hosts: &mut Hosts,
+    who: usize,
+    window: u16,
+    by_hand: bool,
+    first: usize,
+    now: u64,
+) -> Growth
+    requires order { FitTogether hosts.old }
+    requires stands { stands hosts.old who ≡ true }
+    ensures grows { GrowsWorld hosts.old hosts.new first now (growth_view result)
+        (Pacing who window by_hand) }
+    ensures quiet { growth_view result ≡ record { parcels = []; notes = []; answer = views.Done } }
+    ensures homes { SameHomes hosts.old hosts.new }
+{
+    hosts.pace(who, window, by_hand, now).unwrap();
+    quiet(alloc, Answer::Done)
+}
+
+/// A place of the link of an end that stands is asked for again. No end refuses that, and it wants
+/// no memory.
+pub fn again(
+    alloc: Global,
+    hosts: &mut Hosts,
+    who: usize,
+    place: u16,
+    first: usize,
+    now: u64,
+) -> Growth
+    requires order { FitTogether hosts.old }
+    requires stands { stands hosts.old who ≡ true }
+    ensures grows { GrowsWorld hosts.old hosts.new first now (growth_view result)
+        (AskingAgain who place) }
+    ensures quiet { growth_view result ≡ record { parcels = []; notes = []; answer = views.Done } }
+    ensures homes { SameHomes hosts.old hosts.new }
+{
+    hosts.again(who, place, now).unwrap();
+    quiet(alloc, Answer::Done)
 }
 
 /// An end that stands goes. No end refuses that.

@@ -253,6 +253,8 @@ impl Course {
             Event::Send { who, .. }
             | Event::Take { who }
             | Event::Close { who }
+            | Event::Pace { who, .. }
+            | Event::Again { who, .. }
             | Event::Release { who } => self.hosts.host_of(*who),
             Event::Poll { member } => polled_host(*member),
             Event::Deliver { place, .. } => reached_host(*place),

@@ -36,6 +36,18 @@ pub enum Event {
     Close {
         who: usize,
     },
+    /// So many units of the link of an end may be outstanding, and they go again by the clock or by
+    /// hand. No end refuses it.
+    Pace {
+        who: usize,
+        window: u16,
+        by_hand: bool,
+    },
+    /// A place of the link of an end is asked for again. No end refuses it.
+    Again {
+        who: usize,
+        place: u16,
+    },
     /// An end goes, with its link.
     Release {
         who: usize,

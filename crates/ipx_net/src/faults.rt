@@ -84,6 +84,8 @@ pub fn fault_of(
         Event::Send { who, .. } => end_fault(hosts, *who),
         Event::Take { who } => end_fault(hosts, *who),
         Event::Close { who } => end_fault(hosts, *who),
+        Event::Pace { who, .. } => end_fault(hosts, *who),
+        Event::Again { who, .. } => end_fault(hosts, *who),
         Event::Release { who } => end_fault(hosts, *who),
         Event::Poll {
             member: Member::Host(host),

@@ -11,7 +11,7 @@ ghost use Rattle.ipx_net.specs.declared.event.Event.TheVariants as Events;
 
 use crate::answer::Answer;
 use crate::book::Book;
-use crate::calling::{close, dial, release, send, take};
+use crate::calling::{again, close, dial, pace, release, send, take};
 use crate::delivering::deliver_host;
 use crate::entry::Entry;
 use crate::event::{Event, Member};
@@ -152,6 +152,12 @@ pub fn happen(
         Event::Send { who, message } => send(alloc, hosts, who, message, first, now),
         Event::Take { who } => take(alloc, hosts, who, first, now),
         Event::Close { who } => close(alloc, hosts, who, first, now),
+        Event::Pace {
+            who,
+            window,
+            by_hand,
+        } => Ok(pace(alloc, hosts, who, window, by_hand, first, now)),
+        Event::Again { who, place } => Ok(again(alloc, hosts, who, place, first, now)),
         Event::Release { who } => release(alloc, hosts, who, first, now),
         Event::Tick { now } => {
             *moment = now;

@@ -1,11 +1,13 @@
 -- Where ends stand, and what a call on one host does to all of them.
-use Rattle.std.proofs.Common.{◌≡◌, ◌≢◌, ◌<◌, ◌≤◌, ℕ, zero, suc, List, [], ◌∷◌, ◌++◌, Bool, true, false, cond, not, length, map, set, get_or, refl, ap, sym, subst, ◌∙◌, Option, None, Some, Result, Ok, Err, OnErr, IfSome, arith, append_assoc}
+use Rattle.std.proofs.Common.{◌≡◌, ◌≢◌, ◌<◌, ◌≤◌, ℕ, zero, suc, List, [], ◌∷◌, ◌++◌, Bool, true, false, cond, not, length, map, set, get_or, refl, ap, sym, subst, ◌∙◌, Option, None, Some, Result, Ok, Err, OnErr, OnOk, IfSome, arith, append_assoc}
 use Rattle.std.specs.Prelude.{slice_get}
 use Rattle.std.proofs.lemmas.Option.{slice_get_read}
 use Rattle.std.proofs.Math.Seq.{map-set_same}
+use Rattle.std.proofs.lemmas.List.{append-nil}
 use Rattle.ipx_wire.specs.declared.address.Address.{Address}
 use Rattle.ipx_wire.specs.declared.address.Socket.{Socket}
 use Rattle.spx_link.specs.Limits.{most_units}
+use Rattle.spx_link.specs.LinkView.{LinkView}
 use Rattle.spx_link.specs.Offer.{first_of}
 use Rattle.spx_link.specs.declared.unit.Unit.{Unit}
 use Rattle.spx_messages.specs.Arrives.{Arrives}
@@ -19,7 +21,7 @@ use Rattle.spx_messages.specs.declared.fault.EndFault.TheVariants as EndFaults
 use Rattle.spx_messages.specs.declared.taken.Taken.{Taken}
 use Rattle.spx_units.specs.declared.fault.MessageFault.TheVariants as MessageFaults
 use Rattle.theory_log.specs.Note.{Opened, Released}
-use Rattle.theory_steps.specs.EndCalls.{DialsFrom, ReleasesOf}
+use Rattle.theory_steps.specs.EndCalls.{ChangesQuietly, DialsFrom, ReleasesOf}
 use Rattle.theory_steps.specs.HostSteps.{TakesOf, ends_after, here_after, marked_over, unit_notes, whole_notes}
 use Rattle.theory_steps.specs.World.{EndNow, HostState, StandsAt, end_at, held_in, held_of, home_at}
 use Rattle.ipx_net_hosts.specs.Hosts.{DeliveredAt, FitTogether, HostsView, LeftBy, LeftAs, LeftAt, Noting, Standing, is_lost, stands, stands_now}
@@ -250,6 +252,47 @@ taken v ss es es' who host id x y r u t view read s unit takes not_want ends =
               ∙ ap (λ (o : Option Unit). log ++ unit_notes (result_view r) o who ++ whole_notes (result_view r) who) first;
           moment = refl;
         }
+
+-- ---- a link becomes another one, and nothing is noted
+
+quietly : (v : HostsView) (ss : List HostState) (es : List EndNow) (who host id : ℕ) (x y : HostState) (t : ℕ) (f : LinkView → LinkView) → made ss es ≡ v → x ≡ get_or ss host x
+    → Standing v who host id → IfSome (held_at x.endpoint id) (λ h. ChangesAt x id (record h { link = f h.link }) y)
+    → Noting v (made (set ss host y) es) t [] (λ w w'. ChangesQuietly w who f w')
+quietly v ss es who host id x y t f view read s changes =
+    let P : HostsView → Type 0 = λ z. Standing z who host id → Noting z (made (set ss host y) es) t [] (λ w w'. ChangesQuietly w who f w') in
+    subst P view core s
+  where
+    core : Standing (made ss es) who host id → Noting (made ss es) (made (set ss host y) es) t [] (λ w w'. ChangesQuietly w who f w')
+    core s parcels log =
+        let within : host < length ss = there_within ss host s.station s.there in
+        let there : slice_get ss host ≡ Some x = slice_get_read ss (length ss) host x refl within read in
+        let same : x ≡ s.station = read ∙ there_read ss host s.station x s.there in
+        let holds : held_at x.endpoint id ≡ Some s.held = ap (λ (z : HostState). held_at z.endpoint id) same ∙ s.live in
+        let after : Held = record (s.held) { link = f s.held.link } in
+        let came : ChangesAt x id after y = at_held (held_at x.endpoint id) (λ h. ChangesAt x id (record h { link = f h.link }) y) s.held changes holds in
+        record {
+          end' = s.end';
+          at = s.at;
+          stands = s.stands;
+          before = x;
+          there = ap (slice_get ss) s.host_is ∙ there;
+          after = y;
+          held = s.held;
+          holds = ap (held_at x.endpoint) s.id_is ∙ holds;
+          changes = subst (λ i. ChangesEnd x.endpoint y.endpoint i after) (sym s.id_is) came.changes;
+          here = came.here;
+          hosts = ap (λ k. set ss k y) (sym s.host_is);
+          ends = refl;
+          parcels = refl;
+          log = append-nil log;
+          moment = refl;
+        }
+
+pub quietly_ok : {A E : Type 0} (r : Result A E) (v : HostsView) (ss : List HostState) (es : List EndNow) (who host id : ℕ) (x y : HostState) (t : ℕ) (f : LinkView → LinkView) → made ss es ≡ v
+    → x ≡ get_or ss host x → Standing v who host id → IfSome (held_at x.endpoint id) (λ h. OnOk r (ChangesAt x id (record h { link = f h.link }) y))
+    → OnOk r (Noting v (made (set ss host y) es) t [] (λ w w'. ChangesQuietly w who f w'))
+quietly_ok (Ok a) v ss es who host id x y t f view read s changes = quietly v ss es who host id x y t f view read s changes
+quietly_ok (Err e) v ss es who host id x y t f view read s changes = tt
 
 -- ---- refusals
 

@@ -2,7 +2,7 @@
 
 ghost use Rattle.std.specs.Prelude.{◌≡◌, ◌≢◌, ◌≤◌, ◌↔◌, ◌++◌, ◌∷◌, ◌==◌, ℕ, [], Err, IfErr, IfOk, IfSome, IsOk, None, OnErr, OnOk, Some, filter, find, length, not, option_map, slice_get};
 ghost use Rattle.ipx_wire.specs.Assigned.{spx_max_packet_size};
-ghost use Rattle.spx_link.specs.Offer.{end_link, first_of, offer_link, refusal};
+ghost use Rattle.spx_link.specs.Offer.{again_link, end_link, first_of, offer_link, pace_link, refusal};
 ghost use Rattle.spx_messages.specs.Arrives.{Arrives, IsAcceptable};
 ghost use Rattle.spx_messages.specs.Polls.{Polls, home_of};
 ghost use Rattle.spx_messages.specs.Taking.{overlong, result_view, take_end};
@@ -174,6 +174,34 @@ impl HostState {
         ensures home { home_of self.new.endpoint ≡ home_of self.old.endpoint }
     {
         self.endpoint.close(alloc, id)
+    }
+
+    /// A link gets a window, by the clock or by hand. It is refused where no link has the id.
+    pub fn pace(&mut self, id: u16, window: u16, by_hand: bool) -> Result<(), EndFault>
+        ensures ok { IfSome (held_at self.old.endpoint id) (λ h. OnOk result (ChangesAt self.old id
+            (record h { link = pace_link h.link window by_hand }) self.new)) }
+        ensures done { IfSome (held_at self.old.endpoint id) (λ _. IsOk result) }
+        ensures refused { OnErr result (StaysAt self.old self.new) }
+        ensures home { home_of self.new.endpoint ≡ home_of self.old.endpoint }
+    {
+        if let Err(fault) = self.endpoint.pace(id, window, by_hand) {
+            return Err(fault);
+        }
+        Ok(())
+    }
+
+    /// A place of a link is asked for again. It is refused where no link has the id.
+    pub fn again(&mut self, id: u16, place: u16) -> Result<(), EndFault>
+        ensures ok { IfSome (held_at self.old.endpoint id) (λ h. OnOk result (ChangesAt self.old id
+            (record h { link = again_link h.link place }) self.new)) }
+        ensures done { IfSome (held_at self.old.endpoint id) (λ _. IsOk result) }
+        ensures refused { OnErr result (StaysAt self.old self.new) }
+        ensures home { home_of self.new.endpoint ≡ home_of self.old.endpoint }
+    {
+        if let Err(fault) = self.endpoint.again(id, place) {
+            return Err(fault);
+        }
+        Ok(())
     }
 
     /// A link goes.

@@ -7,6 +7,8 @@ mod book;
 #[cfg(test)]
 mod made;
 #[cfg(test)]
+mod paced;
+#[cfg(test)]
 mod polled;
 #[cfg(test)]
 mod refused;

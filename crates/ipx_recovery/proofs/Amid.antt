@@ -1,11 +1,12 @@
 -- In the midst of what a link gives at a moment and its peer reads at once: what stays so from packet to packet.
-use Rattle.std.proofs.Common.{ℕ, ◌+◌, ◌-◌, ◌<◌, ◌≤◌, ◌≡◌, ◌⊎◌, ◌&&◌, ◌==◌, true, false, length, length-drop, take, Some, sym, ap, ◌∙◌, subst, inl, inr, ⊎_elim, arith, slice_get}
+use Rattle.std.proofs.Common.{ℕ, ◌+◌, ◌-◌, ◌<◌, ◌≤◌, ◌≡◌, ◌⊎◌, ◌&&◌, ◌==◌, Bool, true, false, length, length-drop, take, Some, sym, ap, ◌∙◌, subst, inl, inr, ⊎_elim, arith, slice_get}
 use Rattle.std.proofs.lemmas.Bool.{cases_Bool, cases_lt, eq-eqb}
 use Rattle.spx_link.specs.declared.queue.Queued.{Queued}
 use Rattle.spx_link.specs.declared.outgoing.Sent.{Sent}
 use Rattle.spx_link.specs.declared.outgoing.Sent.TheVariants as Sents
 use Rattle.spx_link.specs.declared.state.State.TheVariants as S
 use Rattle.spx_link.specs.Limits.{most_sends}
+use Rattle.spx_link.specs.ByClock.{IsUnpaced, pace_of}
 use Rattle.spx_link.specs.LinkView.{LinkView, is_end, is_working}
 use Rattle.spx_link.specs.declared.unit.Unit.{Unit}
 use Rattle.ipx_wire.specs.declared.spx.packet.SpxHeader.{SpxHeader}
@@ -55,6 +56,13 @@ pub record Mid (now : ℕ) (a0 b0 : LinkView) (c0 d0 : End) (a b : LinkView) (c 
   pub asks : (a ≡ a0) ⊎ Owes b ⊎ Owed a0
   pub closes : a0.owes_confirm ≡ true → b0.end_queued ≡ true → length d0.units ≤ c0.read → (a.owes_confirm ≡ true) ⊎ (b.state ≡ S.Confirmed)
   pub unread : Unread b0 c0 d0 → Unread b c d
+  -- nobody paces the two
+  pub pace : IsUnpaced a
+  pub pace_b : IsUnpaced b
+
+-- a link that is as another, in window and by hand
+pub unpaced_as : (l k : LinkView) → pace_of k ≡ pace_of l → IsUnpaced l → IsUnpaced k
+unpaced_as l k same u = record { window = ap (λ (p : ℕ × Bool). p.0) same ∙ u.window; by_hand = ap (λ (p : ℕ × Bool). p.1) same ∙ u.by_hand }
 
 probes_on : (what : Sent) (now : ℕ) (a m b b' : LinkView) (g : OutgoingView) → Gave a now g m → KindOf what a now g m → (Owes b → Owes b') → (g.header.wants_ack ≡ true → is_system g.header ≡ true → Owes b')
     → (a.probes < most_sends) ⊎ ((a.spoke ≡ now) × Owes b) → (m.probes < most_sends) ⊎ ((m.spoke ≡ now) × Owes b')
@@ -165,6 +173,8 @@ step laws now a0 b0 c0 d0 names a b c d mid g m gave s open' =
         | inr done ↦ inr (confirmed_on b b' done r.state)
       ];
       unread = λ z. unread_on b b' c e d d' mid.second here.follows fed.0 s.grew r.state r.more (mid.unread z);
+      pace = unpaced_as a m gave.pace mid.pace;
+      pace_b = unpaced_as b b' (laws.paces b h g.body) mid.pace_b;
     }
   where
     at_entry : (k : ℕ) (x : Queued) → k < m.out → slice_get m.queue k ≡ Some x → Entry a now c s.position k x

@@ -13,7 +13,7 @@ use Rattle.ipx_recovery.specs.RoundsDeliver.{CanDeliver, IsDelivered, RoundsDeli
 use Rattle.ipx_recovery.specs.LosslessRounds.{Conveys, TakesAll, InTurn, over, after, Rise, shares, waiting, round_share}
 use Rattle.ipx_recovery.proofs.Speaking.{swapped, peer_follows}
 use Rattle.ipx_recovery.proofs.Taking.{took_all, taken_to}
-use Rattle.ipx_recovery.proofs.Amid.{outstanding_there}
+use Rattle.ipx_recovery.proofs.Amid.{outstanding_there, unpaced_as}
 use Rattle.ipx_recovery.proofs.Crossing.{all_met, all_read}
 use Rattle.ipx_recovery.proofs.Halves.{Half, Rounded, able_back, half_on, twice_on}
 use Rattle.ipx_recovery.proofs.Lists.{empty_list, seam, take_all}
@@ -52,6 +52,8 @@ half_ready since since_b now a b c d a1 b1 b2 us r open' h =
           (cases_lt 0 a1.out);
       ended = λ e. absurd (never_ended a1 b1 h.x.one h.x.two mid.first mid.second queued e);
       open' = mid.queued ∙ open';
+      pace = unpaced_as b1 b2 t.pace mid.pace_b;
+      pace_b = mid.pace;
     }
 
 -- what comes of the units of a link that speaks second in each round: with n whole rounds the other way round, and a half of one at the end

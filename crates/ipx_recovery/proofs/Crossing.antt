@@ -1,6 +1,6 @@
 -- All that a link gives at a moment, read by its peer at once: what becomes of the two links and their ends of the machine.
 use Rattle.std.proofs.Common.{ℕ, ◌+◌, ◌-◌, ◌<◌, ◌≤◌, ◌≡◌, min, nat_lt, true, false, length, take, get_or, Some, None, sym, ap, ◌∙◌, subst, inl, inr, ⊎_elim, arith, slice_get}
-use Rattle.std.proofs.lemmas.Bool.{cases_lt, lt-ltb, leb-true, cond-true}
+use Rattle.std.proofs.lemmas.Bool.{cases_lt, lt-ltb, leb-true, cond-true, cond-false}
 use Rattle.std.proofs.lemmas.Option.{slice_get-get_or}
 use Rattle.spx_link.specs.declared.queue.Queued.{Queued}
 use Rattle.spx_link.specs.Limits.{most_sends}
@@ -17,7 +17,7 @@ use Rattle.theory_pairs.specs.Tracks.{core}
 use Rattle.theory_pairs.specs.PairSteps.{Polled}
 use Rattle.spx_link.specs.Limits.{most_units}
 use Rattle.spx_link.specs.Offer.{the_end, queued}
-use Rattle.spx_link.specs.Poll.{late, late_if_working, is_waiting}
+use Rattle.spx_link.specs.Poll.{late, asked_again, wanted, late_if_working, is_waiting}
 use Rattle.ipx_recovery.proofs.Having.{Has, has_all}
 use Rattle.ipx_recovery.proofs.Speaking.{Spoken, spoken}
 use Rattle.ipx_recovery.proofs.Hearing.{Owes}
@@ -39,7 +39,7 @@ never_gives_up now a0 b0 c0 d0 a b c d mid g =
     elim g.why [
       | inl late' ↦ elim (mid.met works late'.place late'.unit late'.below late'.there) [
         | inl few ↦ absurd (omega (arith, few.1, leb-true most_sends late'.unit.count late'.often))
-        | inr now' ↦ absurd (cc (sym (ap (λ t. due t now) now'.0 ∙ not_yet now) ∙ late'.due'))
+        | inr now' ↦ absurd (cc (sym (ap (λ t. due t now) now'.0 ∙ not_yet now) ∙ late'.due' mid.pace.by_hand))
       ]
       | inr probe ↦ elim (mid.probes works) [
         | inl few ↦ absurd (omega (arith, few, leb-true most_sends a.probes probe.often))
@@ -66,9 +66,9 @@ cross laws now a0 b0 c0 d0 names joined a b a' b' (goes {a1 = a1} {b1 = b1} g r 
 -- ---- what has crossed
 
 -- a link that rests has nothing outstanding that is due
-not_late : (l : LinkView) (now k : ℕ) (q : Queued) → is_working l.state ≡ true → late_if_working l now ≡ None → k < l.out → slice_get l.queue k ≡ Some q → due q.at now ≡ false
-not_late l now k q works none below is =
-    let found : late l now ≡ None = sym (cond-true (is_working l.state) (late l now) None works) ∙ none in
+not_late : (l : LinkView) (now k : ℕ) (q : Queued) → l.by_hand ≡ false → is_working l.state ≡ true → late_if_working l now ≡ None → k < l.out → slice_get l.queue k ≡ Some q → due q.at now ≡ false
+not_late l now k q clock works none below is =
+    let found : late l now ≡ None = sym (cond-false l.by_hand (asked_again l) (late l now) clock) ∙ (sym (cond-true (is_working l.state) (wanted l now) None works) ∙ none) in
     let front : slice_get (take l.out l.queue) k ≡ Some q = slice_get-take l.out l.queue k below ∙ is in
     no_place (λ (x : Queued). due x.at now) (take l.out l.queue) k q found front
 
@@ -81,7 +81,7 @@ all_met now a0 b0 c0 d0 a b x works k below =
     let q : Queued = get_or a.queue k (queued the_end) in
     let is : slice_get a.queue k ≡ Some q = slice_get-get_or a.queue k (queued the_end) within in
     elim (mid.met works k q below is) [
-      | inl late' ↦ absurd (cc (sym late'.0 ∙ not_late a now k q (ap is_working mid.state ∙ works) x.rests.late below is))
+      | inl late' ↦ absurd (cc (sym late'.0 ∙ not_late a now k q mid.pace.by_hand (ap is_working mid.state ∙ works) x.rests.late below is))
       | inr met ↦ (met.1, met.2)
     ]
 
@@ -111,7 +111,7 @@ all_sent now a0 b0 c0 d0 a b x works =
     (λ (room : 0 < a.room).
     ⊎_elim
     (λ (window : a.out < most_units).
-    absurd (cc (sym (and_both (is_working a.state) _ w (and_both (is_waiting a) _ (lt-ltb a.out (length a.queue) waits) (and_both (nat_lt 0 a.room) (nat_lt a.out most_units) (lt-ltb 0 a.room room) (lt-ltb a.out most_units window)))) ∙ x.rests.unit)))
+    absurd (cc (sym (and_both (is_working a.state) _ w (and_both (is_waiting a) _ (lt-ltb a.out (length a.queue) waits) (and_both (nat_lt 0 a.room) _ (lt-ltb 0 a.room room) (and_both (nat_lt a.out most_units) (nat_lt a.out a.window) (lt-ltb a.out most_units window) (ap (λ w. nat_lt a.out w) mid.pace.window ∙ lt-ltb a.out most_units window))))) ∙ x.rests.unit)))
     (λ (full : most_units ≤ a.out). omega (arith, full, t.out, mid.line.there.sent, mid.line.within.limit, mid.second.tracks.counts.small, mid.line.within.sent))
     (cases_lt a.out most_units))
     (λ (none : a.room ≤ 0). omega (arith, none, t.room, mid.line.within.sent, mid.line.there.sent))

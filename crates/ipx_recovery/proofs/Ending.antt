@@ -1,5 +1,5 @@
 -- Polls at one moment end: each that gives a packet leaves less to give at that moment.
-use Rattle.std.proofs.Common.{◌≡◌, ℕ, zero, suc, ◌+◌, ◌-◌, ◌<◌, ◌≤◌, ◌==◌, ◌||◌, Bool, true, false, List, [], ◌∷◌, length, set, take, Option, Some, None, nat_le, refl, sym, ap, ◌∙◌, ⊎_elim, arith, slice_get, length-set, length-take}
+use Rattle.std.proofs.Common.{◌≡◌, ℕ, zero, suc, ◌+◌, ◌-◌, ◌<◌, ◌≤◌, ◌==◌, ◌||◌, Bool, true, false, List, [], ◌∷◌, length, set, take, Option, Some, None, is_some, if◌then◌else◌, nat_le, nat_lt, ltb-true, refl, sym, ap, ◌∙◌, ⊎_elim, arith, slice_get, length-set, length-take}
 use Rattle.std.proofs.lemmas.Bool.{cond_both, cond-true, cond-false, cases_Bool, lt-leb}
 use Rattle.std.specs.Prelude.{⊤}
 use Rattle.std.proofs.lemmas.Bool.Decides.{nat_tests}
@@ -11,7 +11,7 @@ use Rattle.spx_link.specs.declared.state.State.{State}
 use Rattle.spx_link.specs.Limits.{most_sends}
 use Rattle.spx_link.specs.LinkView.{LinkView, due, is_working}
 use Rattle.spx_link.specs.Receive.{receive_link}
-use Rattle.spx_link.specs.Poll.{OutgoingView, lost, requests, requests_or_lost, poll_request, late, late_if_working, poll_reply, poll_at, poll_link}
+use Rattle.spx_link.specs.Poll.{OutgoingView, lost, requests, requests_or_lost, poll_request, late, place_below, asked_again, wanted, late_if_working, sends_again, poll_reply, poll_at, poll_link}
 use Rattle.spx_link.specs.declared.state.State.TheVariants as S
 use Rattle.ipx_recovery.proofs.PollCases.{probing, reply_by}
 use Rattle.ipx_recovery.specs.LosslessRounds.{Conveys, stops, goes}
@@ -31,7 +31,7 @@ asks l now = (l.asked_count == 0) || due l.asked_at now
 -- what is left to give at a moment
 abbrev pub left : LinkView → ℕ → ℕ
 left l now =
-    one_if l.owes_reply + (one_if l.owes_confirm + (one_if l.owes_ack + ((length l.queue - l.out) + (lates now l.queue + (one_if (due l.spoke now) + one_if (asks l now))))))
+    one_if l.owes_reply + (one_if l.owes_confirm + (one_if l.owes_ack + ((length l.queue - l.out) + (lates now l.queue + (one_if (due l.spoke now) + (one_if (asks l now) + one_if (is_some l.again)))))))
 
 -- a moment is not 500 ms behind itself
 pub not_yet : (now : ℕ) → due now now ≡ false
@@ -58,18 +58,53 @@ Fewer l now (Some o) m = left m now < left l now
 abbrev pub FewerBy : LinkView → ℕ → Option OutgoingView × LinkView → Type 0
 FewerBy l now r = Fewer l now r.0 r.1
 
--- the first that is late is due
-pub late_due : (l : LinkView) (now k : ℕ) (q : Queued) → late_if_working l now ≡ Some k → slice_get l.queue k ≡ Some q → due q.at now ≡ true
-late_due l now k q late' is =
+-- the place that was asked for
+place_some : (count k : ℕ) (o : Option ℕ) → place_below count o ≡ Some k → is_some o ≡ true
+place_some count k None is = absurd (cc)
+place_some count k (Some j) is = refl
+
+pub place_under : (count k : ℕ) (o : Option ℕ) → place_below count o ≡ Some k → k < count
+place_under count k None is = absurd (cc)
+place_under count k (Some j) is = by_bool (nat_lt j count) refl is
+  where
+    by_bool : (b : Bool) → nat_lt j count ≡ b → (if b then Some j else None) ≡ Some k → k < count
+    by_bool true less same = let e : j ≡ k = cc in omega (arith, ltb-true j count less, e)
+    by_bool false less same = absurd (cc)
+
+-- where one goes again, the link is working
+pub wanted_working : (l : LinkView) (now k : ℕ) → late_if_working l now ≡ Some k → (is_working l.state ≡ true) × (wanted l now ≡ Some k)
+wanted_working l now k is =
+    ⊎_elim
+    (λ (works : is_working l.state ≡ true). (works, sym (cond-true _ _ _ works) ∙ is))
+    (λ (not_so : is_working l.state ≡ false). absurd (cc (sym (cond-false (is_working l.state) (wanted l now) None not_so) ∙ is)))
+    (cases_Bool (is_working l.state))
+
+-- by the clock, the first that is late is due
+pub late_due : (l : LinkView) (now k : ℕ) (q : Queued) → l.by_hand ≡ false → late_if_working l now ≡ Some k → slice_get l.queue k ≡ Some q → due q.at now ≡ true
+late_due l now k q clock late' is =
     ⊎_elim
     (λ (works : is_working l.state ≡ true).
-    let found : late l now ≡ Some k = sym (cond-true _ _ _ works) ∙ late' in
+    let found : late l now ≡ Some k = sym (cond-false l.by_hand (asked_again l) (late l now) clock) ∙ (wanted_working l now k late').1 in
     let at = position-Some (λ (x : Queued). due x.at now) (take l.out l.queue) k q found in
     let below : k < l.out = omega (arith, at.0, length-take l.out l.queue) in
     let here = get_or-take l.out l.queue k q below ∙ get_or_from_slice_get l.queue k q q is in
     ap (λ (x : Queued). due x.at now) (sym here) ∙ at.1)
-    (λ (not_so : is_working l.state ≡ false). absurd (cc (sym (cond-false (is_working l.state) (late l now) None not_so) ∙ late')))
+    (λ (not_so : is_working l.state ≡ false). absurd (cc (sym (cond-false (is_working l.state) (wanted l now) None not_so) ∙ late')))
     (cases_Bool (is_working l.state))
+
+-- one that goes again is due no more, or no more asked for
+again_fewer : (l : LinkView) (now k : ℕ) (q : Queued) → late_if_working l now ≡ Some k → slice_get l.queue k ≡ Some q → left (sends_again l now k q).1 now < left l now
+again_fewer l now k q late' is =
+    let spoke : one_if (due now now) ≡ 0 = ap one_if (not_yet now) in
+    let y : Queued = record { unit = q.unit; at = now; count = q.count + 1 } in
+    ⊎_elim
+    (λ (hand : l.by_hand ≡ true).
+    let found : asked_again l ≡ Some k = sym (cond-true l.by_hand (asked_again l) (late l now) hand) ∙ (wanted_working l now k late').1 in
+    let asked : is_some l.again ≡ true = place_some (length (take l.out l.queue)) k l.again found in
+    omega (arith, spoke, lates_kept now l.queue k y (not_yet now), length-set l.queue k y, ap one_if asked))
+    (λ (clock : l.by_hand ≡ false).
+    omega (arith, spoke, lates_fewer now l.queue k q y is (late_due l now k q clock late' is) (not_yet now), length-set l.queue k y))
+    (cases_Bool l.by_hand)
 
 joined_fewer : (l : LinkView) (now : ℕ) → FewerBy l now (poll_reply l now)
 joined_fewer l now =
@@ -80,9 +115,7 @@ joined_fewer l now =
       sent = λ q may is.
           let y : Queued = record { unit = q.unit; at = now; count = 1 } in
           omega (arith, spoke, lates_kept now l.queue l.out y (not_yet now), length-set l.queue l.out y, slice_get_within l.queue l.out q is);
-      again = λ k q late' is few.
-          let y : Queued = record { unit = q.unit; at = now; count = q.count + 1 } in
-          omega (arith, spoke, lates_fewer now l.queue k q y is (late_due l now k q late' is) (not_yet now), length-set l.queue k y);
+      again = λ k q late' is few. again_fewer l now k q late' is;
       gave_up = λ k q late' is many. tt;
       nowhere = λ k late' is. tt;
       acked = λ e. omega (arith, spoke, ap one_if e);

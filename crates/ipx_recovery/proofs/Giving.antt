@@ -7,14 +7,15 @@ use Rattle.spx_link.specs.declared.queue.Queued.{Queued}
 use Rattle.spx_link.specs.declared.outgoing.Sent.{Sent}
 use Rattle.spx_link.specs.declared.outgoing.Sent.TheVariants as Sents
 use Rattle.spx_link.specs.Limits.{most_sends, confirm_stream}
+use Rattle.spx_link.specs.ByClock.{pace_of}
 use Rattle.spx_link.specs.LinkView.{LinkView, due, is_working}
 use Rattle.spx_link.specs.SequenceMarks.{mark}
 use Rattle.spx_link.specs.Offer.{the_end, queued}
 use Rattle.spx_link.specs.Receive.{is_system}
 use Rattle.spx_link.specs.LinkTurns.{is_joined}
-use Rattle.spx_link.specs.Poll.{OutgoingView, base, late, late_if_working, poll_link, replies, confirms, sends, sends_again, acknowledges, probes_once}
+use Rattle.spx_link.specs.Poll.{OutgoingView, base, late, asked_again, wanted, late_if_working, poll_link, replies, confirms, sends, sends_again, acknowledges, probes_once}
 use Rattle.ipx_recovery.proofs.PollCases.{IsResting, probing, poll_by}
-use Rattle.ipx_recovery.proofs.Ending.{late_due}
+use Rattle.ipx_recovery.proofs.Ending.{late_due, place_under, wanted_working}
 
 -- a mark is set: it gives something whatever the moment
 abbrev pub Owed : LinkView → Type 0
@@ -77,15 +78,16 @@ pub record Gave (l : LinkView) (now : ℕ) (g : OutgoingView) (m : LinkView) : T
   pub to : g.header.to_id ≡ l.peer
   pub marks : Owed m → Owed l
   pub confirm : (m.owes_confirm ≡ l.owes_confirm) ⊎ (g.header.stream ≡ confirm_stream)
+  pub pace : pace_of m ≡ pace_of l
   pub kind : KindOf g.what l now g m
 
--- a unit that is due, or a probe, was sent ten times
+-- a unit that is due (or by hand asked for), or a probe, was sent ten times
 pub record LateTooOften (l : LinkView) (now : ℕ) : Type 0 where
   pub place : ℕ
   pub unit : Queued
   pub below : place < l.out
   pub there : slice_get l.queue place ≡ Some unit
-  pub due' : due unit.at now ≡ true
+  pub due' : l.by_hand ≡ false → due unit.at now ≡ true
   pub often : nat_le most_sends unit.count ≡ true
 
 pub record ProbedTooOften (l : LinkView) (now : ℕ) : Type 0 where
@@ -108,29 +110,33 @@ pub record IsLate (l : LinkView) (now k : ℕ) : Type 0 where
   pub below : k < l.out
   pub within : k < length l.queue
 
+wanted_below : (l : LinkView) (now k : ℕ) → wanted l now ≡ Some k → k < length (take l.out l.queue)
+wanted_below l now k is =
+    ⊎_elim
+    (λ (hand : l.by_hand ≡ true). place_under (length (take l.out l.queue)) k l.again (sym (cond-true l.by_hand (asked_again l) (late l now) hand) ∙ is))
+    (λ (clock : l.by_hand ≡ false).
+    (position-Some (λ (x : Queued). due x.at now) (take l.out l.queue) k (queued the_end) (sym (cond-false l.by_hand (asked_again l) (late l now) clock) ∙ is)).0)
+    (cases_Bool l.by_hand)
+
 is_late : (l : LinkView) (now k : ℕ) → late_if_working l now ≡ Some k → IsLate l now k
 is_late l now k is =
-    ⊎_elim
-    (λ (works : is_working l.state ≡ true).
-    let found : late l now ≡ Some k = sym (cond-true _ _ _ works) ∙ is in
-    let at = position-Some (λ (x : Queued). due x.at now) (take l.out l.queue) k (queued the_end) found in
-    record { working = works; below = omega (arith, at.0, length-take l.out l.queue); within = omega (arith, at.0, length-take l.out l.queue) })
-    (λ (not_so : is_working l.state ≡ false). absurd (cc (sym (cond-false (is_working l.state) (late l now) None not_so) ∙ is)))
-    (cases_Bool (is_working l.state))
+    let w = wanted_working l now k is in
+    let at : k < length (take l.out l.queue) = wanted_below l now k w.1 in
+    record { working = w.0; below = omega (arith, at, length-take l.out l.queue); within = omega (arith, at, length-take l.out l.queue) }
 
 pub poll_kinds : (l : LinkView) (now : ℕ) → is_joined l.state ≡ true → KindsBy l now (poll_link l now)
 poll_kinds l now joined =
     poll_by l now (KindsBy l now) (record {
-      replied = λ e. record { state = refl; own = refl; peer = refl; queued = refl; ended = refl; spoke = refl; from = refl; to = refl; marks = fewer_marks l (replies l now).1 (λ x. absurd (cc x)) (λ x. x) (λ x. absurd (cc x)); confirm = inl refl; kind = record { owed = inl e; queue = refl; out = refl; probes = refl } };
-      confirmed = λ e. record { state = refl; own = refl; peer = refl; queued = refl; ended = refl; spoke = refl; from = refl; to = refl; marks = fewer_marks l (confirms l now).1 (λ x. x) (λ x. absurd (cc x)) (λ x. absurd (cc x)); confirm = inr refl; kind = record { owed = inr (inl e); queue = refl; out = refl; probes = refl } };
-      sent = λ q may is. record { state = refl; own = refl; peer = refl; queued = refl; ended = refl; spoke = refl; from = refl; to = refl; marks = fewer_marks l (sends l now (Some q)).1 (λ x. x) (λ x. x) (λ x. absurd (cc x)); confirm = inl refl; kind = record { unit = q; there = is; queue = refl; out = refl; probes = refl } };
-      again = λ k q late' is few. record { state = refl; own = refl; peer = refl; queued = refl; ended = refl; spoke = refl; from = refl; to = refl; marks = fewer_marks l (sends_again l now k q).1 (λ x. x) (λ x. x) (λ x. absurd (cc x)); confirm = inl refl; kind = record { place = k; unit = q; below = (is_late l now k late').below; there = is; queue = refl; out = refl; probes = refl; number = refl } };
-      gave_up = λ k q late' is many. inr (record { working = (is_late l now k late').working; why = inl (record { place = k; unit = q; below = (is_late l now k late').below; there = is; due' = late_due l now k q late' is; often = many }) });
+      replied = λ e. record { state = refl; own = refl; peer = refl; queued = refl; ended = refl; spoke = refl; pace = refl; from = refl; to = refl; marks = fewer_marks l (replies l now).1 (λ x. absurd (cc x)) (λ x. x) (λ x. absurd (cc x)); confirm = inl refl; kind = record { owed = inl e; queue = refl; out = refl; probes = refl } };
+      confirmed = λ e. record { state = refl; own = refl; peer = refl; queued = refl; ended = refl; spoke = refl; pace = refl; from = refl; to = refl; marks = fewer_marks l (confirms l now).1 (λ x. x) (λ x. absurd (cc x)) (λ x. absurd (cc x)); confirm = inr refl; kind = record { owed = inr (inl e); queue = refl; out = refl; probes = refl } };
+      sent = λ q may is. record { state = refl; own = refl; peer = refl; queued = refl; ended = refl; spoke = refl; pace = refl; from = refl; to = refl; marks = fewer_marks l (sends l now (Some q)).1 (λ x. x) (λ x. x) (λ x. absurd (cc x)); confirm = inl refl; kind = record { unit = q; there = is; queue = refl; out = refl; probes = refl } };
+      again = λ k q late' is few. record { state = refl; own = refl; peer = refl; queued = refl; ended = refl; spoke = refl; pace = refl; from = refl; to = refl; marks = fewer_marks l (sends_again l now k q).1 (λ x. x) (λ x. x) (λ x. absurd (cc x)); confirm = inl refl; kind = record { place = k; unit = q; below = (is_late l now k late').below; there = is; queue = refl; out = refl; probes = refl; number = refl } };
+      gave_up = λ k q late' is many. inr (record { working = (is_late l now k late').working; why = inl (record { place = k; unit = q; below = (is_late l now k late').below; there = is; due' = λ clock. late_due l now k q clock late' is; often = many }) });
       nowhere = λ k late' is.
           let there : None ≡ Some (get_or l.queue k (queued the_end)) = sym is ∙ slice_get-get_or l.queue k (queued the_end) (is_late l now k late').within in
           absurd (cc there);
-      acked = λ e. record { state = refl; own = refl; peer = refl; queued = refl; ended = refl; spoke = refl; from = refl; to = refl; marks = fewer_marks l (acknowledges l now).1 (λ x. x) (λ x. x) (λ x. absurd (cc x)); confirm = inl refl; kind = record { owed = inr (inr e); queue = refl; out = refl; probes = refl } };
-      probed = λ may few. record { state = refl; own = refl; peer = refl; queued = refl; ended = refl; spoke = refl; from = refl; to = refl; marks = fewer_marks l (probes_once l now).1 (λ x. x) (λ x. x) (λ x. x); confirm = inl refl; kind = record { queue = refl; none = (probing l now may).out; out = refl; asks = refl; system = refl } };
+      acked = λ e. record { state = refl; own = refl; peer = refl; queued = refl; ended = refl; spoke = refl; pace = refl; from = refl; to = refl; marks = fewer_marks l (acknowledges l now).1 (λ x. x) (λ x. x) (λ x. absurd (cc x)); confirm = inl refl; kind = record { owed = inr (inr e); queue = refl; out = refl; probes = refl } };
+      probed = λ may few. record { state = refl; own = refl; peer = refl; queued = refl; ended = refl; spoke = refl; pace = refl; from = refl; to = refl; marks = fewer_marks l (probes_once l now).1 (λ x. x) (λ x. x) (λ x. x); confirm = inl refl; kind = record { queue = refl; none = (probing l now may).out; out = refl; asks = refl; system = refl } };
       gave_up_probing = λ may many. inr (record { working = (probing l now may).working; why = inr (record { due' = (probing l now may).rested; often = many }) });
       rests = λ r. inl (refl, r);
     }) joined

@@ -12,7 +12,7 @@ use Rattle.ipx_recovery.specs.LosslessRounds.{Conveys, TakesAll}
 use Rattle.ipx_recovery.proofs.Speaking.{swapped, peer_follows}
 use Rattle.ipx_recovery.proofs.Giving.{Owed}
 use Rattle.ipx_recovery.proofs.Taking.{TookAll, TakenTo, took_all, taken_to}
-use Rattle.ipx_recovery.proofs.Amid.{Mid, Unread}
+use Rattle.ipx_recovery.proofs.Amid.{Mid, Unread, unpaced_as}
 use Rattle.ipx_recovery.proofs.Crossing.{Crossed, cross, told_owed}
 use Rattle.ipx_recovery.proofs.Ready.{Able, Ready, able_empty, able_heard, able_same, mid_start, never_ended, owed_by, still_sends}
 
@@ -81,7 +81,7 @@ pub record Twice (now now_b : ℕ) (a b : LinkView) (c d : End) (a1 b1 b2 : Link
 pub half_on : (laws : LinkLaws) (since since_b now : ℕ) (a b : LinkView) (c d : End) → since + resend_after ≤ now → Ready since since_b a b c d → (a1 b1 b2 : LinkView) (us : List Unit)
     → Conveys a b now a1 b1 → TakesAll b1 b2 us → Half now a b c d a1 b1 b2 us
 half_on laws since since_b now a b c d past r a1 b1 b2 us goes' takes =
-    let start : Mid now a b c d a b c d = mid_start now since a b c d past r.first r.second r.line r.joined_b r.spoke r.by r.able (λ e. inr (r.ended e)) in
+    let start : Mid now a b c d a b c d = mid_start now since a b c d past r.first r.second r.line r.joined_b r.spoke r.by r.able (λ e. inr (r.ended e)) r.pace r.pace_b in
     let x : Crossed now a b c d a1 b1 = cross laws now a b c d r.names r.joined a b a1 b1 goes' c d start in
     record {
       x = x;
@@ -100,7 +100,7 @@ twice_on laws since since_b now now_b a b c d past r a1 b1 b2 us h a2 b' goes' =
     (omega (arith, t.spoke, mid.hears.spoke, r.spoke_b))
     (λ k q below is. let was = mid.hears.sent k q (omega (arith, below, t.out)) (ap (λ qs. slice_get qs k) (sym t.queue) ∙ is) in r.by_b was.0 q was.1 was.2)
     (λ works. able_back since since_b now a b c d a1 b1 b2 us r h works)
-    (λ e. absurd (never_ended a1 b1 h.x.one h.x.two mid.first mid.second queued e)) in
+    (λ e. absurd (never_ended a1 b1 h.x.one h.x.two mid.first mid.second queued e)) (unpaced_as b1 b2 t.pace mid.pace_b) mid.pace in
     record {
       half = h;
       x = cross laws now_b b2 a1 h.y.after h.x.one

@@ -6,6 +6,7 @@ use Rattle.spx_link.specs.declared.queue.Queued.{Queued}
 use Rattle.spx_link.specs.declared.state.State.{State}
 use Rattle.spx_link.specs.declared.state.State.TheVariants as S
 use Rattle.spx_link.specs.Limits.{most_sends, resend_after}
+use Rattle.spx_link.specs.ByClock.{IsUnpaced}
 use Rattle.spx_link.specs.LinkView.{LinkView, is_working}
 use Rattle.spx_link.specs.Machine.{End, AreSound}
 use Rattle.spx_link.specs.Offer.{the_end}
@@ -44,10 +45,12 @@ pub record Ready (since since_b : ℕ) (a b : LinkView) (c d : End) : Type 0 whe
   pub back : is_working b.state ≡ true → Able b ⊎ (Owes a × (c.read ≡ d.sent))
   pub ended : b.peer_ended ≡ true → length c.units ≤ c.base
   pub open' : b.end_queued ≡ false
+  pub pace : IsUnpaced a
+  pub pace_b : IsUnpaced b
 
 pub mid_start : (now since : ℕ) (a b : LinkView) (c d : End) → since + resend_after ≤ now → Follows a c d → Follows b d c → AreSound c d → is_joined b.state ≡ true → a.spoke ≤ since → SentBy a since
-    → (is_working a.state ≡ true → Able a) → (b.peer_ended ≡ true → Owes b ⊎ (length c.units ≤ c.base)) → Mid now a b c d a b c d
-mid_start now since a b c d past first second line joined spoke by able ended =
+    → (is_working a.state ≡ true → Able a) → (b.peer_ended ≡ true → Owes b ⊎ (length c.units ≤ c.base)) → IsUnpaced a → IsUnpaced b → Mid now a b c d a b c d
+mid_start now since a b c d past first second line joined spoke by able ended pace pace_b =
     record {
       first = first;
       second = second;
@@ -71,6 +74,8 @@ mid_start now since a b c d past first second line joined spoke by able ended =
       asks = inl refl;
       closes = λ owes ends all. inl owes;
       unread = λ z. z;
+      pace = pace;
+      pace_b = pace_b;
     }
 
 -- who owes an answer has a mark

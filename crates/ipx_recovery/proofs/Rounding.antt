@@ -15,7 +15,7 @@ use Rattle.ipx_recovery.proofs.Speaking.{swapped, peer_follows}
 use Rattle.ipx_recovery.proofs.Hearing.{Owes}
 use Rattle.ipx_recovery.proofs.Giving.{Owed}
 use Rattle.ipx_recovery.proofs.Taking.{TookAll, TakenTo, took_all, taken_to}
-use Rattle.ipx_recovery.proofs.Amid.{Unread, outstanding_there}
+use Rattle.ipx_recovery.proofs.Amid.{Unread, outstanding_there, unpaced_as}
 use Rattle.ipx_recovery.proofs.Crossing.{all_met, all_read, all_sent, told_owed}
 use Rattle.ipx_recovery.proofs.Halves.{EndsBack, Rounded, SameBack, Twice, half_on, twice_on}
 use Rattle.ipx_recovery.proofs.Lists.{and_both, empty_list}
@@ -163,6 +163,8 @@ module _ (laws : LinkLaws) (since since_b now now_b : ℕ) (a b : LinkView) (c d
               | inr none ↦ omega (arith, none, z.base, m.fed.base, ap length z.units, ap length m.fed.units)
             ];
         open' = m.queued ∙ (t.queued ∙ (mid.hears.queued ∙ r.open'));
+        pace = unpaced_as a2 a' tb.pace m.pace_b;
+        pace_b = m.pace;
       }
 
   -- a confirmation that is owed comes to the first link, which has nothing left by then

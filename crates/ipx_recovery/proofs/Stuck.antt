@@ -72,6 +72,8 @@ can_deliver laws s reached c d f a b one two stands first second line units read
       buffers = w.link.buffers;
       first = can.first;
       second = can.second;
+      unpaced = can.unpaced;
+      unpaced_b = can.unpaced_b;
     }
 
 left_is : (s : Scene) (c d : ℕ) (one two : End) → one.units ≡ units_of c s.log → length (taken_of d s.log) ≡ two.taken → drop two.taken one.units ≡ drop (length (taken_of d s.log)) (units_of c s.log)

@@ -1,6 +1,7 @@
 -- All that a link holds is taken.
 use Rattle.std.proofs.Common.{◌+◌, ◌≡◌, ◌||◌, true, List, [], ◌∷◌, length, Option, Some, None, refl, sym, ap, ◌∙◌, subst, arith}
 use Rattle.spx_link.specs.declared.unit.Unit.{Unit}
+use Rattle.spx_link.specs.ByClock.{pace_of}
 use Rattle.spx_link.specs.LinkView.{LinkView, is_working}
 use Rattle.spx_link.specs.Machine.{End, AreSound}
 use Rattle.spx_link.specs.Machine.Act.{Takes}
@@ -27,6 +28,7 @@ pub record TookAll (l k : LinkView) (us : List Unit) : Type 0 where
   pub none : l.held ≡ [] → k.owes_ack ≡ l.owes_ack
   pub units : us ≡ l.held
   pub held : k.held ≡ []
+  pub pace : pace_of k ≡ pace_of l
 
 nothing_held : (l k : LinkView) (hs : List Unit) → ◌≡◌ {A = Option Unit × LinkView} (take_held l hs) (None, k) → (hs ≡ []) × (k ≡ l)
 nothing_held l k [] is = (refl, sym (ap (λ z. z.1) is))
@@ -45,7 +47,7 @@ first_taken l m u (v ∷ vs) is =
     record { rest = vs; held = ap (λ w. w ∷ vs) same; after = sym (ap (λ z. z.1) is) }
 
 same_took : (l : LinkView) → l.held ≡ [] → TookAll l l []
-same_took l none = record { state = refl; own = refl; peer = refl; queued = refl; ended = refl; queue = refl; out = refl; spoke = refl; probes = refl; reply = refl; confirm = refl; acks = λ e. e; none = λ e. refl; units = sym none; held = none }
+same_took l none = record { state = refl; own = refl; peer = refl; queued = refl; ended = refl; queue = refl; out = refl; spoke = refl; probes = refl; reply = refl; confirm = refl; acks = λ e. e; none = λ e. refl; units = sym none; held = none; pace = refl }
 
 pub took_all : (l k : LinkView) (us : List Unit) → TakesAll l k us → TookAll l k us
 took_all l k us (nothing is) =
@@ -71,6 +73,7 @@ took_all l k us (another {m = m} {us = vs} u is rest) =
       none = λ e. absurd (cc (sym e ∙ f.held));
       units = ap (λ ws. u ∷ ws) t.units ∙ sym f.held;
       held = t.held;
+      pace = t.pace;
     }
 
 -- its end of the machine took all that it read

@@ -228,6 +228,8 @@ ready_at a b c d since can by by_b =
       back = λ works. inl (can.second.sent, can.second.probes);
       ended = λ e. absurd (cc (sym can.goes_on ∙ e));
       open' = can.step.second.open' (ap may_end can.live);
+      pace = can.unpaced;
+      pace_b = can.unpaced_b;
     }
 
 pub rounds_deliver : (laws : LinkLaws) → RoundsDeliver

@@ -12,7 +12,7 @@ use Rattle.spx_link.specs.declared.received.Received.TheVariants as R
 use Rattle.spx_link.specs.declared.state.State.{State}
 use Rattle.spx_link.specs.declared.state.State.TheVariants as S
 use Rattle.spx_link.specs.LinkView.{LinkView, is_end}
-use Rattle.spx_link.specs.Offer.{take_held, take_link, end_link, offer_link, owe_reply_link, lose_link, dialed, accepted_from}
+use Rattle.spx_link.specs.Offer.{take_held, take_link, end_link, offer_link, owe_reply_link, pace_link, again_link, lose_link, dialed, accepted_from}
 use Rattle.spx_link.specs.Poll.{poll_link}
 use Rattle.spx_link.specs.Receive.{any_end, after_end, is_own, is_reply, joined_link, read_numbers, read_packet, receive_joined, receive_at, receive_link}
 use Rattle.spx_units.specs.Message.{MessageView}
@@ -22,7 +22,7 @@ use Rattle.theory_log.specs.Note.{Note, Opened, Accepted, Got, HandsIn, AsksEnd,
 use Rattle.theory_log.specs.Handed.{taken_by, taken_of}
 use Rattle.theory_log.specs.Scene.{Scene, Stand, Stands, linked}
 use Rattle.theory_log.specs.PacketsOnWay.{note_of, notes_of, out_notes}
-use Rattle.theory_log.specs.Deeds.{Deed, DoesDeed, Dials, Accepts, Reads, OwesReply, Gives, Rests, Sends, Takes, Overruns, Closes, Releases, Carries, Tells, Injects, Reached, begun, happened}
+use Rattle.theory_log.specs.Deeds.{Deed, DoesDeed, Dials, Accepts, Reads, OwesReply, Paces, AsksAgain, Gives, Rests, Sends, Takes, Overruns, Closes, Releases, Carries, Tells, Injects, Reached, begun, happened}
 use Rattle.ipx_recovery.specs.LinkLaws.{LinkLaws}
 use Rattle.ipx_recovery.proofs.Hearing as Hearing
 use Rattle.ipx_recovery.proofs.Lists.{get_last, get_set, or_false, or_first, or_second}
@@ -247,6 +247,12 @@ next_well laws s s' (Reads who parcel) does f =
     (λ j. read_none (receive_link does.link does.header does.body).0 who parcel j) does.stands (receive_keeps laws does.link does.header does.body) f
 next_well laws s s' (OwesReply who) does f =
     link_well s s' who does.stand does.link (owe_reply_link does.link) [] (silent s s' (ap log_of does.after)) (ap ends_of does.after) (λ j. refl) does.stands
+    (record { well = λ w. record { buffers = w.buffers; open' = w.open'; held = w.held }; before = λ e. e }) f
+next_well laws s s' (Paces who window by_hand) does f =
+    link_well s s' who does.stand does.link (pace_link does.link window by_hand) [] (silent s s' (ap log_of does.after)) (ap ends_of does.after) (λ j. refl) does.stands
+    (record { well = λ w. record { buffers = w.buffers; open' = w.open'; held = w.held }; before = λ e. e }) f
+next_well laws s s' (AsksAgain who place) does f =
+    link_well s s' who does.stand does.link (again_link does.link place) [] (silent s s' (ap log_of does.after)) (ap ends_of does.after) (λ j. refl) does.stands
     (record { well = λ w. record { buffers = w.buffers; open' = w.open'; held = w.held }; before = λ e. e }) f
 next_well laws s s' (Gives who now segment bytes) does f =
     link_well s s' who does.stand does.link (poll_link does.link now).1 (note_of does.given.what who (length s.parcels) ∷ []) (ap log_of does.after) (ap ends_of does.after)

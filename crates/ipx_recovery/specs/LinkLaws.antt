@@ -1,9 +1,12 @@
 -- What is proved below of the machine and of one link, as the proofs here are given it: each field is
 -- a clause of a public function of `spx_link` or `theory_pairs`.
-use Rattle.std.specs.Prelude.{ℕ}
+use Rattle.std.specs.Prelude.{ℕ, ◌≡◌, List}
+use Rattle.ipx_wire.specs.declared.spx.packet.SpxHeader.{SpxHeader}
+use Rattle.spx_link.specs.ByClock.{pace_of}
 use Rattle.spx_link.specs.PolledPackets.{StaysOrIsLost}
 use Rattle.spx_link.specs.LinkView.{LinkView}
 use Rattle.spx_link.specs.Poll.{poll_link}
+use Rattle.spx_link.specs.Receive.{receive_link}
 use Rattle.spx_link.specs.Units.{SameEndings, SameUnits}
 use Rattle.spx_link.specs.Machine.{End, Machine, Packet, Step, IsStep, WasSent, AreSound, got}
 use Rattle.theory_pairs.specs.Allowances.{AllowanceLaws}
@@ -22,3 +25,6 @@ pub record LinkLaws : Type 0 where
   pub endings : (l : LinkView) (now : ℕ) → SameEndings l (poll_link l now).1
   pub state : (l : LinkView) (now : ℕ)
       → StaysOrIsLost l.state (poll_link l now).1.state (poll_link l now).0
+  -- what is read leaves the window and the way that units go again
+  pub paces : (l : LinkView) (h : SpxHeader) (body : List ℕ)
+      → pace_of (receive_link l h body).1 ≡ pace_of l

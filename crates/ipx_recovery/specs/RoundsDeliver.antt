@@ -5,6 +5,7 @@ use Rattle.spx_link.specs.declared.queue.Queued.{Queued}
 use Rattle.spx_link.specs.declared.state.State.{State}
 use Rattle.spx_link.specs.declared.state.State.TheVariants as States
 use Rattle.spx_link.specs.Limits.{end_stream, most_sends}
+use Rattle.spx_link.specs.ByClock.{IsUnpaced}
 use Rattle.spx_link.specs.LinkView.{LinkView}
 use Rattle.spx_link.specs.Machine.{End, AreSound}
 use Rattle.theory_pairs.specs.Tracks.{Follows}
@@ -28,7 +29,8 @@ pub record HasNotGivenUp (l : LinkView) : Type 0 where
 abbrev pub IsSending : State → Type 0
 IsSending s = (s ≡ States.Live) ⊎ (s ≡ States.Ending)
 
--- two ends of which the first has units for the second, which has not had its end
+-- two ends of which the first has units for the second, which has not had its end. Nobody paces
+-- either: by hand, what nobody asks for does not go again
 pub record CanDeliver (a b : LinkView) (one two : End) : Type 0 where
   pub step : AreInStep a b one two
   pub sends : IsSending a.state
@@ -38,6 +40,8 @@ pub record CanDeliver (a b : LinkView) (one two : End) : Type 0 where
   pub buffers : 0 < b.buffers
   pub first : HasNotGivenUp a
   pub second : HasNotGivenUp b
+  pub unpaced : IsUnpaced a
+  pub unpaced_b : IsUnpaced b
 
 -- all units of the first are acknowledged, and the second's user took those that were left, in
 -- order. Where the first queued its end it is confirmed, and the second has it; else both stay as

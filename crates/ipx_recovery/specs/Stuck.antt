@@ -3,6 +3,7 @@
 use Rattle.std.specs.Prelude.{ℕ, ◌≤◌, ◌≡◌, List, length, drop}
 use Rattle.spx_link.specs.declared.unit.Unit.{Unit}
 use Rattle.spx_link.specs.declared.state.State.TheVariants as States
+use Rattle.spx_link.specs.ByClock.{IsUnpaced}
 use Rattle.spx_link.specs.LinkView.{LinkView}
 use Rattle.theory_log.specs.Addresses.{AddressesDiffer, NothingReleased}
 use Rattle.theory_log.specs.Handed.{taken_of, units_of}
@@ -12,13 +13,15 @@ use Rattle.theory_log.specs.Scene.{Scene, Stand, Stands}
 use Rattle.ipx_recovery.specs.RoundsDeliver.{HasNotGivenUp, IsDelivered, IsSending}
 use Rattle.ipx_recovery.specs.LosslessRounds.{LosslessRounds, rounds_for}
 
--- the links of an end and its peer: the first still sends, the second is live, and neither has given
--- up
+-- the links of an end and its peer: the first still sends, the second is live, neither has given up,
+-- and nobody paces them
 pub record CanGoOn (a b : LinkView) : Type 0 where
   pub sends : IsSending a.state
   pub live : b.state ≡ States.Live
   pub first : HasNotGivenUp a
   pub second : HasNotGivenUp b
+  pub unpaced : IsUnpaced a
+  pub unpaced_b : IsUnpaced b
 
 -- the units of c that d has not taken
 abbrev pub untaken : ℕ → ℕ → List Note → List Unit

@@ -9,7 +9,7 @@ ghost use Rattle.ipx_recovery.specs.LosslessRounds.{RoundIsOne, RoundsExist};
 ghost use Rattle.ipx_recovery.specs.Stuck.{NoPairIsStuck, NoStateIsStuck, NothingIsStuckByAddresses};
 ghost use Rattle.spx_link.specs.LinkView.{LinkView};
 
-use spx_link::{poll_keeps_units, soundness};
+use spx_link::{poll_keeps_units, soundness, unpaced_links_go_by_the_clock};
 use theory_log::{addresses_tell_peers, peers_are_in_step, peers_are_named, peers_follow};
 use theory_pairs::{calls_are_steps, packets_allow_what_was_taken};
 
@@ -21,6 +21,7 @@ fn link_laws()
     calls_are_steps();
     packets_allow_what_was_taken();
     poll_keeps_units();
+    unpaced_links_go_by_the_clock();
 }
 
 /// For any two links at any moment there is one round, and one alone.

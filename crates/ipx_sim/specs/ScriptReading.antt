@@ -23,6 +23,8 @@ pub data EventView : Type 0 where
   Send : ℕ → MessageView → EventView
   TakeOne : ℕ → EventView
   Close : ℕ → EventView
+  Pace : ℕ → ℕ → Bool → EventView
+  Again : ℕ → ℕ → EventView
   Release : ℕ → EventView
   Now : ℕ → EventView
   Poll : Member → EventView
@@ -34,6 +36,8 @@ event_view (Events.Dial host socket to buffers) = Dial host socket to buffers
 event_view (Events.Send who message) = Send who (message_view message)
 event_view (Events.Take who) = TakeOne who
 event_view (Events.Close who) = Close who
+event_view (Events.Pace who window by_hand) = Pace who window by_hand
+event_view (Events.Again who place) = Again who place
 event_view (Events.Release who) = Release who
 event_view (Events.Tick now) = Now now
 event_view (Events.Poll member) = Poll member

@@ -13,7 +13,7 @@ use Rattle.ipx_sim.specs.ActLine.{bytes_text, fault_line, refused_line}
 use Rattle.ipx_sim.specs.Delivering.{DeliveredView, Marks, delivered_view}
 use Rattle.ipx_sim.specs.Going.{take_result, is_unit_taken}
 use Rattle.ipx_sim.specs.ScriptPlaces.{MapView, map_view}
-use Rattle.ipx_sim.specs.ScriptReading.{EventView, Close, Deliver, Dial, Inject, Now, Poll, Release, Send, TakeOne}
+use Rattle.ipx_sim.specs.ScriptReading.{EventView, Again, Close, Deliver, Dial, Inject, Now, Pace, Poll, Release, Send, TakeOne}
 use Rattle.ipx_sim.specs.declared.simulation.Simulation.{Simulation}
 use Rattle.ipx_sim.specs.declared.stop.LineFault.{LineFault}
 use Rattle.ipx_sim.specs.declared.stop.LineFault.TheVariants as Stops
@@ -43,6 +43,8 @@ parcel_of (Dial host socket to buffers) = None
 parcel_of (Send who message) = None
 parcel_of (TakeOne who) = None
 parcel_of (Close who) = None
+parcel_of (Pace who window by_hand) = None
+parcel_of (Again who place) = None
 parcel_of (Release who) = None
 parcel_of (Now now) = None
 parcel_of (Poll member) = None

@@ -31,6 +31,8 @@ DoesEvent (Events.Send who message) old new result = (done : Result (Unit {0}) U
 DoesEvent (Events.Close who) old new result = (done : Result (Unit {0}) UdpScriptFault)
     × ClosesAt who old new done × (result ≡ said true done)
 DoesEvent (Events.Take who) old new result = IsRefused old new result
+DoesEvent (Events.Pace who window by_hand) old new result = IsRefused old new result
+DoesEvent (Events.Again who place) old new result = IsRefused old new result
 DoesEvent (Events.Release who) old new result = IsRefused old new result
 DoesEvent (Events.Tick now) old new result = IsRefused old new result
 DoesEvent (Events.Poll member) old new result = IsRefused old new result

@@ -1,5 +1,5 @@
 -- What each rule of a poll gives, and what it leaves of the units.
-use Rattle.std.proofs.Common.{◌≡◌, ℕ, ◌+◌, ◌<◌, inl, inr, Bool, true, false, [], refl, ap, sym, ◌∙◌, if◌then◌else◌, ◌==◌, ◌&&◌, ◌||◌, not, nat_le, nat_lt, map, take, set, Option, None, Some, IfSome, slice_get, option_map, arith}
+use Rattle.std.proofs.Common.{◌≡◌, ℕ, ◌+◌, ◌<◌, inl, inr, Bool, true, false, [], refl, ap, sym, ◌∙◌, if◌then◌else◌, ◌==◌, ◌&&◌, ◌||◌, not, nat_le, nat_lt, map, take, length, set, Option, None, Some, IfSome, slice_get, option_map, arith}
 use Rattle.std.proofs.Math.Seq.{map-set_same}
 use Rattle.std.proofs.lemmas.Bool.{and_parts}
 use Rattle.std.proofs.lemmas.Bool.Decides.{nat_tests}
@@ -86,7 +86,8 @@ sends_says l now (Some q) at may =
           number = refl;
           room = grind (arith, nat_tests);
           window = grind (arith, nat_tests);
-          working = (and_parts (is_working l.state) (P.is_waiting l && (nat_lt 0 l.room && nat_lt l.out most_units)) may).0;
+          working = (and_parts (is_working l.state) (P.is_waiting l && (nat_lt 0 l.room && (nat_lt l.out most_units && nat_lt l.out l.window))) may).0;
+          paced = grind (arith, nat_tests);
         };
       };
       units = record { queued = stamped l l.out q (record { unit = q.unit; at = now; count = 1 }) at refl; held = refl; ahead = refl };
@@ -124,8 +125,24 @@ again_or_lost_says l now place (Some q) at out working =
 -- the late unit is outstanding
 late_out : (l : LinkView) (now place : ℕ) (q : Queued) → P.late l now ≡ Some place → place < l.out
 late_out l now place q e =
+    -- by the clock
     let found = position-Some (λ (x : Queued). due x.at now) (take l.out l.queue) place q e in
     omega (arith, found.0, length-take l.out l.queue)
+
+pub below_out : (count : ℕ) (o : Option ℕ) (place : ℕ) → P.place_below count o ≡ Some place → place < count
+below_out count None place e = absurd (cc)
+below_out count (Some k) place e = by_bool (nat_lt k count) refl e
+  where
+    by_bool : (b : Bool) → nat_lt k count ≡ b → (if b then Some k else None) ≡ Some place → place < count
+    by_bool true less same = let is : k ≡ place = cc in grind (arith, nat_tests)
+    by_bool false less same = absurd (cc)
+
+wanted_out : (l : LinkView) (now place : ℕ) (q : Queued) → P.wanted l now ≡ Some place → place < l.out
+wanted_out l now place q e = by_bool l.by_hand refl e
+  where
+    by_bool : (b : Bool) → l.by_hand ≡ b → (if b then P.asked_again l else P.late l now) ≡ Some place → place < l.out
+    by_bool true hand same = let less = below_out (length (take l.out l.queue)) l.again place same in omega (arith, less, length-take l.out l.queue)
+    by_bool false hand same = late_out l now place q same
 
 -- ---- the rules
 
@@ -145,18 +162,18 @@ ack_says l now =
     (record { from = refl; read = refl; allows = refl; kind = record { to = refl; unit = refl; number = refl; body = refl } }) refl refl refl refl refl refl)
     (λ _. probe_says l now)
 
-late_at_says : (l : LinkView) (now place : ℕ) (q : Option Queued) → slice_get l.queue place ≡ q → P.late l now ≡ Some place → is_working l.state ≡ true → PollSays l (P.sends_again_or_lost l now place q)
+late_at_says : (l : LinkView) (now place : ℕ) (q : Option Queued) → slice_get l.queue place ≡ q → P.wanted l now ≡ Some place → is_working l.state ≡ true → PollSays l (P.sends_again_or_lost l now place q)
 late_at_says l now place None at late working = none_says l
-late_at_says l now place (Some q) at late working = again_or_lost_says l now place (Some q) at (late_out l now place q late) working
+late_at_says l now place (Some q) at late working = again_or_lost_says l now place (Some q) at (wanted_out l now place q late) working
 
-late_says : (l : LinkView) (now : ℕ) (place : Option ℕ) → P.late l now ≡ place → is_working l.state ≡ true → PollSays l (P.poll_late l now place)
+late_says : (l : LinkView) (now : ℕ) (place : Option ℕ) → P.wanted l now ≡ place → is_working l.state ≡ true → PollSays l (P.poll_late l now place)
 late_says l now None late working = ack_says l now
 late_says l now (Some place) late working = late_at_says l now place (slice_get l.queue place) refl late working
 
 poll_again_says : (l : LinkView) (now : ℕ) → PollSays l (P.poll_again l now)
 poll_again_says l now =
-    by_test (λ (place : Option ℕ). PollSays l (P.poll_late l now place)) (is_working l.state) (P.late l now) None
-    (λ working. late_says l now (P.late l now) refl working)
+    by_test (λ (place : Option ℕ). PollSays l (P.poll_late l now place)) (is_working l.state) (P.wanted l now) None
+    (λ working. late_says l now (P.wanted l now) refl working)
     (λ _. ack_says l now)
 
 unit_says : (l : LinkView) (now : ℕ) → PollSays l (P.poll_unit l now)

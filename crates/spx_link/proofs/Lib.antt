@@ -22,4 +22,5 @@ pub mod Samples
 pub mod Searching
 pub mod Sooner
 pub mod Stands
+pub mod Unpaced
 pub mod Waiting

@@ -4,7 +4,7 @@ use Rattle.std.proofs.lemmas.Bool.Decides.{nat_tests}
 use Rattle.std.proofs.lemmas.List.{take_more}
 use Rattle.spx_link.specs.declared.state.State.{State}
 use Rattle.spx_link.specs.declared.state.State.TheVariants as States
-use Rattle.spx_link.specs.Due.{IsQuiet, IsNextDue, IsNextDueOfAll, earliest, again_at, owes_now, probe_due, sent_due, working_due, joined_due, due_at, due_link, sooner, soonest}
+use Rattle.spx_link.specs.Due.{IsQuiet, IsNextDue, IsNextDueOfAll, earliest, again_at, owes_now, probe_due, sent_due, asked_due, again_due, working_due, joined_due, due_at, due_link, sooner, soonest}
 use Rattle.spx_link.specs.LinkView.{LinkView, is_working}
 use Rattle.spx_link.specs.Links.{LinksView, link_at}
 use Rattle.spx_link.specs.Poll as P
@@ -51,10 +51,17 @@ sent_shown : (l : LinkView) (o : Option ℕ) → Shown (sent_due l o)
 sent_shown l None = probe_shown l
 sent_shown l (Some at) = again_shown at
 
+asked_shown : (l : LinkView) (o : Option ℕ) → Shown (asked_due l o)
+asked_shown l (Some place) = zero_shown
+asked_shown l None = by_test Shown (l.out == 0) (probe_due l) None (λ _. probe_shown l) (λ _. tt)
+
+again_due_shown : (l : LinkView) → Shown (again_due l)
+again_due_shown l = by_test Shown l.by_hand (asked_due l (P.asked_again l)) (sent_due l (earliest (take l.out l.queue))) (λ _. asked_shown l (P.asked_again l)) (λ _. sent_shown l (earliest (take l.out l.queue)))
+
 joined_shown : (l : LinkView) → Shown (joined_due l)
 joined_shown l =
     by_test Shown (owes_now l) (Some 0) (working_due l) (λ _. zero_shown)
-    (λ _. by_test Shown (is_working l.state) (sent_due l (earliest (take l.out l.queue))) None (λ _. sent_shown l (earliest (take l.out l.queue))) (λ _. tt))
+    (λ _. by_test Shown (is_working l.state) (again_due l) None (λ _. again_due_shown l) (λ _. tt))
 
 due_at_shown : (s : State) (l : LinkView) → Shown (due_at s l)
 due_at_shown States.Opening l = by_test Shown (l.asked_count == 0) (Some 0) (again_at l.asked_at) (λ _. zero_shown) (λ _. again_shown l.asked_at)

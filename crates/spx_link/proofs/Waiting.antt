@@ -1,7 +1,7 @@
 -- Before a link is due every poll is quiet, and from then on none is.
 use Rattle.std.proofs.Common.{◌≡◌, ℕ, zero, suc, ◌+◌, ◌^◌, ◌<◌, ◌≤◌, Bool, true, false, cond, if◌then◌else◌, ◌==◌, ◌&&◌, ◌||◌, not, nat_le, nat_lt, refl, ap, sym, subst, ◌∙◌, List, [], ◌∷◌, ◌++◌, length, take, Option, None, Some, slice_get, get_or, position, length-take, arith}
 use Rattle.std.specs.List.{prefix_len, position_or_len}
-use Rattle.std.proofs.lemmas.Bool.{and_parts}
+use Rattle.std.proofs.lemmas.Bool.{and_parts, cond-true, cond-false}
 use Rattle.std.proofs.lemmas.Bool.Decides.{nat_tests}
 use Rattle.std.proofs.lemmas.List.{take_more}
 use Rattle.spx_link.specs.declared.queue.Queued.{Queued}
@@ -13,9 +13,9 @@ use Rattle.spx_link.specs.LinkView.{LinkView, due, is_working}
 use Rattle.spx_link.specs.SequenceMarks.{mark}
 use Rattle.spx_link.specs.Poll as P
 use Rattle.spx_link.specs.Poll.{OutgoingView, poll_link, poll_at}
-use Rattle.spx_link.specs.Due.{IsNextDue, earlier, earliest, again_at, owes_now, probe_due, sent_due, working_due, joined_due, request_due, due_at, due_link}
+use Rattle.spx_link.specs.Due.{IsNextDue, earlier, earliest, again_at, owes_now, probe_due, sent_due, asked_due, again_due, working_due, joined_due, request_due, due_at, due_link}
 use Rattle.spx_link.specs.Queues.{IsSince}
-use Rattle.spx_link.proofs.Carrying.{by_test}
+use Rattle.spx_link.proofs.Carrying.{by_test, below_out}
 
 -- ---- moments of sent units
 
@@ -181,15 +181,28 @@ sends_acts l now None at waiting =
 
 may_waits : (l : LinkView) → P.may_send l ≡ true → P.is_waiting l ≡ true
 may_waits l may =
-    let more = (and_parts (is_working l.state) (P.is_waiting l && (nat_lt 0 l.room && nat_lt l.out 8192)) may).1 in
-    (and_parts (P.is_waiting l) (nat_lt 0 l.room && nat_lt l.out 8192) more).0
+    let more = (and_parts (is_working l.state) (P.is_waiting l && (nat_lt 0 l.room && (nat_lt l.out 8192 && nat_lt l.out l.window))) may).1 in
+    (and_parts (P.is_waiting l) (nat_lt 0 l.room && (nat_lt l.out 8192 && nat_lt l.out l.window)) more).0
 
-late_found : (l : LinkView) (now place : ℕ) → late_in now (take l.out l.queue) ≡ Some place → slice_get l.queue place ≡ None → ⊥
+hand_wanted : (l : LinkView) (now : ℕ) → l.by_hand ≡ true → P.wanted l now ≡ P.asked_again l
+hand_wanted l now hand = cond-true l.by_hand (P.asked_again l) (P.late l now) hand
+
+clock_wanted : (l : LinkView) (now : ℕ) → l.by_hand ≡ false → P.wanted l now ≡ P.late l now
+clock_wanted l now clock = cond-false l.by_hand (P.asked_again l) (P.late l now) clock
+
+wanted_within : (l : LinkView) (now place : ℕ) → P.wanted l now ≡ Some place → place < length (take l.out l.queue)
+wanted_within l now place e = by_bool l.by_hand e
+  where
+    by_bool : (b : Bool) → (if b then P.asked_again l else P.late l now) ≡ Some place → place < length (take l.out l.queue)
+    by_bool true same = below_out (length (take l.out l.queue)) l.again place same
+    by_bool false same = late_within now (take l.out l.queue) place same
+
+late_found : (l : LinkView) (now place : ℕ) → P.wanted l now ≡ Some place → slice_get l.queue place ≡ None → ⊥
 late_found l now place late none =
-    let less : place < length (take l.out l.queue) = late_within now (take l.out l.queue) place late in
+    let less : place < length (take l.out l.queue) = wanted_within l now place late in
     there_below l.queue place (omega (arith, length-take l.out l.queue)) none
 
-late_acts : (l : LinkView) (now : ℕ) (o : Option ℕ) → (l.state ≡ States.Lost → ⊥) → late_in now (take l.out l.queue) ≡ o → (o ≡ None → l.owes_ack ≡ true) → Acts l (P.poll_late l now o)
+late_acts : (l : LinkView) (now : ℕ) (o : Option ℕ) → (l.state ≡ States.Lost → ⊥) → P.wanted l now ≡ o → (o ≡ None → l.owes_ack ≡ true) → Acts l (P.poll_late l now o)
 late_acts l now None live at ack =
     by_test (Acts l) l.owes_ack (P.acknowledges l now) (P.poll_probe l now) (λ _. gives l (P.acknowledges l now).1 (P.plain l Sents.Ack false 0 l.peer)) (λ no. absurd (unlike l.owes_ack no (ack refl)))
 late_acts l now (Some place) live at ack = late_acts_at l now place (slice_get l.queue place) live (late_found l now place at)
@@ -200,8 +213,8 @@ ack_acts l now ack =
 
 poll_again_acts : (l : LinkView) (now : ℕ) → (l.state ≡ States.Lost → ⊥) → l.owes_ack ≡ true → Acts l (P.poll_again l now)
 poll_again_acts l now live ack =
-    by_test (λ (o : Option ℕ). Acts l (P.poll_late l now o)) (is_working l.state) (P.late l now) None
-    (λ _. late_acts l now (P.late l now) live refl (λ _. ack))
+    by_test (λ (o : Option ℕ). Acts l (P.poll_late l now o)) (is_working l.state) (P.wanted l now) None
+    (λ _. late_acts l now (P.wanted l now) live refl (λ _. ack))
     (λ _. ack_acts l now ack)
 
 reply_acts : (l : LinkView) (now : ℕ) → (l.state ≡ States.Lost → ⊥) → owes_now l ≡ true → Acts l (P.poll_reply l now)
@@ -213,7 +226,7 @@ reply_acts l now live owes =
     (λ no. poll_again_acts l now live (left_false (P.may_send l) l.owes_ack (left_false l.owes_confirm (P.may_send l || l.owes_ack) (left_false l.owes_reply (l.owes_confirm || (P.may_send l || l.owes_ack)) owes reply) confirm) no))))
 
 -- where nothing is owed, what comes first is the unit that is late, and then the probe
-late_alone : (l : LinkView) (now place : ℕ) → (l.state ≡ States.Lost → ⊥) → owes_now l ≡ false → P.late_if_working l now ≡ Some place → late_in now (take l.out l.queue) ≡ Some place → Acts l (P.poll_reply l now)
+late_alone : (l : LinkView) (now place : ℕ) → (l.state ≡ States.Lost → ⊥) → owes_now l ≡ false → P.late_if_working l now ≡ Some place → P.wanted l now ≡ Some place → Acts l (P.poll_reply l now)
 late_alone l now place live owes late at =
     let parts = owing_none l.owes_reply l.owes_confirm (P.may_send l) l.owes_ack owes in
     by_test (Acts l) l.owes_reply (P.replies l now) (P.poll_confirm l now) (λ yes. absurd (unlike l.owes_reply parts.0 yes))
@@ -248,26 +261,26 @@ or_right false b e = e
 
 -- ---- late units and probes
 
-late_by : (l : LinkView) (now : ℕ) (b : Bool) (o : Option ℕ) → P.late l now ≡ o → b ≡ true → (if b then P.late l now else None) ≡ o
+late_by : (l : LinkView) (now : ℕ) (b : Bool) (o : Option ℕ) → P.wanted l now ≡ o → b ≡ true → (if b then P.wanted l now else None) ≡ o
 late_by l now true o e f = e
 late_by l now false o e f = absurd (cc)
 
-working_late : (l : LinkView) (now : ℕ) → is_working l.state ≡ true → P.late_if_working l now ≡ P.late l now
-working_late l now working = late_by l now (is_working l.state) (P.late l now) refl working
+working_wanted : (l : LinkView) (now : ℕ) → is_working l.state ≡ true → P.late_if_working l now ≡ P.wanted l now
+working_wanted l now working = late_by l now (is_working l.state) (P.wanted l now) refl working
 
-idle_by : (l : LinkView) (now : ℕ) (b : Bool) → b ≡ false → (if b then P.late l now else None) ≡ None
+idle_by : (l : LinkView) (now : ℕ) (b : Bool) → b ≡ false → (if b then P.wanted l now else None) ≡ None
 idle_by l now true e = absurd (cc)
 idle_by l now false e = refl
 
 idle_late : (l : LinkView) (now : ℕ) → is_working l.state ≡ false → P.late_if_working l now ≡ None
 idle_late l now idle = idle_by l now (is_working l.state) idle
 
-none_by : (l : LinkView) (now : ℕ) (b : Bool) → P.late l now ≡ None → (if b then P.late l now else None) ≡ None
+none_by : (l : LinkView) (now : ℕ) (b : Bool) → P.wanted l now ≡ None → (if b then P.wanted l now else None) ≡ None
 none_by l now true e = e
 none_by l now false e = refl
 
-none_late_now : (l : LinkView) (now : ℕ) → earliest (take l.out l.queue) ≡ None → P.late_if_working l now ≡ None
-none_late_now l now none = none_by l now (is_working l.state) (none_late now (take l.out l.queue) none)
+none_late_now : (l : LinkView) (now : ℕ) → l.by_hand ≡ false → earliest (take l.out l.queue) ≡ None → P.late_if_working l now ≡ None
+none_late_now l now clock none = none_by l now (is_working l.state) (clock_wanted l now clock ∙ none_late now (take l.out l.queue) none)
 
 no_first : (a b : Bool) → a ≡ false → (a && b) ≡ false
 no_first true b e = absurd (cc)
@@ -364,27 +377,51 @@ request_says l live =
     let before : now < l.asked_at + 500 = grind (arith, nat_tests) in
     absurd (omega arith))))
 
-probe_says : (l : LinkView) → (l.state ≡ States.Lost → ⊥) → owes_now l ≡ false → is_working l.state ≡ true → earliest (take l.out l.queue) ≡ None → Says l (P.poll_reply l) (probe_due l)
-probe_says l live owes working none =
+probe_says : (l : LinkView) → (l.state ≡ States.Lost → ⊥) → owes_now l ≡ false → is_working l.state ≡ true → earliest (take l.out l.queue) ≡ None → ((now : ℕ) → P.late_if_working l now ≡ None) → Says l (P.poll_reply l) (probe_due l)
+probe_says l live owes working none quiet =
     by_test (Says l (P.poll_reply l)) (P.is_waiting l && (l.room == 0)) (again_at l.spoke) None
     (λ waits. from_then l (P.poll_reply l) l.spoke
-    (λ now less. reply_waits l now owes (none_late_now l now none) (early_probe l now less))
-    (λ now past. probe_acts l now live owes (none_late_now l now none) (late_probe l now working none waits past)))
-    (λ no now _. reply_waits l now owes (none_late_now l now none) (no_probe l now no))
+    (λ now less. reply_waits l now owes (quiet now) (early_probe l now less))
+    (λ now past. probe_acts l now live owes (quiet now) (late_probe l now working none waits past)))
+    (λ no now _. reply_waits l now owes (quiet now) (no_probe l now no))
 
-working_says : (l : LinkView) → (l.state ≡ States.Lost → ⊥) → owes_now l ≡ false → is_working l.state ≡ true → (o : Option ℕ) → earliest (take l.out l.queue) ≡ o → Says l (P.poll_reply l) (sent_due l o)
-working_says l live owes working None e = probe_says l live owes working e
-working_says l live owes working (Some at) e =
+working_says : (l : LinkView) → (l.state ≡ States.Lost → ⊥) → owes_now l ≡ false → is_working l.state ≡ true → l.by_hand ≡ false → (o : Option ℕ) → earliest (take l.out l.queue) ≡ o → Says l (P.poll_reply l) (sent_due l o)
+working_says l live owes working clock None e = probe_says l live owes working e (λ now. none_late_now l now clock e)
+working_says l live owes working clock (Some at) e =
     from_then l (P.poll_reply l) at
-    (λ now less. reply_waits l now owes (working_late l now working ∙ not_late now at (take l.out l.queue) less e) (out_no_probe l now at e))
-    (λ now past. late_alone l now (prefix_len (waits now) (take l.out l.queue)) live owes (working_late l now working ∙ is_late now at (take l.out l.queue) past e) (is_late now at (take l.out l.queue) past e))
+    (λ now less. reply_waits l now owes (working_wanted l now working ∙ (clock_wanted l now clock ∙ not_late now at (take l.out l.queue) less e)) (out_no_probe l now at e))
+    (λ now past.
+    let found : P.wanted l now ≡ Some (prefix_len (waits now) (take l.out l.queue)) = clock_wanted l now clock ∙ is_late now at (take l.out l.queue) past e in
+    late_alone l now (prefix_len (waits now) (take l.out l.queue)) live owes (working_wanted l now working ∙ found) found)
+
+-- by hand
+none_sent : (n : ℕ) (qs : List Queued) → (n == 0) ≡ true → earliest (take n qs) ≡ None
+none_sent zero qs e = refl
+none_sent (suc n) qs e =
+    let no : (suc n == 0) ≡ false = grind (arith, nat_tests) in
+    absurd (unlike (suc n == 0) no e)
+
+hand_says : (l : LinkView) → (l.state ≡ States.Lost → ⊥) → owes_now l ≡ false → is_working l.state ≡ true → l.by_hand ≡ true → (o : Option ℕ) → P.asked_again l ≡ o → Says l (P.poll_reply l) (asked_due l o)
+hand_says l live owes working hand (Some place) e =
+    at_once l (P.poll_reply l) (λ now. late_alone l now place live owes (working_wanted l now working ∙ (hand_wanted l now hand ∙ e)) (hand_wanted l now hand ∙ e))
+hand_says l live owes working hand None e =
+    let quiet : (now : ℕ) → P.late_if_working l now ≡ None = λ now. working_wanted l now working ∙ (hand_wanted l now hand ∙ e) in
+    by_test (Says l (P.poll_reply l)) (l.out == 0) (probe_due l) None
+    (λ zero'. probe_says l live owes working (none_sent l.out l.queue zero') quiet)
+    (λ some now _. reply_waits l now owes (quiet now) (out_false (is_working l.state) (P.is_waiting l) (l.room == 0) (l.out == 0) (due l.spoke now) some))
+
+again_says : (l : LinkView) → (l.state ≡ States.Lost → ⊥) → owes_now l ≡ false → is_working l.state ≡ true → Says l (P.poll_reply l) (again_due l)
+again_says l live owes working =
+    by_test (Says l (P.poll_reply l)) l.by_hand (asked_due l (P.asked_again l)) (sent_due l (earliest (take l.out l.queue)))
+    (λ hand. hand_says l live owes working hand (P.asked_again l) refl)
+    (λ clock. working_says l live owes working clock (earliest (take l.out l.queue)) refl)
 
 joined_says : (l : LinkView) → (l.state ≡ States.Lost → ⊥) → Says l (P.poll_reply l) (joined_due l)
 joined_says l live =
     by_test (Says l (P.poll_reply l)) (owes_now l) (Some 0) (working_due l)
     (λ owes. at_once l (P.poll_reply l) (λ now. reply_acts l now live owes))
-    (λ owes. by_test (Says l (P.poll_reply l)) (is_working l.state) (sent_due l (earliest (take l.out l.queue))) None
-    (λ working. working_says l live owes working (earliest (take l.out l.queue)) refl)
+    (λ owes. by_test (Says l (P.poll_reply l)) (is_working l.state) (again_due l) None
+    (λ working. again_says l live owes working)
     (λ idle now _. reply_waits l now owes (idle_late l now idle) (idle_probe l now idle)))
 
 due_at_says : (s : State) (l : LinkView) → l.state ≡ s → Says l (poll_at s l) (due_at s l)

@@ -8,7 +8,7 @@ use Rattle.spx_link.specs.declared.state.State.TheVariants.{Confirmed, Lost}
 use Rattle.spx_link.specs.Limits.{resend_after}
 use Rattle.spx_link.specs.LinkView.{LinkView, is_working}
 use Rattle.spx_link.specs.Links.{LinksView, link_at}
-use Rattle.spx_link.specs.Poll.{is_waiting, may_send, poll_link}
+use Rattle.spx_link.specs.Poll.{is_waiting, may_send, asked_again, poll_link}
 
 -- a poll at a moment gives nothing, and leaves the link as it was
 abbrev pub IsQuiet : LinkView → ℕ → Type 0
@@ -63,8 +63,19 @@ abbrev pub sent_due : LinkView → Option ℕ → Option ℕ
 sent_due l None = probe_due l
 sent_due l (Some at) = again_at at
 
+-- by hand, what was asked for goes at once, and of what is outstanding nothing goes by itself
+abbrev pub asked_due : LinkView → Option ℕ → Option ℕ
+asked_due l (Some place) = Some 0
+asked_due l None = if l.out == 0 then probe_due l else None
+
+abbrev pub again_due : LinkView → Option ℕ
+again_due l =
+    if l.by_hand
+    then asked_due l (asked_again l)
+    else sent_due l (earliest (take l.out l.queue))
+
 abbrev pub working_due : LinkView → Option ℕ
-working_due l = if is_working l.state then sent_due l (earliest (take l.out l.queue)) else None
+working_due l = if is_working l.state then again_due l else None
 
 abbrev pub joined_due : LinkView → Option ℕ
 joined_due l = if owes_now l then Some 0 else working_due l

@@ -1,4 +1,5 @@
 pub mod Buffers
+pub mod ByClock
 pub mod Chosen
 pub mod Courses
 pub mod Due

@@ -1,6 +1,6 @@
 -- What a link holds, as its contracts see it (one end of a connection of Novell SPX).
 use Rattle.std.specs.Prelude.{ℕ, ◌+◌, ◌-◌, ◌==◌, Bool, true, false, List, [], length, nat_le}
-use Rattle.std.specs.Prelude.{Option}
+use Rattle.std.specs.Prelude.{Option, None}
 use Rattle.ipx_wire.specs.declared.address.Socket.{Socket}
 use Rattle.ipx_wire.specs.declared.address.Address.{Address}
 use Rattle.spx_link.specs.declared.unit.Unit.{Unit}
@@ -9,7 +9,7 @@ use Rattle.spx_link.specs.declared.state.State.{State}
 use Rattle.spx_link.specs.declared.state.State.TheVariants.{Opening, Live, Ending, PeerEnded}
 use Rattle.spx_link.specs.declared.state.State.TheVariants.{Confirmed, Lost}
 use Rattle.spx_link.specs.declared.numbers.Numbers.{Numbers}
-use Rattle.spx_link.specs.Limits.{resend_after, end_stream}
+use Rattle.spx_link.specs.Limits.{resend_after, end_stream, most_units}
 
 -- the first `out` units of the queue are sent and not acknowledged. Held units are received in
 -- order and not taken. Those ahead came before one that is missing: they stand from `expected` on,
@@ -38,6 +38,11 @@ pub record LinkView : Type 0 where
   pub accepted : Bool
   pub end_queued : Bool
   pub peer_ended : Bool
+  -- how many units may be outstanding; whether units go again by the clock or where they are asked
+  -- for; and the place that was asked for, counted from the first outstanding unit
+  pub window : ℕ
+  pub by_hand : Bool
+  pub again : Option ℕ
 
 -- how many more units it can hold
 abbrev pub free : LinkView → ℕ
@@ -106,4 +111,7 @@ made_link state own peer local remote buffers now accepted =
       accepted = accepted;
       end_queued = false;
       peer_ended = false;
+      window = most_units;
+      by_hand = false;
+      again = None;
     }

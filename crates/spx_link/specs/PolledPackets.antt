@@ -35,6 +35,7 @@ pub record IsNextUnit (l : LinkView) (o : OutgoingView) : Type 0 where
   pub number : o.header.seq ≡ l.next
   pub room : 0 < l.room
   pub window : l.out < most_units
+  pub paced : l.out < l.window
   pub working : is_working l.state ≡ true
 
 -- a unit that is outstanding, under its own number

@@ -1,7 +1,7 @@
 //! How far a connection comes: what each call of a link keeps, and what it does to the state. Laws
 //! of their functions.
 
-ghost use Rattle.std.specs.Prelude.{◌≡◌, ◌≢◌, ◌+◌, ◌⊎◌, ℕ, true, List, None, Some};
+ghost use Rattle.std.specs.Prelude.{◌≡◌, ◌≢◌, ◌+◌, ◌⊎◌, ℕ, Bool, true, List, None, Some};
 ghost use Rattle.ipx_wire.specs.declared.spx.packet.SpxHeader.{SpxHeader};
 ghost use Rattle.ipx_wire.specs.declared.address.Socket.{Socket};
 ghost use Rattle.ipx_wire.specs.declared.address.Address.{Address};
@@ -12,8 +12,8 @@ ghost use Rattle.spx_link.specs.Courses.{HasNoEndWhileOpen, HasTaken, IsWholeOnc
 ghost use Rattle.spx_link.specs.Courses.{is_apart};
 ghost use Rattle.spx_link.specs.Effects.{IfRequest};
 ghost use Rattle.spx_link.specs.LinkView.{LinkView};
-ghost use Rattle.spx_link.specs.Offer.{accepted_from, dialed, end_link, lose_link, offer_link};
-ghost use Rattle.spx_link.specs.Offer.{owe_reply_link, refusal, take_link};
+ghost use Rattle.spx_link.specs.Offer.{accepted_from, again_link, dialed, end_link, lose_link};
+ghost use Rattle.spx_link.specs.Offer.{offer_link, owe_reply_link, pace_link, refusal, take_link};
 ghost use Rattle.spx_link.specs.Poll.{poll_link};
 ghost use Rattle.spx_link.specs.Receive.{receive_link};
 
@@ -34,6 +34,10 @@ pub fn open_links_queue_no_end()
     ensures owe_reply { (l : LinkView) → HasNoEndWhileOpen l
         → HasNoEndWhileOpen (owe_reply_link l) }
     ensures lose { (l : LinkView) → HasNoEndWhileOpen (lose_link l) }
+    ensures pace { (l : LinkView) (window : ℕ) (by_hand : Bool) → HasNoEndWhileOpen l
+        → HasNoEndWhileOpen (pace_link l window by_hand) }
+    ensures again { (l : LinkView) (place : ℕ) → HasNoEndWhileOpen l
+        → HasNoEndWhileOpen (again_link l place) }
 {}
 
 /// In Confirmed the end is queued, and all that was queued is acknowledged: so a link is made, and
@@ -54,6 +58,10 @@ pub fn confirmed_links_are_whole()
     ensures owe_reply { (l : LinkView) → IsWholeOnceConfirmed l
         → IsWholeOnceConfirmed (owe_reply_link l) }
     ensures lose { (l : LinkView) → IsWholeOnceConfirmed (lose_link l) }
+    ensures pace { (l : LinkView) (window : ℕ) (by_hand : Bool) → IsWholeOnceConfirmed l
+        → IsWholeOnceConfirmed (pace_link l window by_hand) }
+    ensures again { (l : LinkView) (place : ℕ) → IsWholeOnceConfirmed l
+        → IsWholeOnceConfirmed (again_link l place) }
 {}
 
 /// The units taken and those held are the units before the one that is expected: so a link is made,
@@ -76,6 +84,10 @@ pub fn taken_and_held_are_expected()
     ensures owe_reply { (l : LinkView) (taken : ℕ) → HasTaken taken l
         → HasTaken taken (owe_reply_link l) }
     ensures lose { (l : LinkView) (taken : ℕ) → HasTaken taken l → HasTaken taken (lose_link l) }
+    ensures pace { (l : LinkView) (window : ℕ) (by_hand : Bool) (taken : ℕ) → HasTaken taken l
+        → HasTaken taken (pace_link l window by_hand) }
+    ensures again { (l : LinkView) (place taken : ℕ) → HasTaken taken l
+        → HasTaken taken (again_link l place) }
 {}
 
 /// No call makes a link Opening, and an Opening link joins or stays as it is.

@@ -3,6 +3,7 @@
 ghost use Rattle.std.specs.Prelude.{◌≡◌};
 ghost use Rattle.spx_link.specs.Due as spec;
 ghost use Rattle.spx_link.specs.Due.{IsNextDue};
+ghost use Rattle.spx_link.specs.Poll as P;
 
 use crate::limits::RESEND_AFTER;
 use crate::link::Link;
@@ -55,9 +56,25 @@ impl Link {
         if !self.is_working() {
             return None;
         }
+        if self.by_hand {
+            return self.asked_due();
+        }
         match self.queue.first_sent(usize::from(self.out)) {
             Some(at) => again_at(at),
             None => self.probe_due(),
+        }
+    }
+
+    fn asked_due(&self) -> Option<u64>
+        ensures { result ≡ spec.asked_due self.now (P.asked_again self.now) }
+    {
+        if self.asked_again().is_some() {
+            return Some(0);
+        }
+        if self.out == 0 {
+            self.probe_due()
+        } else {
+            None
         }
     }
 

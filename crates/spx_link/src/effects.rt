@@ -1,8 +1,8 @@
 //! What the calls of a link do to its numbers, its units, its state and the ends of its connection:
 //! laws of their functions.
 
-ghost use Rattle.std.specs.Prelude.{◌≡◌, ◌≢◌, ◌↔◌, ◌<◌, ◌+◌, ◌++◌, ℕ, [], ◌∷◌, true, false, drop};
-ghost use Rattle.std.specs.Prelude.{length, slice_get, IfSome, List, None, Some};
+ghost use Rattle.std.specs.Prelude.{◌≡◌, ◌≢◌, ◌↔◌, ◌<◌, ◌+◌, ◌++◌, ℕ, [], ◌∷◌, Bool, true, false};
+ghost use Rattle.std.specs.Prelude.{drop, length, slice_get, IfSome, List, None, Some};
 ghost use Rattle.ipx_wire.specs.declared.spx.packet.SpxHeader.{SpxHeader};
 ghost use Rattle.ipx_wire.specs.declared.address.Socket.{Socket};
 ghost use Rattle.ipx_wire.specs.declared.address.Address.{Address};
@@ -18,8 +18,9 @@ ghost use Rattle.spx_link.specs.Limits.{end_stream, no_id};
 ghost use Rattle.spx_link.specs.LinkView.{LinkView, numbers_of};
 ghost use Rattle.spx_link.specs.Links.{LinksView, link_at};
 ghost use Rattle.spx_link.specs.SequenceMarks.{acknowledged, distance, room_after};
-ghost use Rattle.spx_link.specs.Offer.{accepted_from, dialed, end_link, first_of, lose_link};
-ghost use Rattle.spx_link.specs.Offer.{offer_link, owe_reply_link, take_link, the_end};
+ghost use Rattle.spx_link.specs.Offer.{accepted_from, again_link, dialed, end_link, first_of};
+ghost use Rattle.spx_link.specs.Offer.{lose_link, offer_link, owe_reply_link, pace_link, take_link};
+ghost use Rattle.spx_link.specs.Offer.{the_end};
 ghost use Rattle.spx_link.specs.Poll.{poll_link};
 ghost use Rattle.spx_link.specs.Receive.{any_end, is_kept, is_own, receive_link};
 ghost use Rattle.spx_link.specs.LinkTurns.{ConfirmsWhole, IsInTurn, ended_after, is_joined, kept, kept_with};
@@ -169,14 +170,20 @@ pub fn units_queue_in_order()
         × ((end_link l).peer_ended ≡ l.peer_ended) }
 {}
 
-/// A reply that is owed again leaves the units and the state, and so does what gives a link up, but
-/// for the state.
+/// A reply that is owed again leaves the units and the state, and so do a window and a place that is
+/// asked for, and what gives a link up, but for the state.
 pub fn others_keep_units()
     ensures owe_reply { (l : LinkView)
         → SameUnits l (owe_reply_link l) × SameEndings l (owe_reply_link l)
         × ((owe_reply_link l).state ≡ l.state) }
     ensures lose { (l : LinkView)
         → SameUnits l (lose_link l) × SameEndings l (lose_link l) × ((lose_link l).state ≡ Lost) }
+    ensures pace { (l : LinkView) (window : ℕ) (by_hand : Bool)
+        → SameUnits l (pace_link l window by_hand) × SameEndings l (pace_link l window by_hand)
+        × ((pace_link l window by_hand).state ≡ l.state) }
+    ensures again { (l : LinkView) (place : ℕ)
+        → SameUnits l (again_link l place) × SameEndings l (again_link l place)
+        × ((again_link l place).state ≡ l.state) }
 {}
 
 /// A link is made without units, and its numbers are 0 but for its buffers and the room that a
@@ -210,6 +217,11 @@ pub fn others_change_no_number()
         → (numbers_of (owe_reply_link l) ≡ numbers_of l) × SamePeer l (owe_reply_link l) }
     ensures lose { (l : LinkView)
         → (numbers_of (lose_link l) ≡ numbers_of l) × SamePeer l (lose_link l) }
+    ensures pace { (l : LinkView) (window : ℕ) (by_hand : Bool)
+        → (numbers_of (pace_link l window by_hand) ≡ numbers_of l)
+        × SamePeer l (pace_link l window by_hand) }
+    ensures again { (l : LinkView) (place : ℕ)
+        → (numbers_of (again_link l place) ≡ numbers_of l) × SamePeer l (again_link l place) }
 {}
 
 /// An accepted link starts Live with a reply owed.

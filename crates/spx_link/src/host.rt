@@ -4,7 +4,7 @@ ghost use Rattle.std.specs.Prelude.{◌≡◌, IfOk};
 ghost use Rattle.spx_link.specs.Offer as spec;
 
 use crate::buffers::Buffers;
-use crate::limits::NO_ID;
+use crate::limits::{MOST_UNITS, NO_ID};
 use crate::link::Link;
 use crate::queue::Queue;
 use crate::state::State;
@@ -50,6 +50,9 @@ impl Link {
             accepted: false,
             end_queued: false,
             peer_ended: false,
+            window: MOST_UNITS,
+            by_hand: false,
+            again: None,
         })
     }
 
@@ -83,6 +86,23 @@ impl Link {
         ensures { self.new ≡ spec.owe_reply_link self.old }
     {
         self.owes_reply = true;
+    }
+
+    /// So many units may be outstanding from now on, at most, and at most 8,192. By hand, units
+    /// go again where `again` asks for them, and not 500 milliseconds after they were sent.
+    pub fn pace(&mut self, window: u16, by_hand: bool)
+        ensures { self.new ≡ spec.pace_link self.old window by_hand }
+    {
+        self.window = window;
+        self.by_hand = by_hand;
+        self.again = None;
+    }
+
+    /// By hand, the outstanding unit at this place is to go again, counted from the first one.
+    pub fn again(&mut self, place: u16)
+        ensures { self.new ≡ spec.again_link self.old place }
+    {
+        self.again = Some(place);
     }
 
     /// It is given up: it sends and reads nothing from then on, and what it holds may still be

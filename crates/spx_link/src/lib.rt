@@ -7,6 +7,7 @@
 #![tactic(auto)]
 
 mod buffers;
+pub mod by_clock;
 pub mod courses;
 mod due;
 pub mod effects;
@@ -29,6 +30,7 @@ mod state;
 mod text;
 mod unit;
 
+pub use by_clock::{places_are_asked_by_hand_alone, unpaced_links_go_by_the_clock};
 pub use courses::{
     confirmed_links_are_whole, links_apart_send_nothing, open_links_queue_no_end,
     opening_links_join_or_stay, taken_and_held_are_expected,

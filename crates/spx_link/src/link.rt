@@ -39,6 +39,9 @@ pub struct Link {
     pub(crate) accepted: bool,
     pub(crate) end_queued: bool,
     pub(crate) peer_ended: bool,
+    pub(crate) window: u16,
+    pub(crate) by_hand: bool,
+    pub(crate) again: Option<u16>,
 }
 
 impl Model for Link {
@@ -68,6 +71,9 @@ impl Model for Link {
       accepted = l.accepted;
       end_queued = l.end_queued;
       peer_ended = l.peer_ended;
+      window = l.window;
+      by_hand = l.by_hand;
+      again = l.again;
     } };
 }
 

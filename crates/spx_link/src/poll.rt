@@ -153,6 +153,7 @@ impl Link {
         let seq = self.base().wrapping_add(place);
         let packet = self.with_unit(Sent::Again, unit, at, seq);
         self.queue.mark_sent(at, now, count + 1);
+        self.again = None;
         self.owes_ack = false;
         self.spoke = now;
         Some(packet)
@@ -197,7 +198,11 @@ impl Link {
     pub(crate) fn may_send(&self) -> bool
         ensures { result ≡ spec.may_send self.now }
     {
-        self.is_working() && self.is_waiting() && 0 < self.room && self.out < MOST_UNITS
+        self.is_working()
+            && self.is_waiting()
+            && 0 < self.room
+            && self.out < MOST_UNITS
+            && self.out < self.window
     }
 
     fn may_probe(&self, now: u64) -> bool
@@ -219,8 +224,23 @@ impl Link {
         if !self.is_working() {
             return None;
         }
+        if self.by_hand {
+            return self.asked_again();
+        }
         let place = self.queue.first_due(usize::from(self.out), now)?;
         Some(place as u16)
+    }
+
+    /// The place that was asked for, where a unit is outstanding there.
+    pub(crate) fn asked_again(&self) -> Option<u16>
+        ensures value { result ≡ spec.asked_again self.now }
+        ensures sent { IfSome result (λ place. place < self.now.out) }
+        ensures queued { IfSome result (λ place. place < length self.now.queue) }
+    {
+        match self.again {
+            Some(place) if place < self.out && usize::from(place) < self.queue.len() => Some(place),
+            _ => None,
+        }
     }
 
     fn allocation(&self) -> u16

@@ -156,6 +156,20 @@ impl End {
         self.links.end(self.alloc, 1)
     }
 
+    /// Sets the window, and whether units go by hand.
+    pub fn pace(&mut self, window: u16, by_hand: bool) {
+        if self.links.get(1).is_some() {
+            self.links.pace(1, window, by_hand);
+        }
+    }
+
+    /// Asks for a place again.
+    pub fn again(&mut self, place: u16) {
+        if self.links.get(1).is_some() {
+            self.links.again(1, place);
+        }
+    }
+
     /// When it is due.
     pub fn next_due(&self) -> Option<u64> {
         let link = self.links.get(1)?;

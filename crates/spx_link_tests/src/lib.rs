@@ -21,6 +21,8 @@ mod messages;
 #[cfg(test)]
 mod no_memory;
 #[cfg(test)]
+mod paced;
+#[cfg(test)]
 mod pair;
 #[cfg(test)]
 mod refusals;

@@ -3,7 +3,7 @@
 ghost use Rattle.std.specs.Prelude.{◌≡◌, ◌≢◌, ◌<◌, ◌↔◌, ◌⊎◌, Err, IfErr, IfOk, IfSome, IsOk, None, OnErr, OnOk, Some, true};
 ghost use Rattle.spx_link.specs.Limits.{most_links};
 ghost use Rattle.spx_link.specs.Links.{IsNextFree, count_of};
-ghost use Rattle.spx_link.specs.Offer.{dialed, end_link, offer_link, refusal};
+ghost use Rattle.spx_link.specs.Offer.{again_link, dialed, end_link, offer_link, pace_link, refusal};
 ghost use Rattle.spx_link.specs.declared.fault.LinksFault.TheVariants as LinksFaults;
 ghost use Rattle.spx_link.specs.declared.fault.OfferFault.{OfferFault};
 ghost use Rattle.spx_link.specs.declared.fault.OfferFault.TheVariants as OfferFaults;
@@ -124,6 +124,43 @@ impl Endpoint {
         ensures heard { self.new.heard ≡ self.old.heard }
     {
         take_from(alloc, &mut self.links, &mut self.parts, id)
+    }
+
+    /// So many units of the link of an id may be outstanding from now on, and by hand they go again
+    /// where `again` asks for them, not 500 milliseconds after they were sent. A window over 8,192
+    /// acts as 8,192. Whoever has them go by hand owes the asking: else a lost unit stays lost.
+    ///
+    /// It is refused only where no link has the id.
+    pub fn pace(&mut self, id: u16, window: u16, by_hand: bool) -> Result<(), EndFault>
+        ensures unknown { (result ≡ Err EndFaults.NoSuchEnd) ↔ (held_at self.old id ≡ None) }
+        ensures fault { IfErr result (λ f. f ≡ EndFaults.NoSuchEnd) }
+        ensures ok { IfSome (held_at self.old id) (λ h. OnOk result (ChangesEnd self.old self.new id
+            (record h { link = pace_link h.link window by_hand }))) }
+        ensures unchanged { OnErr result (SameBut self.old self.new) }
+        ensures said { self.new.said ≡ self.old.said }
+        ensures heard { self.new.heard ≡ self.old.heard }
+    {
+        link_of(&self.links, id)?;
+        self.links.pace(id, window, by_hand);
+        Ok(())
+    }
+
+    /// The outstanding unit at this place, from 0, of the link of an id goes again at the next poll
+    /// of that link, where it goes by hand and a unit is outstanding there.
+    ///
+    /// It is refused only where no link has the id.
+    pub fn again(&mut self, id: u16, place: u16) -> Result<(), EndFault>
+        ensures unknown { (result ≡ Err EndFaults.NoSuchEnd) ↔ (held_at self.old id ≡ None) }
+        ensures fault { IfErr result (λ f. f ≡ EndFaults.NoSuchEnd) }
+        ensures ok { IfSome (held_at self.old id) (λ h. OnOk result (ChangesEnd self.old self.new id
+            (record h { link = again_link h.link place }))) }
+        ensures unchanged { OnErr result (SameBut self.old self.new) }
+        ensures said { self.new.said ≡ self.old.said }
+        ensures heard { self.new.heard ≡ self.old.heard }
+    {
+        link_of(&self.links, id)?;
+        self.links.again(id, place);
+        Ok(())
     }
 
     /// Forgets the link of an id, and what came of a message over it. Call it once the connection

@@ -2,7 +2,7 @@
 
 use crate::hosts::{Host, joins, passes};
 use crate::units::message;
-use spx_link::{OfferFault, Received, State};
+use spx_link::{OfferFault, Received, Sent, State};
 use spx_messages::{Arrived, EndFault, Taken};
 use std::process::Abort;
 use std::test::Fail;
@@ -15,6 +15,8 @@ fn no_such_end(rt: HostRuntime) -> Result<(), Fail> {
     let sent = near.send_over(9, &message(rt.alloc(), 0, 1)?);
     assert_eq!(rt; sent, Err(EndFault::NoSuchEnd));
     assert_eq!(rt; EndFault::NoSuchEnd.number(), 34);
+    assert_eq!(rt; near.pace(9, 8192, true), Err(EndFault::NoSuchEnd));
+    assert_eq!(rt; near.again(9, 0), Err(EndFault::NoSuchEnd));
     assert_eq!(rt; near.release(9), Err(EndFault::NoSuchEnd));
     assert_eq!(rt; near.state(9), Err(EndFault::NoSuchEnd));
     assert_eq!(rt; near.is_whole(9), Err(EndFault::NoSuchEnd));
@@ -32,6 +34,30 @@ fn not_open_yet(rt: HostRuntime) -> Result<(), Fail> {
     assert_eq!(rt; sent, Err(EndFault::Offer(OfferFault::NotLive)));
     let bad = near.send(&message(rt.alloc(), 0xfe, 1)?);
     assert_eq!(rt; bad.map_err(|fault| fault.number()), Err(30));
+    Ok(())
+}
+
+/// A window of 0 holds a message back, and by hand its unit goes again where it is asked for: the
+/// far host reads it once. Neither call is refused by a link that is not open yet.
+#[test]
+fn paced(rt: HostRuntime) -> Result<(), Fail> {
+    let mut near = Host::near(rt.alloc());
+    let mut far = Host::far(rt.alloc());
+    joins(&rt, &mut near, &mut far)?;
+    near.pace(1, 0, true)?;
+    near.send(&message(rt.alloc(), 0, 1)?)?;
+    assert_eq!(rt; passes(&mut near, &mut far)?, None);
+    near.pace(1, 1, true)?;
+    let first = passes(&mut near, &mut far)?;
+    assert_eq!(rt; first, Some(Arrived::Link(1, Received::Kept)));
+    near.again(1, 0)?;
+    let second = passes(&mut near, &mut far)?;
+    assert_eq!(rt; second, Some(Arrived::Link(1, Received::Repeat)));
+    assert_eq!(rt; near.sent(), Some((1, Sent::Again)));
+    assert_eq!(rt; near.dial()?, 2);
+    near.pace(2, 8192, true)?;
+    near.again(2, 0)?;
+    assert_eq!(rt; near.state(2)?, State::Opening);
     Ok(())
 }
 

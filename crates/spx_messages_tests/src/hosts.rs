@@ -82,6 +82,16 @@ impl Host {
         Ok(whole(taken))
     }
 
+    /// Sets the window of a link, and whether its units go by hand.
+    pub fn pace(&mut self, id: u16, window: u16, by_hand: bool) -> Result<(), EndFault> {
+        self.endpoint.pace(id, window, by_hand)
+    }
+
+    /// Asks for a place of a link again.
+    pub fn again(&mut self, id: u16, place: u16) -> Result<(), EndFault> {
+        self.endpoint.again(id, place)
+    }
+
     pub fn release(&mut self, id: u16) -> Result<(), EndFault> {
         self.endpoint.release(id)
     }

@@ -8,7 +8,7 @@ use Rattle.theory_log.specs.Peers.{ArePeersIn, NothingInjected}
 use Rattle.theory_log.specs.Addresses.{NothingReleased, AddressesTellPeers}
 use Rattle.theory_log.specs.Scene.{Scene}
 use Rattle.spx_units.specs.WrittenPackets.{Home}
-use Rattle.theory_log.specs.Deeds.{Deed, DoesDeed, Dials, Accepts, Reads, OwesReply, Gives, Rests, Sends, Takes, Overruns, Closes, Releases, Carries, Tells, Injects, IsBegun, Reached, begun, happened}
+use Rattle.theory_log.specs.Deeds.{Deed, DoesDeed, Dials, Accepts, Reads, OwesReply, Paces, AsksAgain, Gives, Rests, Sends, Takes, Overruns, Closes, Releases, Carries, Tells, Injects, IsBegun, Reached, begun, happened}
 use Rattle.theory_log.proofs.Lists.{get_before}
 use Rattle.theory_log.proofs.Folding.{seen_all-append}
 use Rattle.theory_log.proofs.PairPremises.{Grew, all_grew}
@@ -26,6 +26,8 @@ same_homes s s' (Dials host id socket to buffers now) does = ap (λ (z : Scene).
 same_homes s s' (Accepts host id socket parcel buffers now) does = ap (λ (z : Scene). z.homes) does.after
 same_homes s s' (Reads who parcel) does = ap (λ (z : Scene). z.homes) does.after
 same_homes s s' (OwesReply who) does = ap (λ (z : Scene). z.homes) does.after
+same_homes s s' (Paces who window by_hand) does = ap (λ (z : Scene). z.homes) does.after
+same_homes s s' (AsksAgain who place) does = ap (λ (z : Scene). z.homes) does.after
 same_homes s s' (Gives who now segment bytes) does = ap (λ (z : Scene). z.homes) does.after
 same_homes s s' (Rests who now) does = ap (λ (z : Scene). z.homes) does.after
 same_homes s s' (Sends who m) does = ap (λ (z : Scene). z.homes) does.after

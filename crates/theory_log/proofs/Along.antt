@@ -9,7 +9,7 @@ use Rattle.theory_log.specs.Peers.{AreJoined}
 use Rattle.theory_log.proofs.OfTwo.{PairPremises}
 use Rattle.theory_log.specs.PairLog.{Pair, pair_between}
 use Rattle.theory_log.specs.Scene.{Scene}
-use Rattle.theory_log.specs.Deeds.{Deed, DoesDeed, Dials, Accepts, Reads, OwesReply, Gives, Rests, Sends, Takes, Overruns, Closes, Releases, Carries, Tells, Injects, IsBegun, Reached, begun, happened}
+use Rattle.theory_log.specs.Deeds.{Deed, DoesDeed, Dials, Accepts, Reads, OwesReply, Paces, AsksAgain, Gives, Rests, Sends, Takes, Overruns, Closes, Releases, Carries, Tells, Injects, IsBegun, Reached, begun, happened}
 use Rattle.theory_log.specs.InStep.{Mirrors, IfStands}
 use Rattle.theory_log.proofs.Facts.{Facts}
 use Rattle.theory_log.proofs.NextFacts.{FactsAt, next_facts}
@@ -37,6 +37,8 @@ log_grows s s' (Dials host id socket to buffers now) does = record { more = _; i
 log_grows s s' (Accepts host id socket parcel buffers now) does = record { more = _; is = ap (λ (z : Scene). z.log) does.after }
 log_grows s s' (Reads who parcel) does = record { more = _; is = ap (λ (z : Scene). z.log) does.after }
 log_grows s s' (OwesReply who) does = log_same s s' (ap (λ (z : Scene). z.log) does.after)
+log_grows s s' (Paces who window by_hand) does = log_same s s' (ap (λ (z : Scene). z.log) does.after)
+log_grows s s' (AsksAgain who place) does = log_same s s' (ap (λ (z : Scene). z.log) does.after)
 log_grows s s' (Gives who now segment bytes) does = record { more = _; is = ap (λ (z : Scene). z.log) does.after }
 log_grows s s' (Rests who now) does = log_same s s' (ap (λ (z : Scene). z.log) does.after)
 log_grows s s' (Sends who m) does = record { more = _; is = ap (λ (z : Scene). z.log) does.after }

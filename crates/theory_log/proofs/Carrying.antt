@@ -12,7 +12,7 @@ use Rattle.theory_log.specs.Note.{Note, Opened, Accepted, Got, HandsIn, AsksEnd,
 use Rattle.theory_log.specs.Scan.{Scan, Mark, seen, seen_all, scan, unread, one_further}
 use Rattle.theory_log.specs.Scene.{Scene}
 use Rattle.theory_log.specs.PacketsOnWay.{IsOneOn, one_on, note_of, notes_of, out_notes}
-use Rattle.theory_log.specs.Deeds.{Deed, DoesDeed, Dials, Accepts, Reads, OwesReply, Gives, Rests, Sends, Takes, Overruns, Closes, Releases, Carries, Tells, Injects, Reached, begun, happened}
+use Rattle.theory_log.specs.Deeds.{Deed, DoesDeed, Dials, Accepts, Reads, OwesReply, Paces, AsksAgain, Gives, Rests, Sends, Takes, Overruns, Closes, Releases, Carries, Tells, Injects, Reached, begun, happened}
 use Rattle.theory_log.specs.Carried.{behind_routers, IsCarried, RoutersAlterHopsAlone}
 use Rattle.theory_log.proofs.Lists.{get_last, get_before, get_here}
 use Rattle.theory_log.proofs.Tied.{mark_at}
@@ -210,6 +210,8 @@ next_origins laws s s' (Reads who parcel) does o =
     unmoved s s' (notes_of (receive_link does.link does.header does.body).0 who parcel) (ap parcels_of does.after) (ap segments_of does.after) (ap log_of does.after)
     (read_marks (receive_link does.link does.header does.body).0 who parcel (scan s.log)) o
 next_origins laws s s' (OwesReply who) does o = unnoted s s' (ap parcels_of does.after) (ap segments_of does.after) (ap log_of does.after) o
+next_origins laws s s' (Paces who window by_hand) does o = unnoted s s' (ap parcels_of does.after) (ap segments_of does.after) (ap log_of does.after) o
+next_origins laws s s' (AsksAgain who place) does o = unnoted s s' (ap parcels_of does.after) (ap segments_of does.after) (ap log_of does.after) o
 next_origins laws s s' (Gives who now segment bytes) does o =
     let g = given_marked (scan s.log) does.given.what who (length s.parcels) in
     subst OriginsAt (sym does.after)

@@ -10,7 +10,7 @@ use Rattle.spx_link.specs.Receive.{receive_link}
 use Rattle.theory_log.specs.Note.{Note, Opened, Accepted, Got, HandsIn, AsksEnd, TakesUnit, Released, Told, Carried, Injected}
 use Rattle.theory_log.specs.Scan.{Scan, times, seen, seen_all, scan, unread}
 use Rattle.theory_log.specs.Scene.{Scene, Stand, Stands, linked}
-use Rattle.theory_log.specs.Deeds.{Deed, DoesDeed, Dials, Accepts, Reads, OwesReply, Gives, Rests, Sends, Takes, Overruns, Closes, Releases, Carries, Tells, Injects}
+use Rattle.theory_log.specs.Deeds.{Deed, DoesDeed, Dials, Accepts, Reads, OwesReply, Paces, AsksAgain, Gives, Rests, Sends, Takes, Overruns, Closes, Releases, Carries, Tells, Injects}
 use Rattle.theory_log.specs.PacketsOnWay.{note_of, notes_of, out_notes}
 use Rattle.theory_log.specs.SentUnits.{sent_by}
 use Rattle.theory_log.specs.EndsTold.{StaysAtHost}
@@ -50,6 +50,8 @@ gone_sends_nothing s s' (Reads who parcel) does j e at gone =
     let by = read_sent (receive_link does.link does.header does.body).0 who parcel (scan s.log) in
     quiet s s' (notes_of (receive_link does.link does.header does.body).0 who parcel) j (ap log_of does.after) (by.sent ∙ append-nil (scan s.log).sent)
 gone_sends_nothing s s' (OwesReply who) does j e at gone = silent s s' j (ap log_of does.after)
+gone_sends_nothing s s' (Paces who window by_hand) does j e at gone = silent s s' j (ap log_of does.after)
+gone_sends_nothing s s' (AsksAgain who place) does j e at gone = silent s s' j (ap log_of does.after)
 gone_sends_nothing s s' (Gives who now segment bytes) does j e at gone =
     let k : LinkView = (poll_link does.link now).1 in
     let what : Sent = does.given.what in
@@ -98,6 +100,8 @@ ends_stay s s' (Dials host id socket to buffers now) does j e at = subst (IsStil
 ends_stay s s' (Accepts host id socket parcel buffers now) does j e at = subst (IsStillIn j e) (sym does.after) (stays_before s.ends _ j e at)
 ends_stay s s' (Reads who parcel) does j e at = subst (IsStillIn j e) (sym does.after) (stays_set s who does.stand _ does.link does.stands refl j e at)
 ends_stay s s' (OwesReply who) does j e at = subst (IsStillIn j e) (sym does.after) (stays_set s who does.stand _ does.link does.stands refl j e at)
+ends_stay s s' (Paces who window by_hand) does j e at = subst (IsStillIn j e) (sym does.after) (stays_set s who does.stand _ does.link does.stands refl j e at)
+ends_stay s s' (AsksAgain who place) does j e at = subst (IsStillIn j e) (sym does.after) (stays_set s who does.stand _ does.link does.stands refl j e at)
 ends_stay s s' (Gives who now segment bytes) does j e at = subst (IsStillIn j e) (sym does.after) (stays_set s who does.stand _ does.link does.stands refl j e at)
 ends_stay s s' (Rests who now) does j e at = subst (IsStillIn j e) (sym does.after) (stays_set s who does.stand _ does.link does.stands refl j e at)
 ends_stay s s' (Sends who m) does j e at = subst (IsStillIn j e) (sym does.after) (stays_set s who does.stand _ does.link does.stands refl j e at)

@@ -10,12 +10,12 @@ use Rattle.spx_link.specs.LinkView.{LinkView}
 use Rattle.spx_link.specs.SequenceMarks.{mark}
 use Rattle.spx_link.specs.Poll.{poll_link}
 use Rattle.spx_link.specs.Receive.{receive_link}
-use Rattle.spx_link.specs.Offer.{owe_reply_link, take_link, offer_link, end_link, lose_link, dialed, accepted_from}
+use Rattle.spx_link.specs.Offer.{owe_reply_link, pace_link, again_link, take_link, offer_link, end_link, lose_link, dialed, accepted_from}
 use Rattle.spx_units.specs.Cut.{cut_of}
 use Rattle.theory_log.specs.Note.{Note, Opened, Accepted, Got, HandsIn, AsksEnd, TakesUnit, Released, Told, Carried, Injected}
 use Rattle.theory_log.specs.Scan.{Scan, Role, Maker, times, seen, seen_all, scan, unread, no_role, mark_of, joined_by, asker}
 use Rattle.theory_log.specs.Scene.{Scene, Stand, linked}
-use Rattle.theory_log.specs.Deeds.{Deed, DoesDeed, Dials, Accepts, Reads, OwesReply, Gives, Rests, Sends, Takes, Overruns, Closes, Releases, Carries, Tells, Injects, Reached, begun, happened}
+use Rattle.theory_log.specs.Deeds.{Deed, DoesDeed, Dials, Accepts, Reads, OwesReply, Paces, AsksAgain, Gives, Rests, Sends, Takes, Overruns, Closes, Releases, Carries, Tells, Injects, Reached, begun, happened}
 use Rattle.theory_log.specs.PacketsOnWay.{note_of, notes_of, out_notes}
 use Rattle.theory_log.specs.EndsTold.{EndsAreTold}
 use Rattle.theory_log.proofs.Lists.{get_last, get_set, times-append}
@@ -216,6 +216,16 @@ next_told laws s s' (Reads who parcel) does a =
     (same_link who does.stand does.link (linked does.stand k) k does.stands.link refl (laws.lasting.receives does.link does.header does.body)) (read_sent r who parcel (scan s.log)) a))
 next_told laws s s' (OwesReply who) does a =
     let k : LinkView = owe_reply_link does.link in
+    subst AreToldAt (sym does.after)
+    (told_set s.ends (scan s.log) (scan s.log) who [] does.stand (linked does.stand k) does.stands.there
+    (same_link who does.stand does.link (linked does.stand k) k does.stands.link refl refl) (nothing_sent who (scan s.log) (scan s.log) refl refl) a)
+next_told laws s s' (Paces who window by_hand) does a =
+    let k : LinkView = pace_link does.link window by_hand in
+    subst AreToldAt (sym does.after)
+    (told_set s.ends (scan s.log) (scan s.log) who [] does.stand (linked does.stand k) does.stands.there
+    (same_link who does.stand does.link (linked does.stand k) k does.stands.link refl refl) (nothing_sent who (scan s.log) (scan s.log) refl refl) a)
+next_told laws s s' (AsksAgain who place) does a =
+    let k : LinkView = again_link does.link place in
     subst AreToldAt (sym does.after)
     (told_set s.ends (scan s.log) (scan s.log) who [] does.stand (linked does.stand k) does.stands.there
     (same_link who does.stand does.link (linked does.stand k) k does.stands.link refl refl) (nothing_sent who (scan s.log) (scan s.log) refl refl) a)

@@ -9,12 +9,12 @@ use Rattle.spx_link.specs.declared.received.Received.{Received}
 use Rattle.spx_link.specs.LinkView.{LinkView}
 use Rattle.spx_link.specs.Poll.{poll_link}
 use Rattle.spx_link.specs.Receive.{receive_link}
-use Rattle.spx_link.specs.Offer.{take_link, end_link, offer_link, owe_reply_link, lose_link, dialed, accepted_from}
+use Rattle.spx_link.specs.Offer.{take_link, end_link, offer_link, owe_reply_link, pace_link, again_link, lose_link, dialed, accepted_from}
 use Rattle.spx_units.specs.Message.{MessageView}
 use Rattle.spx_units.specs.Cut.{cut_of}
 use Rattle.theory_log.specs.Note.{Note, Opened, Accepted, Joined, HandsIn, HandsOut, TakesUnit, AsksEnd, Got, Released, SendsUnit, SendsAgain, SendsSystem, Told, Carried, Injected}
 use Rattle.theory_log.specs.Scene.{Scene, Stand, Stands, linked}
-use Rattle.theory_log.specs.Deeds.{Deed, DoesDeed, Dials, Accepts, Reads, OwesReply, Gives, Rests, Sends, Takes, Overruns, Closes, Releases, Carries, Tells, Injects, Reached, begun, happened}
+use Rattle.theory_log.specs.Deeds.{Deed, DoesDeed, Dials, Accepts, Reads, OwesReply, Paces, AsksAgain, Gives, Rests, Sends, Takes, Overruns, Closes, Releases, Carries, Tells, Injects, Reached, begun, happened}
 use Rattle.theory_log.specs.PacketsOnWay.{note_of, notes_of, out_notes}
 use Rattle.theory_log.specs.EntriesOfEnds.{EntriesTellEnds}
 use Rattle.theory_log.proofs.Lists.{get_last, get_set}
@@ -259,6 +259,10 @@ next_said laws s s' (Reads who parcel) does said =
     (laws.close.receives does.link does.header does.body).queued (read_plain (receive_link does.link does.header does.body).0 who parcel) (ap ends_of does.after) (ap log_of does.after) said
 next_said laws s s' (OwesReply who) does said =
     linked_said s s' [] who does.stand (linked does.stand (owe_reply_link does.link)) does.link _ does.stands refl refl refl tt (ap ends_of does.after) (unlogged s s' (ap log_of does.after)) said
+next_said laws s s' (Paces who window by_hand) does said =
+    linked_said s s' [] who does.stand (linked does.stand (pace_link does.link window by_hand)) does.link _ does.stands refl refl refl tt (ap ends_of does.after) (unlogged s s' (ap log_of does.after)) said
+next_said laws s s' (AsksAgain who place) does said =
+    linked_said s s' [] who does.stand (linked does.stand (again_link does.link place)) does.link _ does.stands refl refl refl tt (ap ends_of does.after) (unlogged s s' (ap log_of does.after)) said
 next_said laws s s' (Gives who now segment bytes) does said =
     linked_said s s' _ who does.stand (linked does.stand (poll_link does.link now).1) does.link _ does.stands refl refl
     (laws.close.polls does.link now).queued (given_plain does.given.what who (length s.parcels)) (ap ends_of does.after) (ap log_of does.after) said

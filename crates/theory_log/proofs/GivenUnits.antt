@@ -8,7 +8,7 @@ use Rattle.spx_link.specs.Receive.{receive_link}
 use Rattle.spx_units.specs.Message.{MessageView}
 use Rattle.theory_log.specs.Note.{Note, SendsUnit}
 use Rattle.theory_log.specs.Scene.{Scene}
-use Rattle.theory_log.specs.Deeds.{Deed, DoesDeed, DoesGive, Dials, Accepts, Reads, OwesReply, Gives, Rests, Sends, Takes, Overruns, Closes, Releases, Carries, Tells, Injects, Reached, begun, happened}
+use Rattle.theory_log.specs.Deeds.{Deed, DoesDeed, DoesGive, Dials, Accepts, Reads, OwesReply, Paces, AsksAgain, Gives, Rests, Sends, Takes, Overruns, Closes, Releases, Carries, Tells, Injects, Reached, begun, happened}
 use Rattle.theory_log.specs.PacketsOnWay.{note_of, notes_of, out_notes}
 use Rattle.theory_log.proofs.Growing.{splits}
 use Rattle.spx_link.specs.declared.outgoing.Sent.TheVariants as Sents
@@ -93,6 +93,8 @@ last s s' (Dials host id socket to buffers now) after who parcel does = with_not
 last s s' (Accepts host id socket k buffers now) after who parcel does = with_notes s s' _ after who parcel (ap log_of does.after) (tt, (tt, tt))
 last s s' (Reads e k) after who parcel does = with_notes s s' _ after who parcel (ap log_of does.after) (read_none (receive_link does.link does.header does.body).0 e k)
 last s s' (OwesReply e) after who parcel does = silent s s' after who parcel (ap log_of does.after)
+last s s' (Paces e window by_hand) after who parcel does = silent s s' after who parcel (ap log_of does.after)
+last s s' (AsksAgain e place) after who parcel does = silent s s' after who parcel (ap log_of does.after)
 last s s' (Gives e now segment bytes) after who parcel does =
     let n : Note = note_of does.given.what e (length s.parcels) in
     let grows : s'.log ≡ s.log ++ n ∷ [] = ap log_of does.after in

@@ -11,7 +11,7 @@ use Rattle.spx_units.specs.Joining.{Joining, join_unit, joined}
 use Rattle.theory_log.specs.Note.{Note, Opened, Accepted, Got, HandsIn, AsksEnd, TakesUnit, Released, Told, Carried, Injected}
 use Rattle.theory_log.specs.Handed.{out_by, taken_by, gathered, handed_out, taken_of}
 use Rattle.theory_log.specs.Scene.{Scene, Stand, linked}
-use Rattle.theory_log.specs.Deeds.{Deed, DoesDeed, Dials, Accepts, Reads, OwesReply, Gives, Rests, Sends, Takes, Overruns, Closes, Releases, Carries, Tells, Injects, Reached, begun, happened}
+use Rattle.theory_log.specs.Deeds.{Deed, DoesDeed, Dials, Accepts, Reads, OwesReply, Paces, AsksAgain, Gives, Rests, Sends, Takes, Overruns, Closes, Releases, Carries, Tells, Injects, Reached, begun, happened}
 use Rattle.theory_log.specs.PacketsOnWay.{note_of, notes_of, out_notes}
 use Rattle.theory_log.specs.HandedOut.{HandsOutWhatItTook}
 use Rattle.theory_log.proofs.Lists.{get_last, get_set}
@@ -139,6 +139,12 @@ next_handed s s' (Reads who parcel) does h =
     (λ e. silent e s.ends (set s.ends who _) s.log (notes_of (receive_link does.link does.header does.body).0 who parcel) (read_silent (receive_link does.link does.header does.body).0 who parcel)
     (omega (arith, length-set {A = Stand})) (written_end s.ends who does.stand _ e does.stands.there (linked' does.stand does.link does.stands.link) (λ well. (inr refl, well))) (h e))
 next_handed s s' (OwesReply who) does h =
+    subst HandsOverAt (sym does.after)
+    (λ e. unnoted e s.ends (set s.ends who _) s.log (omega (arith, length-set {A = Stand})) (written_end s.ends who does.stand _ e does.stands.there (linked' does.stand does.link does.stands.link) (λ well. (inr refl, well))) (h e))
+next_handed s s' (Paces who window by_hand) does h =
+    subst HandsOverAt (sym does.after)
+    (λ e. unnoted e s.ends (set s.ends who _) s.log (omega (arith, length-set {A = Stand})) (written_end s.ends who does.stand _ e does.stands.there (linked' does.stand does.link does.stands.link) (λ well. (inr refl, well))) (h e))
+next_handed s s' (AsksAgain who place) does h =
     subst HandsOverAt (sym does.after)
     (λ e. unnoted e s.ends (set s.ends who _) s.log (omega (arith, length-set {A = Stand})) (written_end s.ends who does.stand _ e does.stands.there (linked' does.stand does.link does.stands.link) (λ well. (inr refl, well))) (h e))
 next_handed s s' (Gives who now segment bytes) does h =

@@ -11,14 +11,14 @@ use Rattle.spx_link.specs.declared.state.State.{State}
 use Rattle.spx_link.specs.LinkView.{LinkView}
 use Rattle.spx_link.specs.Poll.{poll_link}
 use Rattle.spx_link.specs.Receive.{receive_link}
-use Rattle.spx_link.specs.Offer.{queued, the_end, refusal, take_link, end_link, offer_link, owe_reply_link, lose_link, dialed, accepted_from}
+use Rattle.spx_link.specs.Offer.{queued, the_end, refusal, take_link, end_link, offer_link, owe_reply_link, pace_link, again_link, lose_link, dialed, accepted_from}
 use Rattle.spx_units.specs.Message.{MessageView}
 use Rattle.spx_units.specs.Cut.{cut_of}
 use Rattle.theory_log.specs.Note.{Note, Opened, Accepted, Joined, Got, HandsIn, AsksEnd, TakesUnit, Released, Told, Carried, Injected}
 use Rattle.theory_log.specs.Scan.{Scan, Reading, seen, seen_all, scan, unread, is_now}
 use Rattle.theory_log.specs.Handed.{taken_by, gathered, taken_of}
 use Rattle.theory_log.specs.Scene.{Scene, Stand, Stands, linked}
-use Rattle.theory_log.specs.Deeds.{Deed, DoesDeed, Dials, Accepts, Reads, OwesReply, Gives, Rests, Sends, Takes, Overruns, Closes, Releases, Carries, Tells, Injects, Reached, begun, happened}
+use Rattle.theory_log.specs.Deeds.{Deed, DoesDeed, Dials, Accepts, Reads, OwesReply, Paces, AsksAgain, Gives, Rests, Sends, Takes, Overruns, Closes, Releases, Carries, Tells, Injects, Reached, begun, happened}
 use Rattle.theory_log.specs.PacketsOnWay.{note_of, out_notes}
 use Rattle.theory_log.proofs.Lists.{get_last, get_set, get_here, get_before}
 use Rattle.theory_log.proofs.Folding.{seen_all-append}
@@ -246,6 +246,22 @@ next_heard laws s s' (OwesReply who) does f open' h =
     record {
       links = link_set s s' who does.stand (owe_reply_link l) g (ap ends_of does.after)
           (stays_ok s s' who l (owe_reply_link l) g (record { held = refl; queued = refl; queue = refl; state = inl refl }) (h.links who does.stand l does.stands)) h.links;
+      took = took_grows s s' g (λ e. refl) h.took;
+    }
+next_heard laws s s' (Paces who window by_hand) does f open' h =
+    let g : LogGrows s s' = grows_not s s' (ap log_of does.after) in
+    let l : LinkView = does.link in
+    record {
+      links = link_set s s' who does.stand (pace_link l window by_hand) g (ap ends_of does.after)
+          (stays_ok s s' who l (pace_link l window by_hand) g (record { held = refl; queued = refl; queue = refl; state = inl refl }) (h.links who does.stand l does.stands)) h.links;
+      took = took_grows s s' g (λ e. refl) h.took;
+    }
+next_heard laws s s' (AsksAgain who place) does f open' h =
+    let g : LogGrows s s' = grows_not s s' (ap log_of does.after) in
+    let l : LinkView = does.link in
+    record {
+      links = link_set s s' who does.stand (again_link l place) g (ap ends_of does.after)
+          (stays_ok s s' who l (again_link l place) g (record { held = refl; queued = refl; queue = refl; state = inl refl }) (h.links who does.stand l does.stands)) h.links;
       took = took_grows s s' g (λ e. refl) h.took;
     }
 next_heard laws s s' (Gives who now segment bytes) does f open' h =

@@ -11,7 +11,7 @@ use Rattle.ipx_wire.specs.declared.spx.packet.SpxHeader.{SpxHeader}
 use Rattle.spx_link.specs.LinkView.{LinkView}
 use Rattle.spx_link.specs.Poll.{poll_link}
 use Rattle.spx_link.specs.Receive.{receive_link}
-use Rattle.spx_link.specs.Offer.{owe_reply_link, take_link, offer_link, end_link, lose_link, dialed, accepted_from}
+use Rattle.spx_link.specs.Offer.{owe_reply_link, pace_link, again_link, take_link, offer_link, end_link, lose_link, dialed, accepted_from}
 use Rattle.spx_link.specs.declared.state.State.TheVariants.{Opening}
 use Rattle.spx_units.specs.Cut.{cut_of}
 use Rattle.theory_pairs.specs.Names.{Names, names}
@@ -21,7 +21,7 @@ use Rattle.theory_log.specs.Peers.{end_of}
 use Rattle.theory_log.specs.Named.{PeersAreNamed}
 use Rattle.theory_log.specs.Scene.{Scene, Stand, Stands, linked}
 use Rattle.theory_log.specs.PacketsOnWay.{note_of, out_notes}
-use Rattle.theory_log.specs.Deeds.{Deed, DoesDeed, DoesGive, DoesRead, Dials, Accepts, Reads, OwesReply, Gives, Rests, Sends, Takes, Overruns, Closes, Releases, Carries, Tells, Injects, IsBegun, Reached, begun, happened}
+use Rattle.theory_log.specs.Deeds.{Deed, DoesDeed, DoesGive, DoesRead, Dials, Accepts, Reads, OwesReply, Paces, AsksAgain, Gives, Rests, Sends, Takes, Overruns, Closes, Releases, Carries, Tells, Injects, IsBegun, Reached, begun, happened}
 use Rattle.theory_log.specs.Below.{LawsBelow}
 use Rattle.theory_log.proofs.Adding.{mark_before, mark_here}
 use Rattle.theory_log.proofs.Along.{facts_along}
@@ -245,6 +245,10 @@ next_called laws s s' (Accepts host id socket parcel buffers now) does f c =
 next_called laws s s' (Reads who parcel) does f c = reads laws s s' who parcel does f c
 next_called laws s s' (OwesReply who) does f c =
     subst CalledAt (sym does.after) (called_put s.ends s.parcels (scan s.log) c who does.stand _ does.link does.stands.there does.stands.link (same_named does.stand does.link (owe_reply_link does.link) refl))
+next_called laws s s' (Paces who window by_hand) does f c =
+    subst CalledAt (sym does.after) (called_put s.ends s.parcels (scan s.log) c who does.stand _ does.link does.stands.there does.stands.link (same_named does.stand does.link (pace_link does.link window by_hand) refl))
+next_called laws s s' (AsksAgain who place) does f c =
+    subst CalledAt (sym does.after) (called_put s.ends s.parcels (scan s.log) c who does.stand _ does.link does.stands.there does.stands.link (same_named does.stand does.link (again_link does.link place) refl))
 next_called laws s s' (Gives who now segment bytes) does f c = gives laws s s' who now segment bytes does f c
 next_called laws s s' (Rests who now) does f c =
     subst CalledAt (sym does.after)

@@ -5,13 +5,13 @@ use Rattle.spx_link.specs.declared.state.State.TheVariants.{Opening}
 use Rattle.spx_link.specs.LinkView.{LinkView}
 use Rattle.spx_link.specs.Poll.{poll_link}
 use Rattle.spx_link.specs.Receive.{receive_link}
-use Rattle.spx_link.specs.Offer.{owe_reply_link, take_link, offer_link, end_link}
+use Rattle.spx_link.specs.Offer.{owe_reply_link, pace_link, again_link, take_link, offer_link, end_link}
 use Rattle.spx_units.specs.Cut.{cut_of}
 use Rattle.theory_log.specs.Note.{Note, Opened, Accepted, Joined, Got, HandsIn, AsksEnd, TakesUnit, Released, Told, Carried, Injected}
 use Rattle.theory_log.specs.Scan.{Scan, Mark, seen, seen_all, scan, unread, mark_of, one_further, asker, ByUnit, BySystem, ByRouter, FromOutside}
 use Rattle.theory_log.specs.Peers.{end_of}
 use Rattle.theory_log.specs.Scene.{Scene, Stand, Stands, linked}
-use Rattle.theory_log.specs.Deeds.{Deed, DoesDeed, Dials, Accepts, Reads, OwesReply, Gives, Rests, Sends, Takes, Overruns, Closes, Releases, Carries, Tells, Injects}
+use Rattle.theory_log.specs.Deeds.{Deed, DoesDeed, Dials, Accepts, Reads, OwesReply, Paces, AsksAgain, Gives, Rests, Sends, Takes, Overruns, Closes, Releases, Carries, Tells, Injects}
 use Rattle.theory_log.specs.PacketsOnWay.{note_of, out_notes}
 use Rattle.std.proofs.lemmas.Option.{slice_get_within}
 use Rattle.theory_log.proofs.Folding.{NoteIn, seen_all-append}
@@ -115,6 +115,10 @@ next_facts laws s s' (Reads who parcel) does f =
     closed = laws.states.reads_open does.link does.header does.body does.read
 next_facts laws s s' (OwesReply who) does f =
     subst FactsAt (sym does.after) (facts_put s.ends who _ s.parcels (scan s.log) s.log (keeps_opening s who does.stand does.link (owe_reply_link does.link) f does.stands (λ o. o)) f)
+next_facts laws s s' (Paces who window by_hand) does f =
+    subst FactsAt (sym does.after) (facts_put s.ends who _ s.parcels (scan s.log) s.log (keeps_opening s who does.stand does.link (pace_link does.link window by_hand) f does.stands (λ o. o)) f)
+next_facts laws s s' (AsksAgain who place) does f =
+    subst FactsAt (sym does.after) (facts_put s.ends who _ s.parcels (scan s.log) s.log (keeps_opening s who does.stand does.link (again_link does.link place) f does.stands (λ o. o)) f)
 next_facts laws s s' (Gives who now segment bytes) does f =
     let k : LinkView = (poll_link does.link now).1 in
     let g = given_scan (scan s.log) does.given.what who (length s.parcels) in

@@ -9,7 +9,7 @@ use Rattle.spx_link.specs.declared.received.Received.{Received}
 use Rattle.spx_link.specs.LinkView.{LinkView}
 use Rattle.spx_link.specs.Poll.{OutgoingView, poll_link}
 use Rattle.spx_link.specs.Receive.{receive_link}
-use Rattle.spx_link.specs.Offer.{refusal, owe_reply_link, take_link, offer_link, end_link, the_end}
+use Rattle.spx_link.specs.Offer.{refusal, owe_reply_link, pace_link, again_link, take_link, offer_link, end_link, the_end}
 use Rattle.spx_link.specs.Machine.{AreSound}
 use Rattle.spx_units.specs.Cut.{cut_of, pieces}
 use Rattle.ipx_wire.specs.Connection.{IsConnectionPacket}
@@ -23,7 +23,7 @@ use Rattle.theory_pairs.specs.States.{is_quiet}
 use Rattle.theory_log.specs.Scene.{Scene, Stand, linked}
 use Rattle.theory_log.specs.PacketsOnWay.{note_of, notes_of, out_notes}
 use Rattle.spx_units.specs.WrittenPackets.{Home, IsWrittenPacket}
-use Rattle.theory_log.specs.Deeds.{Deed, DoesDeed, DoesOverrun, Dials, Accepts, Reads, OwesReply, Gives, Rests, Sends, Takes, Overruns, Closes, Releases, Carries, Tells, Injects}
+use Rattle.theory_log.specs.Deeds.{Deed, DoesDeed, DoesOverrun, Dials, Accepts, Reads, OwesReply, Paces, AsksAgain, Gives, Rests, Sends, Takes, Overruns, Closes, Releases, Carries, Tells, Injects}
 use Rattle.theory_log.proofs.Tied.{Whole}
 use Rattle.theory_log.proofs.Bytes.{written_says}
 use Rattle.theory_log.proofs.Taking.{rests_whole}
@@ -188,6 +188,18 @@ module _ (laws : LawsBelow) (c d a b : ℕ) (differ : c ≢ d) where
       ]))
   next_held s s' (OwesReply who) never does f before after h =
       let k : LinkView = owe_reply_link does.link in
+      subst HoldsAt (sym does.after)
+      (rests_held c d a b differ s.ends s.parcels (scan s.log) (pair_between c d a b s.parcels s.log) who does.stand (linked does.stand k) does.link k (scan s.log) refl refl refl
+      does.stands.there does.stands.link (left_linked does.stand k)
+      (λ x y g. record { tracks = g.tracks; open' = g.open' }) (λ q. q) h)
+  next_held s s' (Paces who window by_hand) never does f before after h =
+      let k : LinkView = pace_link does.link window by_hand in
+      subst HoldsAt (sym does.after)
+      (rests_held c d a b differ s.ends s.parcels (scan s.log) (pair_between c d a b s.parcels s.log) who does.stand (linked does.stand k) does.link k (scan s.log) refl refl refl
+      does.stands.there does.stands.link (left_linked does.stand k)
+      (λ x y g. record { tracks = g.tracks; open' = g.open' }) (λ q. q) h)
+  next_held s s' (AsksAgain who place) never does f before after h =
+      let k : LinkView = again_link does.link place in
       subst HoldsAt (sym does.after)
       (rests_held c d a b differ s.ends s.parcels (scan s.log) (pair_between c d a b s.parcels s.log) who does.stand (linked does.stand k) does.link k (scan s.log) refl refl refl
       does.stands.there does.stands.link (left_linked does.stand k)

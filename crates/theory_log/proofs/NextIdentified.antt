@@ -14,7 +14,7 @@ use Rattle.spx_link.specs.declared.state.State.TheVariants.{Opening}
 use Rattle.spx_link.specs.Limits.{no_id}
 use Rattle.spx_link.specs.LinkView.{LinkView}
 use Rattle.spx_link.specs.Poll.{OutgoingView, poll_link}
-use Rattle.spx_link.specs.Offer.{owe_reply_link, take_link, offer_link, end_link, lose_link, dialed}
+use Rattle.spx_link.specs.Offer.{owe_reply_link, pace_link, again_link, take_link, offer_link, end_link, lose_link, dialed}
 use Rattle.spx_units.specs.Cut.{cut_of}
 use Rattle.ipx_wire.specs.Connection.{IsConnectionPacket}
 use Rattle.theory_log.specs.Note.{Note, Opened, HandsIn, AsksEnd, TakesUnit, Released, Told, Carried, Injected}
@@ -24,7 +24,7 @@ use Rattle.theory_log.specs.Addresses.{NothingReleased}
 use Rattle.theory_log.specs.Scene.{Scene, Stand, Stands, linked}
 use Rattle.spx_units.specs.WrittenPackets.{Home}
 use Rattle.theory_log.specs.PacketsOnWay.{IsOneOn, one_on, note_of, out_notes}
-use Rattle.theory_log.specs.Deeds.{Deed, DoesDeed, DoesDial, DoesGive, DoesCarry, DoesTell, Dials, Accepts, Reads, OwesReply, Gives, Rests, Sends, Takes, Overruns, Closes, Releases, Carries, Tells, Injects}
+use Rattle.theory_log.specs.Deeds.{Deed, DoesDeed, DoesDial, DoesGive, DoesCarry, DoesTell, Dials, Accepts, Reads, OwesReply, Paces, AsksAgain, Gives, Rests, Sends, Takes, Overruns, Closes, Releases, Carries, Tells, Injects}
 use Rattle.theory_log.proofs.Bytes.{written_says}
 use Rattle.theory_log.proofs.NextFacts.{FactsAt, given_mark}
 use Rattle.theory_log.proofs.Held.{calmed, outs_seen, set_here}
@@ -216,6 +216,10 @@ module _ (laws : LawsBelow) (homes : List Home) (differ : HomesDiffer homes) (ne
   next_identified s s' (Reads who parcel) does same facts stay nothing f = reads laws homes differ networks s s' who parcel same does facts nothing f
   next_identified s s' (OwesReply who) does same facts stay nothing f =
       subst (IdentifiedAt homes) (sym does.after) (keeps s who does.stand _ does.link (owe_reply_link does.link) does.stands refl refl refl f)
+  next_identified s s' (Paces who window by_hand) does same facts stay nothing f =
+      subst (IdentifiedAt homes) (sym does.after) (keeps s who does.stand _ does.link (pace_link does.link window by_hand) does.stands refl refl refl f)
+  next_identified s s' (AsksAgain who place) does same facts stay nothing f =
+      subst (IdentifiedAt homes) (sym does.after) (keeps s who does.stand _ does.link (again_link does.link place) does.stands refl refl refl f)
   next_identified s s' (Gives who now segment bytes) does same facts stay nothing f = gives s s' who now segment bytes same does facts f
   next_identified s s' (Rests who now) does same facts stay nothing f =
       subst (IdentifiedAt homes) (sym does.after) (keeps s who does.stand _ does.link (poll_link does.link now).1 does.stands refl refl (laws.names.polls does.link now).keeps f)

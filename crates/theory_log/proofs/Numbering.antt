@@ -9,7 +9,7 @@ use Rattle.spx_units.specs.Message.{MessageView}
 use Rattle.theory_log.specs.Note.{Note, Opened, Accepted, Got, HandsIn, HandsOut, AsksEnd, TakesUnit, Released, Told, Carried, Injected}
 use Rattle.theory_log.specs.Scan.{Scan, Role, seen, seen_all, scan, unread, mark_of, role_of, joined_by, asker}
 use Rattle.theory_log.specs.Scene.{Scene, Stand}
-use Rattle.theory_log.specs.Deeds.{Deed, DoesDeed, Dials, Accepts, Reads, OwesReply, Gives, Rests, Sends, Takes, Overruns, Closes, Releases, Carries, Tells, Injects, Reached, begun, happened}
+use Rattle.theory_log.specs.Deeds.{Deed, DoesDeed, Dials, Accepts, Reads, OwesReply, Paces, AsksAgain, Gives, Rests, Sends, Takes, Overruns, Closes, Releases, Carries, Tells, Injects, Reached, begun, happened}
 use Rattle.theory_log.specs.PacketsOnWay.{note_of, notes_of, out_notes}
 use Rattle.theory_log.specs.Numbered.{IsNumbered, NumbersAreInOrder}
 use Rattle.theory_log.proofs.Folding.{seen_all-append}
@@ -102,6 +102,8 @@ next_numbered s s' (Reads who parcel) does told a =
     numbered s s' (notes_of r who parcel) (ap log_of does.after) (ap length (read_marks r who parcel (scan s.log)) ∙ same_count s s' (ap parcels_of does.after) a)
     (read_numbered r (scan s.log) who parcel (has_role s told who does.stand does.stands.there) (omega (arith, slice_get_within s.parcels parcel does.bytes does.comes, a.count))) a
 next_numbered s s' (OwesReply who) does told a = unnoted s s' (ap log_of does.after) (ap parcels_of does.after) a
+next_numbered s s' (Paces who window by_hand) does told a = unnoted s s' (ap log_of does.after) (ap parcels_of does.after) a
+next_numbered s s' (AsksAgain who place) does told a = unnoted s s' (ap log_of does.after) (ap parcels_of does.after) a
 next_numbered s s' (Gives who now segment bytes) does told a =
     let g = given_marked (scan s.log) does.given.what who (length s.parcels) in
     numbered s s' (note_of does.given.what who (length s.parcels) ∷ []) (ap log_of does.after) (more_count s s' bytes _ g.mark (ap parcels_of does.after) g.marks a)

@@ -10,7 +10,7 @@ use Rattle.spx_link.specs.declared.outgoing.Sent.{Sent}
 use Rattle.spx_link.specs.declared.received.Received.{Received}
 use Rattle.spx_link.specs.LinkView.{LinkView}
 use Rattle.spx_link.specs.SequenceMarks.{mark}
-use Rattle.spx_link.specs.Offer.{refusal, offer_link, end_link, take_link, owe_reply_link, lose_link}
+use Rattle.spx_link.specs.Offer.{refusal, offer_link, end_link, take_link, owe_reply_link, pace_link, again_link, lose_link}
 use Rattle.spx_link.specs.Poll.{OutgoingView, poll_link}
 use Rattle.spx_link.specs.Receive.{receive_link}
 use Rattle.spx_units.specs.Cut.{cut_of}
@@ -19,7 +19,7 @@ use Rattle.theory_log.specs.Note.{Note, Opened, Accepted, HandsIn, TakesUnit, As
 use Rattle.theory_log.specs.Scan.{Scan, Mark, Role, FromOutside, seen, seen_all, scan, unread, mark_of, role_of, no_role, one_further}
 use Rattle.theory_log.specs.Handed.{taken_by, taken_of, handed_out}
 use Rattle.theory_log.specs.Scene.{Scene, Stand, Stands, linked}
-use Rattle.theory_log.specs.Deeds.{Deed, DoesDeed, DoesGive, Dials, Accepts, Reads, OwesReply, Gives, Rests, Sends, Takes, Overruns, Closes, Releases, Carries, Tells, Injects, IsBegun, Reached, begun, happened}
+use Rattle.theory_log.specs.Deeds.{Deed, DoesDeed, DoesGive, Dials, Accepts, Reads, OwesReply, Paces, AsksAgain, Gives, Rests, Sends, Takes, Overruns, Closes, Releases, Carries, Tells, Injects, IsBegun, Reached, begun, happened}
 use Rattle.theory_log.specs.PacketsOnWay.{note_of, notes_of, out_notes}
 use Rattle.theory_log.specs.Allocation.{IsMadeBy}
 use Rattle.theory_log.proofs.Lists.{get_last, get_here, read_there}
@@ -328,6 +328,10 @@ next_sides laws s s' (Reads who parcel) does f t =
     })))
 next_sides laws s s' (OwesReply who) does f t =
     silent_sides s s' who does.stand does.link (owe_reply_link does.link) f t does.stands (ap ends_of does.after) (ap parcels_of does.after) (ap log_of does.after) (record { expected = refl; held = refl; ahead = refl; buffers = refl }) (λ o. o)
+next_sides laws s s' (Paces who window by_hand) does f t =
+    silent_sides s s' who does.stand does.link (pace_link does.link window by_hand) f t does.stands (ap ends_of does.after) (ap parcels_of does.after) (ap log_of does.after) (record { expected = refl; held = refl; ahead = refl; buffers = refl }) (λ o. o)
+next_sides laws s s' (AsksAgain who place) does f t =
+    silent_sides s s' who does.stand does.link (again_link does.link place) f t does.stands (ap ends_of does.after) (ap parcels_of does.after) (ap log_of does.after) (record { expected = refl; held = refl; ahead = refl; buffers = refl }) (λ o. o)
 next_sides laws s s' (Gives who now segment bytes) does f t =
     at_scene Sides s' _ _ _ (ap ends_of does.after) (ap parcels_of does.after) (ap log_of does.after) (gives_sides s f t laws who now segment bytes s' does)
 next_sides laws s s' (Rests who now) does f t =

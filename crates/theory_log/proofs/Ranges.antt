@@ -10,7 +10,7 @@ use Rattle.spx_units.specs.Message.{MessageView}
 use Rattle.theory_log.specs.Note.{Note, Opened, Accepted, Joined, HandsIn, HandsOut, TakesUnit, AsksEnd, Got, Released, SendsUnit, SendsAgain, SendsSystem, Told, Carried, Injected}
 use Rattle.theory_log.specs.Scan.{Each, Scan, Role, Maker, seen, seen_all, scan, unread, role_of, mark_of, joined_by, asker, no_role}
 use Rattle.theory_log.specs.Scene.{Scene}
-use Rattle.theory_log.specs.Deeds.{Deed, DoesDeed, Dials, Accepts, Reads, OwesReply, Gives, Rests, Sends, Takes, Overruns, Closes, Releases, Carries, Tells, Injects, Reached, begun, happened}
+use Rattle.theory_log.specs.Deeds.{Deed, DoesDeed, Dials, Accepts, Reads, OwesReply, Paces, AsksAgain, Gives, Rests, Sends, Takes, Overruns, Closes, Releases, Carries, Tells, Injects, Reached, begun, happened}
 use Rattle.theory_log.specs.PacketsOnWay.{note_of, notes_of, out_notes}
 use Rattle.theory_log.proofs.Lists.{get_last, get_set}
 use Rattle.theory_log.proofs.Folding.{seen_all-append}
@@ -98,6 +98,8 @@ next_ranged s s' (Dials host id socket to buffers now) does e = grown s.log (Ope
 next_ranged s s' (Accepts host id socket parcel buffers now) does e = grown s.log (Accepted (length s.ends) parcel buffers ∷ Got (length s.ends) parcel ∷ []) s'.log (ap log_of does.after) (does.range.1, (tt, tt)) e
 next_ranged s s' (Reads who parcel) does e = grown s.log (notes_of (receive_link does.link does.header does.body).0 who parcel) s'.log (ap log_of does.after) (read_ranged (receive_link does.link does.header does.body).0 who parcel) e
 next_ranged s s' (OwesReply who) does e = same s.log s'.log (ap log_of does.after) e
+next_ranged s s' (Paces who window by_hand) does e = same s.log s'.log (ap log_of does.after) e
+next_ranged s s' (AsksAgain who place) does e = same s.log s'.log (ap log_of does.after) e
 next_ranged s s' (Gives who now segment bytes) does e = grown s.log (note_of does.given.what who (length s.parcels) ∷ []) s'.log (ap log_of does.after) (given_ranged does.given.what who (length s.parcels), tt) e
 next_ranged s s' (Rests who now) does e = same s.log s'.log (ap log_of does.after) e
 next_ranged s s' (Sends who m) does e = grown s.log (HandsIn who m ∷ []) s'.log (ap log_of does.after) (tt, tt) e

@@ -12,7 +12,7 @@ use Rattle.spx_link.specs.SequenceMarks.{mark, distance}
 use Rattle.spx_link.specs.LinkView.{LinkView}
 use Rattle.spx_link.specs.Poll.{OutgoingView, poll_link}
 use Rattle.spx_link.specs.Receive.{receive_link}
-use Rattle.spx_link.specs.Offer.{owe_reply_link, lose_link, take_link, offer_link, end_link, the_end}
+use Rattle.spx_link.specs.Offer.{owe_reply_link, pace_link, again_link, lose_link, take_link, offer_link, end_link, the_end}
 use Rattle.spx_units.specs.Cut.{cut_of}
 use Rattle.ipx_wire.specs.Connection.{IsConnectionPacket, sequence_in}
 use Rattle.theory_log.specs.Note.{Note, Opened, Accepted, Got, HandsIn, AsksEnd, TakesUnit, Released, SendsUnit, SendsAgain, SendsSystem, Told, Carried, Injected}
@@ -20,7 +20,7 @@ use Rattle.theory_log.specs.Scan.{times, scan, unread}
 use Rattle.theory_log.specs.Handed.{units_of}
 use Rattle.theory_log.specs.PairLog.{position_of}
 use Rattle.theory_log.specs.Scene.{Scene, Stand, linked}
-use Rattle.theory_log.specs.Deeds.{Deed, DoesDeed, Dials, Accepts, Reads, OwesReply, Gives, Rests, Sends, Takes, Overruns, Closes, Releases, Carries, Tells, Injects, DoesGive, IsBegun, Reached, begun, happened}
+use Rattle.theory_log.specs.Deeds.{Deed, DoesDeed, Dials, Accepts, Reads, OwesReply, Paces, AsksAgain, Gives, Rests, Sends, Takes, Overruns, Closes, Releases, Carries, Tells, Injects, DoesGive, IsBegun, Reached, begun, happened}
 use Rattle.theory_log.specs.PacketsOnWay.{note_of, notes_of, out_notes}
 use Rattle.spx_units.specs.WrittenPackets.{Home, IsWrittenPacket}
 use Rattle.theory_log.specs.SentUnits.{sent_by, IsUnitPacket, CarriesUnit, UnitsAreSentInOrder, LinksSendInOrder, PositionsAreGreatest}
@@ -338,6 +338,14 @@ next_senders laws s s' (OwesReply who) does f =
     let k : LinkView = owe_reply_link does.link in
     silently s s' who does.stand (linked does.stand k) does.stands.there (ap ends_in does.after) (ap parcels_in does.after) (ap log_in does.after)
     (link_is (λ l. QueuesAt l who s.log) does.stand k (laws.queues.owes does.link (units_of who s.log) (sent_by who s.log) (f.links who does.stand does.link does.stands.there does.stands.link))) f
+next_senders laws s s' (Paces who window by_hand) does f =
+    let k : LinkView = pace_link does.link window by_hand in
+    silently s s' who does.stand (linked does.stand k) does.stands.there (ap ends_in does.after) (ap parcels_in does.after) (ap log_in does.after)
+    (link_is (λ l. QueuesAt l who s.log) does.stand k (laws.queues.paces does.link window by_hand (units_of who s.log) (sent_by who s.log) (f.links who does.stand does.link does.stands.there does.stands.link))) f
+next_senders laws s s' (AsksAgain who place) does f =
+    let k : LinkView = again_link does.link place in
+    silently s s' who does.stand (linked does.stand k) does.stands.there (ap ends_in does.after) (ap parcels_in does.after) (ap log_in does.after)
+    (link_is (λ l. QueuesAt l who s.log) does.stand k (laws.queues.asks does.link place (units_of who s.log) (sent_by who s.log) (f.links who does.stand does.link does.stands.there does.stands.link))) f
 next_senders laws s s' (Gives who now segment bytes) does f = gives_senders laws s s' who now segment bytes does f
 next_senders laws s s' (Rests who now) does f =
     let k : LinkView = (poll_link does.link now).1 in

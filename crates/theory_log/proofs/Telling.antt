@@ -17,7 +17,7 @@ use Rattle.theory_log.specs.Scan.{scan}
 use Rattle.theory_log.specs.Handed.{out_by, units_by, taken_by, gathered, handed_out, units_of, taken_of, IsBeginning}
 use Rattle.theory_log.specs.PairLog.{pair_between, new_half}
 use Rattle.theory_log.specs.Scene.{Scene, Stand}
-use Rattle.theory_log.specs.Deeds.{Deed, DoesDeed, Dials, Accepts, Reads, OwesReply, Gives, Rests, Sends, Takes, Overruns, Closes, Releases, Carries, Tells, Injects}
+use Rattle.theory_log.specs.Deeds.{Deed, DoesDeed, Dials, Accepts, Reads, OwesReply, Paces, AsksAgain, Gives, Rests, Sends, Takes, Overruns, Closes, Releases, Carries, Tells, Injects}
 use Rattle.theory_log.specs.PacketsOnWay.{note_of, notes_of, out_notes}
 use Rattle.theory_log.proofs.Lists.{get_last, get_set}
 use Rattle.theory_log.proofs.Speaking.{eqb_same}
@@ -316,6 +316,10 @@ module _ (laws : LawsBelow) (c d a b : ℕ) (differ : c ≢ d) where
       (silent_next s _ s.parcels s.segments (notes_of (receive_link does.link does.header does.body).0 who parcel) (read_silent (receive_link does.link does.header does.body).0 who parcel)
       (keeps_set s.ends s.log who does.stand _ c does.stands.there (λ stands. (refl, linked' does.stand does.link does.stands.link)) refl) (keeps_set s.ends s.log who does.stand _ d does.stands.there (λ stands. (refl, linked' does.stand does.link does.stands.link)) refl) t)
   next_tells s s' (OwesReply who) does f h t =
+      subst Tells' (sym does.after) (quiet_next s _ (keeps_set s.ends s.log who does.stand _ c does.stands.there (λ stands. (refl, linked' does.stand does.link does.stands.link)) refl) (keeps_set s.ends s.log who does.stand _ d does.stands.there (λ stands. (refl, linked' does.stand does.link does.stands.link)) refl) t)
+  next_tells s s' (Paces who window by_hand) does f h t =
+      subst Tells' (sym does.after) (quiet_next s _ (keeps_set s.ends s.log who does.stand _ c does.stands.there (λ stands. (refl, linked' does.stand does.link does.stands.link)) refl) (keeps_set s.ends s.log who does.stand _ d does.stands.there (λ stands. (refl, linked' does.stand does.link does.stands.link)) refl) t)
+  next_tells s s' (AsksAgain who place) does f h t =
       subst Tells' (sym does.after) (quiet_next s _ (keeps_set s.ends s.log who does.stand _ c does.stands.there (λ stands. (refl, linked' does.stand does.link does.stands.link)) refl) (keeps_set s.ends s.log who does.stand _ d does.stands.there (λ stands. (refl, linked' does.stand does.link does.stands.link)) refl) t)
   next_tells s s' (Gives who now segment bytes) does f h t =
       subst Tells' (sym does.after)

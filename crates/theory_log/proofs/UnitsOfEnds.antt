@@ -21,7 +21,7 @@ use Rattle.theory_log.specs.Handed.{in_by, units_by, handed_in, units_of}
 use Rattle.theory_log.specs.UnitsOfEnds.{end_by, ends_asked, AreCuts, UnitsAreCuts}
 use Rattle.theory_log.specs.Scene.{Scene, Stand, Stands}
 use Rattle.theory_log.specs.PacketsOnWay.{note_of, notes_of, out_notes}
-use Rattle.theory_log.specs.Deeds.{Deed, DoesDeed, Dials, Accepts, Reads, OwesReply, Gives, Rests, Sends, Takes, Overruns, Closes, Releases, Carries, Tells, Injects, Reached, begun, happened}
+use Rattle.theory_log.specs.Deeds.{Deed, DoesDeed, Dials, Accepts, Reads, OwesReply, Paces, AsksAgain, Gives, Rests, Sends, Takes, Overruns, Closes, Releases, Carries, Tells, Injects, Reached, begun, happened}
 use Rattle.theory_log.proofs.Fields.{log_of}
 use Rattle.theory_log.proofs.Lists.{get_here}
 use Rattle.theory_log.proofs.Gathering.{gathered-append}
@@ -163,6 +163,8 @@ next_cuts s s' (Accepts host id socket parcel buffers now) does f c = more_log s
 next_cuts s s' (Reads who parcel) does f c =
     more_log s s' _ (ap log_of does.after) (read_idle (receive_link does.link does.header does.body).0 who parcel) c
 next_cuts s s' (OwesReply who) does f c = same_log s s' (ap log_of does.after) c
+next_cuts s s' (Paces who window by_hand) does f c = same_log s s' (ap log_of does.after) c
+next_cuts s s' (AsksAgain who place) does f c = same_log s s' (ap log_of does.after) c
 next_cuts s s' (Gives who now segment bytes) does f c = more_log s s' _ (ap log_of does.after) (given_idle does.given.what who (length s.parcels)) c
 next_cuts s s' (Rests who now) does f c = same_log s s' (ap log_of does.after) c
 next_cuts s s' (Sends who m) does f c =

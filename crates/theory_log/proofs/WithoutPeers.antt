@@ -11,7 +11,7 @@ use Rattle.spx_link.specs.declared.outgoing.Sent.{Sent}
 use Rattle.spx_link.specs.declared.received.Received.{Received}
 use Rattle.spx_link.specs.LinkView.{LinkView}
 use Rattle.spx_link.specs.SequenceMarks.{mark, distance, room_after}
-use Rattle.spx_link.specs.Offer.{offer_link, end_link, take_link, owe_reply_link}
+use Rattle.spx_link.specs.Offer.{offer_link, end_link, take_link, owe_reply_link, pace_link, again_link}
 use Rattle.spx_link.specs.Poll.{poll_link}
 use Rattle.spx_link.specs.Receive.{receive_link}
 use Rattle.spx_units.specs.Message.{MessageView}
@@ -22,7 +22,7 @@ use Rattle.theory_log.specs.Scan.{Each, times, Scan, Mark, Reading, FromOutside,
 use Rattle.theory_log.specs.Handed.{taken_by, taken_of, handed_out, out_by}
 use Rattle.theory_pairs.specs.States.{is_quiet}
 use Rattle.theory_log.specs.Scene.{Scene, Stand, Stands, linked}
-use Rattle.theory_log.specs.Deeds.{Deed, DoesDeed, Dials, Accepts, Reads, OwesReply, Gives, Rests, Sends, Takes, Overruns, Closes, Releases, Carries, Tells, Injects, Reached, begun, happened}
+use Rattle.theory_log.specs.Deeds.{Deed, DoesDeed, Dials, Accepts, Reads, OwesReply, Paces, AsksAgain, Gives, Rests, Sends, Takes, Overruns, Closes, Releases, Carries, Tells, Injects, Reached, begun, happened}
 use Rattle.theory_log.specs.PacketsOnWay.{note_of, notes_of, out_notes}
 use Rattle.theory_log.specs.SentUnits.{sent_by}
 use Rattle.theory_log.proofs.Lists.{get_before, get_here, times-append}
@@ -307,6 +307,12 @@ next_alone laws who s s' (Reads e parcel) does f t premise a =
 next_alone laws who s s' (OwesReply e) does f t premise a =
     alone_at who s' _ (s.log ++ []) (ap ends_of does.after) (ap log_of does.after ∙ sym (append-nil s.log))
     (writes who s f t a [] e does.stand _ does.stands.there (calm_silent who) (λ ne. refl) (own_same who s [] e does.stand does.link (owe_reply_link does.link) a does.stands refl refl refl refl (λ o. o) refl))
+next_alone laws who s s' (Paces e window by_hand) does f t premise a =
+    alone_at who s' _ (s.log ++ []) (ap ends_of does.after) (ap log_of does.after ∙ sym (append-nil s.log))
+    (writes who s f t a [] e does.stand _ does.stands.there (calm_silent who) (λ ne. refl) (own_same who s [] e does.stand does.link (pace_link does.link window by_hand) a does.stands refl refl refl refl (λ o. o) refl))
+next_alone laws who s s' (AsksAgain e place) does f t premise a =
+    alone_at who s' _ (s.log ++ []) (ap ends_of does.after) (ap log_of does.after ∙ sym (append-nil s.log))
+    (writes who s f t a [] e does.stand _ does.stands.there (calm_silent who) (λ ne. refl) (own_same who s [] e does.stand does.link (again_link does.link place) a does.stands refl refl refl refl (λ o. o) refl))
 next_alone laws who s s' (Gives e now segment bytes) does f t premise a =
     let k : LinkView = (poll_link does.link now).1 in
     let what : Sent = does.given.what in

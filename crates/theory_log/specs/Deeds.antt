@@ -1,6 +1,6 @@
 -- Everything that can happen to ends and parcels, one thing at a time, and the scenes that it leads
 -- to.
-use Rattle.std.specs.Prelude.{ℕ, ◌≡◌, ◌≢◌, ◌<◌, ◌≤◌, true, false, List, [], ◌∷◌, ◌++◌, length, Some, None, slice_get}
+use Rattle.std.specs.Prelude.{ℕ, ◌≡◌, ◌≢◌, ◌<◌, ◌≤◌, Bool, true, false, List, [], ◌∷◌, ◌++◌, length, Some, None, slice_get}
 use Rattle.ipx_wire.specs.declared.address.Network.{Network}
 use Rattle.ipx_wire.specs.declared.address.Socket.{Socket}
 use Rattle.ipx_wire.specs.declared.address.Address.{Address}
@@ -11,7 +11,7 @@ use Rattle.spx_link.specs.Limits.{end_stream, no_id, most_units}
 use Rattle.spx_link.specs.LinkView.{LinkView}
 use Rattle.spx_link.specs.Poll.{OutgoingView, poll_link}
 use Rattle.spx_link.specs.Receive.{receive_link}
-use Rattle.spx_link.specs.Offer.{refusal, offer_link, end_link, take_link, owe_reply_link, lose_link, dialed, accepted_from}
+use Rattle.spx_link.specs.Offer.{refusal, offer_link, end_link, take_link, owe_reply_link, lose_link, pace_link, again_link, dialed, accepted_from}
 use Rattle.spx_units.specs.Message.{MessageView, most_bytes}
 use Rattle.spx_units.specs.Joining.{Joining, join_unit, added}
 use Rattle.spx_units.specs.Cut.{cut_of}
@@ -30,6 +30,9 @@ pub data Deed : Type 0 where
   Reads : (who parcel : ℕ) → Deed
   -- a request comes again
   OwesReply : (who : ℕ) → Deed
+  -- a link gets a window, by the clock or by hand, or a place is asked for again
+  Paces : (who window : ℕ) → (by_hand : Bool) → Deed
+  AsksAgain : (who place : ℕ) → Deed
   -- a link is asked, and gives a packet, or nothing
   Gives : (who now : ℕ) → (segment : Network) → List ℕ → Deed
   Rests : (who now : ℕ) → Deed
@@ -213,6 +216,8 @@ DoesDeed (Accepts host id socket parcel buffers now) s s' =
     DoesAccept host id socket parcel buffers now s s'
 DoesDeed (Reads who parcel) s s' = DoesRead who parcel s s'
 DoesDeed (OwesReply who) s s' = DoesSilently owe_reply_link who s s'
+DoesDeed (Paces who window by_hand) s s' = DoesSilently (λ l. pace_link l window by_hand) who s s'
+DoesDeed (AsksAgain who place) s s' = DoesSilently (λ l. again_link l place) who s s'
 DoesDeed (Gives who now segment bytes) s s' = DoesGive who now segment bytes s s'
 DoesDeed (Rests who now) s s' = DoesRest who now s s'
 DoesDeed (Sends who m) s s' = DoesSend who m s s'

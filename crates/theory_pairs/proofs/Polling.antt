@@ -1,5 +1,5 @@
 -- One call of poll is one step of the machine, or none.
-use Rattle.std.proofs.Common.{ℕ, zero, suc, ◌+◌, ◌<◌, ◌≤◌, ◌≡◌, ◌⊎◌, ◌==◌, Bool, true, false, not, ◌&&◌, ◌||◌, nat_le, List, [], ◌∷◌, Option, Some, None, slice_get, set, length, map, drop, take, option_map, arith, refl, sym, ap, ◌∙◌, subst, ltb-true, eqb-true, ne_eqb, length-take, ⊎_elim, inl, inr}
+use Rattle.std.proofs.Common.{ℕ, zero, suc, ◌+◌, ◌<◌, ◌≤◌, ◌≡◌, ◌⊎◌, ◌==◌, Bool, true, false, not, ◌&&◌, ◌||◌, nat_le, nat_lt, if◌then◌else◌, List, [], ◌∷◌, Option, Some, None, slice_get, set, length, map, drop, take, option_map, arith, refl, sym, ap, ◌∙◌, subst, ltb-true, eqb-true, ne_eqb, length-take, ⊎_elim, inl, inr}
 use Rattle.std.proofs.lemmas.Bool.{cond_both, and_parts, cond-true, cond-false, cases_Bool}
 use Rattle.std.proofs.lemmas.List.Quantifiers.{position-Some}
 use Rattle.std.proofs.lemmas.Option.{slice_get_within, get_or_from_slice_get, slice_get-map, slice_get_past}
@@ -14,7 +14,7 @@ use Rattle.spx_link.specs.LinkView.{LinkView, due, is_end, is_working}
 use Rattle.spx_link.specs.Units.{unit_of}
 use Rattle.spx_link.specs.Offer.{the_end}
 use Rattle.spx_link.specs.Receive.{is_system}
-use Rattle.spx_link.specs.Poll.{OutgoingView, plain, with_unit, lost, requests, requests_or_lost, poll_request, may_probe, probes_once, probes_or_lost, poll_probe, acknowledges, poll_ack, late, late_if_working, sends_again, sends_again_or_lost, poll_late, poll_again, may_send, sends, poll_unit, confirms, poll_confirm, replies, poll_reply, poll_at, poll_link}
+use Rattle.spx_link.specs.Poll.{OutgoingView, plain, with_unit, lost, requests, requests_or_lost, poll_request, may_probe, probes_once, probes_or_lost, poll_probe, acknowledges, poll_ack, late, place_below, asked_again, wanted, late_if_working, sends_again, sends_again_or_lost, poll_late, poll_again, may_send, sends, poll_unit, confirms, poll_confirm, replies, poll_reply, poll_at, poll_link}
 use Rattle.spx_link.specs.Machine.{End, IsWithin, one_more_sent, AreSound}
 use Rattle.theory_pairs.specs.Tracks.{Tracks, core, Follows, may_end}
 use Rattle.theory_pairs.specs.Spelling.{Says, PolledTo}
@@ -129,15 +129,31 @@ ack_speaks l now c d s =
     (λ yes. record { to = says_plain l (acknowledges l now).1 c d Sents.Ack false 0 l.peer s refl (λ e. omega (arith, e)); queued = refl; state = inl refl })
     (λ no. probe_speaks l now c d s)
 
+below_count : (count k : ℕ) (o : Option ℕ) → place_below count o ≡ Some k → k < count
+below_count count k None is = absurd (cc)
+below_count count k (Some j) is = by_bool (nat_lt j count) refl is
+  where
+    by_bool : (b : Bool) → nat_lt j count ≡ b → (if b then Some j else None) ≡ Some k → k < count
+    by_bool true less same = let e : j ≡ k = cc in omega (arith, ltb-true _ _ less, e)
+    by_bool false less same = absurd (cc)
+
+wanted_below : (l : LinkView) (now k : ℕ) → wanted l now ≡ Some k → k < l.out
+wanted_below l now k is = by_bool l.by_hand is
+  where
+    by_bool : (b : Bool) → (if b then asked_again l else late l now) ≡ Some k → k < l.out
+    by_bool true same =
+        let at = below_count (length (take l.out l.queue)) k l.again same in
+        omega (arith, at, length-take l.out l.queue)
+    by_bool false same =
+        let q : Queued = record { unit = the_end; at = 0; count = 0 } in
+        let at : k < length (take l.out l.queue) = (position-Some (λ q. due q.at now) (take l.out l.queue) k q same).0 in
+        omega (arith, at, length-take l.out l.queue)
+
 pub late_below : (l : LinkView) (now k : ℕ) → late_if_working l now ≡ Some k → k < l.out
 late_below l now k is =
     ⊎_elim
-    (λ (e : is_working l.state ≡ true).
-    let found : late l now ≡ Some k = sym (cond-true _ _ _ e) ∙ is in
-    let q : Queued = record { unit = the_end; at = 0; count = 0 } in
-    let at : k < length (take l.out l.queue) = (position-Some (λ q. due q.at now) (take l.out l.queue) k q found).0 in
-    omega (arith, at, length-take l.out l.queue))
-    (λ (e : is_working l.state ≡ false). absurd (cc (sym (cond-false (is_working l.state) (late l now) None e) ∙ is)))
+    (λ (e : is_working l.state ≡ true). wanted_below l now k (sym (cond-true _ _ _ e) ∙ is))
+    (λ (e : is_working l.state ≡ false). absurd (cc (sym (cond-false (is_working l.state) (wanted l now) None e) ∙ is)))
     (cases_Bool (is_working l.state))
 
 late_speaks : (l : LinkView) (now : ℕ) (o : Option ℕ) (c d : End) → Stand' l c d → late_if_working l now ≡ o → Speaking l (poll_late l now o) c d
@@ -149,7 +165,7 @@ next_speaks l now c d s =
     cond_both {A = Option OutgoingView × LinkView} (may_send l) (sends l now (slice_get l.queue l.out)) (poll_again l now) (λ r. Speaking l r c d)
     (λ yes.
     let rest = (and_parts _ _ (and_parts _ _ (and_parts _ _ yes).1).1) in
-    unit_speaks l now (slice_get l.queue l.out) c d s (ltb-true _ _ rest.0) (ltb-true _ _ rest.1) refl)
+    unit_speaks l now (slice_get l.queue l.out) c d s (ltb-true _ _ rest.0) (ltb-true _ _ (and_parts _ _ rest.1).0) refl)
     (λ no. late_speaks l now (late_if_working l now) c d s refl)
 
 reply_speaks : (l : LinkView) (now : ℕ) (c d : End) → Stand' l c d → Speaking l (poll_reply l now) c d

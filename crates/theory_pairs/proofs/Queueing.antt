@@ -15,7 +15,7 @@ use Rattle.spx_link.specs.Limits.{most_units, most_sends, end_stream}
 use Rattle.spx_link.specs.SequenceMarks.{mark, distance, acknowledged}
 use Rattle.spx_link.specs.LinkView.{LinkView, due, is_end, is_working, free}
 use Rattle.spx_link.specs.Units.{unit_in, unit_of, queued_units}
-use Rattle.spx_link.specs.Offer.{refusal, queued, offer_link, end_link, take_held, take_link, owe_reply_link, lose_link, dialed, accepted_from, the_end}
+use Rattle.spx_link.specs.Offer.{refusal, queued, offer_link, end_link, take_held, take_link, owe_reply_link, lose_link, pace_link, again_link, dialed, accepted_from, the_end}
 use Rattle.spx_link.specs.Receive.{read_numbers, read_system, read_unit, read_packet, is_system, is_own, is_reply, joined_link, receive_at, receive_link, beyond_expected, put, is_taken, leading, any_end, keep_end, keep_units, settle, keep, in_turn, not_behind, repeated, may_confirm, with_ack_owed}
 use Rattle.spx_link.specs.Poll.{OutgoingView, with_unit, lost, requests, requests_or_lost, poll_request, is_waiting, may_probe, probes_once, probes_or_lost, poll_probe, acknowledges, poll_ack, late_if_working, sends_again, sends_again_or_lost, poll_late, poll_again, may_send, sends, poll_unit, confirms, poll_confirm, replies, poll_reply, poll_at, poll_link}
 use Rattle.theory_pairs.specs.Tracks.{Formed, may_end}
@@ -127,7 +127,11 @@ module _ (units : List Unit) (n : ℕ) where
   next_asked : (l : LinkView) (now : ℕ) → Queues l units n → Asked l (poll_unit l now) units n
   next_asked l now s =
       cond_both {A = Option OutgoingView × LinkView} (may_send l) (sends l now (slice_get l.queue l.out)) (poll_again l now) (λ r. Asked l r units n)
-      (λ yes. unit_asked l now (slice_get l.queue l.out) s (ltb-true _ _ (and_parts (nat_lt 0 l.room) (nat_lt l.out most_units) (and_parts (is_waiting l) (nat_lt 0 l.room && nat_lt l.out most_units) (and_parts (is_working l.state) (is_waiting l && (nat_lt 0 l.room && nat_lt l.out most_units)) yes).1).1).1) refl)
+      (λ yes.
+      let waiting = (and_parts (is_working l.state) (is_waiting l && (nat_lt 0 l.room && (nat_lt l.out most_units && nat_lt l.out l.window))) yes).1 in
+      let room = (and_parts (is_waiting l) (nat_lt 0 l.room && (nat_lt l.out most_units && nat_lt l.out l.window)) waiting).1 in
+      let both = (and_parts (nat_lt 0 l.room) (nat_lt l.out most_units && nat_lt l.out l.window) room).1 in
+      unit_asked l now (slice_get l.queue l.out) s (ltb-true l.out most_units (and_parts (nat_lt l.out most_units) (nat_lt l.out l.window) both).0) refl)
       (λ no. late_asked l now (late_if_working l now) s refl)
 
   reply_asked : (l : LinkView) (now : ℕ) → Queues l units n → Asked l (poll_reply l now) units n
@@ -270,6 +274,12 @@ owes_from l units n s = record { from = from_same l (owe_reply_link l) units n r
 pub loses_from : (l : LinkView) (units : List Unit) (n : ℕ) → Queues l units n → Queues (lose_link l) units n
 loses_from l units n s = record { from = from_same l (lose_link l) units n refl refl refl s.from; formed = s.formed; open' = λ e. absurd (cc e) }
 
+pub paces_from : (l : LinkView) (window : ℕ) (by_hand : Bool) (units : List Unit) (n : ℕ) → Queues l units n → Queues (pace_link l window by_hand) units n
+paces_from l window by_hand units n s = record { from = from_same l (pace_link l window by_hand) units n refl refl refl s.from; formed = s.formed; open' = s.open' }
+
+pub asks_from : (l : LinkView) (place : ℕ) (units : List Unit) (n : ℕ) → Queues l units n → Queues (again_link l place) units n
+asks_from l place units n s = record { from = from_same l (again_link l place) units n refl refl refl s.from; formed = s.formed; open' = s.open' }
+
 more_from : (l m : LinkView) (units us : List Unit) (n : ℕ) → m.next ≡ l.next → m.out ≡ l.out → queued_units m ≡ queued_units l ++ us → SendsFrom l units n → SendsFrom m (units ++ us) n
 more_from l m units us n next out queue f =
     record {
@@ -315,6 +325,8 @@ queue_laws =
       takes = takes_from;
       owes = owes_from;
       loses = loses_from;
+      paces = paces_from;
+      asks = asks_from;
       offers = offers_from;
       ends = ends_from;
       dials = dialed_from;

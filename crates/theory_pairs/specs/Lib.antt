@@ -7,3 +7,4 @@ pub mod Names
 pub mod Lasting
 pub mod Confirmed
 pub mod Allowances
+pub mod PacedLinks

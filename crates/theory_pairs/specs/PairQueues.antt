@@ -1,6 +1,6 @@
 -- What the calls of a link do to the units that it has to send, beside how many of them it sent.
 -- (No premise: whatever was read.)
-use Rattle.std.specs.Prelude.{ℕ, ◌≡◌, ◌<◌, ◌≤◌, ◌+◌, ◌++◌, false, List, [], ◌∷◌, length, drop, Option, None, Some, slice_get}
+use Rattle.std.specs.Prelude.{ℕ, ◌≡◌, ◌<◌, ◌≤◌, ◌+◌, ◌++◌, Bool, false, List, [], ◌∷◌, length, drop, Option, None, Some, slice_get}
 use Rattle.ipx_wire.specs.declared.address.Socket.{Socket}
 use Rattle.ipx_wire.specs.declared.address.Address.{Address}
 use Rattle.ipx_wire.specs.declared.spx.packet.SpxHeader.{SpxHeader}
@@ -13,7 +13,7 @@ use Rattle.spx_link.specs.SequenceMarks.{mark}
 use Rattle.spx_link.specs.Units.{queued_units, unit_in}
 use Rattle.spx_link.specs.Poll.{OutgoingView, poll_link}
 use Rattle.spx_link.specs.Receive.{is_system, receive_link}
-use Rattle.spx_link.specs.Offer.{refusal, offer_link, end_link, take_link, owe_reply_link, lose_link, dialed, accepted_from, the_end}
+use Rattle.spx_link.specs.Offer.{refusal, offer_link, end_link, take_link, owe_reply_link, lose_link, pace_link, again_link, dialed, accepted_from, the_end}
 use Rattle.theory_pairs.specs.Tracks.{Formed, IsOpen}
 
 -- the first n of these units were sent, and the queue holds those from `base` on, of which the
@@ -72,6 +72,10 @@ pub record QueueLaws : Type 0 where
       → Queues l units n → Queues (owe_reply_link l) units n
   pub loses : (l : LinkView) (units : List Unit) (n : ℕ)
       → Queues l units n → Queues (lose_link l) units n
+  pub paces : (l : LinkView) (window : ℕ) (by_hand : Bool) (units : List Unit) (n : ℕ)
+      → Queues l units n → Queues (pace_link l window by_hand) units n
+  pub asks : (l : LinkView) (place : ℕ) (units : List Unit) (n : ℕ)
+      → Queues l units n → Queues (again_link l place) units n
   pub offers : (l : LinkView) (us units : List Unit) (n : ℕ) → refusal l.state ≡ None
       → ((k : ℕ) (u : Unit) → slice_get us k ≡ Some u → u.stream < end_stream)
       → Queues l units n → Queues (offer_link l us) (units ++ us) n

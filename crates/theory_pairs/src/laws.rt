@@ -4,6 +4,7 @@ ghost use Rattle.theory_pairs.specs.Allowances.{AllowanceLaws};
 ghost use Rattle.theory_pairs.specs.Confirmed.{CloseLaws};
 ghost use Rattle.theory_pairs.specs.Lasting.{LastingLaws};
 ghost use Rattle.theory_pairs.specs.Names.{NameLaws};
+ghost use Rattle.theory_pairs.specs.PacedLinks.{PaceLaws};
 ghost use Rattle.theory_pairs.specs.PairQueues.{QueueLaws};
 ghost use Rattle.theory_pairs.specs.States.{StateLaws};
 ghost use Rattle.theory_pairs.specs.PairSteps.{StepLaws};
@@ -36,6 +37,12 @@ pub fn calls_keep_names()
 /// time.
 pub fn calls_keep_what_lasts()
     ensures { LastingLaws }
+{}
+
+/// A window that is set, and a place that is asked for again, leave all that the machine, the names
+/// and the units of a link speak of.
+pub fn pacing_changes_no_core()
+    ensures { PaceLaws }
 {}
 
 /// A link that is confirmed has queued its end, and all that it sent is acknowledged.

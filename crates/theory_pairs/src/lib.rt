@@ -9,5 +9,5 @@ mod laws;
 
 pub use laws::{
     calls_are_steps, calls_keep_names, calls_keep_what_lasts, confirmed_links_are_done,
-    links_send_their_queue, packets_allow_what_was_taken, states_go_on,
+    links_send_their_queue, pacing_changes_no_core, packets_allow_what_was_taken, states_go_on,
 };

@@ -1,24 +1,25 @@
 -- The calls on ends are a deed each, and leave a world in order.
-use Rattle.std.proofs.Common.{◌≡◌, ℕ, false, List, [], ◌∷◌, ◌++◌, length, map, set, Some, None, refl, sym, ◌∙◌, ap, subst, arith}
+use Rattle.std.proofs.Common.{◌≡◌, ℕ, Bool, false, List, [], ◌∷◌, ◌++◌, length, map, set, Some, None, refl, sym, ◌∙◌, ap, subst, arith}
 use Rattle.std.specs.Prelude.{slice_get}
+use Rattle.std.proofs.lemmas.List.{append-nil}
 use Rattle.ipx_wire.specs.declared.address.Network.{Network}
 use Rattle.ipx_wire.specs.declared.address.Node.{Node}
 use Rattle.ipx_wire.specs.declared.address.Socket.{Socket}
 use Rattle.ipx_wire.specs.declared.address.Address.{Address}
 use Rattle.spx_link.specs.LinkView.{LinkView}
-use Rattle.spx_link.specs.Offer.{offer_link, end_link, dialed}
+use Rattle.spx_link.specs.Offer.{offer_link, end_link, pace_link, again_link, dialed}
 use Rattle.spx_units.specs.Message.{MessageView}
 use Rattle.spx_units.specs.Cut.{cut_of}
 use Rattle.theory_log.specs.Note.{Note}
-use Rattle.theory_log.specs.Scene.{Stands, linked, with_entries, put_end}
+use Rattle.theory_log.specs.Scene.{Stand, Stands, linked, with_entries, put_end}
 use Rattle.theory_log.specs.Deeds.{Deed, DoesDeed}
 use Rattle.spx_messages.specs.EndpointView.{Held, held_at}
 use Rattle.theory_steps.specs.World.{World, HostState, EndNow, ParcelView, stand_with, stand_of, home_at, bytes_of, segment_of, scene_of, InOrder, StandsAt, IsHostInOrder}
-use Rattle.theory_steps.specs.EndCalls.{DialsFrom, ChangesLink, SendsTo, Closes, InjectsInto, Ticks}
+use Rattle.theory_steps.specs.EndCalls.{DialsFrom, ChangesLink, ChangesQuietly, SendsTo, Closes, PacesOf, AsksAgainOf, InjectsInto, Ticks}
 use Rattle.theory_steps.specs.DeedRuns.{Deeds}
 use Rattle.theory_steps.proofs.Places.{get_map, get_set_here, map_more, map_same, map_length}
 use Rattle.theory_steps.proofs.Doing.{no_deed, one_deed}
-use Rattle.theory_steps.proofs.Standing.{none_held, held_same, held_stands, held_there, stands_there, ends_changed, made_same, scene_after}
+use Rattle.theory_steps.proofs.Standing.{none_held, held_same, held_stands, held_there, stands_there, ends_changed, made, made_same, scene_after}
 use Rattle.theory_steps.proofs.Finding.{free_id}
 use Rattle.theory_steps.proofs.Keeping.{same_ends, ids_kept, id_comes}
 use Rattle.theory_steps.proofs.KeptBy.{ids_changed}
@@ -106,6 +107,38 @@ closes_deeds old new who o c =
 
 pub closes_kept : (old new : World) (who : ℕ) → InOrder old → Closes old who new → InOrder new
 closes_kept old new who o c = changed_kept old new who end_link (Notes.AsksEnd who) o c
+
+-- ---- a window, and a place that is asked for again
+
+quiet_scene : (old new : World) (who : ℕ) (f : LinkView → LinkView) → InOrder old → (c : ChangesQuietly old who f new)
+    → scene_of new ≡ put_end (scene_of old) who (linked (stand_with c.end' (Some c.held)) (f c.held.link))
+quiet_scene old new who f o c =
+    let after : Held = record c.held { link = f c.held.link } in
+    let stands : List Stand = set (map (stand_of old.hosts) old.ends) who (stand_with c.end' (Some after)) in
+    scene_after old new c.end'.host c.before c.after stands [] c.there c.hosts c.changes.self
+    (ap (map (stand_of (set old.hosts c.end'.host c.after))) c.ends ∙ ends_changed old o c.end'.host c.before c.after who c.end' after c.there c.at c.stands refl c.changes.held c.changes.others)
+    c.parcels (c.log ∙ sym (append-nil old.log))
+    ∙ ap (made (map home_at old.hosts) stands (map bytes_of old.parcels) (map segment_of old.parcels)) (append-nil old.log)
+
+quiet_stands : (old new : World) (who : ℕ) (f : LinkView → LinkView) (c : ChangesQuietly old who f new) → Stands (scene_of old) who (stand_with c.end' (Some c.held)) c.held.link
+quiet_stands old new who f c = record { there = stands_there old.hosts old.ends who c.end' c.before c.held c.at c.stands c.there c.holds; link = refl }
+
+pub quiet_kept : (old new : World) (who : ℕ) (f : LinkView → LinkView) → InOrder old → ChangesQuietly old who f new → InOrder new
+quiet_kept old new who f o c =
+    ids_kept old new o c.end'.host c.before c.after c.there c.hosts c.changes.self c.here
+    (ids_changed c.before.endpoint c.after.endpoint c.end'.id c.held (record c.held { link = f c.held.link }) c.holds c.changes) (same_ends old.ends new.ends c.ends)
+
+pub paces_deeds : (old new : World) (who window : ℕ) (by_hand : Bool) → InOrder old → PacesOf old who window by_hand new → Deeds (scene_of old) (scene_of new)
+paces_deeds old new who window by_hand o c =
+    let f : LinkView → LinkView = λ l. pace_link l window by_hand in
+    one_deed (Scenes.Paces who window by_hand) (scene_of old) (scene_of new)
+    (record { stand = stand_with c.end' (Some c.held); link = c.held.link; stands = quiet_stands old new who f c; after = quiet_scene old new who f o c })
+
+pub asks_deeds : (old new : World) (who place : ℕ) → InOrder old → AsksAgainOf old who place new → Deeds (scene_of old) (scene_of new)
+asks_deeds old new who place o c =
+    let f : LinkView → LinkView = λ l. again_link l place in
+    one_deed (Scenes.AsksAgain who place) (scene_of old) (scene_of new)
+    (record { stand = stand_with c.end' (Some c.held); link = c.held.link; stands = quiet_stands old new who f c; after = quiet_scene old new who f o c })
 
 -- ---- a packet from outside, and the moment
 

@@ -4,12 +4,12 @@ use Rattle.std.proofs.lemmas.List.{append-nil}
 use Rattle.theory_log.specs.Deeds.{Reached}
 use Rattle.theory_steps.specs.World.{World, scene_of, InOrder}
 use Rattle.theory_steps.specs.DeedRuns.{Deeds}
-use Rattle.theory_steps.specs.WorldStep.{WorldStep, Delivered, Polled, Taken, Dialled, Sent, Closed, Released, Refused, Injected, Ticked, Told, Carried}
+use Rattle.theory_steps.specs.WorldStep.{WorldStep, Delivered, Polled, Taken, Dialled, Sent, Closed, Released, Paced, AskedAgain, Refused, Injected, Ticked, Told, Carried}
 use Rattle.theory_steps.proofs.Doing.{reached_after}
 use Rattle.theory_steps.proofs.Delivering.{delivers_deeds, left_alone}
 use Rattle.theory_steps.proofs.Polling.{polls_deeds}
 use Rattle.theory_steps.proofs.Taking.{takes_deeds}
-use Rattle.theory_steps.proofs.Calling.{dials_deeds, dials_kept, sends_deeds, sends_kept, closes_deeds, closes_kept, injects_deeds, ticks_deeds, order_of_same}
+use Rattle.theory_steps.proofs.Calling.{dials_deeds, dials_kept, sends_deeds, sends_kept, closes_deeds, closes_kept, quiet_kept, paces_deeds, asks_deeds, injects_deeds, ticks_deeds, order_of_same}
 use Rattle.theory_steps.proofs.Releasing.{releases_deeds, releases_kept}
 use Rattle.theory_steps.proofs.Routing.{tells_deeds, carries_deeds}
 use Rattle.theory_steps.proofs.KeptBy.{delivers_kept, left_kept, polls_kept, takes_kept}
@@ -22,6 +22,8 @@ step_deeds old new o (Dialled host socket to buffers id d) = dials_deeds old new
 step_deeds old new o (Sent who m d) = sends_deeds old new who m o d
 step_deeds old new o (Closed who d) = closes_deeds old new who o d
 step_deeds old new o (Released who d) = releases_deeds old new who o d
+step_deeds old new o (Paced who window by_hand d) = paces_deeds old new who window by_hand o d
+step_deeds old new o (AskedAgain who place d) = asks_deeds old new who place o d
 step_deeds old new o (Refused host d) = left_alone old new host d.before d.after d.there d.hosts d.same d.ends d.parcels (d.log ∙ sym (append-nil old.log))
 step_deeds old new o (Injected segment next bytes d) = injects_deeds old new segment next bytes d
 step_deeds old new o (Ticked now d) = ticks_deeds old new now d
@@ -36,6 +38,8 @@ step_kept old new o (Dialled host socket to buffers id d) = dials_kept old new h
 step_kept old new o (Sent who m d) = sends_kept old new who m o d
 step_kept old new o (Closed who d) = closes_kept old new who o d
 step_kept old new o (Released who d) = releases_kept old new who o d
+step_kept old new o (Paced who window by_hand d) = quiet_kept old new who _ o d
+step_kept old new o (AskedAgain who place d) = quiet_kept old new who _ o d
 step_kept old new o (Refused host d) = left_kept old new host d.before d.after o d.there d.hosts d.same d.here d.ends
 step_kept old new o (Injected segment next bytes d) = order_of_same old new d.hosts d.ends o
 step_kept old new o (Ticked now d) = order_of_same old new d.hosts d.ends o

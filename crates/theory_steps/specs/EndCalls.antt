@@ -1,5 +1,5 @@
 -- What the calls on ends do to a world, exactly, where they are not refused.
-use Rattle.std.specs.Prelude.{ℕ, ◌≡◌, ◌≢◌, ◌<◌, ◌≤◌, true, false, List, [], ◌∷◌, ◌++◌, length, set, Some, None, slice_get}
+use Rattle.std.specs.Prelude.{ℕ, ◌≡◌, ◌≢◌, ◌<◌, ◌≤◌, Bool, true, false, List, [], ◌∷◌, ◌++◌, length, set, Some, None, slice_get}
 use Rattle.ipx_wire.specs.declared.address.Network.{Network}
 use Rattle.ipx_wire.specs.declared.address.Node.{Node}
 use Rattle.ipx_wire.specs.declared.address.Socket.{Socket}
@@ -7,7 +7,7 @@ use Rattle.ipx_wire.specs.declared.address.Address.{Address}
 use Rattle.spx_link.specs.Limits.{end_stream, most_units, most_links}
 use Rattle.spx_link.specs.LinkView.{LinkView}
 use Rattle.spx_link.specs.Links.{count_of, IsNextFree}
-use Rattle.spx_link.specs.Offer.{refusal, offer_link, end_link, dialed}
+use Rattle.spx_link.specs.Offer.{refusal, offer_link, end_link, pace_link, again_link, dialed}
 use Rattle.spx_units.specs.Message.{MessageView}
 use Rattle.spx_units.specs.Cut.{cut_of}
 use Rattle.theory_log.specs.Note.{Note}
@@ -62,6 +62,32 @@ pub record SendsTo (old : World) (who : ℕ) (m : MessageView) (new : World) : T
 
 abbrev pub Closes : World → ℕ → World → Type 0
 Closes old who new = ChangesLink old who end_link (Notes.AsksEnd who) new
+
+-- the link of an end becomes another one, whatever its state, and nothing is noted
+pub record ChangesQuietly (old : World) (who : ℕ) (f : LinkView → LinkView)
+    (new : World) : Type 0 where
+  pub end' : EndNow
+  pub at : slice_get old.ends who ≡ Some end'
+  pub stands : end'.released ≡ false
+  pub before : HostState
+  pub there : slice_get old.hosts end'.host ≡ Some before
+  pub after : HostState
+  pub held : Held
+  pub holds : held_at before.endpoint end'.id ≡ Some held
+  pub changes : ChangesEnd before.endpoint after.endpoint end'.id
+      (record held { link = f held.link })
+  pub here : after.here ≡ before.here
+  pub hosts : new.hosts ≡ set old.hosts end'.host after
+  pub ends : new.ends ≡ old.ends
+  pub parcels : new.parcels ≡ old.parcels
+  pub log : new.log ≡ old.log
+  pub moment : new.moment ≡ old.moment
+
+abbrev pub PacesOf : World → ℕ → ℕ → Bool → World → Type 0
+PacesOf old who window by_hand new = ChangesQuietly old who (λ l. pace_link l window by_hand) new
+
+abbrev pub AsksAgainOf : World → ℕ → ℕ → World → Type 0
+AsksAgainOf old who place new = ChangesQuietly old who (λ l. again_link l place) new
 
 pub record ReleasesOf (old : World) (who : ℕ) (new : World) : Type 0 where
   pub end' : EndNow

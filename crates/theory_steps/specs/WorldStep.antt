@@ -1,5 +1,5 @@
 -- One event that a network takes.
-use Rattle.std.specs.Prelude.{ℕ, List, Option, Result}
+use Rattle.std.specs.Prelude.{ℕ, Bool, List, Option, Result}
 use Rattle.ipx_wire.specs.declared.address.Network.{Network}
 use Rattle.ipx_wire.specs.declared.address.Node.{Node}
 use Rattle.ipx_wire.specs.declared.address.Socket.{Socket}
@@ -10,7 +10,7 @@ use Rattle.spx_messages.specs.declared.fault.EndFault.{EndFault}
 use Rattle.spx_messages.specs.Taking.{TakenView}
 use Rattle.theory_steps.specs.World.{World, ParcelView}
 use Rattle.theory_steps.specs.HostSteps.{Delivers, PollsHost, TakesOf}
-use Rattle.theory_steps.specs.EndCalls.{DialsFrom, SendsTo, Closes, ReleasesOf, RefusesAt, InjectsInto, Ticks}
+use Rattle.theory_steps.specs.EndCalls.{DialsFrom, SendsTo, Closes, ReleasesOf, PacesOf, AsksAgainOf, RefusesAt, InjectsInto, Ticks}
 use Rattle.theory_steps.specs.Routers.{GivesOwnLetters, CarriesOn}
 
 pub data WorldStep (old new : World) : Type 0 where
@@ -23,6 +23,8 @@ pub data WorldStep (old new : World) : Type 0 where
   Sent : (who : ℕ) (m : MessageView) → SendsTo old who m new → WorldStep old new
   Closed : (who : ℕ) → Closes old who new → WorldStep old new
   Released : (who : ℕ) → ReleasesOf old who new → WorldStep old new
+  Paced : (who window : ℕ) (by_hand : Bool) → PacesOf old who window by_hand new → WorldStep old new
+  AskedAgain : (who place : ℕ) → AsksAgainOf old who place new → WorldStep old new
   Refused : (host : ℕ) → RefusesAt old host new → WorldStep old new
   Injected : (segment : Network) (next : Node) (bytes : List ℕ)
       → InjectsInto old segment next bytes new → WorldStep old new

@@ -161,6 +161,26 @@ impl Links {
         self.links[place].owe_reply();
     }
 
+    /// What `Link::pace` does, by a live id.
+    pub fn pace(&mut self, id: u16, window: u16, by_hand: bool)
+        requires { IsLive self.old id }
+        ensures { IfSome (link_at self.old id)
+            (λ l. ChangesOnly self.old self.new id (O.pace_link l window by_hand)) }
+    {
+        let place = place_of(&self.links, id);
+        self.links[place].pace(window, by_hand);
+    }
+
+    /// What `Link::again` does, by a live id.
+    pub fn again(&mut self, id: u16, place: u16)
+        requires { IsLive self.old id }
+        ensures { IfSome (link_at self.old id)
+            (λ l. ChangesOnly self.old self.new id (O.again_link l place)) }
+    {
+        let at = place_of(&self.links, id);
+        self.links[at].again(place);
+    }
+
     /// What `Link::lose` does, by a live id.
     pub fn lose(&mut self, id: u16)
         requires { IsLive self.old id }

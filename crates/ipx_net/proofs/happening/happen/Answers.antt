@@ -45,6 +45,12 @@ returns-in-Release-clause-memory c =
 pub returns-in-Tick-clause-memory : goal.returns-in-Tick-clause-memory
 returns-in-Tick-clause-memory c = λ made. absurd (quiet_is_none c.quiet.result _ c.quiet.ensures made)
 
+pub returns-in-Pace-clause-memory : goal.returns-in-Pace-clause-memory
+returns-in-Pace-clause-memory c = λ made. absurd (quiet_is_none c.pace.result _ c.pace.ensures.quiet made)
+
+pub returns-in-Again-clause-memory : goal.returns-in-Again-clause-memory
+returns-in-Again-clause-memory c = λ made. absurd (quiet_is_none c.again.result _ c.again.ensures.quiet made)
+
 pub returns-in-Poll-clause-memory : goal.returns-in-Poll-clause-memory
 returns-in-Poll-clause-memory c =
     subst (λ (e : Event). IsMade c.poll.result → EventWantsMemory (before c.args.hosts.now c.args.routers.now c.args.book.now c.args.moment.now) e) (sym c.in-Poll.is) c.poll.ensures.memory

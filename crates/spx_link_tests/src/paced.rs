@@ -1,0 +1,146 @@
+//! Links with a window, and units that go again by hand.
+
+use crate::end::{End, joined, one_unit, system};
+use spx_link::{Sent, State};
+use std::alloc::Global;
+use std::process::Abort;
+use std::test::Fail;
+
+/// An end by hand, of which so many units are outstanding, sent at 0, and none waits.
+fn by_hand(rt: &impl Abort, alloc: Global, count: u8) -> Result<End, Fail> {
+    let mut end = joined(rt, alloc, 7)?;
+    end.pace(8192, true);
+    for byte in 0..count {
+        end.offer(one_unit(alloc, byte)?)?;
+        assert_eq!(rt; end.sent(0), Some(Sent::Unit));
+    }
+    assert_eq!(rt; end.sent(0), None);
+    Ok(end)
+}
+
+/// What a poll sends, and its number.
+fn numbered(end: &mut End, now: u64) -> Option<(Sent, u16)> {
+    let (what, header) = end.poll(now)?;
+    Some((what, header.seq))
+}
+
+/// A window of 2 gives two of three units, and one of 3 the third.
+#[test]
+fn window_of_two(rt: HostRuntime) -> Result<(), Fail> {
+    let mut end = joined(&rt, rt.alloc(), 7)?;
+    end.pace(2, true);
+    for byte in 0..3 {
+        end.offer(one_unit(rt.alloc(), byte)?)?;
+    }
+    assert_eq!(rt; numbered(&mut end, 0), Some((Sent::Unit, 0)));
+    assert_eq!(rt; numbered(&mut end, 0), Some((Sent::Unit, 1)));
+    assert_eq!(rt; end.sent(0), None);
+    assert_eq!(rt; end.next_due(), None);
+    end.pace(3, true);
+    assert_eq!(rt; end.next_due(), Some(0));
+    assert_eq!(rt; numbered(&mut end, 0), Some((Sent::Unit, 2)));
+    Ok(())
+}
+
+/// A window of 0 holds new units back.
+#[test]
+fn window_of_none(rt: HostRuntime) -> Result<(), Fail> {
+    let mut end = joined(&rt, rt.alloc(), 7)?;
+    end.pace(0, false);
+    end.offer(one_unit(rt.alloc(), 0)?)?;
+    assert_eq!(rt; end.next_due(), None);
+    assert_eq!(rt; end.sent(0), None);
+    end.pace(9000, false);
+    assert_eq!(rt; end.sent(0), Some(Sent::Unit));
+    Ok(())
+}
+
+/// By hand nothing goes again by itself.
+#[test]
+fn nothing_by_itself(rt: HostRuntime) -> Result<(), Fail> {
+    let mut end = by_hand(&rt, rt.alloc(), 2)?;
+    assert_eq!(rt; end.next_due(), None);
+    assert_eq!(rt; end.sent(500), None);
+    assert_eq!(rt; end.sent(5000), None);
+    Ok(())
+}
+
+/// The unit that is asked for goes under its own number, once.
+#[test]
+fn the_second_again(rt: HostRuntime) -> Result<(), Fail> {
+    let mut end = by_hand(&rt, rt.alloc(), 3)?;
+    end.again(1);
+    assert_eq!(rt; end.next_due(), Some(0));
+    assert_eq!(rt; numbered(&mut end, 20), Some((Sent::Again, 1)));
+    assert_eq!(rt; end.sent(20), None);
+    assert_eq!(rt; end.next_due(), None);
+    Ok(())
+}
+
+/// A place at which no unit is outstanding gives nothing, nor does one before the window is set anew.
+#[test]
+fn no_such_place(rt: HostRuntime) -> Result<(), Fail> {
+    let mut end = by_hand(&rt, rt.alloc(), 3)?;
+    end.again(3);
+    assert_eq!(rt; end.next_due(), None);
+    assert_eq!(rt; end.sent(20), None);
+    end.again(2);
+    end.pace(8192, true);
+    assert_eq!(rt; end.next_due(), None);
+    assert_eq!(rt; end.sent(20), None);
+    Ok(())
+}
+
+/// An acknowledgement between the call and the poll: the place counts from the new first unit.
+#[test]
+fn acknowledged_between(rt: HostRuntime) -> Result<(), Fail> {
+    let mut end = by_hand(&rt, rt.alloc(), 3)?;
+    end.again(1);
+    end.receive(&system(1, 8), &[], 10)?;
+    assert_eq!(rt; numbered(&mut end, 20), Some((Sent::Again, 2)));
+    end.again(1);
+    end.receive(&system(2, 9), &[], 30)?;
+    assert_eq!(rt; end.next_due(), None);
+    assert_eq!(rt; end.sent(40), None);
+    Ok(())
+}
+
+/// Ten sends of one unit by hand, and where the eleventh is asked for the link is lost.
+#[test]
+fn ten_by_hand(rt: HostRuntime) -> Result<(), Fail> {
+    let mut end = by_hand(&rt, rt.alloc(), 1)?;
+    for now in 1..10 {
+        end.again(0);
+        assert_eq!(rt; numbered(&mut end, now), Some((Sent::Again, 0)));
+    }
+    assert_eq!(rt; end.state(), Some(State::Live));
+    end.again(0);
+    assert_eq!(rt; end.sent(10), None);
+    assert_eq!(rt; end.state(), Some(State::Lost));
+    Ok(())
+}
+
+/// Back to the clock, a unit that was sent over 500 ms ago goes at once.
+#[test]
+fn back_to_the_clock(rt: HostRuntime) -> Result<(), Fail> {
+    let mut end = by_hand(&rt, rt.alloc(), 1)?;
+    assert_eq!(rt; end.sent(600), None);
+    end.pace(8192, false);
+    assert_eq!(rt; end.next_due(), Some(500));
+    assert_eq!(rt; numbered(&mut end, 600), Some((Sent::Again, 0)));
+    assert_eq!(rt; end.next_due(), Some(1100));
+    Ok(())
+}
+
+/// By the clock a place that is asked for changes nothing.
+#[test]
+fn asked_by_the_clock(rt: HostRuntime) -> Result<(), Fail> {
+    let mut end = joined(&rt, rt.alloc(), 7)?;
+    end.offer(one_unit(rt.alloc(), 0)?)?;
+    assert_eq!(rt; end.sent(0), Some(Sent::Unit));
+    end.again(0);
+    assert_eq!(rt; end.next_due(), Some(500));
+    assert_eq!(rt; end.sent(499), None);
+    assert_eq!(rt; numbered(&mut end, 500), Some((Sent::Again, 0)));
+    Ok(())
+}

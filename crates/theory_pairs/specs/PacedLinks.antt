@@ -1,0 +1,21 @@
+-- A window, and a place that is asked for again: what the machine, the names and the units speak of
+-- stays under both calls.
+use Rattle.std.specs.Prelude.{ℕ, ◌≡◌, Bool}
+use Rattle.spx_link.specs.LinkView.{LinkView}
+use Rattle.spx_link.specs.Units.{queued_units}
+use Rattle.spx_link.specs.Offer.{again_link, pace_link}
+use Rattle.theory_pairs.specs.Lasting.{lasting}
+use Rattle.theory_pairs.specs.Names.{names}
+use Rattle.theory_pairs.specs.Tracks.{core}
+
+pub record SameButPace (l k : LinkView) : Type 0 where
+  pub core : core k ≡ core l
+  pub names : names k ≡ names l
+  pub lasting : lasting k ≡ lasting l
+  pub queue : queued_units k ≡ queued_units l
+  pub state : k.state ≡ l.state
+  pub end_queued : k.end_queued ≡ l.end_queued
+
+pub record PaceLaws : Type 0 where
+  pub paces : (l : LinkView) (window : ℕ) (by_hand : Bool) → SameButPace l (pace_link l window by_hand)
+  pub asks : (l : LinkView) (place : ℕ) → SameButPace l (again_link l place)
