@@ -7,6 +7,7 @@ pub mod Circles
 pub mod Own
 pub mod Bursting
 pub mod Ports
+pub mod Numbered
 pub mod Rounds
 pub mod Parts
 pub mod Addresses

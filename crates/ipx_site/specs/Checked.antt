@@ -59,6 +59,11 @@ port_text number p =
     codes "port " ++ (decimal number ++ (codes " " ++ (place_text p
     ++ (codes " udp " ++ (reached_text p.address p.udp_port ++ (codes " " ++ dealings_text p))))))
 
+-- the lines of its ports, of which the first has this number
+abbrev pub port_texts : ℕ → List SitePort → List (List ℕ)
+port_texts number [] = []
+port_texts number (p ∷ ps) = port_text number p ∷ port_texts (number + 1) ps
+
 -- ---- remarks: what a router starts with, or can't, and is no fault of the file
 
 -- what is said of the port with this number

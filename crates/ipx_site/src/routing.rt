@@ -15,7 +15,7 @@ use crate::running_router::{Parts, RunningRouter};
 use crate::site::{Accept, SiteFile, SitePort};
 use crate::sockets::SiteSockets;
 use crate::sparing::Sparing;
-use crate::start_lines::port_to_text;
+use crate::start_lines::ports_to_texts;
 use ipx_carrier::{RouterCore, node_of};
 use ipx_router::{NewFault, Port, Router};
 use log::{Log, info, warn};
@@ -142,35 +142,21 @@ fn guards_of(alloc: Global, ports: &[SitePort]) -> Result<Vec<Guard>, AllocError
     Ok(guards)
 }
 
-/// Tells a port, as the router starts.
-fn tell_port<R: Log>(
-    rt: &R,
-    alloc: Global,
-    number: usize,
-    port: &SitePort,
-    room: u32,
-) -> Result<(), AllocError> {
-    let line = port_to_text(alloc, number, port)?;
+/// Tells the line of a port, as the router starts, and the room of its socket.
+fn tell_port<R: Log>(rt: &R, number: usize, line: &str, room: u32) {
     info!(rt; target: "ipx", "{line} room {room}");
     if room < SOCKET_ROOM {
         warn!(rt; target: "ipx",
             "port {number}: its socket holds {room} bytes: \
              net.core.rmem_max = {SOCKET_ROOM} gives it what it asks for");
     }
-    Ok(())
 }
 
-fn tell_ports<R: Log>(
-    rt: &R,
-    alloc: Global,
-    ports: &[SitePort],
-    sockets: &SiteSockets,
-) -> Result<(), AllocError> {
-    for (place, port) in ports.iter().enumerate() {
+fn tell_ports<R: Log>(rt: &R, lines: &[String], sockets: &SiteSockets) {
+    for (place, line) in lines.iter().enumerate() {
         let room = sockets.room(place).unwrap_or(0);
-        tell_port(rt, alloc, place + 1, port, room)?;
+        tell_port(rt, place + 1, line, room);
     }
-    Ok(())
 }
 
 /// A router of a file, with its sockets bound.
@@ -196,9 +182,11 @@ fn start<'a, R: Net + Log + SystemClock>(
     let core = core_of(alloc, &site.ports)?;
     let peers = peers_by_port(alloc, &site.ports)?;
     let guards = guards_of(alloc, &site.ports)?;
+    // All lines are made before the first is told: where memory is refused, nothing else is.
+    let lines = ports_to_texts(alloc, &site.ports)?;
     let sockets = SiteSockets::bind(rt, alloc, &site.ports)?;
     let ready = Readiness::new(rt, alloc, &sockets)?;
-    tell_ports(rt, alloc, &site.ports, &sockets)?;
+    tell_ports(rt, &lines, &sockets);
     let parts = Parts {
         core,
         device: PeersOnly::new(sockets, guards),

@@ -13,3 +13,4 @@ pub mod Dialed
 pub mod Reading
 pub mod Rounded
 pub mod Slept
+pub mod Coming

@@ -29,7 +29,7 @@ impl<'a, R: Net + Log + Clock + Eprint> SendingHost<'a, R> {
         ensures core { self.new.station.core
             ≡ record self.old.station.core { endpoint = self.new.station.core.endpoint } }
         ensures clock { self.new.station.clock ≡ self.old.station.clock }
-        ensures peers { self.new.station.wire.peers ≡ self.old.station.wire.peers }
+        ensures wire { self.new.station.wire ≡ self.old.station.wire }
         ensures readiness { self.new.station.readiness ≡ self.old.station.readiness }
         ensures id { self.new.id ≡ self.old.id }
         ensures joined { self.new.joined ≡ self.old.joined }
@@ -84,7 +84,7 @@ impl<'a, R: Net + Log + Clock + Eprint> SendingHost<'a, R> {
         ensures core { self.new.station.core
             ≡ record self.old.station.core { endpoint = self.new.station.core.endpoint } }
         ensures clock { self.new.station.clock ≡ self.old.station.clock }
-        ensures peers { self.new.station.wire.peers ≡ self.old.station.wire.peers }
+        ensures wire { self.new.station.wire ≡ self.old.station.wire }
         ensures readiness { self.new.station.readiness ≡ self.old.station.readiness }
         ensures id { self.new.id ≡ self.old.id }
         ensures joined { self.new.joined ≡ self.old.joined }
@@ -111,7 +111,7 @@ impl<'a, R: Net + Log + Clock + Eprint> SendingHost<'a, R> {
         ensures core { self.new.station.core
             ≡ record self.old.station.core { endpoint = self.new.station.core.endpoint } }
         ensures clock { self.new.station.clock ≡ self.old.station.clock }
-        ensures peers { self.new.station.wire.peers ≡ self.old.station.wire.peers }
+        ensures wire { self.new.station.wire ≡ self.old.station.wire }
         ensures readiness { self.new.station.readiness ≡ self.old.station.readiness }
         ensures id { self.new.id ≡ self.old.id }
         ensures joined { self.new.joined ≡ self.old.joined }

@@ -19,6 +19,7 @@ mod leaving;
 mod ledger;
 mod listen;
 mod listening;
+mod noting;
 mod outlet;
 mod resting;
 mod room;

@@ -11,12 +11,14 @@ ghost use Rattle.ipx_carrier.specs.declared.fault.RunFault.TheVariants as RunFau
 ghost use Rattle.ipx_wire.specs.declared.address.Socket.{Socket};
 ghost use Rattle.spx_link.specs.Links.{count_of};
 ghost use Rattle.spx_messages.specs.EndpointView.{buffers_at, held_at};
+ghost use Rattle.ipx_transfer.specs.Callers.{raised_if};
 ghost use Rattle.ipx_transfer.specs.Company.{guarded_host};
 ghost use Rattle.ipx_transfer.specs.Sleeping.{IsSleep};
 ghost use Rattle.ipx_transfer.specs.Turning.{TakesTurn, gives, hears, misses, withholds};
 
 use crate::company::guard_of;
 use crate::end_core::{EndCore, copy_origins};
+use crate::leaving::count_if;
 use crate::room::tell_room;
 use crate::start::{StartFault, check_streams};
 use crate::telling::{Counts, Telling};
@@ -59,7 +61,8 @@ pub struct RunningHost<'a, R: Clock> {
     wire: Wire,
     clock: SteadyClock<'a, R>,
     readiness: Readiness,
-    unheard: u64,
+    /// How often memory was refused.
+    refused: u64,
     telling: Telling,
 }
 
@@ -150,7 +153,7 @@ impl<'a, R: Net + Log + Clock> RunningHost<'a, R> {
             wire: Wire::new(sockets, guards, peers),
             clock: SteadyClock::new(rt),
             readiness,
-            unheard: 0,
+            refused: 0,
             telling: Telling::new(),
         })
     }
@@ -159,11 +162,20 @@ impl<'a, R: Net + Log + Clock> RunningHost<'a, R> {
     pub fn watch(&mut self, fd: Option<RawFd>)
         ensures core { self.new.core ≡ self.old.core }
         ensures clock { self.new.clock ≡ self.old.clock }
-        ensures peers { self.new.wire.peers ≡ self.old.wire.peers }
+        ensures wire { self.new.wire ≡ self.old.wire }
     {
         if let Some(fd) = fd {
             let _ = self.readiness.watch_reading(fd);
         }
+    }
+
+    /// Counts that memory was refused, where it was.
+    pub fn count_refusal(&mut self, is_refused: bool)
+        ensures { self.new ≡ record self.old {
+          refused = raised_if is_refused self.old.refused;
+        } }
+    {
+        self.refused = count_if(is_refused, self.refused);
     }
 
     /// The moment of the last turn, in milliseconds from the start.
@@ -192,7 +204,7 @@ impl<'a, R: Net + Log + Clock> RunningHost<'a, R> {
             kept: self.wire.device.kept(),
             barred: self.core.barred(),
             system: self.wire.device.device().faults(),
-            memory: self.unheard,
+            memory: self.refused,
         };
         self.telling.tell(rt, counts, self.core.moment());
         turn
@@ -220,7 +232,7 @@ impl<'a, R: Net + Log + Clock> RunningHost<'a, R> {
                 active: report.heard > 0 || report.sent > 0 || report.unmapped > 0 || kept,
             },
             Err(OutOfMemory) => {
-                self.unheard = self.unheard.saturating_add(1);
+                self.refused = self.refused.saturating_add(1);
                 Activity {
                     heard: false,
                     kept,

@@ -1,11 +1,14 @@
 //! A host that sends: what it sees of its link after each turn, and how its transfer ends.
 
-ghost use Rattle.std.specs.Prelude.{◌≡◌, ◌<◌, ◌≤◌, ◌+◌, ◌↔◌, ◌⊎◌, ℕ, List, false, true, length, IfOk, IsTrue, Err, Ok, None, Option, Some};
+ghost use Rattle.std.specs.Prelude.{◌≡◌, ◌<◌, ◌≤◌, ◌+◌, ◌↔◌, ◌⊎◌, ◌∷◌, [], ℕ, List, false, true, length, map, IfOk, IsTrue, Err, Ok, None, Option, Some};
 ghost use Rattle.std.specs.Io.KnownBytes.{IsAtEnd};
 ghost use Rattle.ipx_carrier.specs.Turns.{peers_of};
+ghost use Rattle.ipx_site.specs.SitePeers.{kept_in};
+ghost use Rattle.ipx_site.specs.SitePorts.{access_by, guarding};
 ghost use Rattle.ipx_wire.specs.declared.address.Address.{Address};
 ghost use Rattle.spx_messages.specs.EndpointView.{held_at};
 ghost use Rattle.ipx_transfer.specs.Books.{EntersAcknowledged};
+ghost use Rattle.ipx_transfer.specs.Company.{dialed_ip as ip_dialed, guarded_host};
 ghost use Rattle.ipx_transfer.specs.SendRounds.{EndsWith, IsSendStep, LastsOn, Transfers, place};
 ghost use Rattle.ipx_transfer.specs.Sent.{IsDialing};
 ghost use Rattle.ipx_transfer.specs.Sleeping.{MayWait, longest_wait};
@@ -78,10 +81,13 @@ impl<'a, R: Net + Log + Clock + Eprint> SendingHost<'a, R> {
         to: Address,
         shows: bool,
     ) -> Result<SendingHost<'a, R>, StartFault>
-        ensures { IfOk result (λ s. (known : Option (List ℕ)) → IsDialing file.now to
+        ensures dialing { IfOk result (λ s. (known : Option (List ℕ)) → IsDialing file.now to
             (place s.station.clock s.station.core (noted s.joined s.left)
             s.read s.closed s.ledger known)
             (peers_of s.station.wire.peers.items) s.id) }
+        // It hears and sends to whom its file says, and the node that it dials.
+        ensures guard { IfOk result (λ s. map guarding s.station.wire.device.guards.items
+            ≡ guarded_host file.now (ip_dialed file.now to) ∷ []) }
     {
         let mut station = RunningHost::open(rt, alloc, file, dialed_ip(file, to))?;
         let gate = Gate::new(rt, alloc, STDIN, Interest::READABLE);
@@ -110,7 +116,7 @@ impl<'a, R: Net + Log + Clock + Eprint> SendingHost<'a, R> {
         ensures state { result ≡ state_at self.old.station.core.endpoint self.old.id }
         ensures core { self.new.station.core ≡ self.old.station.core }
         ensures clock { self.new.station.clock ≡ self.old.station.clock }
-        ensures peers { self.new.station.wire.peers ≡ self.old.station.wire.peers }
+        ensures wire { self.new.station.wire ≡ self.old.station.wire }
         ensures readiness { self.new.station.readiness ≡ self.old.station.readiness }
         ensures id { self.new.id ≡ self.old.id }
         ensures read { self.new.read ≡ self.old.read }
@@ -160,7 +166,7 @@ impl<'a, R: Net + Log + Clock + Eprint> SendingHost<'a, R> {
     fn show(&mut self, rt: &R)
         ensures core { self.new.station.core ≡ self.old.station.core }
         ensures clock { self.new.station.clock ≡ self.old.station.clock }
-        ensures peers { self.new.station.wire.peers ≡ self.old.station.wire.peers }
+        ensures wire { self.new.station.wire ≡ self.old.station.wire }
         ensures readiness { self.new.station.readiness ≡ self.old.station.readiness }
         ensures id { self.new.id ≡ self.old.id }
         ensures joined { self.new.joined ≡ self.old.joined }
@@ -181,6 +187,9 @@ impl<'a, R: Net + Log + Clock + Eprint> SendingHost<'a, R> {
 
     /// Takes a turn, and reads. It answers whether there may be more to do at once.
     fn step<I: Read>(&mut self, rt: &R, alloc: Global, reader: &mut I) -> Result<bool, SendOutcome>
+        // Behind what was kept back more may lie.
+        ensures kept { kept_in self.old.station.wire.device.kept
+            < kept_in self.new.station.wire.device.kept → IfOk result IsTrue }
         ensures id { self.new.id ≡ self.old.id }
         // It notes, tells and feeds by what the turn left.
         ensures steps { IsSendStep IsFeedFault
@@ -194,6 +203,8 @@ impl<'a, R: Net + Log + Clock + Eprint> SendingHost<'a, R> {
             (λ old moment new. (old.last ≤ moment) × (new.last ≡ moment))
             (peers_of self.old.station.wire.peers.items) self.old.id }
         ensures peers { self.new.station.wire.peers ≡ self.old.station.wire.peers }
+        ensures access { map access_by self.new.station.wire.device.guards.items
+            ≡ map access_by self.old.station.wire.device.guards.items }
         ensures readiness { self.new.station.readiness ≡ self.old.station.readiness }
         ensures done { result ≡ Err Verdicts.Done
             → IsWholeAt self.new.station.core.endpoint self.new.id }
@@ -232,6 +243,10 @@ impl<'a, R: Net + Log + Clock + Eprint> SendingHost<'a, R> {
         alloc: Global,
         reader: &mut I,
     ) -> Result<(), SendOutcome>
+        // Behind what was kept back more may lie: it does not wait.
+        ensures kept { kept_in self.old.station.wire.device.kept
+            < kept_in self.new.station.wire.device.kept →
+            self.new.station.readiness.asked ≡ self.old.station.readiness.asked }
         ensures id { self.new.id ≡ self.old.id }
         // It notes, tells and feeds by what the turn left.
         ensures steps { IsSendStep IsStepFault
@@ -245,6 +260,8 @@ impl<'a, R: Net + Log + Clock + Eprint> SendingHost<'a, R> {
             (λ old moment new. (old.last ≤ moment) × (new.last ≡ moment))
             (peers_of self.old.station.wire.peers.items) self.old.id }
         ensures peers { self.new.station.wire.peers ≡ self.old.station.wire.peers }
+        ensures access { map access_by self.new.station.wire.device.guards.items
+            ≡ map access_by self.old.station.wire.device.guards.items }
         // It waits only as long as no link has anything to do; and a second at most where it shows
         // how far it is, or the end of the peer was seen.
         ensures waits { MayWait self.new.shows self.new.left self.new.station.core

@@ -12,7 +12,7 @@ pub struct Counts {
     pub barred: u64,
     /// Datagrams that the system refused.
     pub system: u64,
-    /// Turns that ended since memory was refused.
+    /// How often memory was refused: for a turn, or to ask a connection whether it is there.
     pub memory: u64,
 }
 

@@ -8,7 +8,7 @@ pub new-requires-4-clause-sockets : goal.new-requires-4-clause-sockets
 new-requires-4-clause-sockets g c =
     let ports = ap length (c.in_ok-core.ensures.router ∙ ap router_ports c.deref.ensures.value) ∙ length-map c.args.site.ports.items router_port_of in
     ap (λ d. length d.sockets.items) c.new-2.ensures.device
-    ∙ same_length (λ s. s.udp_port) (λ p. p.udp_port) c.in_ok-sockets.sockets.sockets.items c.args.site.ports.items (c.in_ok-sockets.ensures ∙ ap udp_ports c.deref-4.ensures.value)
+    ∙ same_length (λ s. s.udp_port) (λ p. p.udp_port) c.in_ok-sockets.sockets.sockets.items c.args.site.ports.items (c.in_ok-sockets.ensures ∙ ap udp_ports c.deref-5.ensures.value)
     ∙ sym ports
 
 pub new-requires-4-clause-lists : goal.new-requires-4-clause-lists
