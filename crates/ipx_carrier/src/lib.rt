@@ -40,4 +40,4 @@ pub use report::Report;
 pub use router_core::RouterCore;
 pub use running::{run, run_segments};
 pub use segments::{PacketSent, Segments};
-pub use udp::{UDP_PORT, UdpDatagrams};
+pub use udp::{UDP_PORT, UdpDatagrams, place_of};

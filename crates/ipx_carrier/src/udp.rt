@@ -1,5 +1,7 @@
 //! Datagrams over UDP (RFC 1234, Tunneling IPX Traffic through IP Networks).
 
+ghost use Rattle.std.specs.Net.Addr.{ipv4_octets};
+ghost use Rattle.std.specs.Net.Socket.{v4_ip, v4_port};
 ghost use Rattle.std.specs.Prelude.{◌≡◌, IfOk, length};
 
 use crate::datagrams::Datagrams;
@@ -21,8 +23,11 @@ pub struct UdpDatagrams {
     failures: u64,
 }
 
-/// Where an IP address is reached by UDP.
-fn place_of(ip: [u8; 4], port: u16) -> SocketAddrV4 {
+/// Where an IP address is reached by UDP, at a port of UDP.
+pub fn place_of(ip: [u8; 4], port: u16) -> SocketAddrV4
+    ensures ip { ipv4_octets (v4_ip result) ≡ ip }
+    ensures port { v4_port result ≡ port }
+{
     SocketAddrV4::new(Ipv4Addr::new(ip[0], ip[1], ip[2], ip[3]), port)
 }
 

@@ -17,3 +17,4 @@ pub mod Bursts
 pub mod Leisure
 pub mod RouterRounds
 pub mod Checked
+pub mod Senders
