@@ -24,6 +24,11 @@ none = record {
   table_full = 0;
 }
 
+-- how many datagrams these are, whatever became of them
+abbrev pub outcomes_in : OutcomeCounts → ℕ
+outcomes_in f = f.forwarded + f.answered + f.heard + f.bad + f.propagated + f.not_ours + f.no_route
+    + f.hop_limit + f.bad_control + f.table_full
+
 -- one more datagram was dropped, for this reason
 abbrev pub fated_by : Reason → OutcomeCounts → OutcomeCounts
 fated_by (Bad fault) f = record f { bad = raised f.bad }

@@ -18,3 +18,4 @@ pub mod Leisure
 pub mod RouterRounds
 pub mod Checked
 pub mod Senders
+pub mod RouterFigures
