@@ -3,7 +3,7 @@
 ghost use Rattle.std.specs.Prelude.{◌≡◌, ◌≤◌, ◌⊎◌, [], All, IfErr, IfOk, OnOk, is_ok, if◌then◌else◌, map};
 ghost use Rattle.ipx_router.specs.NewRouter.{IsOwnNetwork};
 ghost use Rattle.ipx_carrier.specs.Turns.{peers_of};
-ghost use Rattle.ipx_site.specs.SitePorts.{GuardPorts, guarded, guarding, heard_at_port, named, router_port_of, router_ports, site_peers, udp_ports};
+ghost use Rattle.ipx_site.specs.SitePorts.{GuardPorts, access_by, access_of, heard_at_port, named, router_port_of, router_ports, site_peers, udp_ports};
 
 use crate::bind_fault::BindFault;
 use crate::clock::SteadyClock;
@@ -117,7 +117,7 @@ fn port_routers(alloc: Global, port: &SitePort) -> Result<Option<Vec<[u8; 4]>>, 
 
 /// The guard of a port.
 fn guard_of(alloc: Global, port: &SitePort) -> Result<Guard, AllocError>
-    ensures { IfOk result (λ g. guarding g ≡ guarded port.now) }
+    ensures { IfOk result (λ g. access_by g ≡ access_of port.now) }
 {
     let sends = Some(port_peers(alloc, port)?);
     let hears = port_hears(alloc, port)?;

@@ -6,7 +6,7 @@ ghost use Rattle.ipx_carrier.specs.Runs.{EndsEarly, Runs};
 ghost use Rattle.ipx_carrier.specs.Turns.{peers_of};
 ghost use Rattle.ipx_site.specs.Origins.{named_in};
 ghost use Rattle.ipx_site.specs.SitePeers.{kept_in};
-ghost use Rattle.ipx_site.specs.SitePorts.{access_by, guarding};
+ghost use Rattle.ipx_site.specs.SitePorts.{access_by};
 ghost use Rattle.ipx_carrier.specs.declared.fault.RunFault.TheVariants as RunFaults;
 ghost use Rattle.ipx_wire.specs.declared.address.Socket.{Socket};
 ghost use Rattle.spx_link.specs.Links.{count_of};
@@ -134,7 +134,7 @@ impl<'a, R: Net + Log + Clock> RunningHost<'a, R> {
             map (λ s. s.udp_port) s.wire.device.device.sockets.items ≡ file.now.udp_port ∷ []) }
         // Whom it hears and sends to.
         ensures guard { IfOk result (λ s.
-            map guarding s.wire.device.guards.items ≡ guarded_host file.now dials ∷ []) }
+            map access_by s.wire.device.guards.items ≡ guarded_host file.now dials ∷ []) }
     {
         check_streams(rt)?;
         let node = node_of(file.address);
