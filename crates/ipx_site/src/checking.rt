@@ -22,38 +22,40 @@ fn remark_on(alloc: Global, number: usize, text: &str) -> Result<String, AllocEr
     format!(in alloc; "port {number}: {text}\n")
 }
 
-/// What is remarked on a peer of a port, behind the earlier ones.
+/// What is remarked on a peer, behind the earlier ones.
 fn peer_to_remark(
     alloc: Global,
-    number: usize,
+    whose: &str,
     address: [u8; 4],
     earlier: &[[u8; 4]],
     peer: [u8; 4],
 ) -> Result<String, AllocError>
-    ensures { IfOk result (λ t. string_bytes t ≡ peer_remark number address earlier.now peer) }
+    ensures { IfOk result (λ t. string_bytes t ≡ peer_remark whose.now address earlier.now peer) }
 {
     let ip = dotted(alloc, peer)?;
     if peer == address {
-        let text = format!(in alloc; "peer {ip} is its own address")?;
-        return remark_on(alloc, number, &text);
+        return format!(in alloc; "{whose}peer {ip} is its own address\n");
     }
     if earlier.contains(&peer) {
-        let text = format!(in alloc; "peer {ip} stands twice")?;
-        return remark_on(alloc, number, &text);
+        return format!(in alloc; "{whose}peer {ip} stands twice\n");
     }
     Ok(String::new(alloc))
 }
 
-/// What is remarked on the peers of a port.
-fn peers_to_remarks(alloc: Global, number: usize, port: &SitePort) -> Result<String, AllocError>
+/// What is remarked on the peers of an address: a line, behind the words that say whose they are, for
+/// each that is that address itself, or stands twice.
+pub fn peers_to_remarks(
+    alloc: Global,
+    whose: &str,
+    address: [u8; 4],
+    peers: &[[u8; 4]],
+) -> Result<String, AllocError>
     ensures { IfOk result (λ t. string_bytes t
-        ≡ each_behind (peer_remark number port.now.address) [] port.now.peers.items) }
+        ≡ each_behind (peer_remark whose.now address) [] peers.now) }
 {
-    let address = port.address;
-    let peers = port.peers.as_slice();
     let mut remarks = String::new(alloc);
     for (place, peer) in peers.iter().enumerate() {
-        let line = peer_to_remark(alloc, number, address, &peers[..place], *peer)?;
+        let line = peer_to_remark(alloc, whose, address, &peers[..place], *peer)?;
         remarks.push_str(&line)?;
     }
     Ok(remarks)
@@ -94,7 +96,8 @@ fn port_to_lines(alloc: Global, earlier: &[SitePort], port: &SitePort) -> Result
     let number = earlier.len() + 1;
     let line = port_to_text(alloc, number, port)?;
     let place = place_to_remark(alloc, number, earlier, port)?;
-    let peers = peers_to_remarks(alloc, number, port)?;
+    let whose = format!(in alloc; "port {number}: ")?;
+    let peers = peers_to_remarks(alloc, &whose, port.address, &port.peers)?;
     format!(in alloc; "{line}\n{place}{peers}")
 }
 

@@ -53,7 +53,7 @@ pub use askers::Askers;
 pub use asking::asking_moment;
 pub use bind_fault::{BindFault, Obstacle};
 pub use causes::Cause;
-pub use checking::{check_site, write_checked};
+pub use checking::{check_site, peers_to_remarks, write_checked};
 pub use clock::SteadyClock;
 pub use fault::FileFault;
 pub use figures::Figures;
