@@ -16,22 +16,16 @@ same_ports now times times_after old mid (inl h) = ap (λ (v : SparingView CoreV
 same_ports now times times_after old mid (inr h) = ap (λ (v : SparingView CoreView). length v.core.router.ports) h.2
 
 pub is_round : {K : Type 0} (tells : K → ℕ → K → Type 0) (clock told tick clock_after : K) (peers here : Peers)
-    (i j n : ℕ) (now times times_after : ℕ) (does : ℕ → Type 0) (old mid new : SparingView CoreView) (b : Burst) → tells clock now told → tick ≡ told
-    → AsksAgain now times times_after old mid → does now → here ≡ peers → j ≡ i
+    (i j n : ℕ) (now times times_after : ℕ) (old mid new : SparingView CoreView) (b : Burst) → tells clock now told → tick ≡ told
+    → AsksAgain now times times_after old mid → here ≡ peers → j ≡ i
     → Bursts (HearsSparingly RouterHears) (MissesBelow Misses) (GivesBelow RouterGives) (WithholdsBelow Withholds) tells (length mid.core.router.ports) here 256 b j n tick clock_after mid new
-    → IsRound clock clock_after tells peers i n times times_after does old new b
-is_round tells clock told tick clock_after peers here i j n now times times_after does old mid new b h e asks did f g bursts =
+    → IsRound clock clock_after tells peers i n times times_after old new b
+is_round tells clock told tick clock_after peers here i j n now times times_after old mid new b h e asks f g bursts =
     let at = subst (λ ports. Bursts (HearsSparingly RouterHears) (MissesBelow Misses) (GivesBelow RouterGives) (WithholdsBelow Withholds) tells ports here 256 b j n tick clock_after mid new)
     (same_ports now times times_after old mid asks) bursts in
     let by = subst (λ (it : Peers). Bursts (HearsSparingly RouterHears) (MissesBelow Misses) (GivesBelow RouterGives) (WithholdsBelow Withholds) tells (length old.core.router.ports) it 256 b j n tick clock_after mid new) f at in
     let kept = subst (λ it. Bursts (HearsSparingly RouterHears) (MissesBelow Misses) (GivesBelow RouterGives) (WithholdsBelow Withholds) tells (length old.core.router.ports) peers 256 b it n tick clock_after mid new) g by in
-    (now, tick, mid, subst (λ it. tells clock now it) (sym e) h, asks, did, kept)
-
--- what its router made of what it heard stays
-pub same_fates : (now times times_after : ℕ) (old mid : SparingView CoreView) → AsksAgain now times times_after old mid
-    → mid.core.fates ≡ old.core.fates
-same_fates now times times_after old mid (inl h) = ap (λ (v : SparingView CoreView). v.core.fates) h.2
-same_fates now times times_after old mid (inr h) = ap (λ (v : SparingView CoreView). v.core.fates) h.2
+    (now, tick, mid, subst (λ it. tells clock now it) (sym e) h, asks, kept)
 
 -- how long a router waits, by how its burst ended
 pub rests : {K : Type 0} (todo : ℕ → Type 0) (clock clock' : K) (tells : K → ℕ → K → Type 0) (asked asked' : Option ℕ)

@@ -1,5 +1,5 @@
 -- What a router that runs does by itself, and how long it has nothing to do. All of it is own.
-use Rattle.std.specs.Prelude.{◌≡◌, ◌≤◌, ◌<◌, ◌⊎◌, ◌==◌, ◌^◌, ℕ, ◌+◌, true, Option, Some, if◌then◌else◌}
+use Rattle.std.specs.Prelude.{◌≡◌, ◌≤◌, ◌<◌, ◌⊎◌, ◌==◌, ◌^◌, ℕ, ◌+◌, true, Option, if◌then◌else◌}
 use Rattle.ipx_carrier.specs.RouterCore.{CoreView}
 use Rattle.ipx_router.specs.Telling.{is_due}
 use Rattle.ipx_site.specs.declared.figures.Figures.{Figures}
@@ -88,18 +88,6 @@ agenda asked looked responses written core troubles count = record {
 -- heard since
 abbrev pub look_after : ℕ → ℕ → ℕ
 look_after heard responses = if heard == responses then 10000 else 1000
-
--- it looks where it is time, and has heard so many responses then; and else it does not
-abbrev pub LooksIfTime : ℕ → ℕ → Option ℕ → ℕ → Option ℕ → ℕ → Type 0
-LooksIfTime heard now looked responses looked_after responses_after =
-    (HasPassed (look_after heard responses) looked now × (looked_after ≡ Some now) × (responses_after ≡ heard))
-    ⊎ ((HasPassed (look_after heard responses) looked now → ⊥) × (looked_after ≡ looked)
-    × (responses_after ≡ responses))
-
--- it writes its figures where it is time, and else it does not
-abbrev pub WritesIfTime : ℕ → Option ℕ → Option ℕ → Type 0
-WritesIfTime now written written_after = (HasPassed 10000 written now × (written_after ≡ Some now))
-    ⊎ ((HasPassed 10000 written now → ⊥) × (written_after ≡ written))
 
 -- there is something to do: to ask again, to tell the neighbours, to look, to write the figures, or to
 -- tell a line

@@ -17,13 +17,13 @@ AsksAgain now times times_after old new =
     × (new ≡ record old { core = record old.core { started = false } }))
     ⊎ ((IsToAskAgain times now → ⊥) × (times_after ≡ times) × (new ≡ old))
 
--- one round, at the moment that the clock tells: it asks again where it is time, does this besides, and
--- takes a burst of at most 256 turns, this one, in which its device keeps back from the one count to the
--- other. Its core lets those who ask for all that it knows do so in turn
-abbrev pub IsRound : {K : Type 0} → K → K → (K → ℕ → K → Type 0) → Peers → ℕ → ℕ → ℕ → ℕ → (ℕ → Type 0) → SparingView CoreView → SparingView CoreView → Burst → Type 0
-IsRound {K} clock clock_after tells peers kept kept_after times times_after does old new b = (now : ℕ) × (tick : K)
+-- one round, at the moment that the clock tells: it asks again where it is time, and takes a burst of
+-- at most 256 turns, this one, in which its device keeps back from the one count to the other. Its core
+-- lets those who ask for all that it knows do so in turn
+abbrev pub IsRound : {K : Type 0} → K → K → (K → ℕ → K → Type 0) → Peers → ℕ → ℕ → ℕ → ℕ → SparingView CoreView → SparingView CoreView → Burst → Type 0
+IsRound {K} clock clock_after tells peers kept kept_after times times_after old new b = (now : ℕ) × (tick : K)
     × (mid : SparingView CoreView) × tells clock now tick
-    × AsksAgain now times times_after old mid × does now
+    × AsksAgain now times times_after old mid
     × Bursts (HearsSparingly RouterHears) (MissesBelow Misses) (GivesBelow RouterGives) (WithholdsBelow Withholds) tells
     (length old.core.router.ports) peers 256 b kept kept_after tick clock_after mid new
 

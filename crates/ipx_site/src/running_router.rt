@@ -1,10 +1,8 @@
 //! A router with its sockets, and what is to be done besides its turns.
 
-ghost use Rattle.std.specs.Prelude.{◌≡◌, ◌≤◌, ◌+◌, length, map};
+ghost use Rattle.std.specs.Prelude.{◌≡◌, ◌≤◌, length, map};
 ghost use Rattle.ipx_carrier.specs.Turns.{peers_of};
-ghost use Rattle.ipx_site.specs.Leisure.{IsLeisure, IsToDo, LooksIfTime, WritesIfTime, agenda, happened, happened_in, look_after};
-ghost use Rattle.ipx_site.specs.Bursts.{counted};
-ghost use Rattle.ipx_site.specs.RouterFigures.{AreFigures};
+ghost use Rattle.ipx_site.specs.Leisure.{IsLeisure, IsToDo, agenda, happened, happened_in, look_after};
 ghost use Rattle.ipx_site.specs.SitePeers.{kept_in};
 ghost use Rattle.ipx_site.specs.SitePorts.{access_by};
 ghost use Rattle.ipx_site.specs.RouterRounds.{AsksAgain, IsRound, SleepsBehind};
@@ -104,10 +102,8 @@ impl<'a, R: SystemClock> RunningRouter<'a, R> {
     }
 
     fn figures(&self, now: u64) -> Figures
-        ensures happened { happened_in result ≡ happened self.now.tally self.now.core
+        ensures { happened_in result ≡ happened self.now.tally self.now.core
             self.now.device.kept self.now.device.refused self.now.device.device.faults }
-        ensures figures { AreFigures self.now.tally self.now.core self.now.device.kept
-            self.now.device.device.sent self.now.known now result }
     {
         self.tally
             .figures(&self.core, &self.device, &self.known, now)
@@ -131,11 +127,6 @@ impl<'a, R: SystemClock> RunningRouter<'a, R> {
         ensures peers { self.new.peers ≡ self.old.peers }
         ensures clock { self.new.clock ≡ self.old.clock }
         ensures ready { self.new.ready ≡ self.old.ready }
-        ensures looked { (self.new.looked ≡ self.old.looked)
-            × (self.new.responses ≡ self.old.responses) }
-        ensures written { self.new.written ≡ self.old.written }
-        ensures rest { (self.new.troubles ≡ self.old.troubles)
-            × (self.new.tally ≡ self.old.tally) }
     {
         if let Some(moment) = asking_moment(self.asked) {
             if now >= moment {
@@ -153,11 +144,6 @@ impl<'a, R: SystemClock> RunningRouter<'a, R> {
         ensures clock { self.new.clock ≡ self.old.clock }
         ensures ready { self.new.ready ≡ self.old.ready }
         ensures asked { self.new.asked ≡ self.old.asked }
-        ensures looked { LooksIfTime self.old.core.core.fates.heard now
-            self.old.looked self.old.responses self.new.looked self.new.responses }
-        ensures written { self.new.written ≡ self.old.written }
-        ensures rest { (self.new.troubles ≡ self.old.troubles)
-            × (self.new.tally.unmapped ≡ self.old.tally.unmapped) }
     {
         if !is_over(self.looked, self.look_period(), now) {
             return;
@@ -181,11 +167,6 @@ impl<'a, R: SystemClock> RunningRouter<'a, R> {
         ensures clock { self.new.clock ≡ self.old.clock }
         ensures ready { self.new.ready ≡ self.old.ready }
         ensures asked { self.new.asked ≡ self.old.asked }
-        ensures looked { (self.new.looked ≡ self.old.looked)
-            × (self.new.responses ≡ self.old.responses) }
-        ensures written { WritesIfTime now self.old.written self.new.written }
-        ensures rest { (self.new.troubles ≡ self.old.troubles)
-            × (self.new.tally.unmapped ≡ self.old.tally.unmapped) }
     {
         if !is_over(self.written, PERIOD, now) {
             return;
@@ -211,10 +192,6 @@ impl<'a, R: SystemClock> RunningRouter<'a, R> {
         ensures peers { self.new.peers ≡ self.old.peers }
         ensures clock { self.new.clock ≡ self.old.clock }
         ensures ready { self.new.ready ≡ self.old.ready }
-        ensures looked { LooksIfTime self.old.core.core.fates.heard now
-            self.old.looked self.old.responses self.new.looked self.new.responses }
-        ensures written { WritesIfTime now self.old.written self.new.written }
-        ensures unmapped { self.new.tally.unmapped ≡ self.old.tally.unmapped }
     {
         self.ask(now);
         self.look(rt, alloc, now);
@@ -246,13 +223,7 @@ impl<'a, R: SystemClock> RunningRouter<'a, R> {
             (λ old moment new. (old.last ≤ moment) × (new.last ≡ moment))
             (peers_of self.old.peers.items)
             (kept_in self.old.device.kept) (kept_in self.new.device.kept)
-            self.old.asked self.new.asked
-            (λ now. LooksIfTime self.old.core.core.fates.heard now
-            self.old.looked self.old.responses self.new.looked self.new.responses
-            × WritesIfTime now self.old.written self.new.written)
-            self.old.core self.new.core result }
-        ensures unmapped { self.new.tally.unmapped
-            ≡ counted (self.old.tally.unmapped + result.unmapped) }
+            self.old.asked self.new.asked self.old.core self.new.core result }
         ensures ready { self.new.ready ≡ self.old.ready }
         ensures peers { self.new.peers ≡ self.old.peers }
         ensures access { map access_by self.new.device.guards.items
@@ -281,11 +252,7 @@ impl<'a, R: SystemClock> RunningRouter<'a, R> {
             (λ old moment new. (old.last ≤ moment) × (new.last ≡ moment))
             (peers_of self.old.peers.items)
             (kept_in self.old.device.kept) (kept_in self.new.device.kept)
-            self.old.asked self.new.asked
-            (λ now. LooksIfTime self.old.core.core.fates.heard now
-            self.old.looked self.old.responses self.new.looked self.new.responses
-            × WritesIfTime now self.old.written self.new.written)
-            self.old.core self.new.core burst
+            self.old.asked self.new.asked self.old.core self.new.core burst
             × SleepsBehind (IsToDo (agenda self.new.asked self.new.looked self.new.responses
             self.new.written self.new.core self.new.troubles (happened self.new.tally self.new.core
             self.new.device.kept self.new.device.refused self.new.device.device.faults)))

@@ -13,7 +13,7 @@ returns g c =
     {y = slice_get askings self.asked} c.asking_moment.ensures.moment (reached c.asking_moment.result t) in
     let told = subst (λ (l : Option ℕ). IsNextTelling l c.next_telling-telling.result) (ap (λ r. r.told) (c.router.ensures ∙ ap (λ k. k.router) c.core.ensures)) c.next_telling-telling.ensures in
     let looks = subst (λ period. (t : ℕ) → t < 2 ^ 64 → IsReached c.end_of-look.result t ↔ HasPassed period self.looked t) c.look_period.ensures c.end_of-look.ensures in
-    let lines = subst (λ n. (t : ℕ) → t < 2 ^ 64 → IsReached c.next.result t ↔ IsLineDue self.troubles n t) {y = count} c.figures.ensures.happened c.next.ensures in
+    let lines = subst (λ n. (t : ℕ) → t < 2 ^ 64 → IsReached c.next.result t ↔ IsLineDue self.troubles n t) {y = count} c.figures.ensures c.next.ensures in
     as_long (IsReached c.sooner-2.result) (IsToDo (agenda self.asked self.looked self.responses self.written self.core self.troubles count))
     c.args.now c.time_to.result
     (λ t h.
