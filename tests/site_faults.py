@@ -208,8 +208,7 @@ def check_faults(sites):
 
 
 # Files without a fault, and what --check says of them: two ports with a status file; one port of which
-# all is to be remarked; two ports that are reached at one place; a host, one that is its own router, and
-# one of which all else is to be remarked.
+# all is to be remarked; two ports that are reached at one place; a host, and one that is its own router.
 OWN = """status = "/run/ipx/h q\\u001b.prom"
 
 [[port]]
@@ -245,9 +244,6 @@ CHECKED = [
     ("listen", changed(HOST, "router", '"127.0.1.20"') + "buffers = 512\n",
      ["socket 4002 network 00000011 node 00007f000114 udp 127.0.1.20:20999", "the router is its own address",
       "it.toml: router 127.0.1.20, buffers 512"]),
-    ("listen", HOST + 'peers = ["127.0.1.21", "127.0.1.20", "127.0.1.21"]\nfrom = []\n',
-     ["socket 4002 network 00000011 node 00007f000114 udp 127.0.1.20:20999", "peer 127.0.1.20 is its own address",
-      "peer 127.0.1.21 stands twice", "from is empty: nobody may connect", "it.toml: router 127.0.1.1, buffers 64"]),
 ]
 
 

@@ -1,15 +1,13 @@
 -- What the program prints of a host as it starts to listen, and of its file where that is checked. All
 -- of it is own.
-use Rattle.std.specs.Prelude.{Vec, ℕ, List, [], ◌∷◌, ◌++◌, ◌==◌, Option, Some, None, codes, if◌then◌else◌, length, nat_eq}
-use Rattle.std.specs.Global.{Global}
+use Rattle.std.specs.Prelude.{ℕ, List, [], ◌∷◌, ◌++◌, codes, if◌then◌else◌, nat_eq}
 use Rattle.std.specs.Cmp.Lexicographic.{pointwise}
 use Rattle.std.specs.Fmt.{decimal}
 use Rattle.std.specs.Int.{w16, w32, to_be_bytes}
 use Rattle.hex.specs.Hex.{encode_lower}
 use Rattle.ipx_carrier.specs.Mapping.{node_at}
-use Rattle.ipx_site.specs.Checked.{dotted_text, each_behind, others_text, peer_remark, reached_text}
+use Rattle.ipx_site.specs.Checked.{dotted_text, others_text, reached_text}
 use Rattle.ipx_site.specs.declared.host.HostFile.{HostFile}
-use Rattle.ipx_site.specs.declared.origin.Origin.{Origin}
 
 -- where it listens: its socket in 4 hex digits, its network in 8 and its node in 12
 abbrev pub own_place_text : HostFile → List ℕ
@@ -28,15 +26,6 @@ abbrev pub router_remark : HostFile → List ℕ
 router_remark h =
     if pointwise nat_eq h.router h.address then codes "the router is its own address\n" else []
 
--- somebody may ask for a connection
-abbrev pub from_remark : Option (Vec Origin Global) → List ℕ
-from_remark None = []
-from_remark (Some from) = if length from.items == 0 then codes "from is empty: nobody may connect\n" else []
-
--- what is remarked on a host
-abbrev pub host_remarks : HostFile → List ℕ
-host_remarks h = router_remark h ++ (each_behind (peer_remark [] h.address) [] h.peers.items ++ from_remark h.from)
-
 -- the line of the file itself
 abbrev pub host_line : List ℕ → HostFile → List ℕ
 host_line path h =
@@ -45,4 +34,4 @@ host_line path h =
 
 -- all that is printed of a host's file
 abbrev pub host_lines : List ℕ → HostFile → List ℕ
-host_lines path h = listener_text h ++ (10 ∷ (host_remarks h ++ host_line path h))
+host_lines path h = listener_text h ++ (10 ∷ (router_remark h ++ host_line path h))

@@ -5,12 +5,10 @@ ghost use Rattle.std.specs.Io.KnownBytes.{Appends};
 ghost use Rattle.ipx_site.specs.Host.{IsHostText};
 ghost use Rattle.ipx_site.specs.Loading.{IsFileText};
 ghost use Rattle.ipx_site.specs.declared.host.HostFile.{HostFile as AHostFile};
-ghost use Rattle.ipx_transfer.specs.Saying.{from_remark, host_line, host_lines, host_remarks, listener_text, own_place_text, router_remark};
+ghost use Rattle.ipx_transfer.specs.Saying.{host_line, host_lines, listener_text, own_place_text, router_remark};
 
 use ipx_carrier::node_of;
-use ipx_site::{
-    HostFile, dotted, load_host, others, peers_to_remarks, reached_to_text, write_checked,
-};
+use ipx_site::{HostFile, dotted, load_host, others, reached_to_text, write_checked};
 use std::alloc::{AllocError, Global};
 use std::io::Write;
 use std::rt::Files;
@@ -45,26 +43,6 @@ fn remark_on_router(file: &HostFile) -> &'static str
     }
 }
 
-/// What is remarked on who may connect to a host.
-fn remark_on_from(file: &HostFile) -> &'static str
-    ensures { result.now ≡ from_remark file.now.from }
-{
-    match &file.from {
-        Some(from) if from.is_empty() => "from is empty: nobody may connect\n",
-        _ => "",
-    }
-}
-
-/// What is remarked on a host.
-fn remarks_on(alloc: Global, file: &HostFile) -> Result<String, AllocError>
-    ensures { IfOk result (λ t. string_bytes t ≡ host_remarks file.now) }
-{
-    let router = remark_on_router(file);
-    let peers = peers_to_remarks(alloc, "", file.address, &file.peers)?;
-    let from = remark_on_from(file);
-    format!(in alloc; "{router}{peers}{from}")
-}
-
 /// The line of the file itself.
 fn file_to_line(alloc: Global, path: &str, file: &HostFile) -> Result<String, AllocError>
     ensures { IfOk result (λ t. string_bytes t ≡ host_line path.now file.now) }
@@ -78,9 +56,9 @@ fn host_to_lines(alloc: Global, path: &str, file: &HostFile) -> Result<String, A
     ensures { IfOk result (λ t. string_bytes t ≡ host_lines path.now file.now) }
 {
     let listener = listener_to_text(alloc, file)?;
-    let remarks = remarks_on(alloc, file)?;
+    let remark = remark_on_router(file);
     let line = file_to_line(alloc, path, file)?;
-    format!(in alloc; "{listener}\n{remarks}{line}")
+    format!(in alloc; "{listener}\n{remark}{line}")
 }
 
 /// Says what a file that was loaded has, or answers the status where it wasn't.
