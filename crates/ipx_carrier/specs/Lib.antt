@@ -16,3 +16,4 @@ pub mod HostCore
 pub mod HostLends
 pub mod Queued
 pub mod Memory
+pub mod Driving

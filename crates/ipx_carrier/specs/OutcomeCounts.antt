@@ -9,6 +9,10 @@ use Rattle.ipx_carrier.specs.declared.outcome_counts.OutcomeCounts.{OutcomeCount
 abbrev pub raised : ℕ → ℕ
 raised n = min (n + 1) (2 ^ 64 - 1)
 
+-- so does one that goes up by more
+abbrev pub counted : ℕ → ℕ
+counted n = min n (2 ^ 64 - 1)
+
 -- nothing was heard yet
 abbrev pub none : OutcomeCounts
 none = record {

@@ -5,7 +5,6 @@ pub mod HexText
 pub mod Naming
 pub mod Circles
 pub mod Own
-pub mod Bursting
 pub mod Ports
 pub mod Rounds
 pub mod Parts

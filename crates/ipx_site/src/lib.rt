@@ -4,8 +4,7 @@
 //! [`read_site`] reads the file of a router, [`read_host`] that of a host, and [`load_site`] and
 //! [`load_host`] where they lie. [`PeersOnly`] is a device that hears and sends to its peers alone,
 //! over any device that knows its [`Senders`], as [`SiteSockets`] are; [`Readiness`] waits for those,
-//! [`SteadyClock`] is the system's clock, and [`run_burst`] takes turns as long as there is something
-//! to do.
+//! and [`SteadyClock`] is the system's clock.
 #![tactic(auto)]
 
 mod asker;
@@ -44,7 +43,6 @@ mod status;
 mod text;
 mod toml_text;
 mod troubles;
-mod turns;
 mod values;
 mod watch;
 
@@ -73,4 +71,3 @@ pub use sockets::SiteSockets;
 pub use sparing::Sparing;
 pub use start_lines::{dotted, others, reached_to_text};
 pub use troubles::tell_kept;
-pub use turns::{Burst, run_burst, take_turn};

@@ -11,7 +11,7 @@ ghost use Rattle.ipx_site.specs.SitePorts.{access_by};
 
 use crate::own_word::{is_own_word, is_response, is_straight};
 use crate::senders::Senders;
-use ipx_carrier::{Datagrams, DeviceFault};
+use ipx_carrier::{Datagrams, DeviceFault, KeepsBack};
 use ipx_wire::{Network, Packet, decode};
 
 /// Whom a port sends to, who is heard there, and what each may say: lists of IP addresses, of which
@@ -311,5 +311,12 @@ impl<D: Senders + Drop> Datagrams for PeersOnly<D> {
             Word::NoRouter => self.kept.no_router.raise(from),
         }
         Ok(None)
+    }
+}
+
+impl<D: Senders + Drop> KeepsBack for PeersOnly<D> {
+    fn kept_back(&self) -> u128 {
+        let kept = self.kept();
+        kept.total()
     }
 }

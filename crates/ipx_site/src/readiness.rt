@@ -2,7 +2,7 @@
 
 ghost use Rattle.std.specs.Prelude.{◌≡◌, ◌+◌, IfOk, None, OnOk, Some, length};
 ghost use Rattle.ipx_carrier.specs.OutcomeCounts.{raised};
-ghost use Rattle.ipx_site.specs.Bursts.{counted};
+ghost use Rattle.ipx_carrier.specs.OutcomeCounts.{counted};
 
 use crate::sockets::SiteSockets;
 use ipx_carrier::Datagrams;

@@ -7,9 +7,8 @@ use crate::figures::Figures;
 use crate::peers::PeersOnly;
 use crate::sockets::SiteSockets;
 use crate::sparing::Sparing;
-use crate::turns::Burst;
 use crate::watch::Known;
-use ipx_carrier::{RouterCore, RunFault};
+use ipx_carrier::{Burst, RouterCore, RunFault};
 
 /// What a router that runs counts itself. Each count stays at the greatest u64.
 #[derive(Clone, Copy, Debug, PartialEq, Eq)]

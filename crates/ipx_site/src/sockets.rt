@@ -9,11 +9,11 @@ use crate::peers::raise;
 use crate::room::ask_room;
 use crate::senders::Senders;
 use crate::site::SitePort;
-use ipx_carrier::{Datagrams, DeviceFault};
+use ipx_carrier::{Datagrams, DeviceFault, bound_socket, place_of};
 use std::alloc::Global;
 use std::io;
 use std::io::ErrorKind;
-use std::net::{Ipv4Addr, Net, SocketAddr, SocketAddrV4, UdpSocket};
+use std::net::{Net, SocketAddr, UdpSocket};
 use std::os::fd::{AsRawFd, RawFd};
 
 /// The socket of a port, the port of UDP of its peers, and how many bytes it holds.
@@ -40,11 +40,6 @@ pub struct SiteSockets {
 /// How often a port is asked again for a datagram where the system fails.
 const TRIES: u32 = 8;
 
-/// Where an IP address is reached by UDP.
-fn place_of(ip: [u8; 4], udp_port: u16) -> SocketAddrV4 {
-    SocketAddrV4::new(Ipv4Addr::new(ip[0], ip[1], ip[2], ip[3]), udp_port)
-}
-
 /// The IP address of a place.
 fn ip_of(place: SocketAddr) -> Option<[u8; 4]> {
     match place {
@@ -53,16 +48,15 @@ fn ip_of(place: SocketAddr) -> Option<[u8; 4]> {
     }
 }
 
-/// A socket at an IP address, which does not wait. 0.0.0.0, which is every address of a machine, is
-/// none that its peers could name.
-fn bound_socket<R: Net>(rt: &R, ip: [u8; 4], udp_port: u16) -> io::Result<PortSocket>
+/// The socket of a port. 0.0.0.0, which is every address of a machine, is none that its peers could
+/// name.
+fn port_socket<R: Net>(rt: &R, ip: [u8; 4], udp_port: u16) -> io::Result<PortSocket>
     ensures { IfOk result (λ s. s.udp_port ≡ udp_port) }
 {
     if ip == [0; 4] {
         return Err(io::Error::from(ErrorKind::AddrNotAvailable));
     }
-    let socket = UdpSocket::bind(rt, place_of(ip, udp_port))?;
-    socket.set_nonblocking(true)?;
+    let socket = bound_socket(rt, ip, udp_port)?;
     let room = ask_room(socket.as_raw_fd());
     Ok(PortSocket {
         socket,
@@ -91,7 +85,7 @@ impl SiteSockets {
     {
         let mut sockets = Vec::new(alloc);
         for (place, port) in ports.iter().enumerate() {
-            match bound_socket(rt, port.address, port.udp_port) {
+            match port_socket(rt, port.address, port.udp_port) {
                 Ok(socket) => {
                     if sockets.push(socket).is_err() {
                         return Err(BindFault::OutOfMemory);
@@ -112,7 +106,7 @@ impl SiteSockets {
     ) -> Result<SiteSockets, BindFault>
         ensures { IfOk result (λ d. map (λ s. s.udp_port) d.sockets.items ≡ udp_port ∷ []) }
     {
-        match bound_socket(rt, address, udp_port) {
+        match port_socket(rt, address, udp_port) {
             Ok(socket) => match vec![in alloc; socket] {
                 Ok(sockets) => Ok(device_of(sockets)),
                 Err(_) => Err(BindFault::OutOfMemory),

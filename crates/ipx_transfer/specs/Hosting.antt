@@ -13,7 +13,7 @@ use Rattle.ipx_transfer.specs.Callers.{NotesHeard}
 use Rattle.ipx_transfer.specs.Outlet.{Writes}
 use Rattle.ipx_transfer.specs.Passing.{PassesEach, given_each}
 use Rattle.ipx_transfer.specs.Tending.{Tidies}
-use Rattle.ipx_transfer.specs.Turning.{TakesTurn}
+use Rattle.ipx_transfer.specs.Turning.{TakesHostTurn}
 use Rattle.ipx_transfer.specs.declared.callers.Caller.{Caller}
 use Rattle.ipx_transfer.specs.declared.end_core.EndCore.{EndCore}
 use Rattle.ipx_transfer.specs.declared.listening.ListenOutcome.{ListenOutcome}
@@ -43,7 +43,7 @@ pub record HearsAndNotesAll {K : Type 0} (clock clock' : K) (old new : EndCore) 
     (once : Bool) (tells : K → ℕ → K → Type 0) (peers : Peers) : Type 0 where
   pub seen : EndCore
   pub turn : Activity
-  pub turned : TakesTurn clock clock' tells peers old seen turn
+  pub turned : TakesHostTurn clock clock' tells peers old seen turn
   pub noted : NotesIf turn.heard once seen new callers callers'
 
 -- what waits is written, and then each connection passes what it holds: these bytes in all

@@ -20,3 +20,4 @@ pub mod Tending
 pub mod Transfer
 pub mod Turning
 pub mod Company
+pub mod Midway

@@ -1,9 +1,9 @@
 -- What one turn of a host that runs does to its core and its clock. All of it is own.
-use Rattle.std.specs.Prelude.{◌≡◌, ◌<◌, ◌↔◌, ◌⊎◌, ℕ, IsTrue, false, true, List, Option, None}
+use Rattle.std.specs.Prelude.{◌≡◌, ◌<◌, ◌↔◌, ◌⊎◌, ℕ, IsTrue, false, true, List, Option, None, Ok, Err}
 use Rattle.ipx_carrier.specs.declared.fault.RunFault.TheVariants.{OutOfMemory}
 use Rattle.ipx_carrier.specs.declared.report.Report.{Report}
+use Rattle.ipx_carrier.specs.Driving.{TakesTurn}
 use Rattle.ipx_carrier.specs.HostCore.{HostGives, Misses}
-use Rattle.ipx_carrier.specs.Runs.{EndsEarly, Runs}
 use Rattle.ipx_carrier.specs.Turns.{Given, Peers}
 use Rattle.ipx_transfer.specs.Barring.{HearsAllowed}
 use Rattle.ipx_transfer.specs.declared.end_core.EndCore.{EndCore}
@@ -32,11 +32,11 @@ pub record TellsOf (report : Report) (turn : Activity) : Type 0 where
   pub active : IsTrue turn.active
       ↔ ((0 < report.heard) ⊎ ((0 < report.sent) ⊎ ((0 < report.unmapped) ⊎ IsTrue turn.kept)))
 
--- one turn over sockets, as `run` takes it; or a part of one, since memory was refused: then nothing
--- was heard
-abbrev pub TakesTurn : {K : Type 0} → K → K → (K → ℕ → K → Type 0) → Peers → EndCore → EndCore → Activity → Type 0
-TakesTurn {K} clock clock_after tells peers old new turn =
-    ((report : Report) × Runs hears gives tells 1 peers 1 None None clock clock_after old new report
+-- one turn over sockets, whose traffic is not told, and what is told of it; or a part of one, since memory
+-- was refused: then nothing was heard
+abbrev pub TakesHostTurn : {K : Type 0} → K → K → (K → ℕ → K → Type 0) → Peers → EndCore → EndCore → Activity → Type 0
+TakesHostTurn {K} clock clock_after tells peers old new turn =
+    ((report : Report) × TakesTurn hears misses gives withholds tells 1 peers None None clock clock_after old new (Ok report)
     × TellsOf report turn)
-    ⊎ (EndsEarly hears misses gives withholds tells 1 peers 1 None None clock clock_after OutOfMemory old new
+    ⊎ (TakesTurn hears misses gives withholds tells 1 peers None None clock clock_after old new (Err OutOfMemory)
     × (turn.heard ≡ false) × (turn.active ≡ true))

@@ -4,10 +4,11 @@ ghost use Rattle.std.specs.Prelude.{◌≡◌, ◌≢◌, ◌<◌, ◌≤◌, �
 ghost use Rattle.ipx_carrier.specs.Mapping.{node_at};
 ghost use Rattle.ipx_carrier.specs.Turns.{peers_of};
 ghost use Rattle.ipx_site.specs.Origins.{named_in};
+ghost use Rattle.ipx_site.specs.Steady.{NeverGoesBack};
 ghost use Rattle.ipx_wire.specs.declared.address.Socket.{Socket};
 ghost use Rattle.spx_messages.specs.EndpointView.{buffers_at, held_at};
 ghost use Rattle.ipx_transfer.specs.Callers.{Admits, KeepsHeard, KeepsOne, MakesRoom, NotesHeard, caller_of, heard_by, is_overdue, keeps_one_prop, raised_if};
-ghost use Rattle.ipx_transfer.specs.Hosting.{HearsAndNotesAll, WritesAndPasses, MovesSome, Serves, StepsTo, host};
+ghost use Rattle.ipx_transfer.specs.Hosting.{HearsAndNotesAll, WritesAndPasses, MovesSome, Serves, StepsTo};
 ghost use Rattle.ipx_transfer.specs.Outlet.{Writes, left_of};
 ghost use Rattle.ipx_transfer.specs.Passing.{PassesEach, PassesSome};
 ghost use Rattle.ipx_transfer.specs.Sleeping.{MayRest};
@@ -86,6 +87,8 @@ pub struct ListeningHost<'a, R: Clock> {
 }
 
 impl<'a, R: Net + Log + Clock> ListeningHost<'a, R> {
+    ghost use Rattle.ipx_transfer.specs.Midway.{listening_at};
+
     /// A host that listens at the socket of its file. It holds no connection yet.
     pub fn open(
         rt: &'a R,
@@ -273,8 +276,7 @@ impl<'a, R: Net + Log + Clock> ListeningHost<'a, R> {
         ensures hears { HearsAndNotesAll self.old.station.clock self.new.station.clock
             self.old.station.core self.new.station.core
             self.old.callers.items self.new.callers.items self.old.once
-            (λ old moment new. (old.last ≤ moment) × (new.last ≡ moment))
-            (peers_of self.old.station.wire.peers.items) }
+            NeverGoesBack (peers_of self.old.station.wire.peers.items) }
         ensures peers { self.new.station.wire.peers ≡ self.old.station.wire.peers }
         ensures readiness { self.new.station.readiness ≡ self.old.station.readiness }
         ensures outlet { self.new.outlet ≡ self.old.outlet }
@@ -295,14 +297,10 @@ impl<'a, R: Net + Log + Clock> ListeningHost<'a, R> {
         alloc: Global,
         writer: &mut W,
     ) -> Result<bool, ListenOutcome>
-        ensures steps { (bytes : List ℕ) × StepsTo
-            (host self.old.station.clock self.old.station.core
-            self.old.callers.items (left_of self.old.outlet) (W.contents writer.old))
-            (host self.new.station.clock self.new.station.core
-            self.new.callers.items (left_of self.new.outlet) (W.contents writer.new))
+        ensures steps { (bytes : List ℕ) × StepsTo (listening_at self.old (W.contents writer.old))
+            (listening_at self.new (W.contents writer.new))
             self.old.once (stop_in result)
-            (λ old moment new. (old.last ≤ moment) × (new.last ≡ moment))
-            (peers_of self.old.station.wire.peers.items) bytes }
+            NeverGoesBack (peers_of self.old.station.wire.peers.items) bytes }
         ensures peers { self.new.station.wire.peers ≡ self.old.station.wire.peers }
         ensures readiness { self.new.station.readiness ≡ self.old.station.readiness }
         ensures written { result ≡ Err Stops.Ended
@@ -322,14 +320,10 @@ impl<'a, R: Net + Log + Clock> ListeningHost<'a, R> {
         alloc: Global,
         writer: &mut W,
     ) -> Result<(), ListenOutcome>
-        ensures steps { (bytes : List ℕ) × StepsTo
-            (host self.old.station.clock self.old.station.core
-            self.old.callers.items (left_of self.old.outlet) (W.contents writer.old))
-            (host self.new.station.clock self.new.station.core
-            self.new.callers.items (left_of self.new.outlet) (W.contents writer.new))
+        ensures steps { (bytes : List ℕ) × StepsTo (listening_at self.old (W.contents writer.old))
+            (listening_at self.new (W.contents writer.new))
             self.old.once (stop_in result)
-            (λ old moment new. (old.last ≤ moment) × (new.last ≡ moment))
-            (peers_of self.old.station.wire.peers.items) bytes }
+            NeverGoesBack (peers_of self.old.station.wire.peers.items) bytes }
         ensures peers { self.new.station.wire.peers ≡ self.old.station.wire.peers }
         // It waits only as long as no link has anything to do and each connection just stays.
         ensures rests { MayRest self.new.station.core self.new.callers.items
@@ -349,14 +343,9 @@ impl<'a, R: Net + Log + Clock> ListeningHost<'a, R> {
     fn serve<W: Write>(&mut self, rt: &R, alloc: Global, writer: &mut W) -> ListenOutcome
         // What was left to write, and then the bodies that the takes gave, are what the writer
         // took, and then what is left to write: also from one step to the next.
-        ensures serves { (bytes : List ℕ) × Serves
-            (host self.old.station.clock self.old.station.core
-            self.old.callers.items (left_of self.old.outlet) (W.contents writer.old))
-            (host self.new.station.clock self.new.station.core
-            self.new.callers.items (left_of self.new.outlet) (W.contents writer.new))
-            self.old.once result
-            (λ old moment new. (old.last ≤ moment) × (new.last ≡ moment))
-            (peers_of self.old.station.wire.peers.items) bytes
+        ensures serves { (bytes : List ℕ) × Serves (listening_at self.old (W.contents writer.old))
+            (listening_at self.new (W.contents writer.new))
+            self.old.once result NeverGoesBack (peers_of self.old.station.wire.peers.items) bytes
             × Writes (left_of self.old.outlet ++ bytes) (left_of self.new.outlet)
             (W.contents writer.old) (W.contents writer.new) }
         ensures written { result ≡ Stops.Ended
@@ -373,17 +362,15 @@ impl<'a, R: Net + Log + Clock> ListeningHost<'a, R> {
 }
 
 impl<'a, R: Net + Log + Clock + Eprint> ListeningHost<'a, R> {
+    ghost use Rattle.ipx_transfer.specs.Midway.{listening_at};
+
     /// Runs until it is to end, prints why it ends, and answers the status: 0 only with `once`, and
     /// where all that was taken is written.
     pub fn finish<W: Write>(&mut self, rt: &R, alloc: Global, writer: &mut W) -> u8
         ensures serves { (stop : AStop) × (result ≡ stop_status stop) × (bytes : List ℕ) × Serves
-            (host self.old.station.clock self.old.station.core
-            self.old.callers.items (left_of self.old.outlet) (W.contents writer.old))
-            (host self.new.station.clock self.new.station.core
-            self.new.callers.items (left_of self.new.outlet) (W.contents writer.new))
-            self.old.once stop
-            (λ old moment new. (old.last ≤ moment) × (new.last ≡ moment))
-            (peers_of self.old.station.wire.peers.items) bytes
+            (listening_at self.old (W.contents writer.old))
+            (listening_at self.new (W.contents writer.new))
+            self.old.once stop NeverGoesBack (peers_of self.old.station.wire.peers.items) bytes
             × Writes (left_of self.old.outlet ++ bytes) (left_of self.new.outlet)
             (W.contents writer.old) (W.contents writer.new) }
         ensures written { result ≡ 0 → IsTrue self.new.once × (left_of self.new.outlet ≡ []) }

@@ -1,28 +1,27 @@
 //! A host by its file: its endpoint, its socket and its clock.
 
-ghost use Rattle.std.specs.Prelude.{◌≡◌, ◌<◌, ◌≤◌, ◌↔◌, ◌∷◌, [], ℕ, IfOk, IsTrue, None, OnErr, Some, length, map};
+ghost use Rattle.std.specs.Prelude.{◌≡◌, ◌<◌, ◌↔◌, ◌∷◌, [], ℕ, false, true, IfOk, IsTrue, None, OnErr, Some, length, map};
 ghost use Rattle.ipx_carrier.specs.Mapping.{node_at};
-ghost use Rattle.ipx_carrier.specs.Runs.{EndsEarly, Runs};
 ghost use Rattle.ipx_carrier.specs.Turns.{peers_of};
 ghost use Rattle.ipx_site.specs.Origins.{named_in};
 ghost use Rattle.ipx_site.specs.SitePeers.{kept_in};
 ghost use Rattle.ipx_site.specs.SitePorts.{access_by, guarding};
-ghost use Rattle.ipx_carrier.specs.declared.fault.RunFault.TheVariants as RunFaults;
+ghost use Rattle.ipx_site.specs.Steady.{NeverGoesBack};
 ghost use Rattle.ipx_wire.specs.declared.address.Socket.{Socket};
 ghost use Rattle.spx_link.specs.Links.{count_of};
 ghost use Rattle.spx_messages.specs.EndpointView.{buffers_at, held_at};
 ghost use Rattle.ipx_transfer.specs.Company.{guarded_host};
 ghost use Rattle.ipx_transfer.specs.Sleeping.{IsSleep};
-ghost use Rattle.ipx_transfer.specs.Turning.{TakesTurn, gives, hears, misses, withholds};
+ghost use Rattle.ipx_transfer.specs.Turning.{TakesHostTurn, TellsOf};
 
 use crate::company::guard_of;
 use crate::end_core::{EndCore, copy_origins};
+use crate::leaving::count_if;
 use crate::room::tell_room;
 use crate::start::{StartFault, check_streams};
 use crate::telling::{Counts, Telling};
-use ipx_carrier::{Report, node_of, run};
+use ipx_carrier::{KeepsBack, Report, RunFault, node_of, turn};
 use ipx_site::{Guard, HostFile, PeersOnly, Readiness, SiteSockets, SteadyClock, WaitFault};
-use ipx_wire::OutOfMemory;
 use log::Log;
 use spx_messages::Endpoint;
 use std::alloc::Global;
@@ -77,30 +76,25 @@ impl Wire {
             peers,
         }
     }
+}
 
-    /// Takes one turn. Sockets never fail, so what ends one is that memory is refused.
-    fn run<R: Clock>(
-        &mut self,
-        alloc: Global,
-        core: &mut EndCore,
-        clock: &mut SteadyClock<'_, R>,
-    ) -> Result<Report, OutOfMemory>
-        ensures turn { IfOk result (λ report. Runs hears gives
-            (λ old moment new. (old.last ≤ moment) × (new.last ≡ moment))
-            1 (peers_of self.old.peers.items) 1 None None clock.old clock.new
-            core.old core.new report) }
-        ensures fault { OnErr result (EndsEarly hears misses gives withholds
-            (λ old moment new. (old.last ≤ moment) × (new.last ≡ moment))
-            1 (peers_of self.old.peers.items) 1 None None clock.old clock.new
-            RunFaults.OutOfMemory core.old core.new) }
-        ensures peers { self.new.peers ≡ self.old.peers }
-        ensures access { map access_by self.new.device.guards.items
-            ≡ map access_by self.old.device.guards.items }
-    {
-        match run(alloc, core, &mut self.device, &self.peers, clock, 1) {
-            Ok(report) => Ok(report),
-            Err(_) => Err(OutOfMemory),
-        }
+/// What a turn did that answered this, and whether a datagram was kept back in it.
+fn activity_of(ran: Result<Report, RunFault>, kept: bool) -> Activity
+    ensures whole { IfOk ran (λ report. TellsOf report result) }
+    ensures ended { OnErr ran ((result.heard ≡ false) × (result.active ≡ true)) }
+    ensures kept { result.kept ≡ kept }
+{
+    match ran {
+        Ok(report) => Activity {
+            heard: report.heard > 0,
+            kept,
+            active: report.heard > 0 || report.sent > 0 || report.unmapped > 0 || kept,
+        },
+        Err(_) => Activity {
+            heard: false,
+            kept,
+            active: true,
+        },
     }
 }
 
@@ -173,11 +167,11 @@ impl<'a, R: Net + Log + Clock> RunningHost<'a, R> {
         self.core.moment()
     }
 
-    /// Takes one turn. What the system or memory refuses is counted and told, and goes on.
+    /// Takes one turn. What the system or memory refuses is counted and told, and goes on; the
+    /// datagram of a turn that memory ends is lost.
     pub fn turn(&mut self, rt: &R, alloc: Global) -> Activity
-        ensures core { TakesTurn self.old.clock self.new.clock
-            (λ old moment new. (old.last ≤ moment) × (new.last ≡ moment))
-            (peers_of self.old.wire.peers.items) self.old.core self.new.core result }
+        ensures core { TakesHostTurn self.old.clock self.new.clock
+            NeverGoesBack (peers_of self.old.wire.peers.items) self.old.core self.new.core result }
         // What was kept back is something that happened: behind it more may lie.
         ensures kept { IsTrue result.kept
             ↔ kept_in self.old.wire.device.kept < kept_in self.new.wire.device.kept }
@@ -187,46 +181,28 @@ impl<'a, R: Net + Log + Clock> RunningHost<'a, R> {
             ≡ map access_by self.old.wire.device.guards.items }
         ensures readiness { self.new.readiness ≡ self.old.readiness }
     {
-        let turn = self.take_turn(alloc);
-        let counts = Counts {
+        let before = self.wire.device.kept_back();
+        let ran = turn(
+            alloc,
+            &mut self.core,
+            &mut self.wire.device,
+            &self.wire.peers,
+            &mut self.clock,
+        );
+        let kept = self.wire.device.kept_back() > before;
+        self.unheard = count_if(ran.is_err(), self.unheard);
+        let counts = self.counts();
+        self.telling.tell(rt, counts, self.core.moment());
+        activity_of(ran, kept)
+    }
+
+    /// How often something went wrong.
+    fn counts(&self) -> Counts {
+        Counts {
             kept: self.wire.device.kept(),
             barred: self.core.barred(),
             system: self.wire.device.device().faults(),
             memory: self.unheard,
-        };
-        self.telling.tell(rt, counts, self.core.moment());
-        turn
-    }
-
-    /// One turn over the socket. The datagram of a turn that memory ends is lost.
-    fn take_turn(&mut self, alloc: Global) -> Activity
-        ensures core { TakesTurn self.old.clock self.new.clock
-            (λ old moment new. (old.last ≤ moment) × (new.last ≡ moment))
-            (peers_of self.old.wire.peers.items) self.old.core self.new.core result }
-        ensures kept { IsTrue result.kept
-            ↔ kept_in self.old.wire.device.kept < kept_in self.new.wire.device.kept }
-        ensures peers { self.new.wire.peers ≡ self.old.wire.peers }
-        ensures access { map access_by self.new.wire.device.guards.items
-            ≡ map access_by self.old.wire.device.guards.items }
-        ensures readiness { self.new.readiness ≡ self.old.readiness }
-    {
-        let before = self.wire.device.kept().total();
-        let ran = self.wire.run(alloc, &mut self.core, &mut self.clock);
-        let kept = self.wire.device.kept().total() > before;
-        match ran {
-            Ok(report) => Activity {
-                heard: report.heard > 0,
-                kept,
-                active: report.heard > 0 || report.sent > 0 || report.unmapped > 0 || kept,
-            },
-            Err(OutOfMemory) => {
-                self.unheard = self.unheard.saturating_add(1);
-                Activity {
-                    heard: false,
-                    kept,
-                    active: true,
-                }
-            }
         }
     }
 

@@ -1,15 +1,16 @@
 //! A host that sends: what it sees of its link after each turn, and how its transfer ends.
 
-ghost use Rattle.std.specs.Prelude.{◌≡◌, ◌<◌, ◌≤◌, ◌+◌, ◌↔◌, ◌⊎◌, ℕ, List, false, true, length, IfOk, IsTrue, Err, Ok, None, Option, Some};
+ghost use Rattle.std.specs.Prelude.{◌≡◌, ◌<◌, ◌+◌, ◌↔◌, ◌⊎◌, ℕ, List, false, true, length, IfOk, IsTrue, Err, Ok, None, Option, Some};
 ghost use Rattle.std.specs.Io.KnownBytes.{IsAtEnd};
 ghost use Rattle.ipx_carrier.specs.Turns.{peers_of};
+ghost use Rattle.ipx_site.specs.Steady.{NeverGoesBack};
 ghost use Rattle.ipx_wire.specs.declared.address.Address.{Address};
 ghost use Rattle.spx_messages.specs.EndpointView.{held_at};
 ghost use Rattle.ipx_transfer.specs.Books.{EntersAcknowledged};
-ghost use Rattle.ipx_transfer.specs.SendRounds.{EndsWith, IsSendStep, LastsOn, Transfers, place};
+ghost use Rattle.ipx_transfer.specs.SendRounds.{EndsWith, IsSendStep, LastsOn, Transfers};
 ghost use Rattle.ipx_transfer.specs.Sent.{IsDialing};
 ghost use Rattle.ipx_transfer.specs.Sleeping.{MayWait, longest_wait};
-ghost use Rattle.ipx_transfer.specs.SendSteps.{IsFeedFault, IsStepFault, noted};
+ghost use Rattle.ipx_transfer.specs.SendSteps.{IsFeedFault, IsStepFault};
 ghost use Rattle.ipx_transfer.specs.Transfer.{IsWaiting, IsWholeAt, joined_at, left_at, state_at};
 ghost use Rattle.ipx_transfer.specs.declared.send_outcome.SendOutcome.TheVariants as Verdicts;
 
@@ -70,6 +71,8 @@ pub struct SendingHost<'a, R: Clock> {
 }
 
 impl<'a, R: Net + Log + Clock + Eprint> SendingHost<'a, R> {
+    ghost use Rattle.ipx_transfer.specs.Midway.{sending_at};
+
     /// A host that asks for a connection. Nothing was read, and nothing seen.
     pub fn open(
         rt: &'a R,
@@ -79,9 +82,7 @@ impl<'a, R: Net + Log + Clock + Eprint> SendingHost<'a, R> {
         shows: bool,
     ) -> Result<SendingHost<'a, R>, StartFault>
         ensures { IfOk result (λ s. (known : Option (List ℕ)) → IsDialing file.now to
-            (place s.station.clock s.station.core (noted s.joined s.left)
-            s.read s.closed s.ledger known)
-            (peers_of s.station.wire.peers.items) s.id) }
+            (sending_at s known) (peers_of s.station.wire.peers.items) s.id) }
     {
         let mut station = RunningHost::open(rt, alloc, file, dialed_ip(file, to))?;
         let gate = Gate::new(rt, alloc, STDIN, Interest::READABLE);
@@ -183,16 +184,9 @@ impl<'a, R: Net + Log + Clock + Eprint> SendingHost<'a, R> {
     fn step<I: Read>(&mut self, rt: &R, alloc: Global, reader: &mut I) -> Result<bool, SendOutcome>
         ensures id { self.new.id ≡ self.old.id }
         // It notes, tells and feeds by what the turn left.
-        ensures steps { IsSendStep IsFeedFault
-            (place self.old.station.clock self.old.station.core
-            (noted self.old.joined self.old.left)
-            self.old.read self.old.closed self.old.ledger (I.remaining reader.old))
-            (place self.new.station.clock self.new.station.core
-            (noted self.new.joined self.new.left)
-            self.new.read self.new.closed self.new.ledger (I.remaining reader.new))
-            result
-            (λ old moment new. (old.last ≤ moment) × (new.last ≡ moment))
-            (peers_of self.old.station.wire.peers.items) self.old.id }
+        ensures steps { IsSendStep IsFeedFault (sending_at self.old (I.remaining reader.old))
+            (sending_at self.new (I.remaining reader.new))
+            result NeverGoesBack (peers_of self.old.station.wire.peers.items) self.old.id }
         ensures peers { self.new.station.wire.peers ≡ self.old.station.wire.peers }
         ensures readiness { self.new.station.readiness ≡ self.old.station.readiness }
         ensures done { result ≡ Err Verdicts.Done
@@ -234,16 +228,9 @@ impl<'a, R: Net + Log + Clock + Eprint> SendingHost<'a, R> {
     ) -> Result<(), SendOutcome>
         ensures id { self.new.id ≡ self.old.id }
         // It notes, tells and feeds by what the turn left.
-        ensures steps { IsSendStep IsStepFault
-            (place self.old.station.clock self.old.station.core
-            (noted self.old.joined self.old.left)
-            self.old.read self.old.closed self.old.ledger (I.remaining reader.old))
-            (place self.new.station.clock self.new.station.core
-            (noted self.new.joined self.new.left)
-            self.new.read self.new.closed self.new.ledger (I.remaining reader.new))
-            result
-            (λ old moment new. (old.last ≤ moment) × (new.last ≡ moment))
-            (peers_of self.old.station.wire.peers.items) self.old.id }
+        ensures steps { IsSendStep IsStepFault (sending_at self.old (I.remaining reader.old))
+            (sending_at self.new (I.remaining reader.new))
+            result NeverGoesBack (peers_of self.old.station.wire.peers.items) self.old.id }
         ensures peers { self.new.station.wire.peers ≡ self.old.station.wire.peers }
         // It waits only as long as no link has anything to do; and a second at most where it shows
         // how far it is, or the end of the peer was seen.
@@ -272,14 +259,9 @@ impl<'a, R: Net + Log + Clock + Eprint> SendingHost<'a, R> {
         // Round by round: all that left the reader was handed in, in its order, one body behind the
         // other.
         ensures fed { result ≡ Verdicts.Done → Transfers
-            (place self.old.station.clock self.old.station.core
-            (noted self.old.joined self.old.left)
-            self.old.read self.old.closed self.old.ledger (I.remaining reader.old))
-            (place self.new.station.clock self.new.station.core
-            (noted self.new.joined self.new.left)
-            self.new.read self.new.closed self.new.ledger (I.remaining reader.new))
-            (λ old moment new. (old.last ≤ moment) × (new.last ≡ moment))
-            (peers_of self.old.station.wire.peers.items) self.old.id }
+            (sending_at self.old (I.remaining reader.old))
+            (sending_at self.new (I.remaining reader.new))
+            NeverGoesBack (peers_of self.old.station.wire.peers.items) self.old.id }
         // And the reader has nothing left.
         ensures all { result ≡ Verdicts.Done → (self.old.read ≡ true → IsAtEnd (I.remaining reader.old))
             → IsAtEnd (I.remaining reader.new) }
@@ -287,26 +269,12 @@ impl<'a, R: Net + Log + Clock + Eprint> SendingHost<'a, R> {
             → IsWholeAt self.new.station.core.endpoint self.new.id }
         ensures unanswered { result ≡ Verdicts.Unanswered → self.new.joined ≡ false }
         // Any verdict is that of a step, behind some rounds; or they never end.
-        ensures ends { EndsWith
-            (place self.old.station.clock self.old.station.core
-            (noted self.old.joined self.old.left)
-            self.old.read self.old.closed self.old.ledger (I.remaining reader.old))
-            (place self.new.station.clock self.new.station.core
-            (noted self.new.joined self.new.left)
-            self.new.read self.new.closed self.new.ledger (I.remaining reader.new))
-            result
-            (λ old moment new. (old.last ≤ moment) × (new.last ≡ moment))
-            (peers_of self.old.station.wire.peers.items) self.old.id
-            ⊎ LastsOn
-            (place self.old.station.clock self.old.station.core
-            (noted self.old.joined self.old.left)
-            self.old.read self.old.closed self.old.ledger (I.remaining reader.old))
-            (place self.new.station.clock self.new.station.core
-            (noted self.new.joined self.new.left)
-            self.new.read self.new.closed self.new.ledger (I.remaining reader.new))
-            result
-            (λ old moment new. (old.last ≤ moment) × (new.last ≡ moment))
-            (peers_of self.old.station.wire.peers.items) self.old.id }
+        ensures ends { EndsWith (sending_at self.old (I.remaining reader.old))
+            (sending_at self.new (I.remaining reader.new))
+            result NeverGoesBack (peers_of self.old.station.wire.peers.items) self.old.id
+            ⊎ LastsOn (sending_at self.old (I.remaining reader.old))
+            (sending_at self.new (I.remaining reader.new))
+            result NeverGoesBack (peers_of self.old.station.wire.peers.items) self.old.id }
     {
         for _ in 0..u64::MAX {
             if let Err(verdict) = self.step_or_wait(rt, alloc, reader) {
@@ -343,15 +311,9 @@ impl<'a, R: Net + Log + Clock + Eprint> SendingHost<'a, R> {
         ensures done { result ≡ 0 → IsWholeAt self.new.station.core.endpoint self.new.id }
         // Then, round by round, all that left the reader was handed in, in its order, one body
         // behind the other.
-        ensures fed { result ≡ 0 → Transfers
-            (place self.old.station.clock self.old.station.core
-            (noted self.old.joined self.old.left)
-            self.old.read self.old.closed self.old.ledger (I.remaining reader.old))
-            (place self.new.station.clock self.new.station.core
-            (noted self.new.joined self.new.left)
-            self.new.read self.new.closed self.new.ledger (I.remaining reader.new))
-            (λ old moment new. (old.last ≤ moment) × (new.last ≡ moment))
-            (peers_of self.old.station.wire.peers.items) self.old.id }
+        ensures fed { result ≡ 0 → Transfers (sending_at self.old (I.remaining reader.old))
+            (sending_at self.new (I.remaining reader.new))
+            NeverGoesBack (peers_of self.old.station.wire.peers.items) self.old.id }
         // And the reader has nothing left.
         ensures all { result ≡ 0 → (self.old.read ≡ true → IsAtEnd (I.remaining reader.old))
             → IsAtEnd (I.remaining reader.new) }

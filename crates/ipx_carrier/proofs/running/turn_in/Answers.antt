@@ -1,7 +1,7 @@
 use Rattle.std.proofs.lemmas.Result.{err_from_is_err_and}
 use Rattle.ipx_carrier.proofs.Courses.{ends_hearing, ends_sending, ran_one}
 use Rattle.ipx_carrier.proofs.Draining.{takes_sent}
-use Rattle.ipx_carrier.proofs.running.take_turn.Goals as goal
+use Rattle.ipx_carrier.proofs.running.turn_in.Goals as goal
 
 pub returns-in_err-heard-clause-fault : goal.returns-in_err-heard-clause-fault
 returns-in_err-heard-clause-fault g c =

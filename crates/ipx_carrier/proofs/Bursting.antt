@@ -1,5 +1,5 @@
 -- Turns one after another, as a burst takes them.
-use Rattle.std.proofs.Common.{◌≡◌, ◌≤◌, ◌<◌, ℕ, zero, suc, ◌+◌, List, [], ◌∷◌, ◌++◌, length, sum_by, Bool, true, false, Option, Some, None, Result, Ok, Err, IsTrue, ◌↔◌, refl, sym, subst, ap, ◌∙◌, arith, length-append}
+use Rattle.std.proofs.Common.{◌≡◌, ◌≤◌, ◌<◌, ℕ, zero, suc, ◌+◌, List, [], ◌∷◌, ◌++◌, length, sum_by, Bool, true, false, not, Option, Some, None, Result, Ok, Err, IfOk, IfErr, OnOk, IsTrue, ◌↔◌, refl, sym, subst, ap, ◌∙◌, arith, length-append}
 use Rattle.std.proofs.lemmas.List.Elements.{All-nil, All-push}
 use Rattle.std.proofs.lemmas.List.Sums.{sum_by_push}
 use Rattle.ipx_carrier.specs.declared.fault.RunFault.{RunFault}
@@ -7,8 +7,10 @@ use Rattle.ipx_carrier.specs.declared.fault.RunFault.TheVariants.{Device}
 use Rattle.ipx_carrier.specs.declared.report.Report.{Report}
 use Rattle.ipx_carrier.specs.Turns.{Given, Peers}
 use Rattle.ipx_carrier.specs.Runs.{EndsEarly, Runs}
-use Rattle.ipx_site.specs.declared.turns.Burst.{Burst}
-use Rattle.ipx_site.specs.Bursts.{AreBusy, Bursts, CanBegin, Chain, CountsTurns, Ends, IsIdle, Stops, Taken, counted, no_turns, refused}
+use Rattle.ipx_carrier.specs.declared.report.Burst.{Burst}
+use Rattle.ipx_carrier.specs.Device.{Traffic}
+use Rattle.ipx_carrier.specs.Driving.{AreBusy, Bursts, CanBegin, Chain, CountsTurns, Ends, IsIdle, Stops, TakesTurn, TurnTaken, no_turns, refused}
+use Rattle.ipx_carrier.specs.OutcomeCounts.{counted}
 
 -- a turn can be begun over the same as before
 pub begins_again : {ports ports_now device device_now lists failed failed_now : ℕ} → ports_now ≡ ports
@@ -50,8 +52,37 @@ is_busy_so b r h e idle = subst holds (sym (h.1 idle) ∙ e) tt
 pub refused_none : (count most : ℕ) (x : Burst) → count ≡ 0 → count ≡ most → x ≡ no_turns → x ≡ refused most
 refused_none count most x first all none = rw (← all, first, none) refl
 
+-- a turn that was taken, by what it answers
+module _ {C K : Type 0} (hears misses : C → ℕ → List ℕ → ℕ → C → Type 0)
+    (gives : C → ℕ → Option Given → C → Type 0) (withholds : C → ℕ → C → Type 0)
+    (tells : K → ℕ → K → Type 0) (ports : ℕ) (peers : Peers) where
+  pub takes : (before after : Option Traffic) (l m : K) (b c : C) (ran : Result Report RunFault)
+      → IfOk ran (λ report. Runs hears gives tells ports peers 1 before after l m b c report)
+      → IfErr ran (λ f. EndsEarly hears misses gives withholds tells ports peers 1 before after l m f b c)
+      → TakesTurn hears misses gives withholds tells ports peers before after l m b c ran
+  takes before after l m b c (Ok report) well ill = well
+  takes before after l m b c (Err f) well ill = ill
+
+  -- what passed is not told any more
+  pub ran_untold : (before after : Option Traffic) (l m : K) (b c : C) (report : Report)
+      → Runs hears gives tells ports peers 1 before after l m b c report → Runs hears gives tells ports peers 1 None None l m b c report
+  ran_untold before after l m b c report h = (h.0, h.1, h.2, tt, h.4, h.5)
+
+  pub ended_untold : (before after : Option Traffic) (l m : K) (f : RunFault) (b c : C)
+      → EndsEarly hears misses gives withholds tells ports peers 1 before after l m f b c → EndsEarly hears misses gives withholds tells ports peers 1 None None l m f b c
+  ended_untold before after l m f b c h = (h.0, h.1, h.2, h.3, h.4, h.5, h.6, tt, h.8)
+
+pub is_so : (b : Bool) → not b ≡ false → b ≡ true
+is_so true e = refl
+is_so false e = absurd (cc)
+
+-- what holds of a turn in any case
+pub on_whole : {P : Type 0} (ran : Result Report RunFault) → P → OnOk ran P
+on_whole (Ok report) p = p
+on_whole (Err f) p = tt
+
 -- one more is counted
-more_counted : (f : Taken → ℕ) (ts : List Taken) (t : Taken) (before after : ℕ)
+more_counted : (f : TurnTaken → ℕ) (ts : List TurnTaken) (t : TurnTaken) (before after : ℕ)
     → before ≡ counted (sum_by f ts) → after ≡ counted (before + f t)
     → after ≡ counted (sum_by f (ts ++ t ∷ []))
 more_counted f ts t before after e k =
@@ -63,7 +94,7 @@ abbrev pub CountsOne : Report → Burst → Burst → Type 0
 CountsOne r b c = (c.heard ≡ counted (b.heard + r.heard)) × (c.sent ≡ counted (b.sent + r.sent))
     × (c.unmapped ≡ counted (b.unmapped + r.unmapped))
 
-more_counts : (ts : List Taken) (t : Taken) (x y : Burst) → CountsTurns ts x → CountsOne t.report x y → CountsTurns (ts ++ t ∷ []) y
+more_counts : (ts : List TurnTaken) (t : TurnTaken) (x y : Burst) → CountsTurns ts x → CountsOne t.report x y → CountsTurns (ts ++ t ∷ []) y
 more_counts ts t x y h counts = (
   more_counted (λ t. t.report.heard) ts t x.heard y.heard h.0 counts.0,
   more_counted (λ t. t.report.sent) ts t x.sent y.sent h.1 counts.1,
@@ -71,7 +102,7 @@ more_counts ts t x y h counts = (
 )
 
 -- a turn by its report and what was kept back
-abbrev pub taken : Report → ℕ → ℕ → Taken
+abbrev pub taken : Report → ℕ → ℕ → TurnTaken
 taken r before after = record { report = r; before = before; after = after }
 
 module _ {C K : Type 0} (hears : C → ℕ → List ℕ → ℕ → C → Type 0)
@@ -79,11 +110,11 @@ module _ {C K : Type 0} (hears : C → ℕ → List ℕ → ℕ → C → Type 0
     (ports : ℕ) (peers : Peers) where
   -- so many whole turns, none of them idle, and their counts
   abbrev pub Goes : ℕ → Burst → ℕ → ℕ → K → K → C → C → Type 0
-  Goes count b kept kept_after clock clock_after old new = (turns : List Taken) × (length turns ≡ count)
+  Goes count b kept kept_after clock clock_after old new = (turns : List TurnTaken) × (length turns ≡ count)
       × Chain hears gives tells ports peers turns kept kept_after clock clock_after old new
       × CountsTurns turns b × AreBusy turns
 
-  chain_on : (ts : List Taken) (t : Taken) (i j : ℕ) (k l m : K) (a b c : C) → Chain hears gives tells ports peers ts i j k l a b
+  chain_on : (ts : List TurnTaken) (t : TurnTaken) (i j : ℕ) (k l m : K) (a b c : C) → Chain hears gives tells ports peers ts i j k l a b
       → t.before ≡ j → j ≤ t.after → Runs hears gives tells ports peers 1 None None l m b c t.report
       → Chain hears gives tells ports peers (ts ++ t ∷ []) i t.after k m a c
   chain_on [] t i j k l m a b c h e le ran =
