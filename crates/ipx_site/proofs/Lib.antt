@@ -1,7 +1,6 @@
 pub mod Each
 pub mod Faults
 pub mod Found
-pub mod HexText
 pub mod Naming
 pub mod Circles
 pub mod Own
