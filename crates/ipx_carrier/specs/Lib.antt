@@ -10,6 +10,7 @@ pub mod Parts
 pub mod SendingView
 pub mod Runs
 pub mod Stepped
+pub mod Counting
 pub mod OutcomeCounts
 pub mod RouterCore
 pub mod HostCore

@@ -12,6 +12,7 @@
 mod by_ip;
 mod clock;
 mod cores;
+mod counting;
 mod datagrams;
 mod fault;
 mod hearing;
@@ -30,6 +31,7 @@ mod udp;
 pub use by_ip::ByIp;
 pub use clock::{Clock, SteppedClock};
 pub use cores::Core;
+pub use counting::raise;
 pub use datagrams::Datagrams;
 pub use fault::{CarrierFault, DeviceFault, RunFault};
 pub use host_core::HostCore;

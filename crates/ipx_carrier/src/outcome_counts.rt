@@ -2,8 +2,9 @@
 
 ghost use Rattle.std.specs.Prelude.{◌≡◌};
 ghost use Rattle.ipx_router.specs.OutcomeView.{router_outcome};
-ghost use Rattle.ipx_carrier.specs.OutcomeCounts.{fated, fated_by, none, raised};
+ghost use Rattle.ipx_carrier.specs.OutcomeCounts.{fated, fated_by, none};
 
+use crate::counting::raise;
 use ipx_router::{Outcome, Reason};
 
 /// How often a router forwarded a datagram, answered it, heard it, or dropped it for each of the
@@ -20,13 +21,6 @@ pub struct OutcomeCounts {
     pub hop_limit: u64,
     pub bad_control: u64,
     pub table_full: u64,
-}
-
-/// A count goes up by one, and stays where it is the greatest.
-fn raise(count: &mut u64)
-    ensures { count.new ≡ raised count.old }
-{
-    *count = count.saturating_add(1);
 }
 
 impl OutcomeCounts {

@@ -8,7 +8,8 @@ use Rattle.ipx_carrier.specs.declared.report.Report.{Report}
 use Rattle.ipx_carrier.specs.Turns.{Given, Peers}
 use Rattle.ipx_carrier.specs.Runs.{EndsEarly, Runs}
 use Rattle.ipx_site.specs.declared.turns.Burst.{Burst}
-use Rattle.ipx_site.specs.Bursts.{AreBusy, Bursts, CanBegin, Chain, CountsTurns, Ends, IsIdle, Stops, Taken, counted, no_turns, refused}
+use Rattle.ipx_carrier.specs.Counting.{counted}
+use Rattle.ipx_site.specs.Bursts.{AreBusy, Bursts, CanBegin, Chain, CountsTurns, Ends, IsIdle, Stops, Taken, no_turns, refused}
 
 -- a turn can be begun over the same as before
 pub begins_again : {ports ports_now device device_now lists failed failed_now : ℕ} → ports_now ≡ ports

@@ -6,7 +6,7 @@ use Rattle.ipx_site.specs.declared.figures.Figures.{Figures}
 use Rattle.ipx_site.specs.declared.peers.KeptBack.{KeptBack}
 use Rattle.ipx_site.specs.declared.router_counts.RouterCounts.{RouterCounts}
 use Rattle.ipx_site.specs.declared.troubles.Troubles.{Troubles}
-use Rattle.ipx_site.specs.Bursts.{counted}
+use Rattle.ipx_carrier.specs.Counting.{counted}
 use Rattle.ipx_site.specs.Moments.{HasPassed, IsDue, IsToAskAgain}
 use Rattle.ipx_site.specs.Sparing.{SparingView}
 

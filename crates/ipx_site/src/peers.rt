@@ -3,7 +3,7 @@
 ghost use Rattle.std.specs.Prelude.{◌≡◌, ◌<◌, ◌≤◌, ◌+◌, ◌^◌, [], ◌∷◌, ℕ, true, false, Ok, Option, Some, OnErr, OnOk, IfOk, IfSome, is_err, length, map, slice_get};
 ghost use Rattle.ipx_wire.specs.Ipx.{packet_view};
 ghost use Rattle.ipx_carrier.specs.Device.{Passes, received_in};
-ghost use Rattle.ipx_carrier.specs.OutcomeCounts.{raised};
+ghost use Rattle.ipx_carrier.specs.Counting.{raised};
 ghost use Rattle.ipx_carrier.specs.RunFaultNumbers.{device_failures};
 ghost use Rattle.ipx_carrier.specs.Waits.{LeavesPort};
 ghost use Rattle.ipx_site.specs.SitePeers.{IsWordOn, TakesIn, is_listed, is_peer, kept_in, may_go, may_say, none_kept, nothing_kept, one_more};
@@ -11,7 +11,7 @@ ghost use Rattle.ipx_site.specs.SitePorts.{access_by};
 
 use crate::own_word::{is_own_word, is_response, is_straight};
 use crate::senders::Senders;
-use ipx_carrier::{Datagrams, DeviceFault};
+use ipx_carrier::{Datagrams, DeviceFault, raise};
 use ipx_wire::{Network, Packet, decode};
 
 /// Whom a port sends to, who is heard there, and what each may say: lists of IP addresses, of which
@@ -58,14 +58,6 @@ pub struct KeptBack {
     pub forged: Kept,
     /// Those that were passed on, or told, by one that is no router.
     pub no_router: Kept,
-}
-
-/// A count goes up by one, and stays where it is the greatest.
-pub fn raise(count: &mut u64)
-    ensures counted { count.new ≡ raised count.old }
-    ensures grows { count.old ≤ count.new }
-{
-    *count = count.saturating_add(1);
 }
 
 impl Kept {

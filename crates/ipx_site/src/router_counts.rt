@@ -9,7 +9,7 @@ use crate::sockets::SiteSockets;
 use crate::sparing::Sparing;
 use crate::turns::Burst;
 use crate::watch::Known;
-use ipx_carrier::{RouterCore, RunFault};
+use ipx_carrier::{RouterCore, RunFault, raise};
 
 /// What a router that runs counts itself. Each count stays at the greatest u64.
 #[derive(Clone, Copy, Debug, PartialEq, Eq)]
@@ -36,18 +36,18 @@ impl RouterCounts {
         self.heard = self.heard.saturating_add(burst.heard);
         self.unmapped = self.unmapped.saturating_add(burst.unmapped);
         match burst.fault {
-            Some(RunFault::Device) => self.device_faults = self.device_faults.saturating_add(1),
+            Some(RunFault::Device) => raise(&mut self.device_faults),
             Some(RunFault::OutOfMemory) => self.want_memory(),
             None => {}
         }
     }
 
     pub fn want_memory(&mut self) {
-        self.memory_faults = self.memory_faults.saturating_add(1);
+        raise(&mut self.memory_faults);
     }
 
     pub fn fail_file(&mut self) {
-        self.file_faults = self.file_faults.saturating_add(1);
+        raise(&mut self.file_faults);
     }
 
     /// All figures of a router, at a moment in milliseconds since its start.

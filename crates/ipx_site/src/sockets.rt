@@ -1,15 +1,14 @@
 //! Sockets of UDP, one for each port of a site.
 
 ghost use Rattle.std.specs.Prelude.{◌≡◌, ◌⊎◌, ◌<◌, ◌↔◌, ◌∷◌, [], IfOk, IfSome, IsSome, OnErr, Some, length, map, slice_get};
-ghost use Rattle.ipx_carrier.specs.OutcomeCounts.{raised};
+ghost use Rattle.ipx_carrier.specs.Counting.{raised};
 ghost use Rattle.ipx_site.specs.SitePorts.{udp_ports};
 
 use crate::bind_fault::{BindFault, obstacle_of};
-use crate::peers::raise;
 use crate::room::ask_room;
 use crate::senders::Senders;
 use crate::site::SitePort;
-use ipx_carrier::{Datagrams, DeviceFault};
+use ipx_carrier::{Datagrams, DeviceFault, raise};
 use std::alloc::Global;
 use std::io;
 use std::io::ErrorKind;

@@ -4,7 +4,8 @@ ghost use Rattle.std.specs.Prelude.{◌≡◌, ◌⊎◌, ◌<◌, ◌≤◌, �
 ghost use Rattle.ipx_carrier.specs.RunFaultNumbers.{failures_after};
 ghost use Rattle.ipx_carrier.specs.Runs.{EndsEarly, Runs};
 ghost use Rattle.ipx_carrier.specs.Turns.{peers_of};
-ghost use Rattle.ipx_site.specs.Bursts.{Bursts, CanBegin, counted, failed_after, no_turns, refused};
+ghost use Rattle.ipx_carrier.specs.Counting.{counted};
+ghost use Rattle.ipx_site.specs.Bursts.{Bursts, CanBegin, failed_after, no_turns, refused};
 ghost use Rattle.ipx_site.specs.SitePeers.{kept_in};
 ghost use Rattle.ipx_site.specs.SitePorts.{access_by};
 

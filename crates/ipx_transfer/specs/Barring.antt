@@ -5,7 +5,7 @@ use Rattle.ipx_wire.specs.Ipx.{PacketView}
 use Rattle.ipx_wire.specs.declared.address.Address.{Address}
 use Rattle.ipx_wire.specs.declared.spx.packet.SpxHeader.{SpxHeader}
 use Rattle.spx_units.specs.WrittenPackets.{IsRequestFor}
-use Rattle.ipx_carrier.specs.OutcomeCounts.{raised}
+use Rattle.ipx_carrier.specs.Counting.{raised}
 use Rattle.ipx_site.specs.Origins.{may_ask, named_in}
 use Rattle.ipx_transfer.specs.Noting.{HearsAndNotes}
 use Rattle.ipx_transfer.specs.declared.end_core.EndCore.{EndCore}

@@ -8,7 +8,7 @@ use Rattle.spx_link.specs.Offer.{offer_link}
 use Rattle.spx_units.specs.Cut.{cut_of}
 use Rattle.spx_messages.specs.Changes.{ChangesEnd, SameBut, SameSelf}
 use Rattle.spx_messages.specs.EndpointView.{EndpointView, Held, held_at}
-use Rattle.ipx_carrier.specs.OutcomeCounts.{raised}
+use Rattle.ipx_carrier.specs.Counting.{raised}
 use Rattle.ipx_wire.specs.declared.address.Address.{Address}
 use Rattle.ipx_transfer.specs.CallerActions.{ends, is_unheard, standing_asked, standing_heard}
 use Rattle.ipx_transfer.specs.declared.callers.Caller.{Caller}

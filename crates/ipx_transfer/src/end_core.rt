@@ -10,7 +10,7 @@ ghost use Rattle.ipx_transfer.specs.Barring.{IsBarred};
 ghost use Rattle.ipx_transfer.specs.Noting.{Notes};
 
 use crate::asking::{asker_of, is_among};
-use ipx_carrier::Core;
+use ipx_carrier::{Core, raise};
 use ipx_site::Origin;
 use ipx_wire::{Address, Network, Node, OutOfMemory, decode};
 use spx_messages::{Arrived, Endpoint};
@@ -189,7 +189,7 @@ impl Core for EndCore {
         self.moment = now;
         if self.bars(bytes) {
             self.came = None;
-            self.barred = self.barred.saturating_add(1);
+            raise(&mut self.barred);
             return Ok(());
         }
         let arrived = self.endpoint.receive(alloc, bytes, now)?;
