@@ -11,6 +11,5 @@ pub mod Parts
 pub mod Addresses
 pub mod Access
 pub mod Printed
-pub mod Written
 pub mod Taken
 pub mod Hearings

@@ -1,6 +1,6 @@
 //! What a router says of its file, without a socket: `ipx route --check`.
 
-ghost use Rattle.std.specs.Prelude.{◌≡◌, ◌<◌, ◌≤◌, ℕ, List, [], IfErr, IfOk, IfSome, IsOkAnd, OnOk, length, position, string_bytes};
+ghost use Rattle.std.specs.Prelude.{◌≡◌, ◌<◌, ◌≤◌, ℕ, List, [], IfOk, IfSome, IsOkAnd, length, position, string_bytes};
 ghost use Rattle.std.specs.Io.KnownBytes.{Appends};
 ghost use Rattle.ipx_site.specs.Checked.{count_text, each_behind, file_line, is_one_place, peer_remark, place_remark, port_lines, remark, site_lines, status_text};
 ghost use Rattle.ipx_site.specs.Loading.{IsFileText};
@@ -172,25 +172,6 @@ pub fn write_checked<R: Eprint, W: Write>(
     }
 }
 
-/// Says what a file that was loaded has, or answers the status where it wasn't.
-fn check_loaded<R: Eprint, W: Write>(
-    rt: &R,
-    alloc: Global,
-    path: &str,
-    loaded: Result<SiteFile, u8>,
-    writer: &mut W,
-) -> u8
-    ensures unread { IfErr loaded (λ status. (result ≡ status) × (writer.new ≡ writer.old)) }
-    ensures few { OnOk loaded (result ≤ 1) }
-    ensures lines { IfOk loaded (λ site. result ≡ 0 →
-        Appends (W.contents writer.old) (W.contents writer.new) (site_lines path.now site)) }
-{
-    match loaded {
-        Ok(site) => write_checked(rt, path, site_to_lines(alloc, path, &site), writer),
-        Err(status) => status,
-    }
-}
-
 /// The command `route --check`: reads the file of a router, and writes the line that each port has as
 /// a router starts, with what is to be remarked on it, and a line of the file. It opens no socket: no
 /// `Net` comes in.
@@ -210,6 +191,8 @@ pub fn check_site<R: Files + Eprint, W: Write>(
         × Appends (W.contents writer.old) (W.contents writer.new) (site_lines path.now site) }
     ensures untouched { result ≡ 2 → writer.new ≡ writer.old }
 {
-    let loaded = load_site(rt, alloc, path);
-    check_loaded(rt, alloc, path, loaded, writer)
+    match load_site(rt, alloc, path) {
+        Ok(site) => write_checked(rt, path, site_to_lines(alloc, path, &site), writer),
+        Err(status) => status,
+    }
 }

@@ -1,4 +1,3 @@
-pub mod Checked
 pub mod Counting
 pub mod Holding
 pub mod Noted
