@@ -6,7 +6,7 @@ ghost use Rattle.ipx_carrier.specs.Device.{Passes, received_in};
 ghost use Rattle.ipx_carrier.specs.Counting.{raised};
 ghost use Rattle.ipx_carrier.specs.RunFaultNumbers.{device_failures};
 ghost use Rattle.ipx_carrier.specs.Waits.{LeavesPort};
-ghost use Rattle.ipx_site.specs.SitePeers.{IsWordOn, TakesIn, is_listed, is_peer, kept_in, may_go, may_say, none_kept, nothing_kept, one_more};
+ghost use Rattle.ipx_site.specs.SitePeers.{IsWordOn, TakesIn, is_listed, kept_in, may_go, may_say, none_kept, nothing_kept, one_more};
 ghost use Rattle.ipx_site.specs.SitePorts.{access_by};
 
 use crate::own_word::{is_own_word, is_response, is_straight};
@@ -91,20 +91,13 @@ impl KeptBack {
     }
 }
 
-/// Whether an IP address is one of these.
-pub fn is_one_of(ips: &[[u8; 4]], ip: [u8; 4]) -> bool
-    ensures { result ≡ is_peer ips.now ip }
-{
-    ips.iter().any(|one| *one == ip)
-}
-
 /// Whether an IP address is among those that are named, where some are.
 fn is_listed(ips: &Option<Vec<[u8; 4]>>, ip: Option<[u8; 4]>) -> bool
     ensures { result ≡ is_listed ips.now ip }
 {
     match (ips, ip) {
         (None, _) => true,
-        (Some(ips), Some(ip)) => is_one_of(ips, ip),
+        (Some(ips), Some(ip)) => ips.contains(&ip),
         (Some(_), None) => false,
     }
 }

@@ -7,7 +7,6 @@ ghost use Rattle.ipx_site.specs.Values.{AreAddresses, AreAddressesOf, AreRouterP
 ghost use Rattle.ipx_site.specs.Fields.{Reads};
 ghost use Rattle.ipx_site.specs.SitePeers.{is_peer};
 
-use crate::peers::is_one_of;
 use crate::site::Accept;
 use ipx_wire::{Network, OutOfMemory, Socket};
 use std::alloc::Global;
@@ -117,7 +116,7 @@ pub fn parse_peers(alloc: Global, value: &Value) -> Result<Option<Vec<[u8; 4]>>,
 pub fn are_among(ips: &[[u8; 4]], peers: &[[u8; 4]]) -> bool
     ensures { result ≡ list_all (is_peer peers.now) ips.now }
 {
-    ips.iter().all(|ip| is_one_of(peers, *ip))
+    ips.iter().all(|ip| peers.contains(ip))
 }
 
 /// The routers that a value lists, if each of them is one of these peers.
