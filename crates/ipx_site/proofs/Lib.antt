@@ -8,6 +8,7 @@ pub mod Bursting
 pub mod Ports
 pub mod Rounds
 pub mod Parts
+pub mod OneDue
 pub mod Addresses
 pub mod Access
 pub mod Printed

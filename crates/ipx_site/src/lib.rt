@@ -72,5 +72,5 @@ pub use site::{Accept, SiteFile, SitePort};
 pub use sockets::SiteSockets;
 pub use sparing::Sparing;
 pub use start_lines::{dotted, others, reached_to_text};
-pub use troubles::tell_kept;
+pub use troubles::{Trouble, tell_each};
 pub use turns::{Burst, run_burst, take_turn};
