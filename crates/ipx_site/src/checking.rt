@@ -172,12 +172,12 @@ pub fn write_checked<R: Eprint, W: Write>(
     }
 }
 
-/// The command `route --check`: reads the file of a router, and writes the line that each port has as
-/// a router starts, with what is to be remarked on it, and a line of the file. It opens no socket: no
-/// `Net` comes in.
+/// The command `route --check`: reads the file of a router, and writes the line that each port has
+/// as a router starts, with what is to be remarked on it, and a line of the file. It opens no
+/// socket: no `Net` comes in.
 ///
-/// The answer is the status: 0 where that is written; 1 where memory is refused or the writer fails;
-/// 2 for a fault of the file, which is told as `route` does, and nothing is written.
+/// The answer is the status: 0 where that is written; 1 where memory is refused or the writer
+/// fails; 2 for a fault of the file, which is told as `route` does, and nothing is written.
 pub fn check_site<R: Files + Eprint, W: Write>(
     rt: &R,
     alloc: Global,

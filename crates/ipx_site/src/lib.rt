@@ -3,9 +3,9 @@
 //! [`do_route`] is the command of a router, and [`check_site`] says what it would of its file.
 //! [`read_site`] reads the file of a router, [`read_host`] that of a host, and [`load_site`] and
 //! [`load_host`] where they lie. [`PeersOnly`] is a device that hears and sends to its peers alone,
-//! over any device that knows its [`Senders`], as [`SiteSockets`] are; [`Readiness`] waits for those,
-//! [`SteadyClock`] is the system's clock, and [`run_burst`] takes turns as long as there is something
-//! to do.
+//! over any device that knows its [`Senders`], as [`SiteSockets`] are; [`Readiness`] waits for
+//! those, [`SteadyClock`] is the system's clock, and [`run_burst`] takes turns as long as there is
+//! something to do.
 #![tactic(auto)]
 
 mod asker;

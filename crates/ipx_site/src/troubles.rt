@@ -10,8 +10,8 @@ use crate::moments::sooner;
 use crate::peers::Kept;
 use log::{Log, warn};
 
-/// What goes wrong again and again: how often it did, who did it last, where that is known, and what
-/// its line says.
+/// What goes wrong again and again: how often it did, who did it last, where that is known, and
+/// what its line says.
 #[derive(Clone, Copy, Debug, PartialEq, Eq)]
 pub struct Trouble {
     pub kept: Kept,

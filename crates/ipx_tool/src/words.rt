@@ -33,9 +33,9 @@ pub enum Task<'a> {
 
 /// The command that the words ask for, the program's own name first: just `hop`, `check`, `sim` or
 /// `udp`; `show`, `route` or `listen` and one word that is no option; `listen` and such a word with
-/// `--once` before or behind it; `route` or `listen` and such a word with `--check` there; `send` and
-/// four words that are no options; or `udp` and a port, as `--port P` or `--port=P`. No other words
-/// ask for one.
+/// `--once` before or behind it; `route` or `listen` and such a word with `--check` there; `send`
+/// and four words that are no options; or `udp` and a port, as `--port P` or `--port=P`. No other
+/// words ask for one.
 pub fn task_of(words: &[String]) -> Option<Task<'_>>
     ensures { Finds (AsksFor (drop 1 (map string_bytes words.now))) result }
 {

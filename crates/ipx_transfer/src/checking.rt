@@ -22,7 +22,8 @@ fn own_place_to_text(alloc: Global, file: &HostFile) -> Result<String, AllocErro
     format!(in alloc; "socket {socket} network {network} node {node}")
 }
 
-/// Where a host listens: `socket .. network .. node .. udp ..`, and ` accept any` where it hears everybody.
+/// Where a host listens: `socket .. network .. node .. udp ..`, and ` accept any` where it hears
+/// everybody.
 pub fn listener_to_text(alloc: Global, file: &HostFile) -> Result<String, AllocError>
     ensures { IfOk result (λ t. string_bytes t ≡ listener_text file.now) }
 {
@@ -65,8 +66,8 @@ fn host_to_lines(alloc: Global, path: &str, file: &HostFile) -> Result<String, A
 /// starts to listen, what is to be remarked, and a line of the file. It opens no socket: no `Net`
 /// comes in.
 ///
-/// The answer is the status: 0 where that is written; 1 where memory is refused or the writer fails;
-/// 2 for a fault of the file, which is told as `listen` does, and nothing is written.
+/// The answer is the status: 0 where that is written; 1 where memory is refused or the writer
+/// fails; 2 for a fault of the file, which is told as `listen` does, and nothing is written.
 pub fn check_host<R: Files + Eprint, W: Write>(
     rt: &R,
     alloc: Global,
