@@ -1,5 +1,5 @@
 use Rattle.std.proofs.Common.{◌≡◌, length}
-use Rattle.ipx_bench.proofs.answering.answers_to.Given as goal
+use Rattle.ipx_bench.proofs.answering.write_answers.Given as goal
 
 abbrev pub invariant-loop-record : goal.invariant-loop-record
 invariant-loop-record l =
