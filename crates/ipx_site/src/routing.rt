@@ -173,6 +173,25 @@ fn tell_ports<R: Log>(
     Ok(())
 }
 
+/// The device of the ports, with its sockets bound and its guards, and what waits for it. Each port
+/// is told.
+fn guarded_device<R: Net + Log>(
+    rt: &R,
+    alloc: Global,
+    ports: &[SitePort],
+) -> Result<(PeersOnly<SiteSockets>, Readiness), RouteFault>
+    ensures guards { IfOk result (λ r. GuardPorts ports.now r.0.guards.items) }
+    // Each port has a socket, with the port of UDP of its peers.
+    ensures sockets { IfOk result (λ r. map (λ p. p.udp_port) r.0.device.sockets.items
+        ≡ udp_ports ports.now) }
+{
+    let guards = guards_of(alloc, ports)?;
+    let sockets = SiteSockets::bind(rt, alloc, ports)?;
+    let ready = Readiness::new(rt, alloc, &sockets)?;
+    tell_ports(rt, alloc, ports, &sockets)?;
+    Ok((PeersOnly::new(sockets, guards), ready))
+}
+
 /// A router of a file, with its sockets bound.
 fn start<'a, R: Net + Log + SystemClock>(
     rt: &'a R,
@@ -195,13 +214,10 @@ fn start<'a, R: Net + Log + SystemClock>(
 {
     let core = core_of(alloc, &site.ports)?;
     let peers = peers_by_port(alloc, &site.ports)?;
-    let guards = guards_of(alloc, &site.ports)?;
-    let sockets = SiteSockets::bind(rt, alloc, &site.ports)?;
-    let ready = Readiness::new(rt, alloc, &sockets)?;
-    tell_ports(rt, alloc, &site.ports, &sockets)?;
+    let (device, ready) = guarded_device(rt, alloc, &site.ports)?;
     let parts = Parts {
         core,
-        device: PeersOnly::new(sockets, guards),
+        device,
         peers,
         clock: SteadyClock::new(rt),
         ready,
