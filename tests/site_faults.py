@@ -240,7 +240,7 @@ CHECKED = [
     ("route", SHARED, [PORT_11, *REMARKS, "port 2 network 00000022 node 00000a010001 udp 10.1.0.1:213 cost 1 peers 2",
                        "port 2: address and udp_port are those of port 1", "it.toml: 2 ports, no status file"]),
     ("listen", HOST, ["socket 4002 network 00000011 node 00007f000114 udp 127.0.1.20:20999",
-                      "it.toml: router 127.0.1.1, buffers 64"]),
+                      "it.toml: router 127.0.1.1, buffers 1024"]),
     ("listen", changed(HOST, "router", '"127.0.1.20"') + "buffers = 512\n",
      ["socket 4002 network 00000011 node 00007f000114 udp 127.0.1.20:20999", "the router is its own address",
       "it.toml: router 127.0.1.20, buffers 512"]),

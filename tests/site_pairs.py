@@ -40,7 +40,8 @@ def check_pairs(sites, pair, lost, shut):
     sites.check("a sender waits while its listener is not read", not sender.is_over(), str(sender.said()))
     slow.reading.set()
     sites.check_transfer("what it sent comes once it is read", slow, sender, data)
-    status, said = lost.status(20), lost.said()
+    # Some thirty seconds after the last word of its listener.
+    status, said = lost.status(50), lost.said()
     found = len(said) == 1 and re.fullmatch(
         r"the connection is lost: (\d+) of (\d+) bytes acknowledged", said[0])
     good = status == 1 and found and sites.size // 20 <= int(found[1]) < int(found[2])

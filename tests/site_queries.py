@@ -13,7 +13,7 @@ ASKED_ADDRESSES = [address for ports in ASKED.values() for _, address, _ in port
 EVERY_NODE = "f" * 12
 # In each round so many queries, and so many packets, which are waited for. An answer is so many packets of
 # seven services: without turns, they would pass the 16,384 that may wait.
-ROUNDS, QUERIES, PACKETS, ANSWER = 200, 5, 20, 100
+ROUNDS, QUERIES, PACKETS, ANSWER = 200, 5, 50, 100
 
 
 def services():

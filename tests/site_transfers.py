@@ -4,11 +4,11 @@ import time
 from site_world import listed, some_bytes, until
 
 NETWORK = "00000044"
-# 20 MB at these numbers of buffers, and three senders of 5 MB at 64 to one listener.
-BUFFERS = {512: ("127.0.1.150", "127.0.1.151"), 8192: ("127.0.1.152", "127.0.1.153")}
+# 20 MB at these numbers of buffers, and three senders of 5 MB to one listener.
+BUFFERS = {64: ("127.0.1.148", "127.0.1.149"), 512: ("127.0.1.150", "127.0.1.151"), 8192: ("127.0.1.152", "127.0.1.153")}
 MANY, SENDERS = "127.0.1.154", ["127.0.1.155", "127.0.1.156", "127.0.1.157"]
 TRANSFERRING = [*(address for pair in BUFFERS.values() for address in pair), MANY, *SENDERS]
-SECONDS = 20
+SECONDS, LIMIT = 5, 20
 
 
 def check_one(sites, buffers, addresses):
@@ -21,7 +21,7 @@ def check_one(sites, buffers, addresses):
     listener = sites.start_listener("--once", name=names[0])
     start = time.monotonic()
     sender = sites.start_sender(names[1], [data], NETWORK, addresses[0])
-    sites.check_transfer(f"{2 * sites.size / 1e6:g} MB at {buffers} buffers", listener, sender, data, SECONDS)
+    sites.check_transfer(f"{2 * sites.size / 1e6:g} MB at {buffers} buffers", listener, sender, data, LIMIT)
     took = time.monotonic() - start
     sites.check(f"at {buffers} buffers it takes under {SECONDS} s", took < SECONDS, f"{took:.1f} s")
 
@@ -36,7 +36,7 @@ def check_three(sites):
     for number, (address, data) in enumerate(zip(SENDERS, thirds)):
         sites.host(f"many-sender{number}", NETWORK, address, "127.0.1.89", "4003")
         senders.append(sites.start_sender(f"many-sender{number}", [data], NETWORK, MANY))
-    statuses = [sender.status(SECONDS) for sender in senders]
+    statuses = [sender.status(LIMIT) for sender in senders]
     took = time.monotonic() - start
     until(lambda: len(listener.out) >= sum(map(len, thirds)), 5)
     listener.end()
@@ -50,8 +50,8 @@ def check_three(sites):
 
 
 def check_room_told(sites, room, wanted):
-    """Where sockets get less than they ask for, a host says so just where its buffers want over twice that: a unit
-    takes 1,280 bytes."""
+    """Where sockets get less than they ask for, a host says so just where its buffers want over eight times that: a
+    unit takes 1,280 bytes."""
     line = f"its socket holds {room} bytes: net.core.rmem_max = {wanted} gives it what it asks for"
     for number, buffers in enumerate((64, 8192)):
         name = f"room-{buffers}"
@@ -59,16 +59,14 @@ def check_room_told(sites, room, wanted):
         host = sites.start_listener(name=name)
         until(lambda: any("socket 4002" in one for one in host.said()), 5)  # pylint: disable=cell-var-from-loop
         says = any(one.endswith(line) for one in host.said())
-        sites.check(f"a host with {buffers} buffers and its room", says == (buffers * 1280 > 2 * room), str(host.said()))
+        sites.check(f"a host with {buffers} buffers and its room", says == (buffers * 1280 > 8 * room), str(host.said()))
         host.end()
 
 
 def check_transfers(sites, room, wanted):
-    """All of them, where the system gives a socket the room that it asks for."""
+    """All of them. A sender paces itself, so sockets that get less room than they ask for lose next to nothing."""
     if room < wanted:
-        print(f"    transfers at many buffers are left out: net.core.rmem_max is {room}, less than {wanted}")
         check_room_told(sites, room, wanted)
-        return
     for buffers, addresses in BUFFERS.items():
         check_one(sites, buffers, addresses)
     check_three(sites)

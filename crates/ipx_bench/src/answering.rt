@@ -61,18 +61,35 @@ fn write_answer(
     }
 }
 
+fn write_answers(
+    alloc: Global,
+    out: &mut Vec<u8>,
+    router: &mut Router,
+    records: &[u8],
+    size: usize,
+) -> Result<(), OutOfMemory>
+    requires { (length router.old.ports ≡ 3) × (1 ≤ size) }
+{
+    for record in records.chunks_exact(size) {
+        write_answer(alloc, out, router, record)?;
+    }
+    Ok(())
+}
+
+fn write_told(alloc: Global, out: &mut Vec<u8>, router: &mut Router) -> Result<(), OutOfMemory> {
+    out.push(b'T')?;
+    let told = router.tell(alloc, 0)?;
+    write_replies(out, &told)
+}
+
 /// What a new router answers to each record, and what it tells then.
 fn answers_to(alloc: Global, records: &[u8], size: usize) -> Result<Vec<u8>, OutOfMemory>
     requires { 1 ≤ size }
 {
     let mut router = router_of_three(alloc)?;
     let mut out = Vec::new(alloc);
-    for record in records.chunks_exact(size) {
-        write_answer(alloc, &mut out, &mut router, record)?;
-    }
-    out.push(b'T')?;
-    let told = router.tell(alloc, 0)?;
-    write_replies(&mut out, &told)?;
+    write_answers(alloc, &mut out, &mut router, records, size)?;
+    write_told(alloc, &mut out, &mut router)?;
     Ok(out)
 }
 

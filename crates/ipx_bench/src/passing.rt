@@ -6,12 +6,9 @@ ghost use Rattle.spx_link.specs.Links.{IsLive};
 
 use crate::digest::{mixed, spx_digest, unit_digest};
 use crate::pair::{End, Pair, ROOM};
-use ipx_wire::{Fragment, OutOfMemory, decode_spx};
+use ipx_wire::{Fragment, OutOfMemory, SPX_MAX_DATA_SIZE, decode_spx};
 use spx_link::Unit;
 use std::alloc::{AllocError, Global};
-
-/// The most data that a unit holds.
-const MOST_DATA: usize = 534;
 
 /// Adds a unit of so many bytes, built where it stands. What is past its room is left out.
 fn push_unit(units: &mut Vec<Unit>, piece: &[u8], stream: u8, last: bool) -> Result<(), AllocError>
@@ -126,7 +123,7 @@ fn pass(alloc: Global, pair: &mut Pair, bytes: &[u8], now: u64) -> Result<u64, O
     ensures near { IsLive pair.new.near.links pair.new.near.id }
     ensures far { IsLive pair.new.far.links pair.new.far.id }
 {
-    let units = cut(alloc, bytes, MOST_DATA, 0, false)?;
+    let units = cut(alloc, bytes, SPX_MAX_DATA_SIZE, 0, false)?;
     match pair.near.links.offer(alloc, pair.near.id, units) {
         Ok(()) => Ok(pump(pair, bytes.len(), now)),
         Err(_) => Err(OutOfMemory),

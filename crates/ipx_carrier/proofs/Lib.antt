@@ -6,3 +6,4 @@ pub mod Givable
 pub mod Putting
 pub mod Waiting
 pub mod Draining
+pub mod Bursting

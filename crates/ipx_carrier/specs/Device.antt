@@ -1,5 +1,6 @@
 -- What passes through a device that sends and receives datagrams, and the moments of a clock.
 use Rattle.std.specs.Prelude.{◌≡◌, ℕ, List, [], ◌∷◌, ◌++◌, Option, Some, None, IfSome, take}
+use Rattle.ipx_wire.specs.declared.address.Network.{Network}
 
 -- a datagram that was sent: by a port of the device, to an IP address
 pub record Datagram : Type 0 where
@@ -26,9 +27,11 @@ abbrev pub received_in : List ℕ → Option ℕ → Option (List ℕ)
 received_in room None = None
 received_in room (Some count) = Some (take count room)
 
--- who may speak at a port, as a device says it: to whom what is sent goes, from whom what comes is
--- heard, and who of these may pass on what others sent. Each by IP addresses; none stands for everybody
+-- who may speak at a port, as a device says it: on which network it is, to whom what is sent goes, from
+-- whom what comes is heard, and who of these may pass on what others sent. Each by IP addresses; none
+-- stands for everybody
 pub record Access : Type 0 where
+  pub network : Network
   pub sends : Option (List (List ℕ))
   pub hears : Option (List (List ℕ))
   pub routers : Option (List (List ℕ))

@@ -10,9 +10,11 @@ pub mod Parts
 pub mod SendingView
 pub mod Runs
 pub mod Stepped
+pub mod Counting
 pub mod OutcomeCounts
 pub mod RouterCore
 pub mod HostCore
 pub mod HostLends
 pub mod Queued
 pub mod Memory
+pub mod Driving

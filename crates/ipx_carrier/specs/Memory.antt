@@ -6,7 +6,7 @@ use Rattle.ipx_carrier.specs.declared.memory.KeptAnswer.{KeptAnswer}
 use Rattle.ipx_carrier.specs.declared.memory.SentDatagram.{SentDatagram}
 use Rattle.ipx_carrier.specs.declared.memory.MemoryDatagrams.{MemoryDatagrams}
 use Rattle.ipx_carrier.specs.Device.{Datagram, Reception, Traffic}
-use Rattle.ipx_carrier.specs.OutcomeCounts.{raised}
+use Rattle.ipx_carrier.specs.Counting.{raised}
 use Rattle.ipx_carrier.specs.Waits.{WaitingDatagrams}
 
 abbrev pub memory_sent : SentDatagram → Datagram

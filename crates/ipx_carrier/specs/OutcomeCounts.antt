@@ -1,13 +1,10 @@
 -- What became of the datagrams that a router heard, counted. All of it is own.
-use Rattle.std.specs.Prelude.{ℕ, ◌+◌, ◌-◌, ◌^◌, min}
+use Rattle.std.specs.Prelude.{ℕ, ◌+◌}
 use Rattle.ipx_router.specs.declared.reason.Reason.{Reason}
 use Rattle.ipx_router.specs.declared.reason.Reason.TheVariants.{Bad, Propagated, NotOurs, NoRoute, HopLimit, BadControl, TableFull}
 use Rattle.ipx_router.specs.OutcomeView.{OutcomeView, Forward, Replies, Heard, Dropped}
+use Rattle.ipx_carrier.specs.Counting.{raised}
 use Rattle.ipx_carrier.specs.declared.outcome_counts.OutcomeCounts.{OutcomeCounts}
-
--- a count of 64 bits goes up by one, and stays where it is the greatest
-abbrev pub raised : ℕ → ℕ
-raised n = min (n + 1) (2 ^ 64 - 1)
 
 -- nothing was heard yet
 abbrev pub none : OutcomeCounts
@@ -23,6 +20,11 @@ none = record {
   bad_control = 0;
   table_full = 0;
 }
+
+-- how many datagrams these are, whatever became of them
+abbrev pub outcomes_in : OutcomeCounts → ℕ
+outcomes_in f = f.forwarded + f.answered + f.heard + f.bad + f.propagated + f.not_ours + f.no_route
+    + f.hop_limit + f.bad_control + f.table_full
 
 -- one more datagram was dropped, for this reason
 abbrev pub fated_by : Reason → OutcomeCounts → OutcomeCounts

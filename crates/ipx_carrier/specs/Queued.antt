@@ -1,8 +1,9 @@
 -- Words of private functions: what putting packets into a queue leaves.
-use Rattle.std.specs.Prelude.{◌≡◌, ℕ, ◌+◌, ◌-◌, ◌^◌, Bool, List, [], ◌++◌, length, min, nat_le, MatchBool}
+use Rattle.std.specs.Prelude.{◌≡◌, ℕ, ◌+◌, Bool, List, [], ◌++◌, length, nat_le, MatchBool}
 use Rattle.ipx_router.specs.RouterView.{RouterView}
 use Rattle.ipx_router.specs.RouterPackets.{SendingView}
 use Rattle.ipx_router.specs.Starting.{AreStarts}
+use Rattle.ipx_carrier.specs.Counting.{counted}
 use Rattle.ipx_carrier.specs.RouterCore.{AreGivable, TellsNow, most_queued}
 
 -- all of them stand behind those that were there, or none does and they are counted
@@ -10,7 +11,7 @@ abbrev pub Puts : List SendingView → List SendingView → ℕ → List Sending
 Puts sent queue dropped queue_after dropped_after =
     MatchBool (nat_le (length queue + length sent) most_queued)
     ((queue_after ≡ queue ++ sent) × (dropped_after ≡ dropped))
-    ((queue_after ≡ queue) × (dropped_after ≡ min (dropped + length sent) (2 ^ 64 - 1)))
+    ((queue_after ≡ queue) × (dropped_after ≡ counted (dropped + length sent)))
 
 -- the packets of a router's start were put, unless they were before
 abbrev pub PutsStart : RouterView → Bool → List SendingView → ℕ → List SendingView → ℕ → Type 0

@@ -1,6 +1,6 @@
 -- A router as a core: it hears datagrams and gives packets by a queue, which holds 16,384 of them.
 -- The entry points are `RouterHears` and `RouterGives`, and `Misses` and `Withholds` where memory is refused.
-use Rattle.std.specs.Prelude.{◌≡◌, ◌<◌, ◌≤◌, ◌⊎◌, ℕ, ◌+◌, ◌-◌, ◌^◌, Bool, true, false, List, [], ◌∷◌, ◌++◌, All, length, drop, min, nat_le, Option, Some, None, if◌then◌else◌, MatchBool}
+use Rattle.std.specs.Prelude.{◌≡◌, ◌<◌, ◌≤◌, ◌⊎◌, ℕ, ◌+◌, ◌-◌, Bool, true, false, List, [], ◌∷◌, ◌++◌, All, length, drop, nat_le, Option, Some, None, if◌then◌else◌, MatchBool}
 use Rattle.ipx_router.specs.RouterView.{RouterView}
 use Rattle.ipx_router.specs.RouterPackets.{SendingView}
 use Rattle.ipx_router.specs.Ports.{IsPortNumber}
@@ -11,6 +11,7 @@ use Rattle.ipx_router.specs.Starting.{AreStarts}
 use Rattle.ipx_router.specs.Knowledge.{HoldsKnown, KeepsAllButOffers, known_at, tables}
 use Rattle.ipx_router.specs.Telling as telling
 use Rattle.ipx_carrier.specs.declared.outcome_counts.OutcomeCounts.{OutcomeCounts}
+use Rattle.ipx_carrier.specs.Counting.{counted}
 use Rattle.ipx_carrier.specs.OutcomeCounts.{fated}
 use Rattle.ipx_carrier.specs.Turns.{Given}
 
@@ -34,7 +35,7 @@ abbrev pub put_in_queue : List SendingView → CoreView → CoreView
 put_in_queue sent core =
     if nat_le (length core.queue + length sent) most_queued
     then record core { queue = core.queue ++ sent }
-    else record core { dropped = min (core.dropped + length sent) (2 ^ 64 - 1) }
+    else record core { dropped = counted (core.dropped + length sent) }
 
 -- what a router's answer gives to be sent
 abbrev pub sendings_of : OutcomeView → List SendingView

@@ -82,3 +82,10 @@ pub trait Datagrams {
         ensures access { access self.new ≡ access self.old }
         ensures kept_back { kept_back self.old ≤ kept_back self.new };
 }
+
+/// A device that tells how many datagrams it kept from its core.
+pub trait KeepsBack: Datagrams {
+    /// How many there were so far, as the device counts them.
+    fn kept_back(&self) -> u128
+        ensures { result ≡ Self.kept_back self.now };
+}

@@ -2,7 +2,8 @@
 //!
 //! A [`Core`] hears datagrams and gives packets; [`Datagrams`] are the ports of a device, and a
 //! [`Clock`] tells moments. [`run`] takes turns between the three. [`MemoryDatagrams`] keeps its
-//! datagrams in memory, and [`UdpDatagrams`] has a socket of UDP for each port.
+//! datagrams in memory, and [`UdpDatagrams`] has a socket of UDP for each port. [`turn`] takes one turn
+//! where one can be begun, and [`burst`] takes turns as long as there is something to do.
 //!
 //! [`Segments`] say how a packet for a node leaves a port, and what comes in there, whatever it is
 //! sent by. [`run_segments`] takes turns over them, and [`ByIp`] is how `run` has it: datagrams to
@@ -12,7 +13,9 @@
 mod by_ip;
 mod clock;
 mod cores;
+mod counting;
 mod datagrams;
+mod driving;
 mod fault;
 mod hearing;
 mod host_core;
@@ -30,14 +33,16 @@ mod udp;
 pub use by_ip::ByIp;
 pub use clock::{Clock, SteppedClock};
 pub use cores::Core;
-pub use datagrams::Datagrams;
+pub use counting::raise;
+pub use datagrams::{Datagrams, KeepsBack};
+pub use driving::{burst, turn};
 pub use fault::{CarrierFault, DeviceFault, RunFault};
 pub use host_core::HostCore;
 pub use mapping::{ip_of, node_of, node_of_ip_has_that_ip, node_with_ip_is_of_it};
 pub use memory::{MemoryDatagrams, SentDatagram};
 pub use outcome_counts::OutcomeCounts;
-pub use report::Report;
+pub use report::{Burst, Report};
 pub use router_core::RouterCore;
 pub use running::{run, run_segments};
 pub use segments::{PacketSent, Segments};
-pub use udp::{UDP_PORT, UdpDatagrams};
+pub use udp::{UDP_PORT, UdpDatagrams, bound_socket, place_of};

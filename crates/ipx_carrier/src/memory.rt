@@ -4,6 +4,7 @@ ghost use Rattle.std.specs.Prelude.{◌≡◌, ◌<◌, ◌≤◌, [], ◌∷◌
 ghost use Rattle.ipx_carrier.specs.Device.{received_in};
 ghost use Rattle.ipx_carrier.specs.Memory.{KeepsAllButWaiting, WaitsLast, datagram_bytes, fails_next, memory_received, memory_sent, named_after, traffic_of, waiting_of};
 
+use crate::counting::raise;
 use crate::datagrams::Datagrams;
 use crate::fault::DeviceFault;
 use ipx_wire::OutOfMemory;
@@ -216,7 +217,7 @@ impl Datagrams for MemoryDatagrams {
             return Err(DeviceFault);
         }
         if keep_sent(self.alloc, &mut self.sent, port, to, bytes).is_err() {
-            self.refusals = self.refusals.saturating_add(1);
+            raise(&mut self.refusals);
             self.failures += 1;
             return Err(DeviceFault);
         }
@@ -230,7 +231,7 @@ impl Datagrams for MemoryDatagrams {
         }
         let waiting = &mut self.waiting[port];
         let Ok(count) = take_waiting(self.alloc, waiting, &mut self.answers, port, room) else {
-            self.refusals = self.refusals.saturating_add(1);
+            raise(&mut self.refusals);
             self.failures += 1;
             return Err(DeviceFault);
         };

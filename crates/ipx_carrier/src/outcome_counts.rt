@@ -1,9 +1,10 @@
 //! What became of the datagrams that a router heard.
 
-ghost use Rattle.std.specs.Prelude.{◌≡◌};
+ghost use Rattle.std.specs.Prelude.{◌≡◌, ◌+◌};
 ghost use Rattle.ipx_router.specs.OutcomeView.{router_outcome};
-ghost use Rattle.ipx_carrier.specs.OutcomeCounts.{fated, fated_by, none, raised};
+ghost use Rattle.ipx_carrier.specs.OutcomeCounts.{fated, fated_by, none, outcomes_in};
 
+use crate::counting::raise;
 use ipx_router::{Outcome, Reason};
 
 /// How often a router forwarded a datagram, answered it, heard it, or dropped it for each of the
@@ -20,13 +21,6 @@ pub struct OutcomeCounts {
     pub hop_limit: u64,
     pub bad_control: u64,
     pub table_full: u64,
-}
-
-/// A count goes up by one, and stays where it is the greatest.
-fn raise(count: &mut u64)
-    ensures { count.new ≡ raised count.old }
-{
-    *count = count.saturating_add(1);
 }
 
 impl OutcomeCounts {
@@ -61,6 +55,30 @@ impl OutcomeCounts {
             Reason::BadControl(_) => raise(&mut self.bad_control),
             Reason::TableFull => raise(&mut self.table_full),
         }
+    }
+
+    /// How many datagrams were dropped.
+    fn dropped(&self) -> u128
+        ensures { result ≡ self.now.bad + self.now.propagated + self.now.not_ours
+            + self.now.no_route + self.now.hop_limit + self.now.bad_control + self.now.table_full }
+    {
+        u128::from(self.bad)
+            + u128::from(self.propagated)
+            + u128::from(self.not_ours)
+            + u128::from(self.no_route)
+            + u128::from(self.hop_limit)
+            + u128::from(self.bad_control)
+            + u128::from(self.table_full)
+    }
+
+    /// How many datagrams these are, whatever became of them.
+    pub fn total(&self) -> u128
+        ensures { result ≡ outcomes_in self.now }
+    {
+        u128::from(self.forwarded)
+            + u128::from(self.answered)
+            + u128::from(self.heard)
+            + self.dropped()
     }
 
     /// Counts what became of a datagram.

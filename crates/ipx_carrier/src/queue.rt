@@ -7,6 +7,7 @@ ghost use Rattle.ipx_router.specs.OutcomeView.{router_outcome};
 ghost use Rattle.ipx_carrier.specs.RouterCore.{AreGivable, IsNotTold, IsRoomFor, first_given, most_queued, sendings_of};
 ghost use Rattle.ipx_carrier.specs.Queued.{Puts, PutsStart, PutsTold};
 
+use crate::counting::raise;
 use ipx_router::{Outcome, Reply, Router};
 use ipx_wire::{Node, OutOfMemory};
 use std::alloc::Global;
@@ -55,7 +56,7 @@ pub fn put_one(
         (IsRoomFor (sendings queue.old.items) (sendings (reply ∷ []))) }
 {
     if queue.len() >= MOST_QUEUED {
-        *dropped = dropped.saturating_add(1);
+        raise(dropped);
         return Ok(());
     }
     queue.push_back(reply)?;

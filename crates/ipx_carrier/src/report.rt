@@ -1,5 +1,11 @@
 //! What a run tells of itself.
 
+ghost use Rattle.std.specs.Prelude.{◌≡◌, ◌+◌, Some, true};
+ghost use Rattle.ipx_carrier.specs.Driving.{no_turns};
+ghost use Rattle.ipx_carrier.specs.Counting.{counted};
+
+use crate::fault::RunFault;
+
 /// What a run counted.
 #[derive(Clone, Copy, Debug, PartialEq, Eq)]
 pub struct Report {
@@ -19,4 +25,77 @@ pub struct Report {
 pub struct SendCounts {
     pub sent: u128,
     pub unmapped: u128,
+}
+
+/// What turns one after another counted, and how they ended.
+#[derive(Clone, Copy, Debug, PartialEq, Eq)]
+pub struct Burst {
+    /// The datagrams that the core heard.
+    pub heard: u64,
+    /// The datagrams that were sent.
+    pub sent: u64,
+    /// The packets that were not sent, since their node has no IP address.
+    pub unmapped: u64,
+    /// What ended a turn early, and the burst.
+    pub fault: Option<RunFault>,
+    /// The last turn neither heard nor sent, and kept nothing back: now one waits.
+    pub quiet: bool,
+}
+
+/// A count of a report, which stays at the greatest u64.
+fn count_of(count: u128) -> u64
+    ensures { result ≡ counted count }
+{
+    u64::try_from(count).unwrap_or(u64::MAX)
+}
+
+impl Burst {
+    /// A burst of no turns.
+    pub(crate) fn none() -> Burst
+        ensures { result ≡ no_turns }
+    {
+        Burst {
+            heard: 0,
+            sent: 0,
+            unmapped: 0,
+            fault: None,
+            quiet: false,
+        }
+    }
+
+    /// With one turn more, which ended well.
+    pub(crate) fn with(self, report: Report) -> Burst
+        ensures heard { result.heard ≡ counted (self.heard + report.heard) }
+        ensures sent { result.sent ≡ counted (self.sent + report.sent) }
+        ensures unmapped { result.unmapped ≡ counted (self.unmapped + report.unmapped) }
+        ensures rest { (result.fault ≡ self.fault) × (result.quiet ≡ self.quiet) }
+    {
+        Burst {
+            heard: self.heard.saturating_add(count_of(report.heard)),
+            sent: self.sent.saturating_add(count_of(report.sent)),
+            unmapped: self.unmapped.saturating_add(count_of(report.unmapped)),
+            fault: self.fault,
+            quiet: self.quiet,
+        }
+    }
+
+    /// One that a fault ended.
+    pub(crate) fn ended_by(self, fault: RunFault) -> Burst
+        ensures { result ≡ record self { fault = Some fault } }
+    {
+        Burst {
+            fault: Some(fault),
+            ..self
+        }
+    }
+
+    /// One that ended behind an idle turn.
+    pub(crate) fn quieted(self) -> Burst
+        ensures { result ≡ record self { quiet = true } }
+    {
+        Burst {
+            quiet: true,
+            ..self
+        }
+    }
 }

@@ -37,9 +37,9 @@ fn add(a: Report, b: Report) -> Report
     }
 }
 
-/// Takes one turn: it reads the clock, asks each port for a datagram, which the core hears, and
-/// sends what the core gives.
-fn take_turn<C: Core, S: Segments, K: Clock>(
+/// Takes one turn, in a room that is lent: it reads the clock, asks each port for a datagram, which
+/// the core hears, and sends what the core gives.
+fn turn_in<C: Core, S: Segments, K: Clock>(
     alloc: Global,
     core: &mut C,
     segments: &mut S,
@@ -134,7 +134,7 @@ pub fn run_segments<C: Core, S: Segments, K: Clock>(
         unmapped: 0,
     };
     for _turn in 0..turns {
-        let turn = take_turn(alloc, core, segments, clock, &mut room)?;
+        let turn = turn_in(alloc, core, segments, clock, &mut room)?;
         report = add(report, turn);
     }
     Ok(report)

@@ -1,11 +1,13 @@
 //! Datagrams over UDP (RFC 1234, Tunneling IPX Traffic through IP Networks).
 
+ghost use Rattle.std.specs.Net.Addr.{ipv4_octets};
+ghost use Rattle.std.specs.Net.Socket.{v4_ip, v4_port};
 ghost use Rattle.std.specs.Prelude.{◌≡◌, IfOk, length};
 
 use crate::datagrams::Datagrams;
 use crate::fault::DeviceFault;
 use std::alloc::Global;
-use std::io::ErrorKind;
+use std::io::{self, ErrorKind};
 use std::net::{Ipv4Addr, Net, SocketAddrV4, UdpSocket};
 
 /// The UDP port of IPX (RFC 1234).
@@ -21,19 +23,18 @@ pub struct UdpDatagrams {
     failures: u64,
 }
 
-/// Where an IP address is reached by UDP.
-fn place_of(ip: [u8; 4], port: u16) -> SocketAddrV4 {
+/// Where an IP address is reached by UDP, at a port of UDP.
+pub fn place_of(ip: [u8; 4], port: u16) -> SocketAddrV4
+    ensures ip { ipv4_octets (v4_ip result) ≡ ip }
+    ensures port { v4_port result ≡ port }
+{
     SocketAddrV4::new(Ipv4Addr::new(ip[0], ip[1], ip[2], ip[3]), port)
 }
 
-/// A socket at an IP address, which does not wait.
-fn bound_socket<R: Net>(rt: &R, ip: [u8; 4], port: u16) -> Result<UdpSocket, DeviceFault> {
-    let Ok(socket) = UdpSocket::bind(rt, place_of(ip, port)) else {
-        return Err(DeviceFault);
-    };
-    if socket.set_nonblocking(true).is_err() {
-        return Err(DeviceFault);
-    }
+/// A socket at an IP address and a port of UDP, which does not wait. The error is the system's.
+pub fn bound_socket<R: Net>(rt: &R, ip: [u8; 4], port: u16) -> io::Result<UdpSocket> {
+    let socket = UdpSocket::bind(rt, place_of(ip, port))?;
+    socket.set_nonblocking(true)?;
     Ok(socket)
 }
 
@@ -52,7 +53,9 @@ impl UdpDatagrams {
     {
         let mut sockets = Vec::new(alloc);
         for ip in addresses {
-            let socket = bound_socket(rt, *ip, port)?;
+            let Ok(socket) = bound_socket(rt, *ip, port) else {
+                return Err(DeviceFault);
+            };
             if sockets.push(socket).is_err() {
                 return Err(DeviceFault);
             }

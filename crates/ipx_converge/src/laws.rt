@@ -79,16 +79,16 @@ pub fn receiving_is_a_step()
     ensures { ReceivingIsAStep }
 {}
 
-/// What `tell` gives for a port, read by `receive` of a router that meets it there, is heard as just
-/// the entries that are told on that port.
+/// What `tell` gives for a port, read by `receive` of a router that meets it there, is heard as
+/// just the entries that are told on that port.
 pub fn tellings_are_heard()
     ensures { TellingsAreHeard }
 {
     packet_laws();
 }
 
-/// Two routers that tell one another by turns make a fair run, from whatever tables: so all that the
-/// theorems ask can be.
+/// Two routers that tell one another by turns make a fair run, from whatever tables: so all that
+/// the theorems ask can be.
 pub fn fair_runs_exist()
     ensures { FairRunsExist }
 {

@@ -11,6 +11,8 @@ mod laws;
 mod packet;
 mod reading;
 mod stations;
+mod wire;
+mod wire_counts;
 mod writing;
 
 pub use encapsulation::Encapsulation;
@@ -21,4 +23,7 @@ pub use laws::{
     sent_raw_frame_is_even,
 };
 pub use reading::decode_frame;
+pub use stations::stations_of;
+pub use wire::{KeptFrame, WirePort};
+pub use wire_counts::WireCounts;
 pub use writing::encode_frame_into;

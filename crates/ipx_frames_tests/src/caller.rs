@@ -11,7 +11,7 @@ fn send_on(bytes: &[u8], own: Node, out: &mut [u8]) -> Result<usize, FrameFault>
 }
 
 /// A packet of 30 bytes in an Ethernet II frame that is not padded, and in 802.2.
-const CAME: [u8; 44] = [
+pub const CAME: [u8; 44] = [
     2, 0, 0, 0, 0, 1, 2, 0, 0, 0, 0, 0x42, 0x81, 0x37, 0xff, 0xff, 0, 0x1e, 0, 4, 0, 0, 0, 0x22, 2,
     0, 0, 0, 0, 1, 0x40, 2, 0, 0, 0, 0x11, 2, 0, 0, 0, 0, 0x42, 0x40, 2,
 ];

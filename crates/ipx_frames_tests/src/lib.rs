@@ -13,6 +13,8 @@ mod heard;
 #[cfg(test)]
 mod largest;
 #[cfg(test)]
+mod lines;
+#[cfg(test)]
 mod refusals;
 #[cfg(test)]
 mod refused_by_others;
@@ -20,3 +22,5 @@ mod refused_by_others;
 mod sending;
 #[cfg(test)]
 mod texts;
+#[cfg(test)]
+mod wires;

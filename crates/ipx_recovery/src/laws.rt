@@ -49,8 +49,8 @@ pub fn rounds_deliver_both_ways()
     link_laws();
 }
 
-/// Of every scene that is reached, under the three premises: rounds without loss are enough for what
-/// an end has queued for its peer.
+/// Of every scene that is reached, under the three premises: rounds without loss are enough for
+/// what an end has queued for its peer.
 pub fn no_state_is_stuck()
     ensures { (s : Scene) → Reached s → NoStateIsStuck s }
 {

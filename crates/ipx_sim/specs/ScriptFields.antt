@@ -6,7 +6,8 @@ use Rattle.std.specs.List.{list_all, slice_split}
 use Rattle.std.specs.Result.{result_ok}
 use Rattle.std.specs.Str.{bytes_eq}
 use Rattle.std.specs.Str.Parse.{digits_value}
-use Rattle.hex.specs.Hex.{decode_of, decode_sized}
+use Rattle.hex.specs.Hex.{decode_of}
+use Rattle.ipx_wire.specs.AddressText.{spelled_node, spelled_socket}
 use Rattle.ipx_wire.specs.Assigned.{all_networks, local_network}
 use Rattle.ipx_wire.specs.declared.address.Address.{Address}
 use Rattle.ipx_wire.specs.declared.address.Network.{Network}
@@ -75,17 +76,7 @@ own (Some n) = if (n.0 == local_network) || (n.0 == all_networks) then None else
 abbrev pub own_network_in : List ℕ → Option Network
 own_network_in field = own (network_in field)
 
--- a node, in 12 hex digits
-abbrev pub node_in : List ℕ → Option Node
-node_in field = option_map (λ bytes. record { 0 = bytes }) (result_ok (decode_sized field 6))
-
--- a socket, in 4 hex digits
-abbrev pub socket_in : List ℕ → Option Socket
-socket_in field =
-    if length field == 4
-    then option_map (λ n. record { 0 = n }) (numeral_up_to 0xffff 16 field) else None
-
--- a network, a node and a socket
+-- a network, a node in 12 hex digits and a socket in 4
 abbrev pub parse_address : Option Network → Option Node → Option Socket → Option Address
 parse_address (Some network) (Some host) (Some socket) =
     Some (record { network = network; node = host; socket = socket })
@@ -94,7 +85,8 @@ parse_address (Some network) None to = None
 parse_address None host to = None
 
 abbrev pub address_in : List ℕ → List ℕ → List ℕ → Option Address
-address_in network node socket = parse_address (network_in network) (node_in node) (socket_in socket)
+address_in network node socket =
+    parse_address (network_in network) (spelled_node node) (spelled_socket socket)
 
 -- ---- messages
 

@@ -2,6 +2,7 @@
 use Rattle.std.specs.Prelude.{ℕ, ◌≡◌, ◌==◌, ◌||◌, Bool, false, true, if◌then◌else◌, List, [], ◌∷◌, codes, length, slice_index_or, Option, Some, None, option_map, Result, Ok, Err}
 use Rattle.std.specs.Str.{bytes_eq}
 use Rattle.spx_units.specs.Message.{MessageView, message_view}
+use Rattle.ipx_wire.specs.AddressText.{spelled_node, spelled_socket}
 use Rattle.ipx_wire.specs.declared.address.Address.{Address}
 use Rattle.ipx_wire.specs.declared.address.Network.{Network}
 use Rattle.ipx_wire.specs.declared.address.Node.{Node}
@@ -10,7 +11,7 @@ use Rattle.ipx_net.specs.declared.event.Event as code
 use Rattle.ipx_net.specs.declared.event.Event.TheVariants as Events
 use Rattle.ipx_net.specs.declared.event.Member.{Member}
 use Rattle.ipx_net.specs.declared.place.Place.{Place}
-use Rattle.ipx_sim.specs.ScriptFields.{address_in, buffers_field, bytes_in, network_in, node_in, number_in, socket_in, stream_in}
+use Rattle.ipx_sim.specs.ScriptFields.{address_in, buffers_field, bytes_in, network_in, number_in, stream_in}
 use Rattle.ipx_sim.specs.ScriptPlaces.{MapView, host_in, member_in, place_in}
 use Rattle.ipx_sim.specs.declared.halt.ScriptFault.{ScriptFault}
 use Rattle.ipx_sim.specs.declared.halt.ScriptFault.TheVariants as Halts
@@ -86,7 +87,7 @@ abbrev pub dial_in : MapView → List (List ℕ) → Option EventView
 dial_in m args = do
   fields ← exactly 6 args
   host ← host_in m (arg fields 0)
-  socket ← socket_in (arg fields 1)
+  socket ← spelled_socket (arg fields 1)
   to ← address_in (arg fields 2) (arg fields 3) (arg fields 4)
   buffers ← buffers_field (arg fields 5)
   Some (Dial host socket to buffers)
@@ -134,7 +135,7 @@ abbrev pub inject_in : List (List ℕ) → Option ScriptLineView
 inject_in args = do
   fields ← exactly 3 args
   segment ← network_in (arg fields 0)
-  next ← node_in (arg fields 1)
+  next ← spelled_node (arg fields 1)
   bytes ← bytes_in (arg fields 2)
   Some (Act (Inject segment next bytes))
 

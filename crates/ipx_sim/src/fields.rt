@@ -8,7 +8,7 @@ ghost use Rattle.std.specs.Result.{result_ok};
 ghost use Rattle.hex.specs.Hex.{decode_of};
 ghost use Rattle.ipx_wire.specs.Assigned.{all_networks, local_network};
 ghost use Rattle.spx_link.specs.Limits.{most_units};
-ghost use Rattle.ipx_sim.specs.ScriptFields.{address_in, buffers_field, bytes_in, fields_view, is_blank_line, is_name_byte, is_name_text, line_fields, network_in, node_in, number_in, numeral_up_to, own_network_in, short_in, socket_in, stream_in, within};
+ghost use Rattle.ipx_sim.specs.ScriptFields.{address_in, buffers_field, bytes_in, fields_view, is_blank_line, is_name_byte, is_name_text, line_fields, network_in, number_in, numeral_up_to, own_network_in, short_in, stream_in, within};
 
 use hex::FromHexError;
 use ipx_wire::{Address, Network, Node, OutOfMemory, Socket};
@@ -141,27 +141,6 @@ pub fn own_network_of(field: &[u8]) -> Option<Network>
     Some(network)
 }
 
-/// A node, in 12 hex digits.
-pub fn parse_node(field: &[u8]) -> Option<Node>
-    ensures { result ≡ node_in field.now }
-{
-    let mut bytes = [0; 6];
-    match hex::decode_to_slice(field, &mut bytes) {
-        Ok(()) => Some(Node(bytes)),
-        Err(_) => None,
-    }
-}
-
-/// A socket, in 4 hex digits.
-pub fn parse_socket(field: &[u8]) -> Option<Socket>
-    ensures { result ≡ socket_in field.now }
-{
-    if field.len() != 4 {
-        return None;
-    }
-    short_from(numeral_of(field, 16, 0xffff)).map(Socket)
-}
-
 /// A datastream type, in 2 hex digits.
 pub fn stream_of(field: &[u8]) -> Option<u8>
     ensures { result ≡ stream_in field.now }
@@ -178,8 +157,8 @@ pub fn parse_address(network: &[u8], node: &[u8], socket: &[u8]) -> Option<Addre
 {
     Some(Address {
         network: parse_network(network)?,
-        node: parse_node(node)?,
-        socket: parse_socket(socket)?,
+        node: Node::from_hex(node)?,
+        socket: Socket::from_hex(socket)?,
     })
 }
 

@@ -5,15 +5,13 @@ ghost use Rattle.spx_link.specs.Limits.{most_units};
 ghost use Rattle.ipx_net.specs.NetBeginnings.{ArePortsOwed, IsHostOwed};
 ghost use Rattle.ipx_router.specs.NewRouter.{IsOwnNetwork};
 
-use crate::fields::{
-    fields_of, is_blank, is_name, own_network_of, parse_buffers, parse_node, parse_socket, short_of,
-};
+use crate::fields::{fields_of, is_blank, is_name, own_network_of, parse_buffers, short_of};
 use crate::halt::ScriptFault;
 use crate::map::{Map, Spot};
 use crate::simulation::Simulation;
 use ipx_net::{Host, Member, Net, Place};
 use ipx_router::{Port, Router};
-use ipx_wire::Socket;
+use ipx_wire::{Node, Socket};
 use std::alloc::Global;
 use std::marker::Model;
 
@@ -47,7 +45,7 @@ fn listen_of(args: &[&[u8]]) -> Option<Option<(Socket, u16)>>
         return if args.is_empty() { Some(None) } else { None };
     };
     match *word {
-        b"listen" => Some(Some((parse_socket(socket)?, parse_buffers(buffers)?))),
+        b"listen" => Some(Some((Socket::from_hex(socket)?, parse_buffers(buffers)?))),
         _ => None,
     }
 }
@@ -61,8 +59,8 @@ fn host_of(args: &[&[u8]]) -> Option<Host>
     };
     Some(Host {
         network: own_network_of(network)?,
-        node: parse_node(node)?,
-        router: parse_node(router)?,
+        node: Node::from_hex(node)?,
+        router: Node::from_hex(router)?,
         listen: listen_of(listen)?,
     })
 }
@@ -76,7 +74,7 @@ fn port_of(args: &[&[u8]]) -> Option<Port>
     };
     Some(Port {
         network: own_network_of(network)?,
-        node: parse_node(node)?,
+        node: Node::from_hex(node)?,
         cost: short_of(cost)?,
     })
 }

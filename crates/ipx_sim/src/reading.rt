@@ -10,13 +10,13 @@ ghost use Rattle.ipx_sim.specs.ScriptReading.{Pump, Run, Take, Tick};
 ghost use Rattle.ipx_sim.specs.Script.{IsLineOwed};
 
 use crate::fields::{
-    bytes_of, index_of, number_of, parse_address, parse_buffers, parse_network, parse_node,
-    parse_socket, stream_of,
+    bytes_of, index_of, number_of, parse_address, parse_buffers, parse_network, stream_of,
 };
 use crate::halt::ScriptFault;
 use crate::line::ScriptLine;
 use crate::map::Map;
 use ipx_net::Event;
+use ipx_wire::{Node, Socket};
 use spx_units::Message;
 use std::alloc::Global;
 
@@ -48,7 +48,7 @@ fn dial_of(map: &Map, args: &[&[u8]]) -> Option<Event>
     };
     Some(Event::Dial {
         host: map.host(host)?,
-        socket: parse_socket(socket)?,
+        socket: Socket::from_hex(socket)?,
         to: parse_address(network, node, far)?,
         buffers: parse_buffers(buffers)?,
     })
@@ -225,7 +225,7 @@ fn inject_of(alloc: Global, args: &[&[u8]]) -> Result<ScriptLine, ScriptFault>
     };
     match (
         parse_network(network),
-        parse_node(node),
+        Node::from_hex(node),
         bytes_of(alloc, bytes)?,
     ) {
         (Some(segment), Some(next), Some(bytes)) => Ok(ScriptLine::Act(Event::Inject {

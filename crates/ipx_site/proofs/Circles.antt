@@ -1,32 +1,17 @@
 -- which lists of IP addresses a value means: one at most
-use Rattle.std.proofs.Common.{Vec, ◌≡◌, ◌≤◌, ◌<◌, Result, Ok, Err, ℕ, Bool, true, false, List, [], ◌∷◌, length, Option, Some, None, sym, ap, ◌∙◌, subst, arith}
+use Rattle.std.proofs.Common.{Vec, ◌≡◌, ◌≤◌, ◌<◌, Result, Ok, Err, ℕ, true, false, List, length, Option, Some, None, sym, ◌∙◌, subst, arith}
 use Rattle.std.proofs.lemmas.Option.{same_Some}
-use Rattle.std.proofs.NetLemmas.Theorems.{IsIpv4Text_unique}
 use Rattle.std.specs.Global.{Global}
 use Rattle.std.specs.List.{list_all}
-use Rattle.std.specs.Net.Grammar.{IsDotted}
 use Rattle.std.specs.Prelude.{IfOk}
-use Rattle.toml.specs.Data.{Data, Items, no_items, item, as_array}
+use Rattle.toml.specs.Data.{Data, Items, as_array}
 use Rattle.toml.specs.View.{items_view}
 use Rattle.toml.specs.declared.value.Value.{Value}
 use Rattle.ipx_site.specs.Neighbours.{AreAmong, AreNeighbours, ReadsList}
 use Rattle.ipx_site.specs.SitePeers.{is_peer}
 use Rattle.ipx_site.specs.Values.{AreEach, IsIpAddress, ReadsAddresses}
+use Rattle.ipx_site.proofs.Addresses.{addresses_once}
 use Rattle.ipx_site.proofs.Each.{as_many}
-
-dotted_once : (text a b : List ℕ) → IsDotted text a → IsDotted text b → a ≡ b
-dotted_once text a b one other =
-    ap (λ it. it.octets) (IsIpv4Text_unique text (record { octets = a }) (record { octets = b }) one other)
-
-address_once : (d : Data) (a b : List ℕ) → IsIpAddress d a → IsIpAddress d b → a ≡ b
-address_once d a b (s, is_s, one, set) (t, is_t, other, set') =
-    let same : s ≡ t = same_Some s t (sym is_s ∙ is_t) in
-    dotted_once t a b (subst (λ (l : List ℕ). IsDotted l a) same one) other
-
-addresses_once : (ds : Items) (a b : List (List ℕ)) → AreEach IsIpAddress ds a → AreEach IsIpAddress ds b → a ≡ b
-addresses_once no_items a b one other = one ∙ sym other
-addresses_once (item d ds) a b (x, xs, is, means, more) (y, ys, is', means', more') =
-    is ∙ ap (λ it. it ∷ xs) (address_once d x y means means') ∙ ap (λ it. y ∷ it) (addresses_once ds xs ys more more') ∙ sym is'
 
 neighbours_once : (d : Data) (a b : List (List ℕ)) → AreNeighbours d a → AreNeighbours d b → a ≡ b
 neighbours_once d a b (ds, is, one, few) (es, is', other, few') =

@@ -1,11 +1,10 @@
 -- How many general queries of an asker are heard in a course of datagrams.
-use Rattle.std.proofs.Common.{◌≡◌, ◌≤◌, ◌<◌, ◌⊎◌, inl, inr, ◌∙◌, ℕ, zero, suc, ◌+◌, ◌-◌, ◌*◌, ◌/◌, Bool, true, false, List, [], ◌∷◌, ◌++◌, filter, max, nat_le, refl, sym, ap, subst, arith, rules}
+use Rattle.std.proofs.Common.{◌≡◌, ◌≤◌, ◌<◌, inl, inr, ◌∙◌, ℕ, zero, suc, ◌+◌, ◌-◌, ◌*◌, ◌/◌, true, List, [], ◌∷◌, max, sym, ap, subst, arith}
 use Rattle.std.proofs.lemmas.Bool.Decides.{nat_tests}
 use Rattle.ipx_site.specs.declared.asker.Asker.{Asker}
-use Rattle.ipx_site.specs.declared.askers.Asking.{Asking}
-use Rattle.ipx_site.specs.Askers.{AskersView, HasTurn, back_after, back_at, has_turn, is_another_out, with_turn_taken}
-use Rattle.ipx_site.specs.Sparing.{HearsInTurn, HearsSparingly, SparingView}
-use Rattle.ipx_site.specs.Seldom.{AreHeardOf, Coming, Course, IsHeardOf}
+use Rattle.ipx_site.specs.Askers.{AskersView, back_after, back_at, has_turn, with_turn_taken}
+use Rattle.ipx_site.specs.Sparing.{HearsSparingly, SparingView}
+use Rattle.ipx_site.specs.Seldom.{AreHeardOf, Coming, Course}
 use Rattle.ipx_site.proofs.Taken.{back_at_grows, back_at_own}
 
 has_own : (back now : ℕ) → has_turn 8 back now ≡ true → back ≤ now + 7000

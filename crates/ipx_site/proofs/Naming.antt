@@ -1,5 +1,5 @@
 -- which texts name a network, or a node of one
-use Rattle.std.proofs.Common.{Vec, ◌≡◌, ◌≤◌, Result, Ok, Err, ℕ, zero, suc, ◌+◌, ◌<◌, List, ◌∷◌, ◌++◌, length, take, drop, Option, Some, None, get_or, refl, sym, ap, ◌∙◌, subst, arith}
+use Rattle.std.proofs.Common.{Vec, ◌≡◌, ◌≤◌, Result, Ok, Err, ℕ, ◌+◌, ◌<◌, List, ◌∷◌, ◌++◌, length, take, drop, Option, Some, None, get_or, sym, ap, ◌∙◌, subst, arith}
 use Rattle.std.proofs.lemmas.List.{length-append}
 use Rattle.std.proofs.Math.Seq.{take-append_seam, drop-append-add, get_or-append_seam}
 use Rattle.std.proofs.lemmas.Option.{same_Some}
@@ -8,27 +8,32 @@ use Rattle.std.specs.Global.{Global}
 use Rattle.toml.specs.Data.{Data, Items, as_array}
 use Rattle.toml.specs.View.{items_view}
 use Rattle.toml.specs.declared.value.Value.{Value}
+use Rattle.ipx_wire.specs.AddressText.{spelled_network, spelled_node}
 use Rattle.ipx_wire.specs.declared.address.Network.{Network}
 use Rattle.ipx_wire.specs.declared.address.Node.{Node}
 use Rattle.ipx_site.specs.Fields.{Reads}
-use Rattle.ipx_site.specs.Origins.{AreOrigins, IsOrigin, ReadsOrigins, WritesNetwork, WritesNode, WritesOrigin}
-use Rattle.ipx_site.specs.Values.{AreEach}
+use Rattle.ipx_site.specs.Origins.{AreOrigins, IsOrigin, ReadsOrigins, WritesOrigin}
+use Rattle.ipx_site.specs.Values.{AreEach, WritesNetwork}
 use Rattle.ipx_site.specs.declared.origin.Origin.{Origin}
 use Rattle.ipx_site.proofs.Each.{as_many}
+
+-- a network is spelled by eight digits
+pub eight : (text : List ℕ) (network : Network) → spelled_network text ≡ Some network → length text ≡ 8
+eight text network spelled = grind (arith)
 
 -- a network and a node behind it
 abbrev pub WritesBoth : List ℕ → Network → Node → Type 0
 WritesBoth text network node = (front digits : List ℕ) × (text ≡ front ++ 32 ∷ digits)
-    × WritesNetwork front network × WritesNode digits node
+    × WritesNetwork front network × (spelled_node digits ≡ Some node)
 
 abbrev pub WritesAs : List ℕ → Network → Option Node → Type 0
 WritesAs text network node = MatchOption node (WritesNetwork text network) (WritesBoth text network)
 
 -- where both stand
 pub places : (text : List ℕ) (network : Network) (node : Node) → WritesBoth text network node
-    → (8 < length text) × (get_or text 8 0 ≡ 32) × WritesNetwork (take 8 text) network × WritesNode (drop 9 text) node
+    → (8 < length text) × (get_or text 8 0 ≡ 32) × WritesNetwork (take 8 text) network × (spelled_node (drop 9 text) ≡ Some node)
 places text network node (front, digits, is, written, last) =
-    let size : length front ≡ 8 = written.0 in
+    let size : length front ≡ 8 = eight front network written.0 in
     let all : length text ≡ length front + length (32 ∷ digits) = ap length is ∙ length-append front (32 ∷ digits) in
     let seam : get_or text 8 0 ≡ 32 =
     subst (λ (n : ℕ). get_or text n 0 ≡ 32) size (ap (λ (l : List ℕ). get_or l (length front) 0) is ∙ get_or-append_seam front 32 digits 0) in
@@ -40,7 +45,7 @@ places text network node (front, digits, is, written, last) =
       omega (arith, all, size),
       seam,
       subst (λ (l : List ℕ). WritesNetwork l network) (sym first) written,
-      subst (λ (l : List ℕ). WritesNode l node) (sym rest) last,
+      subst (λ (l : List ℕ). spelled_node l ≡ Some node) (sym rest) last,
     )
 
 alone : (text : List ℕ) (network : Network) (node : Option Node) → length text ≡ 8 → (WritesNetwork text network → ⊥) → WritesAs text network node → ⊥
@@ -52,7 +57,7 @@ pub no_network : (text : List ℕ) → length text ≡ 8 → ((n : Network) → 
 no_network text short none o w = alone text o.network o.node short (none o.network) w
 
 both : (text : List ℕ) (network : Network) (node : Option Node) → (length text ≡ 8 → ⊥) → ((n : Node) → WritesBoth text network n → ⊥) → WritesAs text network node → ⊥
-both text network None long none w = long w.0
+both text network None long none w = long (eight text network w.0)
 both text network (Some node) long none w = none node w
 
 -- what is no network alone names nothing, where no network and a node stand there

@@ -13,4 +13,4 @@ own_of earlier no_items ps h =
 own_of earlier (item d ds) ps h =
     let network = h.3.2.network.2 in
     subst (λ (xs : List SitePort). All IsOwnNetwork (router_ports xs)) (sym h.2)
-    (All-cons IsOwnNetwork (router_port_of h.0) (router_ports h.1) (network.3, network.4) (own_of (earlier ++ h.0 ∷ []) ds h.1 h.5))
+    (All-cons IsOwnNetwork (router_port_of h.0) (router_ports h.1) (network.2.1, network.2.2) (own_of (earlier ++ h.0 ∷ []) ds h.1 h.5))

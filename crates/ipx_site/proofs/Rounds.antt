@@ -3,8 +3,8 @@ use Rattle.std.proofs.Common.{◌≡◌, ℕ, length, Bool, true, false, Option,
 use Rattle.ipx_carrier.specs.declared.fault.RunFault.{RunFault}
 use Rattle.ipx_carrier.specs.RouterCore.{CoreView, RouterGives, RouterHears, Misses, Withholds}
 use Rattle.ipx_carrier.specs.Turns.{Peers}
-use Rattle.ipx_site.specs.declared.turns.Burst.{Burst}
-use Rattle.ipx_site.specs.Bursts.{Bursts}
+use Rattle.ipx_carrier.specs.declared.report.Burst.{Burst}
+use Rattle.ipx_carrier.specs.Driving.{Bursts}
 use Rattle.ipx_site.specs.Leisure.{IsLeisure}
 use Rattle.ipx_site.specs.Sparing.{GivesBelow, HearsSparingly, MissesBelow, SparingView, WithholdsBelow}
 use Rattle.ipx_site.specs.RouterRounds.{AsksAgain, IsRound, SleepsBehind}

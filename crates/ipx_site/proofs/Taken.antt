@@ -1,10 +1,9 @@
 -- What an asker's turns are once one asker took one.
-use Rattle.std.proofs.Common.{◌≡◌, ◌≤◌, ◌<◌, ◌∙◌, ℕ, ◌+◌, ◌*◌, ◌&&◌, ◌==◌, Bool, true, false, not, cond, List, [], ◌∷◌, ◌++◌, filter, max, nat_le, nat_lt, refl, sym, ap, subst, arith, rules, tests, T}
+use Rattle.std.proofs.Common.{◌≡◌, ◌≤◌, ◌∙◌, ℕ, ◌&&◌, ◌==◌, Bool, true, false, not, cond, List, [], ◌∷◌, ◌++◌, filter, max, nat_lt, refl, ap, subst, arith}
 use Rattle.std.specs.Cmp.Lexicographic.{pointwise}
 use Rattle.std.specs.Prelude.{nat_eq}
 use Rattle.std.proofs.lemmas.Bool.Decides.{Decides-eqb, nat_tests}
 use Rattle.std.proofs.lemmas.Slice.Eq.{bytes_eq-Decides}
-use Rattle.std.proofs.lemmas.Grind.{common_steps}
 use Rattle.ipx_site.specs.declared.asker.Asker.{Asker}
 use Rattle.ipx_site.specs.declared.askers.Asking.{Asking}
 use Rattle.ipx_site.specs.Askers.{back_at, is_same_asker, is_another_out}

@@ -59,19 +59,28 @@ port_text number p =
     codes "port " ++ (decimal number ++ (codes " " ++ (place_text p
     ++ (codes " udp " ++ (reached_text p.address p.udp_port ++ (codes " " ++ dealings_text p))))))
 
+-- the lines of its ports, of which the first has this number
+abbrev pub port_texts : ℕ → List SitePort → List (List ℕ)
+port_texts number [] = []
+port_texts number (p ∷ ps) = port_text number p ∷ port_texts (number + 1) ps
+
 -- ---- remarks: what a router starts with, or can't, and is no fault of the file
 
 -- what is said of the port with this number
 abbrev pub remark : ℕ → List ℕ → List ℕ
 remark number text = codes "port " ++ (decimal number ++ (codes ": " ++ (text ++ 10 ∷ [])))
 
--- the port's own address is none of its peers, and none of these stands twice
-abbrev pub peer_remark : ℕ → List ℕ → List (List ℕ) → List ℕ → List ℕ
-peer_remark number address earlier peer =
+-- the words before what is said of it
+abbrev pub port_words : ℕ → List ℕ
+port_words number = codes "port " ++ (decimal number ++ codes ": ")
+
+-- the own address is none of the peers, and none of these stands twice. The first words say whose they are
+abbrev pub peer_remark : List ℕ → List ℕ → List (List ℕ) → List ℕ → List ℕ
+peer_remark whose address earlier peer =
     if pointwise nat_eq peer address
-    then remark number (codes "peer " ++ (dotted_text peer ++ codes " is its own address"))
+    then whose ++ (codes "peer " ++ (dotted_text peer ++ codes " is its own address\n"))
     else (if is_peer earlier peer
-    then remark number (codes "peer " ++ (dotted_text peer ++ codes " stands twice"))
+    then whose ++ (codes "peer " ++ (dotted_text peer ++ codes " stands twice\n"))
     else [])
 
 -- two ports are reached at one place
@@ -100,7 +109,7 @@ abbrev pub port_lines : List SitePort → SitePort → List ℕ
 port_lines earlier p =
     let number = length earlier + 1 in
     port_text number p ++ (10 ∷ (place_remark number earlier p
-    ++ each_behind (peer_remark number p.address) [] p.peers.items))
+    ++ each_behind (peer_remark (port_words number) p.address) [] p.peers.items))
 
 abbrev pub count_text : ℕ → List ℕ
 count_text count = if count == 1 then codes "1 port" else (decimal count ++ codes " ports")

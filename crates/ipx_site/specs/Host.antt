@@ -21,7 +21,7 @@ pub record IsHost (ms : Members) (h : HostFile) : Type 0 where
   pub router : Holds IsIpAddress Key.Router ms h.router
   pub udp_port : HoldsOr (IsCount 65535) Key.UdpPort ms usual_port h.udp_port
   pub socket : Holds IsSocket Key.Socket ms h.socket
-  pub buffers : HoldsOr (IsCount 8192) Key.Buffers ms 64 h.buffers
+  pub buffers : HoldsOr (IsCount 8192) Key.Buffers ms 1024 h.buffers
   pub peers : HoldsOr AreNeighbours Key.Peers ms [] h.peers.items
   pub routers : HoldsOr (AreAmong h.peers.items) Key.Routers ms [] h.routers.items
   pub from : HoldsIf AreOrigins Key.From ms h.from

@@ -1,13 +1,14 @@
 -- What a router that runs does by itself, and how long it has nothing to do. All of it is own.
-use Rattle.std.specs.Prelude.{◌≡◌, ◌≤◌, ◌<◌, ◌⊎◌, ◌==◌, ◌^◌, ℕ, ◌+◌, true, Option, if◌then◌else◌}
+use Rattle.std.specs.Prelude.{◌≡◌, ◌≤◌, ◌<◌, ◌⊎◌, ◌==◌, ◌^◌, ℕ, ◌+◌, List, [], ◌∷◌, map, true, Option, if◌then◌else◌}
 use Rattle.ipx_carrier.specs.RouterCore.{CoreView}
 use Rattle.ipx_router.specs.Telling.{is_due}
 use Rattle.ipx_site.specs.declared.figures.Figures.{Figures}
 use Rattle.ipx_site.specs.declared.peers.KeptBack.{KeptBack}
 use Rattle.ipx_site.specs.declared.router_counts.RouterCounts.{RouterCounts}
+use Rattle.ipx_site.specs.declared.troubles.Trouble.{Trouble}
 use Rattle.ipx_site.specs.declared.troubles.Troubles.{Troubles}
-use Rattle.ipx_site.specs.Bursts.{counted}
-use Rattle.ipx_site.specs.Moments.{HasPassed, IsDue, IsToAskAgain}
+use Rattle.ipx_carrier.specs.Counting.{counted}
+use Rattle.ipx_site.specs.Moments.{HasPassed, IsOneDue, IsToAskAgain}
 use Rattle.ipx_site.specs.Sparing.{SparingView}
 
 -- how often each cause happened of which a line is told
@@ -53,12 +54,14 @@ happened tally core kept refused lost = record {
   file = tally.file_faults;
 }
 
--- a line of some cause is to be told
+-- in the order in which they are told
+abbrev pub counts_told : Happened → List ℕ
+counts_told n = n.strangers ∷ n.forged ∷ n.no_router ∷ n.too_often ∷ n.refused ∷ n.table_full
+    ∷ n.queue_full ∷ n.device ∷ n.memory ∷ n.file ∷ []
+
+-- a line of one of a router's ten causes is to be told
 abbrev pub IsLineDue : Troubles → Happened → ℕ → Type 0
-IsLineDue t n now = IsDue t.strangers n.strangers now ⊎ IsDue t.forged n.forged now
-    ⊎ IsDue t.no_router n.no_router now ⊎ IsDue t.too_often n.too_often now ⊎ IsDue t.refused n.refused now
-    ⊎ IsDue t.table_full n.table_full now ⊎ IsDue t.queue_full n.queue_full now
-    ⊎ IsDue t.device n.device now ⊎ IsDue t.memory n.memory now ⊎ IsDue t.file n.file now
+IsLineDue t n now = IsOneDue t.causes (counts_told n) now
 
 -- what all that depends on which a router does by itself
 pub record Agenda : Type 0 where
@@ -104,3 +107,9 @@ pub record IsLeisure (todo : ℕ → Type 0) (now time : ℕ) : Type 0 where
   pub most : time ≤ 10000
   pub nothing : (t : ℕ) → now ≤ t → t < now + time → t < 2 ^ 64 → todo t → ⊥
   pub something : time < 10000 → (now + time < 2 ^ 64) × todo (now + time)
+
+-- ---- words of the private functions
+
+-- how often each trouble of a list happened
+abbrev pub counts_of : List Trouble → List ℕ
+counts_of troubles = map (λ t. t.kept.count) troubles

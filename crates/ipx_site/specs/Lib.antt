@@ -7,13 +7,15 @@ pub mod Site
 pub mod SitePorts
 pub mod Host
 pub mod Loading
+pub mod Steady
 pub mod SitePeers
 pub mod Neighbours
 pub mod Askers
 pub mod Sparing
 pub mod Seldom
 pub mod Moments
-pub mod Bursts
 pub mod Leisure
 pub mod RouterRounds
 pub mod Checked
+pub mod Senders
+pub mod RouterFigures

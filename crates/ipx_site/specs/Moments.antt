@@ -1,6 +1,6 @@
 -- When a router that starts asks again, when a cause is told, and when something is done again. All of
 -- it is own.
-use Rattle.std.specs.Prelude.{◌≡◌, ◌<◌, ◌≤◌, ℕ, ◌+◌, List, [], ◌∷◌, Option, Some, MatchOption, slice_get}
+use Rattle.std.specs.Prelude.{◌≡◌, ◌<◌, ◌≤◌, ℕ, ◌+◌, List, [], ◌∷◌, Option, Some, None, MatchOption, get_or, length, slice_get}
 use Rattle.ipx_site.specs.declared.causes.Cause.{Cause}
 
 -- the moments at which a router asks again, in milliseconds since its start
@@ -26,3 +26,16 @@ IsReached moment now = MatchOption moment ⊥ (λ t. t ≤ now)
 -- a cause is told: it happened since it was told last, and that was a minute ago or never
 abbrev pub IsDue : Cause → ℕ → ℕ → Type 0
 IsDue c count now = (c.told < count) × IsMinuteOver c.at now
+
+-- a cause that was not told yet
+abbrev pub untold : Cause
+untold = record { told = 0; at = None }
+
+-- of the first so many causes, which happened so often each, one is told
+abbrev pub IsOneDueOf : ℕ → List Cause → List ℕ → ℕ → Type 0
+IsOneDueOf count causes happened now = (place : ℕ) × (place < count)
+    × IsDue (get_or causes place untold) (get_or happened place 0) now
+
+-- one of them all is
+abbrev pub IsOneDue : List Cause → List ℕ → ℕ → Type 0
+IsOneDue causes happened now = IsOneDueOf (length causes) causes happened now

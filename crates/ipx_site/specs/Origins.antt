@@ -1,32 +1,23 @@
 -- Who may ask a host for a connection, as its file says it. All of it is own.
-use Rattle.std.specs.Prelude.{Vec, ◌≡◌, ◌≢◌, ◌≤◌, ℕ, List, ◌∷◌, ◌++◌, Bool, true, ◌&&◌, ◌==◌, length, Option, Some, None, Ok, MatchOption, if◌then◌else◌}
+use Rattle.std.specs.Prelude.{Vec, ◌≡◌, ◌≤◌, ℕ, List, ◌∷◌, ◌++◌, Bool, true, ◌&&◌, ◌==◌, length, Option, Some, None, MatchOption, if◌then◌else◌}
 use Rattle.std.specs.Global.{Global}
 use Rattle.std.specs.List.{list_any}
-use Rattle.byteorder.specs.Endian.{big_number}
-use Rattle.hex.specs.Hex.{decode_sized}
 use Rattle.toml.specs.Data.{Data, Items, as_str, as_array}
-use Rattle.ipx_wire.specs.Assigned.{all_networks, local_network}
+use Rattle.ipx_wire.specs.AddressText.{spelled_node}
+use Rattle.ipx_wire.specs.Assigned.{local_network}
 use Rattle.ipx_wire.specs.declared.address.Address.{Address}
 use Rattle.ipx_wire.specs.declared.address.Network.{Network}
 use Rattle.ipx_wire.specs.declared.address.Node.{Node}
 use Rattle.ipx_router.specs.Classify.{is_node}
-use Rattle.ipx_site.specs.Values.{AreEach}
+use Rattle.ipx_site.specs.Values.{AreEach, WritesNetwork}
 use Rattle.ipx_site.specs.declared.origin.Origin.{Origin}
 
--- eight hex digits write a network other than 0 and FFFFFFFF, the first byte of its number first
-abbrev pub WritesNetwork : List ℕ → Network → Type 0
-WritesNetwork text n = (length text ≡ 8) × (bytes : List ℕ) × (decode_sized text 4 ≡ Ok bytes)
-    × (big_number 4 bytes ≡ n.0) × (n.0 ≢ local_network) × (n.0 ≢ all_networks)
-
--- twelve write a node
-abbrev pub WritesNode : List ℕ → Node → Type 0
-WritesNode text node = decode_sized text 6 ≡ Ok node.0
-
--- a text names a network; or a network and a node of it, with a space between them
+-- a text names a network; or a network and a node of it in twelve hex digits, with a space between
+-- them
 abbrev pub WritesOrigin : List ℕ → Origin → Type 0
 WritesOrigin text o = MatchOption o.node (WritesNetwork text o.network)
     (λ node. (network digits : List ℕ) × (text ≡ network ++ 32 ∷ digits)
-    × WritesNetwork network o.network × WritesNode digits node)
+    × WritesNetwork network o.network × (spelled_node digits ≡ Some node))
 
 -- a string that is such a text
 abbrev pub IsOrigin : Data → Origin → Type 0
@@ -63,13 +54,7 @@ named_in (Some os) = Some os.items
 
 -- ---- words of the private functions
 
--- what a text writes, or that it writes none
-abbrev pub ReadsNetwork : List ℕ → Option Network → Type 0
-ReadsNetwork text found = MatchOption found ((n : Network) → WritesNetwork text n → ⊥) (WritesNetwork text)
-
-abbrev pub ReadsNode : List ℕ → Option Node → Type 0
-ReadsNode text found = MatchOption found ((n : Node) → WritesNode text n → ⊥) (WritesNode text)
-
+-- what a text names, or that it names nothing
 abbrev pub ReadsOrigin : List ℕ → Option Origin → Type 0
 ReadsOrigin text found = MatchOption found ((o : Origin) → WritesOrigin text o → ⊥) (WritesOrigin text)
 

@@ -11,7 +11,7 @@ use Rattle.ipx_wire.specs.declared.address.Node.{Node}
 use Rattle.ipx_wire.specs.declared.ipx.packet.IpxHeader.{IpxHeader}
 use Rattle.ipx_router.specs.Classify.{is_node}
 use Rattle.ipx_router.specs.RouterPackets.{broadcast}
-use Rattle.ipx_carrier.specs.OutcomeCounts.{raised}
+use Rattle.ipx_carrier.specs.Counting.{raised}
 use Rattle.ipx_carrier.specs.Mapping.{node_at}
 use Rattle.ipx_site.specs.declared.peers.Guard.{Guard}
 use Rattle.ipx_site.specs.declared.peers.Kept.{Kept}

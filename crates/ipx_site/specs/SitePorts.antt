@@ -2,7 +2,6 @@
 use Rattle.std.specs.Prelude.{Vec, ◌≡◌, ℕ, List, Option, Some, None, map}
 use Rattle.std.specs.Global.{Global}
 use Rattle.std.specs.Option.{option_map}
-use Rattle.ipx_wire.specs.declared.address.Network.{Network}
 use Rattle.ipx_router.specs.declared.port.Port.{Port}
 use Rattle.ipx_carrier.specs.Device.{Access}
 use Rattle.ipx_carrier.specs.Mapping.{node_at}
@@ -35,29 +34,24 @@ abbrev pub heard_at_port : Accept → List (List ℕ) → Option (List (List ℕ
 heard_at_port Any peers = None
 heard_at_port Peers peers = Some peers
 
--- whom a port sends to, who is heard there, and who is a router: as its file says it, and as its guard
--- does
+-- on which network a port is, whom it sends to, who is heard there, and who is a router: as its file says
+-- it, and as its guard does
 abbrev pub access_of : SitePort → Access
 access_of p = record {
+  network = p.network;
   sends = Some p.peers.items;
   hears = heard_at_port p.accept p.peers.items;
   routers = named p.routers;
 }
 
 abbrev pub access_by : Guard → Access
-access_by g = record { sends = named g.sends; hears = named g.hears; routers = named g.routers }
-
--- the same, and on which network
-pub record Guarded : Type 0 where
-  pub network : Network
-  pub access : Access
-
-abbrev pub guarded : SitePort → Guarded
-guarded p = record { network = p.network; access = access_of p }
-
-abbrev pub guarding : Guard → Guarded
-guarding g = record { network = g.network; access = access_by g }
+access_by g = record {
+  network = g.network;
+  sends = named g.sends;
+  hears = named g.hears;
+  routers = named g.routers;
+}
 
 -- the guards are those of the ports, in order
 abbrev pub GuardPorts : List SitePort → List Guard → Type 0
-GuardPorts ports guards = map guarding guards ≡ map guarded ports
+GuardPorts ports guards = map access_by guards ≡ map access_of ports

@@ -1,34 +1,29 @@
 -- What the value of a key means: a number of a network, an address, and so on.
-use Rattle.std.specs.Prelude.{String, Vec, string_bytes, ◌≡◌, ◌≢◌, ℕ, ◌≤◌, pos, List, [], ◌∷◌, length, true, Option, Some, codes, MatchOption}
+use Rattle.std.specs.Prelude.{String, Vec, string_bytes, ◌≡◌, ◌≢◌, ℕ, ◌≤◌, pos, List, [], ◌∷◌, true, Option, Some, codes, MatchOption}
 use Rattle.std.specs.Global.{Global}
 use Rattle.std.specs.List.{list_all}
-use Rattle.std.specs.Str.Parse.{IsNumeral, digits_value}
 use Rattle.std.specs.Net.Grammar.{IsDotted}
 use Rattle.toml.specs.Data.{Data, Items, no_items, item, as_str, as_integer, as_array}
 use Rattle.ipx_wire.specs.declared.address.Network.{Network}
 use Rattle.ipx_wire.specs.declared.address.Socket.{Socket}
+use Rattle.ipx_wire.specs.AddressText.{spelled_network, spelled_socket}
 use Rattle.ipx_wire.specs.Assigned.{all_networks, local_network}
 use Rattle.ipx_site.specs.SitePeers.{is_peer}
 use Rattle.ipx_site.specs.declared.site.Accept.{Accept}
 use Rattle.ipx_site.specs.declared.site.Accept.TheVariants.{Any, Peers}
 
--- so many hex digits write a number
-abbrev pub IsHex : ℕ → List ℕ → ℕ → Type 0
-IsHex digits text n = (length text ≡ digits) × IsNumeral 16 text × (digits_value 16 text ≡ n)
+-- eight hex digits write a network other than 0, which is the one at hand, and FFFFFFFF, which is
+-- all of them
+abbrev pub WritesNetwork : List ℕ → Network → Type 0
+WritesNetwork text n = (spelled_network text ≡ Some n) × (n.0 ≢ local_network) × (n.0 ≢ all_networks)
 
--- the number that they write, or that they write none
-abbrev pub SpellsHexNumber : ℕ → List ℕ → Option ℕ → Type 0
-SpellsHexNumber digits text found = MatchOption found ((n : ℕ) → IsHex digits text n → ⊥) (IsHex digits text)
-
--- a string of eight hex digits: a network other than 0, which is the one at hand, and FFFFFFFF,
--- which is all of them
+-- a string that is such a text
 abbrev pub IsNetwork : Data → Network → Type 0
-IsNetwork d n = (text : List ℕ) × (as_str d ≡ Some text) × IsHex 8 text n.0
-    × (n.0 ≢ local_network) × (n.0 ≢ all_networks)
+IsNetwork d n = (text : List ℕ) × (as_str d ≡ Some text) × WritesNetwork text n
 
 -- a string of four hex digits: a socket other than 0
 abbrev pub IsSocket : Data → Socket → Type 0
-IsSocket d s = (text : List ℕ) × (as_str d ≡ Some text) × IsHex 4 text s.0 × (s.0 ≢ 0)
+IsSocket d s = (text : List ℕ) × (as_str d ≡ Some text) × (spelled_socket text ≡ Some s) × (s.0 ≢ 0)
 
 -- a string that is an IP address: four decimal numbers below 256, with dots between them. 0.0.0.0,
 -- which names none of the machines, is none
@@ -71,6 +66,10 @@ abbrev pub AreRouterPeers : List (List ℕ) → Data → Vec (List ℕ) Global �
 AreRouterPeers peers d ips = AreAddressesOf d ips × (list_all (is_peer peers) ips.items ≡ true)
 
 -- ---- words of the private functions
+
+-- the network that a text writes, or that it writes none
+abbrev pub ReadsNetwork : List ℕ → Option Network → Type 0
+ReadsNetwork text found = MatchOption found ((n : Network) → WritesNetwork text n → ⊥) (WritesNetwork text)
 
 abbrev pub ReadsAddresses : Items → Option (Vec (List ℕ) Global) → Type 0
 ReadsAddresses ds found = MatchOption found ((ips : List (List ℕ)) → AreAddresses ds ips → ⊥)

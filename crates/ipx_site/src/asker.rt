@@ -106,8 +106,8 @@ fn asker_at(at: Port, port: usize, bytes: &[u8]) -> Option<Asker>
 }
 
 /// Who asks a router with these ports for all that it knows, where bytes that came to its port of a
-/// number do: by a RIP request with an entry for network FFFFFFFF, or by a SAP query that is not for
-/// the nearest.
+/// number do: by a RIP request with an entry for network FFFFFFFF, or by a SAP query that is not
+/// for the nearest.
 pub fn asker_of(ports: &[Port], port: usize, bytes: &[u8]) -> Option<Asker>
     ensures asked { IfSome result (IsGeneralQuery ports.now port bytes.now) }
     ensures none { IfNone result

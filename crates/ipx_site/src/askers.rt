@@ -17,7 +17,8 @@ pub struct Asking {
 /// How many askers are known at most.
 const MOST_ASKERS: usize = 1024;
 
-/// How many turns each of them has, and how many all have together, which come back as many a second.
+/// How many turns each of them has, and how many all have together, which come back as many a
+/// second.
 const OWN_TURNS: u128 = 8;
 
 const COMMON_TURNS: u128 = 16;

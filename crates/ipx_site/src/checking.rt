@@ -1,6 +1,6 @@
 //! What a router says of its file, without a socket: `ipx route --check`.
 
-ghost use Rattle.std.specs.Prelude.{◌≡◌, ◌<◌, ◌≤◌, ℕ, List, [], IfErr, IfOk, IfSome, IsOkAnd, OnOk, length, position, string_bytes};
+ghost use Rattle.std.specs.Prelude.{◌≡◌, ◌<◌, ◌≤◌, ℕ, List, [], IfOk, IfSome, IsOkAnd, length, position, string_bytes};
 ghost use Rattle.std.specs.Io.KnownBytes.{Appends};
 ghost use Rattle.ipx_site.specs.Checked.{count_text, each_behind, file_line, is_one_place, peer_remark, place_remark, port_lines, remark, site_lines, status_text};
 ghost use Rattle.ipx_site.specs.Loading.{IsFileText};
@@ -22,38 +22,40 @@ fn remark_on(alloc: Global, number: usize, text: &str) -> Result<String, AllocEr
     format!(in alloc; "port {number}: {text}\n")
 }
 
-/// What is remarked on a peer of a port, behind the earlier ones.
+/// What is remarked on a peer, behind the earlier ones.
 fn peer_to_remark(
     alloc: Global,
-    number: usize,
+    whose: &str,
     address: [u8; 4],
     earlier: &[[u8; 4]],
     peer: [u8; 4],
 ) -> Result<String, AllocError>
-    ensures { IfOk result (λ t. string_bytes t ≡ peer_remark number address earlier.now peer) }
+    ensures { IfOk result (λ t. string_bytes t ≡ peer_remark whose.now address earlier.now peer) }
 {
     let ip = dotted(alloc, peer)?;
     if peer == address {
-        let text = format!(in alloc; "peer {ip} is its own address")?;
-        return remark_on(alloc, number, &text);
+        return format!(in alloc; "{whose}peer {ip} is its own address\n");
     }
     if earlier.contains(&peer) {
-        let text = format!(in alloc; "peer {ip} stands twice")?;
-        return remark_on(alloc, number, &text);
+        return format!(in alloc; "{whose}peer {ip} stands twice\n");
     }
     Ok(String::new(alloc))
 }
 
-/// What is remarked on the peers of a port.
-fn peers_to_remarks(alloc: Global, number: usize, port: &SitePort) -> Result<String, AllocError>
+/// What is remarked on the peers of an address: a line, behind the words that say whose they are, for
+/// each that is that address itself, or stands twice.
+pub fn peers_to_remarks(
+    alloc: Global,
+    whose: &str,
+    address: [u8; 4],
+    peers: &[[u8; 4]],
+) -> Result<String, AllocError>
     ensures { IfOk result (λ t. string_bytes t
-        ≡ each_behind (peer_remark number port.now.address) [] port.now.peers.items) }
+        ≡ each_behind (peer_remark whose.now address) [] peers.now) }
 {
-    let address = port.address;
-    let peers = port.peers.as_slice();
     let mut remarks = String::new(alloc);
     for (place, peer) in peers.iter().enumerate() {
-        let line = peer_to_remark(alloc, number, address, &peers[..place], *peer)?;
+        let line = peer_to_remark(alloc, whose, address, &peers[..place], *peer)?;
         remarks.push_str(&line)?;
     }
     Ok(remarks)
@@ -94,7 +96,8 @@ fn port_to_lines(alloc: Global, earlier: &[SitePort], port: &SitePort) -> Result
     let number = earlier.len() + 1;
     let line = port_to_text(alloc, number, port)?;
     let place = place_to_remark(alloc, number, earlier, port)?;
-    let peers = peers_to_remarks(alloc, number, port)?;
+    let whose = format!(in alloc; "port {number}: ")?;
+    let peers = peers_to_remarks(alloc, &whose, port.address, &port.peers)?;
     format!(in alloc; "{line}\n{place}{peers}")
 }
 
@@ -172,31 +175,12 @@ pub fn write_checked<R: Eprint, W: Write>(
     }
 }
 
-/// Says what a file that was loaded has, or answers the status where it wasn't.
-fn check_loaded<R: Eprint, W: Write>(
-    rt: &R,
-    alloc: Global,
-    path: &str,
-    loaded: Result<SiteFile, u8>,
-    writer: &mut W,
-) -> u8
-    ensures unread { IfErr loaded (λ status. (result ≡ status) × (writer.new ≡ writer.old)) }
-    ensures few { OnOk loaded (result ≤ 1) }
-    ensures lines { IfOk loaded (λ site. result ≡ 0 →
-        Appends (W.contents writer.old) (W.contents writer.new) (site_lines path.now site)) }
-{
-    match loaded {
-        Ok(site) => write_checked(rt, path, site_to_lines(alloc, path, &site), writer),
-        Err(status) => status,
-    }
-}
-
-/// The command `route --check`: reads the file of a router, and writes the line that each port has as
-/// a router starts, with what is to be remarked on it, and a line of the file. It opens no socket: no
-/// `Net` comes in.
+/// The command `route --check`: reads the file of a router, and writes the line that each port has
+/// as a router starts, with what is to be remarked on it, and a line of the file. It opens no
+/// socket: no `Net` comes in.
 ///
-/// The answer is the status: 0 where that is written; 1 where memory is refused or the writer fails;
-/// 2 for a fault of the file, which is told as `route` does, and nothing is written.
+/// The answer is the status: 0 where that is written; 1 where memory is refused or the writer
+/// fails; 2 for a fault of the file, which is told as `route` does, and nothing is written.
 pub fn check_site<R: Files + Eprint, W: Write>(
     rt: &R,
     alloc: Global,
@@ -210,6 +194,8 @@ pub fn check_site<R: Files + Eprint, W: Write>(
         × Appends (W.contents writer.old) (W.contents writer.new) (site_lines path.now site) }
     ensures untouched { result ≡ 2 → writer.new ≡ writer.old }
 {
-    let loaded = load_site(rt, alloc, path);
-    check_loaded(rt, alloc, path, loaded, writer)
+    match load_site(rt, alloc, path) {
+        Ok(site) => write_checked(rt, path, site_to_lines(alloc, path, &site), writer),
+        Err(status) => status,
+    }
 }

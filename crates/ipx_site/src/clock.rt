@@ -1,6 +1,6 @@
 //! The system's clock.
 
-ghost use Rattle.std.specs.Prelude.{◌≡◌, ◌≤◌};
+ghost use Rattle.std.specs.Prelude.{◌≡◌};
 
 use ipx_carrier::Clock;
 use std::rt::Clock as SystemClock;
@@ -34,9 +34,9 @@ impl<'a, R: SystemClock> SteadyClock<'a, R> {
 }
 
 impl<'a, R: SystemClock> Clock for SteadyClock<'a, R> {
-    ghost use Rattle.std.specs.Prelude.{◌≡◌, ◌≤◌};
+    ghost use Rattle.ipx_site.specs.Steady.{NeverGoesBack};
 
-    ghost tells = { λ old moment new. (old.last ≤ moment) × (new.last ≡ moment) };
+    ghost tells = { NeverGoesBack };
 
     fn now(&mut self) -> u64 {
         if let Some(moment) = self.since_start() {

@@ -11,7 +11,7 @@ ghost use Rattle.ipx_site.specs.Values.{AreAddressesOf, AreRouterPeers, IsAccept
 ghost use Rattle.ipx_site.specs.Fields.{Gives, GivesIf, GivesOr, Holds, HoldsOr, IsMissing, IsUnknown, IsWrong};
 
 use crate::fault::FileFault;
-use crate::key::{Key, is_one_of};
+use crate::key::{Key, is_key};
 use crate::neighbours::{among, neighbours_of};
 use crate::origin::{Origin, origins_of};
 use crate::site::Accept;
@@ -43,7 +43,7 @@ pub fn refuse_unknown(
         ⊎ IsUnknown keys.now (table_view table.now) number f) }
 {
     for name in table.keys() {
-        if !is_one_of(keys, name.as_str()) {
+        if !is_key(keys, name.as_str()) {
             return Err(unknown(alloc, number, name.as_str())?);
         }
     }

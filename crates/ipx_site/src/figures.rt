@@ -7,7 +7,8 @@ use std::alloc::{AllocError, Global};
 /// What a router counted since it started.
 #[derive(Clone, Copy, Debug, PartialEq, Eq)]
 pub struct Figures {
-    /// The datagrams that it heard, and those that the system took to be sent.
+    /// The datagrams that it heard, each of which became something, and those that the system took to
+    /// be sent.
     pub heard: u64,
     pub sent: u64,
     /// What became of those that it heard.
@@ -17,7 +18,7 @@ pub struct Figures {
     pub unmapped: u64,
     /// The datagrams that came and were not heard, and those that were to go to no peer.
     pub kept: KeptBack,
-    /// The queries that came too often, and were not answered.
+    /// The queries that came too often, and were not heard.
     pub too_often: Kept,
     pub refused: u64,
     /// How often the system refused a datagram, memory, and the file of these figures.
@@ -70,7 +71,7 @@ const STRANGERS: Family = Family {
 
 const KEPT_BACK: Family = Family {
     name: "ipx_kept_back_total",
-    help: "Datagrams that came from a peer and were not heard, by reason",
+    help: "Other datagrams that were not heard, by reason",
     kind: "counter",
 };
 

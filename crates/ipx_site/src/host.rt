@@ -104,7 +104,7 @@ fn host_of(alloc: Global, table: &Table) -> Result<HostFile, FileFault>
     let router = address_in(table, 0, Key::Router)?;
     let udp_port = count_in(table, 0, Key::UdpPort, 65535, UDP_PORT)?;
     let socket = socket_in(table, 0)?;
-    let buffers = count_in(table, 0, Key::Buffers, 8192, 64)?;
+    let buffers = count_in(table, 0, Key::Buffers, 8192, 1024)?;
     let circle = circle_of(alloc, table)?;
     Ok(HostFile {
         network,

@@ -67,7 +67,7 @@ impl Key {
 }
 
 /// Whether a text is one of these keys.
-pub fn is_one_of(keys: &[Key], text: &str) -> bool
+pub fn is_key(keys: &[Key], text: &str) -> bool
     ensures { result ≡ is_key keys.now text.now }
 {
     keys.iter().any(|key| key.text() == text)

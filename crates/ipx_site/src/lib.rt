@@ -3,9 +3,8 @@
 //! [`do_route`] is the command of a router, and [`check_site`] says what it would of its file.
 //! [`read_site`] reads the file of a router, [`read_host`] that of a host, and [`load_site`] and
 //! [`load_host`] where they lie. [`PeersOnly`] is a device that hears and sends to its peers alone,
-//! over any device that knows its [`Senders`], as [`SiteSockets`] are; [`Readiness`] waits for those,
-//! [`SteadyClock`] is the system's clock, and [`run_burst`] takes turns as long as there is something
-//! to do.
+//! over any device that knows its [`Senders`], as [`SiteSockets`] are; [`Readiness`] waits for
+//! those, and [`SteadyClock`] is the system's clock.
 #![tactic(auto)]
 
 mod asker;
@@ -44,7 +43,6 @@ mod status;
 mod text;
 mod toml_text;
 mod troubles;
-mod turns;
 mod values;
 mod watch;
 
@@ -53,7 +51,7 @@ pub use askers::Askers;
 pub use asking::asking_moment;
 pub use bind_fault::{BindFault, Obstacle};
 pub use causes::Cause;
-pub use checking::{check_site, write_checked};
+pub use checking::{check_site, peers_to_remarks, write_checked};
 pub use clock::SteadyClock;
 pub use fault::FileFault;
 pub use figures::Figures;
@@ -72,5 +70,4 @@ pub use site::{Accept, SiteFile, SitePort};
 pub use sockets::SiteSockets;
 pub use sparing::Sparing;
 pub use start_lines::{dotted, others, reached_to_text};
-pub use troubles::tell_kept;
-pub use turns::{Burst, run_burst, take_turn};
+pub use troubles::{Trouble, tell_each};

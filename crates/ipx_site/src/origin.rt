@@ -1,12 +1,11 @@
 //! Who may ask a host for a connection.
 
-ghost use Rattle.std.specs.Prelude.{◌≡◌, ◌<◌, IfOk, Some, length};
+ghost use Rattle.std.specs.Prelude.{◌≡◌, IfOk};
 ghost use Rattle.toml.specs.View.{items_view, view};
 ghost use Rattle.ipx_site.specs.Fields.{Reads};
-ghost use Rattle.ipx_site.specs.Origins.{AreOrigins, IsOrigin, ReadsNetwork, ReadsNode, ReadsOrigin, ReadsOrigins, is_of};
+ghost use Rattle.ipx_site.specs.Origins.{AreOrigins, IsOrigin, ReadsOrigin, ReadsOrigins, is_of};
 
-use byteorder::{BigEndian, ByteOrder};
-use hex::FromHex;
+use crate::values::network_written;
 use ipx_wire::{Address, Network, Node, OutOfMemory};
 use std::alloc::Global;
 use toml::Value;
@@ -43,33 +42,12 @@ impl Origin {
     }
 }
 
-/// The network that eight hex digits write.
-fn network_in(text: &[u8]) -> Option<Network>
-    requires { length text.now ≡ 8 }
-    ensures { ReadsNetwork text.now result }
-{
-    let bytes = <[u8; 4] as FromHex>::from_hex(text).ok()?;
-    let network = Network(BigEndian::read_u32(&bytes));
-    if network == Network::LOCAL || network == Network::ALL {
-        return None;
-    }
-    Some(network)
-}
-
-/// The node that twelve hex digits write.
-fn node_in(text: &[u8]) -> Option<Node>
-    ensures { ReadsNode text.now result }
-{
-    let bytes = <[u8; 6] as FromHex>::from_hex(text).ok()?;
-    Some(Node(bytes))
-}
-
 /// What a text names: a network, or a network and a node of it.
 fn origin_in(text: &[u8]) -> Option<Origin>
     ensures { ReadsOrigin text.now result }
 {
     if text.len() == NETWORK_DIGITS {
-        let network = network_in(text)?;
+        let network = network_written(text)?;
         return Some(Origin {
             network,
             node: None,
@@ -78,8 +56,8 @@ fn origin_in(text: &[u8]) -> Option<Origin>
     if text.len() < NETWORK_DIGITS || text[NETWORK_DIGITS] != b' ' {
         return None;
     }
-    let network = network_in(&text[..NETWORK_DIGITS])?;
-    let node = node_in(&text[NETWORK_DIGITS + 1..])?;
+    let network = network_written(&text[..NETWORK_DIGITS])?;
+    let node = Node::from_hex(&text[NETWORK_DIGITS + 1..])?;
     Some(Origin {
         network,
         node: Some(node),

@@ -3,15 +3,15 @@
 ghost use Rattle.std.specs.Prelude.{◌≡◌, ◌<◌, ◌≤◌, ◌+◌, ◌^◌, [], ◌∷◌, ℕ, true, false, Ok, Option, Some, OnErr, OnOk, IfOk, IfSome, is_err, length, map, slice_get};
 ghost use Rattle.ipx_wire.specs.Ipx.{packet_view};
 ghost use Rattle.ipx_carrier.specs.Device.{Passes, received_in};
-ghost use Rattle.ipx_carrier.specs.OutcomeCounts.{raised};
+ghost use Rattle.ipx_carrier.specs.Counting.{raised};
 ghost use Rattle.ipx_carrier.specs.RunFaultNumbers.{device_failures};
 ghost use Rattle.ipx_carrier.specs.Waits.{LeavesPort};
-ghost use Rattle.ipx_site.specs.SitePeers.{IsWordOn, TakesIn, is_listed, is_peer, kept_in, may_go, may_say, none_kept, nothing_kept, one_more};
+ghost use Rattle.ipx_site.specs.SitePeers.{IsWordOn, TakesIn, is_listed, kept_in, may_go, may_say, none_kept, nothing_kept, one_more};
 ghost use Rattle.ipx_site.specs.SitePorts.{access_by};
 
 use crate::own_word::{is_own_word, is_response, is_straight};
 use crate::senders::Senders;
-use ipx_carrier::{Datagrams, DeviceFault};
+use ipx_carrier::{Datagrams, DeviceFault, KeepsBack, raise};
 use ipx_wire::{Network, Packet, decode};
 
 /// Whom a port sends to, who is heard there, and what each may say: lists of IP addresses, of which
@@ -60,14 +60,6 @@ pub struct KeptBack {
     pub no_router: Kept,
 }
 
-/// A count goes up by one, and stays where it is the greatest.
-pub fn raise(count: &mut u64)
-    ensures counted { count.new ≡ raised count.old }
-    ensures grows { count.old ≤ count.new }
-{
-    *count = count.saturating_add(1);
-}
-
 impl Kept {
     pub fn none() -> Kept
         ensures { result ≡ none_kept }
@@ -99,20 +91,13 @@ impl KeptBack {
     }
 }
 
-/// Whether an IP address is one of these.
-pub fn is_one_of(ips: &[[u8; 4]], ip: [u8; 4]) -> bool
-    ensures { result ≡ is_peer ips.now ip }
-{
-    ips.iter().any(|one| *one == ip)
-}
-
 /// Whether an IP address is among those that are named, where some are.
 fn is_listed(ips: &Option<Vec<[u8; 4]>>, ip: Option<[u8; 4]>) -> bool
     ensures { result ≡ is_listed ips.now ip }
 {
     match (ips, ip) {
         (None, _) => true,
-        (Some(ips), Some(ip)) => is_one_of(ips, ip),
+        (Some(ips), Some(ip)) => ips.contains(&ip),
         (Some(_), None) => false,
     }
 }
@@ -311,5 +296,12 @@ impl<D: Senders + Drop> Datagrams for PeersOnly<D> {
             Word::NoRouter => self.kept.no_router.raise(from),
         }
         Ok(None)
+    }
+}
+
+impl<D: Senders + Drop> KeepsBack for PeersOnly<D> {
+    fn kept_back(&self) -> u128 {
+        let kept = self.kept();
+        kept.total()
     }
 }

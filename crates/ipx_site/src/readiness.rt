@@ -1,8 +1,7 @@
 //! Waiting until something is to be read, or for some time.
 
 ghost use Rattle.std.specs.Prelude.{◌≡◌, ◌+◌, IfOk, None, OnOk, Some, length};
-ghost use Rattle.ipx_carrier.specs.OutcomeCounts.{raised};
-ghost use Rattle.ipx_site.specs.Bursts.{counted};
+ghost use Rattle.ipx_carrier.specs.Counting.{counted, raised};
 
 use crate::sockets::SiteSockets;
 use ipx_carrier::Datagrams;

@@ -3,8 +3,8 @@
 use libc::net::{SO_RCVBUF, SO_SNDBUF, SOL_SOCKET, getsockopt, setsockopt};
 use std::os::fd::RawFd;
 
-/// How many bytes each socket is asked to hold of what waits to be read, and as many of what waits to
-/// be sent. A unit of 534 bytes takes some 1,280 of them.
+/// How many bytes each socket is asked to hold of what waits to be read, and as many of what waits
+/// to be sent. A unit of 534 bytes takes some 1,280 of them.
 pub const SOCKET_ROOM: u32 = 4_194_304;
 
 /// The bytes in which the system takes and tells a number.

@@ -1,30 +1,39 @@
 //! What a router that runs counts.
 
 ghost use Rattle.std.specs.Prelude.{◌≡◌};
+ghost use Rattle.ipx_carrier.specs.Counting.{counted, raised};
+ghost use Rattle.ipx_carrier.specs.OutcomeCounts.{outcomes_in};
 ghost use Rattle.ipx_site.specs.Leisure.{happened, happened_in};
+ghost use Rattle.ipx_site.specs.RouterFigures.{AreFigures, no_counts, with_burst, with_memory_fault};
 
 use crate::figures::Figures;
 use crate::peers::PeersOnly;
 use crate::sockets::SiteSockets;
 use crate::sparing::Sparing;
-use crate::turns::Burst;
 use crate::watch::Known;
-use ipx_carrier::{RouterCore, RunFault};
+use ipx_carrier::{Burst, OutcomeCounts, RouterCore, RunFault, raise};
 
 /// What a router that runs counts itself. Each count stays at the greatest u64.
 #[derive(Clone, Copy, Debug, PartialEq, Eq)]
 pub struct RouterCounts {
-    pub heard: u64,
     pub unmapped: u64,
     pub device_faults: u64,
     pub memory_faults: u64,
     pub file_faults: u64,
 }
 
+/// How many datagrams were heard: each became something.
+fn heard_in(fates: &OutcomeCounts) -> u64
+    ensures { result ≡ counted (outcomes_in fates.now) }
+{
+    u64::try_from(fates.total()).unwrap_or(u64::MAX)
+}
+
 impl RouterCounts {
-    pub fn new() -> RouterCounts {
+    pub fn new() -> RouterCounts
+        ensures { result ≡ no_counts }
+    {
         RouterCounts {
-            heard: 0,
             unmapped: 0,
             device_faults: 0,
             memory_faults: 0,
@@ -32,22 +41,28 @@ impl RouterCounts {
         }
     }
 
-    pub fn add(&mut self, burst: Burst) {
-        self.heard = self.heard.saturating_add(burst.heard);
+    /// Counts what a burst did not send, and what ended it.
+    pub fn add(&mut self, burst: Burst)
+        ensures { self.new ≡ with_burst burst self.old }
+    {
         self.unmapped = self.unmapped.saturating_add(burst.unmapped);
         match burst.fault {
-            Some(RunFault::Device) => self.device_faults = self.device_faults.saturating_add(1),
+            Some(RunFault::Device) => raise(&mut self.device_faults),
             Some(RunFault::OutOfMemory) => self.want_memory(),
             None => {}
         }
     }
 
-    pub fn want_memory(&mut self) {
-        self.memory_faults = self.memory_faults.saturating_add(1);
+    pub fn want_memory(&mut self)
+        ensures { self.new ≡ with_memory_fault self.old }
+    {
+        raise(&mut self.memory_faults);
     }
 
-    pub fn fail_file(&mut self) {
-        self.file_faults = self.file_faults.saturating_add(1);
+    pub fn fail_file(&mut self)
+        ensures { self.new ≡ record self.old { file_faults = raised self.old.file_faults } }
+    {
+        raise(&mut self.file_faults);
     }
 
     /// All figures of a router, at a moment in milliseconds since its start.
@@ -58,13 +73,16 @@ impl RouterCounts {
         known: &Known,
         now: u64,
     ) -> Figures
-        ensures { happened_in result ≡ happened self.now core.now
+        ensures happened { happened_in result ≡ happened self.now core.now
             device.now.kept device.now.refused device.now.device.faults }
+        ensures figures { AreFigures self.now core.now device.now.kept device.now.device.sent
+            known.now now result }
     {
+        let fates = core.core().fates();
         Figures {
-            heard: self.heard,
+            heard: heard_in(&fates),
             sent: device.device().sent(),
-            fates: core.core().fates(),
+            fates,
             queue_full: core.core().dropped(),
             unmapped: self.unmapped,
             kept: device.kept(),

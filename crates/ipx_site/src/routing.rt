@@ -3,7 +3,7 @@
 ghost use Rattle.std.specs.Prelude.{◌≡◌, ◌≤◌, ◌⊎◌, [], All, IfErr, IfOk, OnOk, is_ok, if◌then◌else◌, map};
 ghost use Rattle.ipx_router.specs.NewRouter.{IsOwnNetwork};
 ghost use Rattle.ipx_carrier.specs.Turns.{peers_of};
-ghost use Rattle.ipx_site.specs.SitePorts.{GuardPorts, guarded, guarding, heard_at_port, named, router_port_of, router_ports, site_peers, udp_ports};
+ghost use Rattle.ipx_site.specs.SitePorts.{GuardPorts, access_by, access_of, heard_at_port, named, router_port_of, router_ports, site_peers, udp_ports};
 
 use crate::bind_fault::BindFault;
 use crate::clock::SteadyClock;
@@ -15,7 +15,7 @@ use crate::running_router::{Parts, RunningRouter};
 use crate::site::{Accept, SiteFile, SitePort};
 use crate::sockets::SiteSockets;
 use crate::sparing::Sparing;
-use crate::start_lines::port_to_text;
+use crate::start_lines::ports_to_texts;
 use ipx_carrier::{RouterCore, node_of};
 use ipx_router::{NewFault, Port, Router};
 use log::{Log, info, warn};
@@ -117,7 +117,7 @@ fn port_routers(alloc: Global, port: &SitePort) -> Result<Option<Vec<[u8; 4]>>, 
 
 /// The guard of a port.
 fn guard_of(alloc: Global, port: &SitePort) -> Result<Guard, AllocError>
-    ensures { IfOk result (λ g. guarding g ≡ guarded port.now) }
+    ensures { IfOk result (λ g. access_by g ≡ access_of port.now) }
 {
     let sends = Some(port_peers(alloc, port)?);
     let hears = port_hears(alloc, port)?;
@@ -142,35 +142,42 @@ fn guards_of(alloc: Global, ports: &[SitePort]) -> Result<Vec<Guard>, AllocError
     Ok(guards)
 }
 
-/// Tells a port, as the router starts.
-fn tell_port<R: Log>(
-    rt: &R,
-    alloc: Global,
-    number: usize,
-    port: &SitePort,
-    room: u32,
-) -> Result<(), AllocError> {
-    let line = port_to_text(alloc, number, port)?;
+/// Tells the line of a port, as the router starts, and the room of its socket.
+fn tell_port<R: Log>(rt: &R, number: usize, line: &str, room: u32) {
     info!(rt; target: "ipx", "{line} room {room}");
     if room < SOCKET_ROOM {
         warn!(rt; target: "ipx",
             "port {number}: its socket holds {room} bytes: \
              net.core.rmem_max = {SOCKET_ROOM} gives it what it asks for");
     }
-    Ok(())
 }
 
-fn tell_ports<R: Log>(
+fn tell_ports<R: Log>(rt: &R, lines: &[String], sockets: &SiteSockets) {
+    for (place, line) in lines.iter().enumerate() {
+        let room = sockets.room(place).unwrap_or(0);
+        tell_port(rt, place + 1, line, room);
+    }
+}
+
+/// The device of the ports, with its sockets bound and its guards, and what waits for it. Each port
+/// is told.
+fn guarded_device<R: Net + Log>(
     rt: &R,
     alloc: Global,
     ports: &[SitePort],
-    sockets: &SiteSockets,
-) -> Result<(), AllocError> {
-    for (place, port) in ports.iter().enumerate() {
-        let room = sockets.room(place).unwrap_or(0);
-        tell_port(rt, alloc, place + 1, port, room)?;
-    }
-    Ok(())
+) -> Result<(PeersOnly<SiteSockets>, Readiness), RouteFault>
+    ensures guards { IfOk result (λ r. GuardPorts ports.now r.0.guards.items) }
+    // Each port has a socket, with the port of UDP of its peers.
+    ensures sockets { IfOk result (λ r. map (λ p. p.udp_port) r.0.device.sockets.items
+        ≡ udp_ports ports.now) }
+{
+    let guards = guards_of(alloc, ports)?;
+    // All lines are made before the first is told: where memory is refused, nothing else is.
+    let lines = ports_to_texts(alloc, ports)?;
+    let sockets = SiteSockets::bind(rt, alloc, ports)?;
+    let ready = Readiness::new(rt, alloc, &sockets)?;
+    tell_ports(rt, &lines, &sockets);
+    Ok((PeersOnly::new(sockets, guards), ready))
 }
 
 /// A router of a file, with its sockets bound.
@@ -195,13 +202,10 @@ fn start<'a, R: Net + Log + SystemClock>(
 {
     let core = core_of(alloc, &site.ports)?;
     let peers = peers_by_port(alloc, &site.ports)?;
-    let guards = guards_of(alloc, &site.ports)?;
-    let sockets = SiteSockets::bind(rt, alloc, &site.ports)?;
-    let ready = Readiness::new(rt, alloc, &sockets)?;
-    tell_ports(rt, alloc, &site.ports, &sockets)?;
+    let (device, ready) = guarded_device(rt, alloc, &site.ports)?;
     let parts = Parts {
         core,
-        device: PeersOnly::new(sockets, guards),
+        device,
         peers,
         clock: SteadyClock::new(rt),
         ready,

@@ -1,11 +1,12 @@
 //! A router with its sockets, and what is to be done besides its turns.
 
-ghost use Rattle.std.specs.Prelude.{◌≡◌, ◌≤◌, length, map};
+ghost use Rattle.std.specs.Prelude.{◌≡◌, length, map};
 ghost use Rattle.ipx_carrier.specs.Turns.{peers_of};
 ghost use Rattle.ipx_site.specs.Leisure.{IsLeisure, IsToDo, agenda, happened, happened_in, look_after};
 ghost use Rattle.ipx_site.specs.SitePeers.{kept_in};
 ghost use Rattle.ipx_site.specs.SitePorts.{access_by};
 ghost use Rattle.ipx_site.specs.RouterRounds.{AsksAgain, IsRound, SleepsBehind};
+ghost use Rattle.ipx_site.specs.Steady.{NeverGoesBack};
 
 use crate::asking::asking_moment;
 use crate::clock::SteadyClock;
@@ -18,9 +19,8 @@ use crate::sockets::SiteSockets;
 use crate::sparing::Sparing;
 use crate::status::write_whole;
 use crate::troubles::Troubles;
-use crate::turns::{Burst, run_burst};
 use crate::watch::Known;
-use ipx_carrier::{Clock, RouterCore};
+use ipx_carrier::{Burst, Clock, RouterCore, burst};
 use log::Log;
 use std::alloc::Global;
 use std::rt::{Clock as SystemClock, Files};
@@ -220,8 +220,7 @@ impl<'a, R: SystemClock> RunningRouter<'a, R> {
     /// Does what is to be done now, and takes turns as long as there is something to hear or to send.
     fn round<S: Log + Files>(&mut self, rt: &S, alloc: Global) -> Burst
         ensures core { IsRound self.old.clock self.new.clock
-            (λ old moment new. (old.last ≤ moment) × (new.last ≡ moment))
-            (peers_of self.old.peers.items)
+            NeverGoesBack (peers_of self.old.peers.items)
             (kept_in self.old.device.kept) (kept_in self.new.device.kept)
             self.old.asked self.new.asked self.old.core self.new.core result }
         ensures ready { self.new.ready ≡ self.old.ready }
@@ -231,7 +230,7 @@ impl<'a, R: SystemClock> RunningRouter<'a, R> {
     {
         let now = self.clock.now();
         self.keep(rt, alloc, now);
-        let burst = run_burst(
+        let burst = burst(
             alloc,
             &mut self.core,
             &mut self.device,
@@ -248,15 +247,13 @@ impl<'a, R: SystemClock> RunningRouter<'a, R> {
     pub fn step<S: Log + Files>(&mut self, rt: &S, alloc: Global) -> Result<(), WaitFault>
         // A round, and behind it a wait, as long as there is nothing to do.
         ensures core { (between : SteadyClock R) × (burst : Burst)
-            × IsRound self.old.clock between
-            (λ old moment new. (old.last ≤ moment) × (new.last ≡ moment))
-            (peers_of self.old.peers.items)
+            × IsRound self.old.clock between NeverGoesBack (peers_of self.old.peers.items)
             (kept_in self.old.device.kept) (kept_in self.new.device.kept)
             self.old.asked self.new.asked self.old.core self.new.core burst
             × SleepsBehind (IsToDo (agenda self.new.asked self.new.looked self.new.responses
             self.new.written self.new.core self.new.troubles (happened self.new.tally self.new.core
             self.new.device.kept self.new.device.refused self.new.device.device.faults)))
-            between self.new.clock (λ old moment new. (old.last ≤ moment) × (new.last ≡ moment))
+            between self.new.clock NeverGoesBack
             self.old.ready.asked self.new.ready.asked burst.fault burst.quiet }
         ensures peers { self.new.peers ≡ self.old.peers }
         ensures access { map access_by self.new.device.guards.items

@@ -1,19 +1,19 @@
 //! Sockets of UDP, one for each port of a site.
 
-ghost use Rattle.std.specs.Prelude.{◌≡◌, ◌⊎◌, ◌<◌, ◌↔◌, ◌∷◌, [], IfOk, IfSome, IsSome, OnErr, Some, length, map, slice_get};
-ghost use Rattle.ipx_carrier.specs.OutcomeCounts.{raised};
+ghost use Rattle.std.specs.Prelude.{◌≡◌, ◌⊎◌, ◌<◌, ◌≤◌, ◌↔◌, ◌∷◌, [], IfOk, IfSome, IsSome, None, Ok, OnErr, Some, length, map, slice_get};
+ghost use Rattle.ipx_carrier.specs.Counting.{raised};
+ghost use Rattle.ipx_site.specs.Senders.{ipv4_of_place};
 ghost use Rattle.ipx_site.specs.SitePorts.{udp_ports};
 
 use crate::bind_fault::{BindFault, obstacle_of};
-use crate::peers::raise;
 use crate::room::ask_room;
 use crate::senders::Senders;
 use crate::site::SitePort;
-use ipx_carrier::{Datagrams, DeviceFault};
+use ipx_carrier::{Datagrams, DeviceFault, bound_socket, place_of, raise};
 use std::alloc::Global;
 use std::io;
 use std::io::ErrorKind;
-use std::net::{Ipv4Addr, Net, SocketAddr, SocketAddrV4, UdpSocket};
+use std::net::{Net, SocketAddr, UdpSocket};
 use std::os::fd::{AsRawFd, RawFd};
 
 /// The socket of a port, the port of UDP of its peers, and how many bytes it holds.
@@ -40,29 +40,25 @@ pub struct SiteSockets {
 /// How often a port is asked again for a datagram where the system fails.
 const TRIES: u32 = 8;
 
-/// Where an IP address is reached by UDP.
-fn place_of(ip: [u8; 4], udp_port: u16) -> SocketAddrV4 {
-    SocketAddrV4::new(Ipv4Addr::new(ip[0], ip[1], ip[2], ip[3]), udp_port)
-}
-
-/// The IP address of a place.
-fn ip_of(place: SocketAddr) -> Option<[u8; 4]> {
+/// The IP address of a place, where it is one of IPv4.
+fn ip_of(place: SocketAddr) -> Option<[u8; 4]>
+    ensures { result ≡ ipv4_of_place place }
+{
     match place {
         SocketAddr::V4(place) => Some(place.ip().octets()),
         SocketAddr::V6(_) => None,
     }
 }
 
-/// A socket at an IP address, which does not wait. 0.0.0.0, which is every address of a machine, is
-/// none that its peers could name.
-fn bound_socket<R: Net>(rt: &R, ip: [u8; 4], udp_port: u16) -> io::Result<PortSocket>
+/// The socket of a port. 0.0.0.0, which is every address of a machine, is none that its peers could
+/// name.
+fn port_socket<R: Net>(rt: &R, ip: [u8; 4], udp_port: u16) -> io::Result<PortSocket>
     ensures { IfOk result (λ s. s.udp_port ≡ udp_port) }
 {
     if ip == [0; 4] {
         return Err(io::Error::from(ErrorKind::AddrNotAvailable));
     }
-    let socket = UdpSocket::bind(rt, place_of(ip, udp_port))?;
-    socket.set_nonblocking(true)?;
+    let socket = bound_socket(rt, ip, udp_port)?;
     let room = ask_room(socket.as_raw_fd());
     Ok(PortSocket {
         socket,
@@ -74,6 +70,7 @@ fn bound_socket<R: Net>(rt: &R, ip: [u8; 4], udp_port: u16) -> io::Result<PortSo
 /// A device with these sockets.
 fn device_of(sockets: Vec<PortSocket>) -> SiteSockets
     ensures ports { result.sockets.items ≡ sockets.items }
+    ensures fresh { (result.sent ≡ 0) × (result.faults ≡ 0) × (result.sender ≡ None) }
 {
     SiteSockets {
         sockets,
@@ -91,7 +88,7 @@ impl SiteSockets {
     {
         let mut sockets = Vec::new(alloc);
         for (place, port) in ports.iter().enumerate() {
-            match bound_socket(rt, port.address, port.udp_port) {
+            match port_socket(rt, port.address, port.udp_port) {
                 Ok(socket) => {
                     if sockets.push(socket).is_err() {
                         return Err(BindFault::OutOfMemory);
@@ -112,7 +109,7 @@ impl SiteSockets {
     ) -> Result<SiteSockets, BindFault>
         ensures { IfOk result (λ d. map (λ s. s.udp_port) d.sockets.items ≡ udp_port ∷ []) }
     {
-        match bound_socket(rt, address, udp_port) {
+        match port_socket(rt, address, udp_port) {
             Ok(socket) => match vec![in alloc; socket] {
                 Ok(sockets) => Ok(device_of(sockets)),
                 Err(_) => Err(BindFault::OutOfMemory),
@@ -164,8 +161,6 @@ impl SiteSockets {
 }
 
 impl Datagrams for SiteSockets {
-    ghost use Rattle.std.specs.Prelude.{None};
-
     ghost port_count = { λ d. length d.sockets.items };
 
     ghost failed = { λ d. 0 };
@@ -207,7 +202,16 @@ impl Datagrams for SiteSockets {
         Ok(())
     }
 
-    fn receive(&mut self, port: usize, room: &mut [u8]) -> Result<Option<usize>, DeviceFault> {
+    fn receive(&mut self, port: usize, room: &mut [u8]) -> Result<Option<usize>, DeviceFault>
+        requires there { port < length self.old.sockets.items }
+        // Nothing but who sent the last, and how often the system refused.
+        ensures sockets { self.new.sockets ≡ self.old.sockets }
+        ensures sent { self.new.sent ≡ self.old.sent }
+        ensures sender { result ≡ Ok None → self.new.sender ≡ self.old.sender }
+        ensures faults { self.old.faults ≤ self.new.faults }
+        ensures within { IfOk result (λ count. IfSome count (λ n. n ≤ length room.old)) }
+        ensures goes_on { OnErr result ⊥ }
+    {
         for _try in 0..TRIES {
             match self.sockets[port].socket.recv_from(room) {
                 Ok((count, from)) => {

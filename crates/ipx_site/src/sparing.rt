@@ -17,8 +17,8 @@ use std::marker::Model;
 /// the core below hears as it comes.
 ///
 /// An asker is a node at a port. It has 8 turns, of which one comes back each second; all together
-/// have 16, of which 16 come back each second. At most 1,024 askers whose turns are not all back are
-/// known, and where there are so many a new one has none.
+/// have 16, of which 16 come back each second. At most 1,024 askers whose turns are not all back
+/// are known, and where there are so many a new one has none.
 #[derive(Drop)]
 pub struct Sparing<C: Core + Drop> {
     core: C,

@@ -1,7 +1,7 @@
 //! What a router says of a port as it starts.
 
-ghost use Rattle.std.specs.Prelude.{◌≡◌, IfOk, string_bytes};
-ghost use Rattle.ipx_site.specs.Checked.{dealings_text, dotted_text, others_text, place_text, port_text, reached_text, routers_text};
+ghost use Rattle.std.specs.Prelude.{◌≡◌, IfOk, map, string_bytes};
+ghost use Rattle.ipx_site.specs.Checked.{dealings_text, dotted_text, others_text, place_text, port_text, port_texts, reached_text, routers_text};
 
 use crate::site::{Accept, SitePort};
 use ipx_carrier::node_of;
@@ -72,4 +72,16 @@ pub fn port_to_text(alloc: Global, number: usize, port: &SitePort) -> Result<Str
     let reached = reached_to_text(alloc, port.address, port.udp_port)?;
     let dealings = dealings_to_text(alloc, port)?;
     format!(in alloc; "port {number} {place} udp {reached} {dealings}")
+}
+
+/// What a router says of its ports as it starts, in their order, which their numbers follow from 1.
+pub fn ports_to_texts(alloc: Global, ports: &[SitePort]) -> Result<Vec<String>, AllocError>
+    ensures { IfOk result (λ texts. map string_bytes texts.items ≡ port_texts 1 ports.now) }
+{
+    let mut texts = Vec::new(alloc);
+    for (place, port) in ports.iter().enumerate() {
+        let text = port_to_text(alloc, place + 1, port)?;
+        texts.push(text)?;
+    }
+    Ok(texts)
 }

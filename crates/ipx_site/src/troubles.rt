@@ -1,8 +1,8 @@
 //! The troubles that a person is told of, each at most once a minute.
 
-ghost use Rattle.std.specs.Prelude.{◌≡◌, ◌↔◌, ◌<◌, ◌^◌, ℕ, Some};
-ghost use Rattle.ipx_site.specs.Leisure.{IsLineDue, happened_in};
-ghost use Rattle.ipx_site.specs.Moments.{IsDue, IsReached};
+ghost use Rattle.std.specs.Prelude.{◌≡◌, ◌↔◌, ◌<◌, ◌^◌, ℕ, None, Some, get_or};
+ghost use Rattle.ipx_site.specs.Leisure.{IsLineDue, counts_of, counts_told, happened_in};
+ghost use Rattle.ipx_site.specs.Moments.{IsDue, IsOneDue, IsReached};
 
 use crate::causes::Cause;
 use crate::figures::Figures;
@@ -10,19 +10,39 @@ use crate::moments::sooner;
 use crate::peers::Kept;
 use log::{Log, warn};
 
-/// What goes wrong again and again.
+/// What goes wrong again and again: how often it did, who did it last, where that is known, and
+/// what its line says.
+#[derive(Clone, Copy, Debug, PartialEq, Eq)]
+pub struct Trouble {
+    pub kept: Kept,
+    pub what: &'static str,
+}
+
+impl Trouble {
+    /// One that came from those whom a line names.
+    pub fn from(kept: Kept, what: &'static str) -> Trouble
+        ensures { result.kept ≡ kept }
+    {
+        Trouble { kept, what }
+    }
+
+    /// One that nobody is named for.
+    pub fn of_nobody(count: u64, what: &'static str) -> Trouble
+        ensures count { result.kept.count ≡ count }
+        ensures nobody { result.kept.last ≡ None }
+    {
+        let kept = Kept { count, last: None };
+        Trouble { kept, what }
+    }
+}
+
+/// How many causes a router has.
+const CAUSES: usize = 10;
+
+/// When a router told its troubles, in the order of their lines.
 #[derive(Clone, Copy, Debug, PartialEq, Eq)]
 pub struct Troubles {
-    strangers: Cause,
-    forged: Cause,
-    no_router: Cause,
-    too_often: Cause,
-    refused: Cause,
-    table_full: Cause,
-    queue_full: Cause,
-    device: Cause,
-    memory: Cause,
-    file: Cause,
+    causes: [Cause; CAUSES],
 }
 
 fn tell<R: Log>(rt: &R, cause: &mut Cause, count: u64, now: u64, what: &str)
@@ -36,7 +56,7 @@ fn tell<R: Log>(rt: &R, cause: &mut Cause, count: u64, now: u64, what: &str)
 
 /// Logs how many of these there were since it was told last, if it is time, with who sent the last
 /// of them, where that is known.
-pub fn tell_kept<R: Log>(rt: &R, cause: &mut Cause, kept: Kept, now: u64, what: &str)
+fn tell_kept<R: Log>(rt: &R, cause: &mut Cause, kept: Kept, now: u64, what: &str)
     ensures told { IsDue cause.old kept.count now
         → (cause.new.told ≡ kept.count) × (cause.new.at ≡ Some now) }
     ensures silent { (IsDue cause.old kept.count now → ⊥) → cause.new ≡ cause.old }
@@ -53,53 +73,64 @@ pub fn tell_kept<R: Log>(rt: &R, cause: &mut Cause, kept: Kept, now: u64, what: 
     }
 }
 
+/// Tells those troubles for which it is time, each by the cause at its place.
+pub fn tell_each<R: Log>(rt: &R, causes: &mut [Cause], troubles: &[Trouble], now: u64) {
+    for (cause, trouble) in causes.iter_mut().zip(troubles) {
+        tell_kept(rt, cause, trouble.kept, now, trouble.what);
+    }
+}
+
+/// How often the trouble at a place happened: 0 where there is none.
+fn count_at(troubles: &[Trouble], place: usize) -> u64
+    ensures { result ≡ get_or (counts_of troubles.now) place 0 }
+{
+    match troubles.get(place) {
+        Some(trouble) => trouble.kept.count,
+        None => 0,
+    }
+}
+
+/// The moment from which on it is time to tell one of these; none where no clock can show it.
+fn next_of(causes: &[Cause], troubles: &[Trouble]) -> Option<u64>
+    ensures { (t : ℕ) → t < 2 ^ 64
+        → IsReached result t ↔ IsOneDue causes.now (counts_of troubles.now) t }
+{
+    let mut first = None;
+    for (place, cause) in causes.iter().enumerate() {
+        first = sooner(first, cause.next(count_at(troubles, place)));
+    }
+    first
+}
+
+/// The troubles of a router.
+fn troubles_in(f: &Figures) -> [Trouble; CAUSES]
+    ensures { counts_of result ≡ counts_told (happened_in f.now) }
+{
+    [
+        Trouble::from(f.kept.strangers, "datagrams came from no peer"),
+        Trouble::from(f.kept.forged, "datagrams spoke for another node"),
+        Trouble::from(f.kept.no_router, "datagrams were no router's to send"),
+        Trouble::from(f.too_often, "queries came too often"),
+        Trouble::of_nobody(f.refused, "datagrams were to go to no peer"),
+        Trouble::of_nobody(f.fates.table_full, "responses found a table full"),
+        Trouble::of_nobody(f.queue_full, "packets found no room to wait"),
+        Trouble::of_nobody(f.device_faults, "datagrams the system refused"),
+        Trouble::of_nobody(f.memory_faults, "times memory was refused"),
+        Trouble::of_nobody(f.file_faults, "times the status file could not be written"),
+    ]
+}
+
 impl Troubles {
     /// None was told yet.
     pub fn new() -> Troubles {
         Troubles {
-            strangers: Cause::new(),
-            forged: Cause::new(),
-            no_router: Cause::new(),
-            too_often: Cause::new(),
-            refused: Cause::new(),
-            table_full: Cause::new(),
-            queue_full: Cause::new(),
-            device: Cause::new(),
-            memory: Cause::new(),
-            file: Cause::new(),
+            causes: [Cause::new(); CAUSES],
         }
     }
 
     /// Tells those for which it is time.
     pub fn tell<R: Log>(&mut self, rt: &R, figures: &Figures, now: u64) {
-        self.tell_of_datagrams(rt, figures, now);
-        self.tell_of_system(rt, figures, now);
-    }
-
-    fn tell_of_datagrams<R: Log>(&mut self, rt: &R, f: &Figures, now: u64) {
-        let what = "datagrams came from no peer";
-        tell_kept(rt, &mut self.strangers, f.kept.strangers, now, what);
-        let what = "datagrams spoke for another node";
-        tell_kept(rt, &mut self.forged, f.kept.forged, now, what);
-        let what = "datagrams were no router's to send";
-        tell_kept(rt, &mut self.no_router, f.kept.no_router, now, what);
-        let what = "queries came too often";
-        tell_kept(rt, &mut self.too_often, f.too_often, now, what);
-        let what = "datagrams were to go to no peer";
-        tell(rt, &mut self.refused, f.refused, now, what);
-        let what = "responses found a table full";
-        tell(rt, &mut self.table_full, f.fates.table_full, now, what);
-        let what = "packets found no room to wait";
-        tell(rt, &mut self.queue_full, f.queue_full, now, what);
-    }
-
-    fn tell_of_system<R: Log>(&mut self, rt: &R, f: &Figures, now: u64) {
-        let what = "datagrams the system refused";
-        tell(rt, &mut self.device, f.device_faults, now, what);
-        let what = "times memory was refused";
-        tell(rt, &mut self.memory, f.memory_faults, now, what);
-        let what = "times the status file could not be written";
-        tell(rt, &mut self.file, f.file_faults, now, what);
+        tell_each(rt, &mut self.causes, &troubles_in(figures), now);
     }
 
     /// The moment from which on it is time to tell one; none where no clock can show that moment.
@@ -107,25 +138,6 @@ impl Troubles {
         ensures { (t : ℕ) → t < 2 ^ 64
             → IsReached result t ↔ IsLineDue self.now (happened_in figures.now) t }
     {
-        let f = *figures;
-        let people = sooner(
-            self.strangers.next(f.kept.strangers.count),
-            self.forged.next(f.kept.forged.count),
-        );
-        let kept = sooner(
-            self.no_router.next(f.kept.no_router.count),
-            self.too_often.next(f.too_often.count),
-        );
-        let refused = sooner(kept, self.refused.next(f.refused));
-        let full = sooner(
-            self.table_full.next(f.fates.table_full),
-            self.queue_full.next(f.queue_full),
-        );
-        let system = sooner(
-            self.device.next(f.device_faults),
-            self.memory.next(f.memory_faults),
-        );
-        let file = self.file.next(f.file_faults);
-        sooner(sooner(sooner(people, refused), full), sooner(system, file))
+        next_of(&self.causes, &troubles_in(figures))
     }
 }

@@ -1,42 +1,34 @@
 //! What the value of a key means.
 
-ghost use Rattle.std.specs.Prelude.{◌≡◌, ◌≤◌, ◌<◌, ◌^◌, IfOk, IfSome};
+ghost use Rattle.std.specs.Prelude.{◌≡◌, IfOk};
 ghost use Rattle.std.specs.List.{list_all};
 ghost use Rattle.toml.specs.View.{items_view, view};
-ghost use Rattle.ipx_site.specs.Values.{AreAddresses, AreAddressesOf, AreRouterPeers, IsAccept, IsIpAddress, IsCount, IsHex, IsNetwork, IsSocket, IsText, ReadsAddresses, SpellsHexNumber};
+ghost use Rattle.ipx_site.specs.Values.{AreAddresses, AreAddressesOf, AreRouterPeers, IsAccept, IsIpAddress, IsCount, IsNetwork, IsSocket, IsText, ReadsAddresses, ReadsNetwork};
 ghost use Rattle.ipx_site.specs.Fields.{Reads};
 ghost use Rattle.ipx_site.specs.SitePeers.{is_peer};
 
-use crate::peers::is_one_of;
 use crate::site::Accept;
 use ipx_wire::{Network, OutOfMemory, Socket};
 use std::alloc::Global;
 use std::net::Ipv4Addr;
 use toml::Value;
 
-/// The number that so many hex digits write.
-fn hex_number(text: &str, digits: usize) -> Option<u32>
-    requires some { 1 ≤ digits }
-    requires few { digits ≤ 8 }
-    ensures number { SpellsHexNumber digits text.now result }
-    ensures fits { IfSome result (λ n. n < 16 ^ digits) }
+/// The network that a text writes, neither 0 nor ffffffff.
+pub fn network_written(text: &[u8]) -> Option<Network>
+    ensures { ReadsNetwork text.now result }
 {
-    if text.len() != digits || text.as_bytes()[0] == b'+' {
+    let network = Network::from_hex(text)?;
+    if network == Network::LOCAL || network == Network::ALL {
         return None;
     }
-    u32::from_str_radix(text, 16).ok()
+    Some(network)
 }
 
 /// The network that a value names.
 pub fn parse_network(value: &Value) -> Option<Network>
     ensures { Reads IsNetwork (view value.now) result }
 {
-    let number = hex_number(value.as_str()?, 8)?;
-    let network = Network(number);
-    if network == Network::LOCAL || network == Network::ALL {
-        return None;
-    }
-    Some(network)
+    network_written(value.as_str()?.as_bytes())
 }
 
 /// The IP address that a value writes. 0.0.0.0 is none.
@@ -79,11 +71,11 @@ pub fn accept_of(value: &Value) -> Option<Accept>
 pub fn parse_socket(value: &Value) -> Option<Socket>
     ensures { Reads IsSocket (view value.now) result }
 {
-    let number = hex_number(value.as_str()?, 4)?;
-    if number == 0 {
+    let socket = Socket::from_hex(value.as_str()?.as_bytes())?;
+    if socket.0 == 0 {
         return None;
     }
-    Some(Socket(number as u16))
+    Some(socket)
 }
 
 /// A copy of the text that a value is.
@@ -124,7 +116,7 @@ pub fn parse_peers(alloc: Global, value: &Value) -> Result<Option<Vec<[u8; 4]>>,
 pub fn are_among(ips: &[[u8; 4]], peers: &[[u8; 4]]) -> bool
     ensures { result ≡ list_all (is_peer peers.now) ips.now }
 {
-    ips.iter().all(|ip| is_one_of(peers, *ip))
+    ips.iter().all(|ip| peers.contains(ip))
 }
 
 /// The routers that a value lists, if each of them is one of these peers.

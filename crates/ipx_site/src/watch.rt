@@ -1,5 +1,7 @@
 //! What a router knows of the networks and services of others, and what it knew before.
 
+ghost use Rattle.std.specs.Prelude.{◌≡◌, length};
+
 use crate::shown::Shown;
 use ipx_router::Router;
 use ipx_tables::{Metric, Offers, RouteMetric, ServiceKey, ServiceMetric, Source};
@@ -137,12 +139,16 @@ impl Known {
     }
 
     /// How many networks of others were known when one looked last.
-    pub fn networks(&self) -> usize {
+    pub fn networks(&self) -> usize
+        ensures { result ≡ length self.now.networks.items }
+    {
         self.networks.len()
     }
 
     /// How many services were known then.
-    pub fn services(&self) -> usize {
+    pub fn services(&self) -> usize
+        ensures { result ≡ length self.now.services.items }
+    {
         self.services.len()
     }
 

@@ -117,7 +117,7 @@ fn reads_a_host(rt: HostRuntime) {
     };
     assert!(rt; host.network == Network(0x11) && host.socket == Socket(0x4002));
     assert!(rt; host.address == [10, 1, 0, 20] && host.router == [10, 1, 0, 1]);
-    assert!(rt; host.udp_port == 213 && host.buffers == 64);
+    assert!(rt; host.udp_port == 213 && host.buffers == 1024);
     assert!(rt; host.from.is_none() && host.accept == Accept::Peers);
     assert!(rt; host.peers.is_empty() && host.routers.is_empty());
 }

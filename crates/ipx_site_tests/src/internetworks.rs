@@ -1,9 +1,9 @@
 //! Random internetworks in memory, drawn from a seed: several routers on one network, and hosts that
 //! name any of theirs. Each guard names the routers. Nobody forges there, and nothing is kept back.
 
-use ipx_carrier::{Datagrams, DeviceFault, RouterCore, SteppedClock, node_of};
+use ipx_carrier::{Datagrams, DeviceFault, RouterCore, SteppedClock, burst, node_of};
 use ipx_router::{Port, Router};
-use ipx_site::{Guard, PeersOnly, Senders, run_burst};
+use ipx_site::{Guard, PeersOnly, Senders};
 use ipx_wire::{Address, IpxHeader, Network, Node, Packet, Socket, decode, encode_into};
 use std::alloc::Global;
 use std::collections::VecDeque;
@@ -315,7 +315,7 @@ impl Internetwork {
             return Ok(());
         };
         let mut clock = SteppedClock::new(now, 0);
-        let _burst = run_burst(alloc, core, &mut device, &peers, &mut clock, 10_000);
+        let _burst = burst(alloc, core, &mut device, &peers, &mut clock, 10_000);
         self.count(&device);
         for letter in &device.device().sent {
             let network = self.stands[me].networks[letter.port];
@@ -495,7 +495,7 @@ fn what_waits_behind_forged_datagrams_is_heard(rt: HostRuntime) -> Result<(), Fa
     let mut core = RouterCore::new(alloc, Router::new(alloc, vec![in alloc; port]?)?);
     let peers = vec![in alloc; Vec::new(alloc)]?;
     let mut clock = SteppedClock::new(0, 0);
-    let burst = run_burst(alloc, &mut core, &mut device, &peers, &mut clock, 20_000);
+    let burst = burst(alloc, &mut core, &mut device, &peers, &mut clock, 20_000);
     assert!(rt; burst.quiet);
     assert_eq!(rt; burst.heard, 1);
     assert_eq!(rt; device.kept().forged.count, FORGED as u64);

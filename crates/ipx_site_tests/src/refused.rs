@@ -52,7 +52,7 @@ fn refused_site(rt: HostRuntime) {
 fn refused_host(rt: HostRuntime) {
     match read_host(rt.alloc(), HOST) {
         Ok(host) => {
-            assert!(rt; host.router == [10, 1, 0, 1] && host.buffers == 64);
+            assert!(rt; host.router == [10, 1, 0, 1] && host.buffers == 1024);
             assert!(rt; host.from.as_ref().is_some_and(|from| from.len() == 2));
             assert!(rt; host.peers.len() == 2 && host.routers.len() == 1);
         }

@@ -2,10 +2,8 @@
 //! is wanted. Run these with each request refused.
 
 use crate::figures::FIGURES;
-use ipx_carrier::{Core, Datagrams, RunFault};
-use ipx_site::{
-    BindFault, Burst, Guard, PeersOnly, Readiness, SiteSockets, SteadyClock, WaitFault, run_burst,
-};
+use ipx_carrier::{Burst, Core, Datagrams, RunFault, burst};
+use ipx_site::{BindFault, Guard, PeersOnly, Readiness, SiteSockets, SteadyClock, WaitFault};
 use ipx_wire::{Network, Node, OutOfMemory};
 use std::alloc::Global;
 
@@ -86,7 +84,7 @@ fn burst_of(rt: &HostRuntime, device: &mut PeersOnly<SiteSockets>) -> Burst {
         let _again = peers.push(Vec::new(alloc));
     }
     let mut clock = SteadyClock::new(rt);
-    run_burst(alloc, &mut Greedy, device, &peers, &mut clock, 4)
+    burst(alloc, &mut Greedy, device, &peers, &mut clock, 4)
 }
 
 #[test]

@@ -1,7 +1,7 @@
 //! Waiting for sockets of the loopback, and bursts of turns over them.
 
-use ipx_carrier::{Core, Datagrams, DeviceFault};
-use ipx_site::{BindFault, Guard, PeersOnly, Readiness, SiteSockets, SteadyClock, run_burst};
+use ipx_carrier::{Core, Datagrams, DeviceFault, burst};
+use ipx_site::{BindFault, Guard, PeersOnly, Readiness, SiteSockets, SteadyClock};
 use ipx_wire::{Network, Node, OutOfMemory};
 use std::alloc::{AllocError, Global};
 use std::test::Fail;
@@ -93,7 +93,7 @@ fn a_burst_ends_quietly(rt: HostRuntime) -> Result<(), Fail> {
     send(&mut peer, 3)?;
     let peers = vec![in alloc; Vec::new(alloc)]?;
     let mut clock = SteadyClock::new(&rt);
-    let burst = run_burst(alloc, &mut Mute, &mut device, &peers, &mut clock, 8);
+    let burst = burst(alloc, &mut Mute, &mut device, &peers, &mut clock, 8);
     assert!(rt; burst.quiet && burst.fault.is_none());
     assert_eq!(rt; (burst.heard, burst.sent), (1, 0));
     assert_eq!(rt; device.kept().strangers.count, 1);

@@ -1,5 +1,7 @@
-//! What the program says of itself.
+//! What `clap` is told of the commands.
 
+use crate::commands::{COMMANDS, CommandShape, OptionShape, OptionValue, WordShape};
+use crate::texts::{ABOUT, STATUSES};
 use clap::builder::ValueParser;
 use clap::{Arg, ArgAction, Command, Error};
 use std::alloc::Global;
@@ -7,315 +9,78 @@ use std::alloc::Global;
 /// The version of the program.
 pub const VERSION: &str = "0.1.0";
 
-const ABOUT: &str = "Routers and hosts of a Novell internetwork over UDP: IPX, SPX, RIP and SAP";
-
-const STATUSES: &str = "\
-A packet is written in hex, two digits a byte, from its checksum ffff on.
-
-Status 0: done. 1: a packet, call or event was dropped or refused, a vector failed, reading or
-writing failed, or memory ran out. 2: a line or the words of the command line cannot be read.
-Lines go to standard output, this text and what is wrong with words to standard error.
-
-Example:
-  $ echo ffff001e00000000002200007f00000540000000001100007f0000035000 | ipx hop
-  forward 2 00007f000005 ffff001e01000000002200007f00000540000000001100007f0000035000";
-
-const HOP: &str = "\
-What a router with two ports does with one packet that comes in on port 1
-
-Reads one packet in hex from standard input: at most 4096 bytes of text, one line end among them.
-
-  port 1: network 00000011, node 00007f000001, cost 1 tick
-  port 2: network 00000022, node 00007f000002, cost 1 tick
-
-The router knows no other network and no service. It prints one of
-  forward PORT NODE HEX   the packet one hop further, and the node that is next
-  reply PORT NODE HEX     a packet that answers a request (a line each, maybe none)
-  heard N                 N routes or services of a response are known now
-  dropped (n) TEXT        the packet goes nowhere, for reason n";
-
-const HOP_STATUSES: &str = "\
-Status 0: forwarded, answered or heard. 1: dropped; reading or writing failed, or memory ran out.
-2: the text is no hex or too long (line 1 bad).
-
-Example:
-  $ echo ffff001e00000000002200007f00000540000000001100007f0000035000 | ipx hop
-  forward 2 00007f000005 ffff001e01000000002200007f00000540000000001100007f0000035000";
-
-const SHOW: &str = "\
-The fields of one packet
-
-Reads no input: the packet is the word HEX. It prints the IPX header, and then what the body
-holds: an SPX packet (type 5), RIP (destination socket 0453) or SAP (0452).
-A packet that is refused prints refused (n) TEXT, with the number and name of the fault.";
-
-const SHOW_STATUSES: &str = "\
-Status 0: printed. 1: the packet is refused; writing failed, or memory ran out.
-2: HEX is no hex (line 1 bad).
-
-Example:
-  $ ipx show ffff001e00000000002200007f00000540000000001100007f0000035000
-  ipx hops 0 kind 0 body 0
-  to 00000022 00007f000005 4000
-  from 00000011 00007f000003 5000";
-
-const CHECK: &str = "\
-Whether packets have the outcomes that they are to have
-
-Reads lines from standard input, at most 1000000 bytes:
-  ok HEX      a packet that is to be read
-  bad N HEX   bytes that are to be refused by the fault of number N, from 1 to 39
-Blank lines and lines that begin with # are skipped. It prints
-  line K               the vector on line K has another outcome
-  checked A failed B   at the end: of A vectors B failed
-  line K bad           line K has another form: nothing is read behind it";
-
-const CHECK_STATUSES: &str = "\
-Status 0: none failed. 1: one failed; reading or writing failed, or memory ran out.
-2: a line of another form, or too long an input (line 0 bad).
-
-Example:
-  $ echo bad 3 ffff001d00000000002200007f00000540000000001100007f0000035000 | ipx check
-  checked 1 failed 0";
-
-const SIM: &str = "\
-A network in memory, run by a script
-
-Reads a script from standard input, at most 1000000 bytes, a line a step. Fields are parted by one
-blank. Networks have 1 to 8 hex digits, nodes 12, sockets 4, the datastream type SS two; HEX is hex,
-or - for nothing; other numbers are decimal. First the layout, then what happens:
-  host NAME NET NODE ROUTERNODE [listen SOCKET BUFFERS]
-  router NAME NET NODE COST ..             (three fields a port)
-  dial HOST SOCKET NET NODE SOCKET BUFFERS end K: a connection is asked for
-  send E SS HEX, fill E N                  a message is handed in, or N of one byte
-  take E                                   what the end got
-  close E, release E                       an end is asked to end, or goes
-  tick MS                                  the moment rises
-  poll NAME                                parcel N NET NODE HEX for each packet, or quiet
-  deliver N PLACE                          a parcel comes to a host, or to ROUTER.PORT
-  inject NET NODE HEX                      a packet from outside
-  run N, pump N                            at most N rounds: all poll, all is delivered; pump takes
-At the end it prints what became of each end, whether what it handed out begins what its peer handed
-in, and whether all that ends read of their peers was fresh.";
-
-const SIM_STATUSES: &str = "\
-Status 0: done. 1: an end refused (refused (n) TEXT), or an event met a fault (fault (n) NAME);
-reading or writing failed, or memory ran out. 2: a bad line (line K bad), or too long a script
-(line 0 bad): nothing is run behind it, and the last lines are not printed.
-
-Example:
-  $ printf 'tick 500\\ntick 7\\n' | ipx sim
-  now 500
-  now 507
-  fresh yes";
-
-const UDP: &str = "\
-A script over UDP sockets of the loopback, one for each node, in one process
-
-Reads a script as sim does, with these lines alone: host, router, dial, send, fill, close, pump N.
-A node is two zero bytes and an IP address. pump N lets each node take N turns, and takes what ends
-got. At the end it prints what became of each end.";
-
-const UDP_STATUSES: &str = "\
-Status 0: done. 1: an end refused, a socket cannot be bound or fails (fault (39) Device), reading or
-writing failed, or memory ran out. 2: a bad line (line K bad), or too long a script (line 0 bad).
-Port 213 wants the right to bind it.
-
-Example:
-  $ ipx udp --port 20213 < script";
-
-const ROUTE: &str = "\
-A router of one site over UDP (RFC 1234), until it is ended
-
-Reads the file SITE, in TOML: a table [[port]] for each network that it joins, with
-  network   eight hex digits
-  address   the local IP address: the node is two zero bytes and it
-  udp_port  213 where it is left out
-  cost      ticks, 1 where it is left out
-  peers     a list of IP addresses: whom it sends to
-  routers   those of them that may pass on and tell, each where it is left out
-  accept    \"peers\", as where it is left out, or \"any\": who is heard
-and before the first port, if figures are wanted,
-  status    the name of a file, which it writes anew every ten seconds
-It tells each port, and what becomes known or is lost, on standard error.";
-
-const ROUTE_STATUSES: &str = "\
-It ends by itself only at the start. Status 2: the file has a fault, which one line tells, and
-nothing was bound. 1: a socket can't be had, or memory ran out.
-Port 213 wants the right to bind it.
-
-With --check it binds nothing: the line of each port as it starts, but for the room of its socket,
-and one of the file go to standard output, and remarks on what is allowed and odd. Status 0: the
-file has no fault. 2: it has one, which the same line tells. 1: memory ran out, or writing failed.
-
-Example:
-  $ ipx route /etc/ipx/site.toml";
-
-const LISTEN: &str = "\
-A host that takes connections, and writes the messages that come
-
-Reads the file HOST, in TOML:
-  network   eight hex digits
-  address   the local IP address: the node is two zero bytes and it
-  router    the IP address of the router: where packets for other networks go
-  udp_port  213 where it is left out
-  socket    four hex digits: where it listens
-  buffers   of each connection, 64 where it is left out
-  peers     a list of IP addresses: who is heard besides the router
-  routers   those of them that are routers too
-  from      a list of networks, each alone or with a node: who may connect
-  accept    \"peers\", as where it is left out, or \"any\": who is heard
-The bytes of each message go to standard output when it is whole, with nothing between them. Up to
-16 connections are held at once. Where standard output is not read, those who send have to wait, and
-stay connected.";
-
-const LISTEN_STATUSES: &str = "\
-It goes on until it is ended, or with --once until three seconds after the end of the first
-connection that is heard: of others nothing is written. Status 0: that end came, and all before it
-is written. 1: that connection was lost, standard output can't be written, the socket can't be had,
-or memory ran out at the start. 2: the file has a fault, which one line on standard error tells, and
-nothing was bound.
-
-With --check, and without --once, it binds nothing, and says what stands in the file as ipx route
---check does.
-
-Example:
-  $ ipx listen --once host.toml > copy";
-
-const SEND: &str = "\
-A host that asks for a connection, sends its input, and ends the connection
-
-Reads the file HOST as listen does, and dials from its socket to NET NODE SOCKET, which are eight,
-twelve and four hex digits. What one read of standard input gives, at most 65535 bytes, is a
-message. The input may pause for as long as it likes. A node of its own network that it dials is
-heard, as the router and the peers are. Where standard error is a terminal, a line there tells how
-far it is.";
-
-const SEND_STATUSES: &str = "\
-Status 0: the other host has acknowledged all of the input, and the end behind it; its program may
-not have taken the last of it. 1: nobody answers, or the connection is lost or ended by the other
-end, and a line on standard error tells how much was acknowledged; the input can't be read, the
-socket can't be had, or memory ran out. 2: a word or the file has a fault, which one line tells, and
-nothing was bound.
-
-A connection is lost some five seconds after the last word of a host that acknowledges nothing.
-There is no limit while one that is there has no room, and no wait once all is acknowledged.
-
-Example:
-  $ ipx send host.toml 00000033 00007f000104 4002 < file";
-
-fn hop_command<'a>(alloc: Global) -> Command<'a> {
-    Command::new(alloc, "hop")
-        .about("What a router with two ports does with one packet")
-        .long_about(HOP)
-        .after_help(HOP_STATUSES)
+fn word_arg<'a>(alloc: Global, word: &WordShape) -> Arg<'a> {
+    Arg::new(alloc, word.name).required(true).help(word.help)
 }
 
-fn show_command<'a>(alloc: Global) -> Result<Command<'a>, Error> {
-    let packet = Arg::new(alloc, "HEX")
-        .required(true)
-        .help("The packet, two hex digits a byte");
-    let command = Command::new(alloc, "show")
-        .about("The fields of one packet")
-        .long_about(SHOW)
-        .after_help(SHOW_STATUSES)
-        .arg(packet)?;
+fn option_arg<'a>(alloc: Global, option: &OptionShape) -> Arg<'a> {
+    let arg = Arg::new(alloc, option.name)
+        .long(option.name)
+        .help(option.help);
+    match option.value {
+        OptionValue::Nothing => arg.action(ArgAction::SetTrue),
+        OptionValue::Port => arg
+            .value_name("P")
+            .value_parser(ValueParser::unsigned(1, 65_535)),
+    }
+}
+
+/// An option that none of these stands beside.
+fn option_alone<'a>(
+    alloc: Global,
+    option: &OptionShape,
+    others: &[OptionShape],
+) -> Result<Arg<'a>, Error> {
+    let mut arg = option_arg(alloc, option);
+    for other in others {
+        arg = arg.conflicts_with(other.name)?;
+    }
+    Ok(arg)
+}
+
+fn with_words<'a>(
+    alloc: Global,
+    command: Command<'a>,
+    words: &[WordShape],
+) -> Result<Command<'a>, Error> {
+    let mut command = command;
+    for word in words {
+        command = command.arg(word_arg(alloc, word))?;
+    }
     Ok(command)
 }
 
-fn check_command<'a>(alloc: Global) -> Command<'a> {
-    Command::new(alloc, "check")
-        .about("Whether packets have the outcomes that they are to have")
-        .long_about(CHECK)
-        .after_help(CHECK_STATUSES)
-}
-
-fn sim_command<'a>(alloc: Global) -> Command<'a> {
-    Command::new(alloc, "sim")
-        .about("A network in memory, run by a script")
-        .long_about(SIM)
-        .after_help(SIM_STATUSES)
-}
-
-fn udp_command<'a>(alloc: Global) -> Result<Command<'a>, Error> {
-    let port = Arg::new(alloc, "port")
-        .long("port")
-        .value_name("P")
-        .value_parser(ValueParser::unsigned(1, 65_535))
-        .help("The UDP port of every socket, 1 to 65535; 213 where none is given");
-    let command = Command::new(alloc, "udp")
-        .about("A script over UDP sockets of the loopback")
-        .long_about(UDP)
-        .after_help(UDP_STATUSES)
-        .arg(port)?;
+fn with_options<'a>(
+    alloc: Global,
+    command: Command<'a>,
+    options: &[OptionShape],
+) -> Result<Command<'a>, Error> {
+    let mut command = command;
+    for (place, option) in options.iter().enumerate() {
+        command = command.arg(option_alone(alloc, option, &options[..place])?)?;
+    }
     Ok(command)
 }
 
-/// The argument that names the file of a site or a host.
-fn file_arg<'a>(alloc: Global, name: &'a str, help: &'a str) -> Arg<'a> {
-    Arg::new(alloc, name).required(true).help(help)
-}
-
-/// The option to check a file alone.
-fn check_arg<'a>(alloc: Global) -> Arg<'a> {
-    Arg::new(alloc, "check")
-        .long("check")
-        .action(ArgAction::SetTrue)
-        .help("Says what stands in the file, and binds nothing")
-}
-
-fn route_command<'a>(alloc: Global) -> Result<Command<'a>, Error> {
-    let command = Command::new(alloc, "route")
-        .about("A router of one site, over UDP")
-        .long_about(ROUTE)
-        .after_help(ROUTE_STATUSES)
-        .arg(file_arg(alloc, "SITE", "The file of the site"))?
-        .arg(check_arg(alloc))?;
-    Ok(command)
-}
-
-fn listen_command<'a>(alloc: Global) -> Result<Command<'a>, Error> {
-    let once = Arg::new(alloc, "once")
-        .long("once")
-        .action(ArgAction::SetTrue)
-        .help("Ends behind the first connection that is heard");
-    let command = Command::new(alloc, "listen")
-        .about("A host that takes connections, and writes the messages that come")
-        .long_about(LISTEN)
-        .after_help(LISTEN_STATUSES)
-        .arg(file_arg(alloc, "HOST", "The file of the host"))?
-        .arg(once)?
-        .arg(check_arg(alloc).conflicts_with("once")?)?;
-    Ok(command)
-}
-
-fn send_command<'a>(alloc: Global) -> Result<Command<'a>, Error> {
-    let command = Command::new(alloc, "send")
-        .about("A host that asks for a connection, and sends its input")
-        .long_about(SEND)
-        .after_help(SEND_STATUSES)
-        .arg(file_arg(alloc, "HOST", "The file of the host"))?
-        .arg(file_arg(alloc, "NET", "The network to dial, eight hex digits"))?
-        .arg(file_arg(alloc, "NODE", "The node there, twelve hex digits"))?
-        .arg(file_arg(alloc, "SOCKET", "Its socket, four hex digits"))?;
-    Ok(command)
+fn command_of<'a>(alloc: Global, shape: &CommandShape) -> Result<Command<'a>, Error> {
+    let command = Command::new(alloc, shape.name)
+        .about(shape.about)
+        .long_about(shape.long_about)
+        .after_help(shape.statuses);
+    let command = with_words(alloc, command, shape.words)?;
+    with_options(alloc, command, shape.options)
 }
 
 /// The program's commands, with what is said of them.
 pub fn whole_command<'a>(alloc: Global) -> Result<Command<'a>, Error> {
-    let command = Command::new(alloc, "ipx")
+    let mut command = Command::new(alloc, "ipx")
         .bin_name("ipx")?
         .version(VERSION)
         .about(ABOUT)
         .after_help(STATUSES)
-        .subcommand_required(true)
-        .subcommand(hop_command(alloc))?
-        .subcommand(show_command(alloc)?)?
-        .subcommand(check_command(alloc))?
-        .subcommand(sim_command(alloc))?
-        .subcommand(udp_command(alloc)?)?
-        .subcommand(route_command(alloc)?)?
-        .subcommand(listen_command(alloc)?)?
-        .subcommand(send_command(alloc)?)?;
+        .subcommand_required(true);
+    for shape in &COMMANDS {
+        command = command.subcommand(command_of(alloc, shape)?)?;
+    }
     Ok(command)
 }

@@ -1,7 +1,9 @@
 //! The program `ipx`: routers and endpoints of a Novell internetwork, from the command line.
 #![tactic(auto)]
 
+mod commands;
 mod help;
+mod texts;
 mod words;
 
 use clap::error::ErrorKind;

@@ -4,6 +4,10 @@ ghost use Rattle.std.specs.Prelude.{◌≡◌, ◌∷◌, [], codes, drop, map, 
 ghost use Rattle.std.specs.List.{starts_with};
 ghost use Rattle.ipx_tool.specs.Words.{AskForOne, AsksFor, Finds, IsPlain, IsUdpPort};
 
+use crate::commands::{
+    CHECK, CHECK_OPTION, HOP, LISTEN, ONCE_OPTION, PORT_IS, PORT_OPTION, ROUTE, SEND, SHOW, SIM,
+    UDP,
+};
 use crate::help::whole_command;
 use clap::Error;
 use clap::error::ErrorKind;
@@ -33,9 +37,9 @@ pub enum Task<'a> {
 
 /// The command that the words ask for, the program's own name first: just `hop`, `check`, `sim` or
 /// `udp`; `show`, `route` or `listen` and one word that is no option; `listen` and such a word with
-/// `--once` before or behind it; `route` or `listen` and such a word with `--check` there; `send` and
-/// four words that are no options; or `udp` and a port, as `--port P` or `--port=P`. No other words
-/// ask for one.
+/// `--once` before or behind it; `route` or `listen` and such a word with `--check` there; `send`
+/// and four words that are no options; or `udp` and a port, as `--port P` or `--port=P`. No other
+/// words ask for one.
 pub fn task_of(words: &[String]) -> Option<Task<'_>>
     ensures { Finds (AsksFor (drop 1 (map string_bytes words.now))) result }
 {
@@ -61,10 +65,10 @@ fn plain_task(command: &str) -> Option<Task<'_>>
     ensures { Finds (AsksFor (command.now ∷ [])) result }
 {
     match command {
-        "hop" => Some(Task::Hop),
-        "check" => Some(Task::Check),
-        "sim" => Some(Task::Sim),
-        "udp" => Some(Task::Udp(UDP_PORT)),
+        HOP => Some(Task::Hop),
+        CHECK => Some(Task::Check),
+        SIM => Some(Task::Sim),
+        UDP => Some(Task::Udp(UDP_PORT)),
         _ => None,
     }
 }
@@ -84,9 +88,9 @@ fn word_task<'a>(command: &str, word: &'a str) -> Option<Task<'a>>
         return None;
     }
     match command {
-        "show" => Some(Task::Show(word)),
-        "route" => Some(Task::Route(word)),
-        "listen" => Some(Task::Listen(word, false)),
+        SHOW => Some(Task::Show(word)),
+        ROUTE => Some(Task::Route(word)),
+        LISTEN => Some(Task::Listen(word, false)),
         _ => None,
     }
 }
@@ -95,7 +99,7 @@ fn word_task<'a>(command: &str, word: &'a str) -> Option<Task<'a>>
 fn once_task<'a>(command: &str, file: &'a str) -> Option<Task<'a>>
     ensures { Finds (AsksFor (command.now ∷ codes "--once" ∷ file.now ∷ [])) result }
 {
-    if command != "listen" || is_option(file) {
+    if command != LISTEN || is_option(file) {
         return None;
     }
     Some(Task::Listen(file, true))
@@ -109,8 +113,8 @@ fn check_task<'a>(command: &str, file: &'a str) -> Option<Task<'a>>
         return None;
     }
     match command {
-        "route" => Some(Task::CheckSite(file)),
-        "listen" => Some(Task::CheckHost(file)),
+        ROUTE => Some(Task::CheckSite(file)),
+        LISTEN => Some(Task::CheckHost(file)),
         _ => None,
     }
 }
@@ -121,7 +125,7 @@ fn send_task<'a>(command: &str, file: &'a str, target: Target<'a>) -> Option<Tas
         Finds (AsksFor (command.now ∷ file.now ∷ to.network.now ∷ to.node.now ∷ to.socket.now ∷ []))
         result }
 {
-    if command != "send" || is_option(file) {
+    if command != SEND || is_option(file) {
         return None;
     }
     if is_option(target.network) || is_option(target.node) || is_option(target.socket) {
@@ -142,7 +146,7 @@ fn port_of(text: &str) -> Option<u16>
 fn udp_task<'a>(command: &str, text: &str) -> Option<Task<'a>>
     ensures { Finds (AsksFor (command.now ∷ codes "--port" ∷ text.now ∷ [])) result }
 {
-    if command != "udp" {
+    if command != UDP {
         return None;
     }
     Some(Task::Udp(port_of(text)?))
@@ -152,7 +156,7 @@ fn udp_task<'a>(command: &str, text: &str) -> Option<Task<'a>>
 fn one_word_task<'a>(command: &str, word: &'a str) -> Option<Task<'a>>
     ensures { Finds (AsksFor (command.now ∷ word.now ∷ [])) result }
 {
-    match word.strip_prefix("--port=") {
+    match word.strip_prefix(PORT_IS) {
         Some(port) => udp_task(command, port),
         None => word_task(command, word),
     }
@@ -162,19 +166,19 @@ fn one_word_task<'a>(command: &str, word: &'a str) -> Option<Task<'a>>
 fn option_task<'a>(command: &str, first: &'a str, second: &'a str) -> Option<Task<'a>>
     ensures { Finds (AsksFor (command.now ∷ first.now ∷ second.now ∷ [])) result }
 {
-    if first == "--port" {
+    if first == PORT_OPTION {
         return udp_task(command, second);
     }
-    if first == "--once" {
+    if first == ONCE_OPTION {
         return once_task(command, second);
     }
-    if first == "--check" {
+    if first == CHECK_OPTION {
         return check_task(command, second);
     }
-    if second == "--once" {
+    if second == ONCE_OPTION {
         return once_task(command, first);
     }
-    if second == "--check" {
+    if second == CHECK_OPTION {
         return check_task(command, first);
     }
     None

@@ -2,7 +2,7 @@
 use Rattle.std.proofs.Common.{◌≡◌, ℕ, ◌+◌, ◌-◌, ◌*◌, ◌^◌, ◌<◌, ◌≤◌, List, [], ◌∷◌, ◌++◌, refl, sym, ap, ◌∙◌, subst, arith, append_assoc, append-nil, min, length, get_or}
 use Rattle.std.specs.Prelude.{sum}
 use Rattle.std.proofs.lemmas.List.Sums.{sum_by-cons, sum_by_push}
-use Rattle.ipx_site.specs.Bursts.{counted}
+use Rattle.ipx_carrier.specs.Counting.{counted}
 use Rattle.ipx_transfer.specs.Ledger.{CountsAcknowledged, IsFirstOpen, all_units, bytes_acknowledged, units_in}
 
 -- 534 bytes for each unit of a message are no fewer than it has

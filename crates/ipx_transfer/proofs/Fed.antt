@@ -23,7 +23,7 @@ use Rattle.ipx_transfer.specs.SendRounds.{IsSendStep, SendState, intake_of, plac
 use Rattle.ipx_transfer.specs.SendSteps.{FeedsOn, GoesOnOrEnds, IsFeedFault, IsStepFault, SeenSoFar, Sees}
 use Rattle.ipx_transfer.specs.Transfer.{IsWaiting, IsWholeAt, ended_at, joined_at, left_at, state_at, verdict_at}
 use Rattle.ipx_carrier.specs.Turns.{Peers}
-use Rattle.ipx_transfer.specs.Turning.{TakesTurn}
+use Rattle.ipx_transfer.specs.Turning.{TakesHostTurn}
 use Rattle.ipx_transfer.specs.declared.running_host.Activity.{Activity}
 use Rattle.ipx_transfer.specs.declared.end_core.EndCore.{EndCore}
 use Rattle.ipx_transfer.specs.declared.ledger.Ledger.{Ledger}
@@ -175,8 +175,8 @@ stepped id id' core core' start dropped read read' closed closed' ledger ledger'
 
 -- the clock is as the turn left it
 pub turned : {K : Type 0} (clock now after : K) (tells : K → ℕ → K → Type 0) (peers : Peers) (old seen : EndCore) (turn : Activity)
-    → after ≡ now → TakesTurn clock now tells peers old seen turn → TakesTurn clock after tells peers old seen turn
-turned {K} clock now after tells peers old seen turn same taken = subst (λ (k : K). TakesTurn clock k tells peers old seen turn) (sym same) taken
+    → after ≡ now → TakesHostTurn clock now tells peers old seen turn → TakesHostTurn clock after tells peers old seen turn
+turned {K} clock now after tells peers old seen turn same taken = subst (λ (k : K). TakesHostTurn clock k tells peers old seen turn) (sym same) taken
 
 -- and the core, but for its endpoint
 pub same_core : (seen core : EndCore) → core ≡ seen → core ≡ record seen { endpoint = core.endpoint }

@@ -240,14 +240,14 @@ pub begun : {K T E : Type 0} (file : HostFile) (X : Type 0) (started : Result T 
     → IfOk started (λ l. (at l).core.endpoint.router ≡ node_at file.router) → IfOk started (λ l. among l ≡ (file.router ∷ []) ∷ [])
     → IfOk started (λ l. buffers_at (at l).core.endpoint file.socket ≡ Some file.buffers)
     → IfOk started (λ l. (s : Socket) → s.0 ≢ file.socket.0 → buffers_at (at l).core.endpoint s ≡ None)
-    → IfOk started (λ l. (id : ℕ) → held_at (at l).core.endpoint id ≡ None) → IfOk started (λ l. (at l).core.came ≡ None)
+    → IfOk started (λ l. (id : ℕ) → held_at (at l).core.endpoint id ≡ None) → IfOk started (λ l. (at l).core.came ≡ None) → IfOk started (λ l. (at l).core.paced ≡ None)
     → IfOk started (λ l. named_in (at l).core.from ≡ named_in file.from) → IfOk started (λ l. (at l).core.network ≡ file.network)
     → IfOk started (λ l. (at l).callers ≡ []) → IfOk started (λ l. (at l).left ≡ []) → IfOk started (λ l. its l ≡ once) → ((l : T) → (at l).written ≡ a)
     → OnErr started ((status ≡ 1) × X) → (status ≡ 0 → IfOk started (λ l. (bytes : List ℕ) × ServesWell (at l) (its l) b tells (among l) bytes)) → status ≡ 0
     → ListensWell file once a b tells
-begun file X (Err e) at its among once a b tells status network node router routed listens alone links accepted from own nobody nothing same written unstarted well ends =
+begun file X (Err e) at its among once a b tells status network node router routed listens alone links accepted unpaced from own nobody nothing same written unstarted well ends =
     absurd (omega (arith, unstarted.0, ends))
-begun {K} file X (Ok l) at its among once a b tells status network node router routed listens alone links accepted from own nobody nothing same written unstarted well ends =
+begun {K} file X (Ok l) at its among once a b tells status network node router routed listens alone links accepted unpaced from own nobody nothing same written unstarted well ends =
     let run = well ends in
     let took : Appends (at l).written b ((at l).left ++ run.0) = run.1.4 in
     let bare : Appends (at l).written b run.0 = subst (λ (x : List ℕ). Appends (at l).written b (x ++ run.0)) nothing took in
@@ -264,6 +264,7 @@ begun {K} file X (Ok l) at its among once a b tells status network node router r
         alone = alone;
         unlinked = links;
         unasked = accepted;
+        unpaced = unpaced;
         from = from;
         own = own;
         nobody = nobody;

@@ -1,4 +1,3 @@
-pub mod Checked
 pub mod Counting
 pub mod Holding
 pub mod Noted
@@ -13,3 +12,4 @@ pub mod Dialed
 pub mod Reading
 pub mod Rounded
 pub mod Slept
+pub mod Coming

@@ -14,7 +14,7 @@ use Rattle.ipx_transfer.specs.SendRounds.{IsSendStep, LastRound, SendState, Roun
 use Rattle.ipx_transfer.specs.Sent.{IsDialing, SendsWholeInput}
 use Rattle.ipx_transfer.specs.SendSteps.{GoesOnOrEnds, IsStepFault, Sees}
 use Rattle.ipx_transfer.specs.Transfer.{state_at}
-use Rattle.ipx_transfer.specs.Turning.{TakesTurn}
+use Rattle.ipx_transfer.specs.Turning.{TakesHostTurn}
 use Rattle.ipx_transfer.specs.declared.end_core.EndCore.{EndCore}
 use Rattle.ipx_transfer.specs.declared.send_outcome.SendOutcome.{SendOutcome}
 use Rattle.ipx_transfer.specs.declared.send_outcome.SendOutcome.TheVariants.{Done}
@@ -122,7 +122,7 @@ last_of last new tells peers id s (Some w) is =
     subst (λ (v : Option SendOutcome). Sees last.noted new.noted s.seen.endpoint s.seen.moment id last.closed v) (is ∙ ap (λ (f : SendOutcome). Some f) same) s.sees in
     record {
       turn = s.turn;
-      turned = subst (λ (k : EndCore). TakesTurn last.clock new.clock tells peers last.core k s.turn) (sym at) s.turned;
+      turned = subst (λ (k : EndCore). TakesHostTurn last.clock new.clock tells peers last.core k s.turn) (sym at) s.turned;
       sees = subst (λ (k : EndCore). Sees last.noted new.noted k.endpoint k.moment id last.closed (Some Done)) (sym at) sees;
       follows = subst (λ (k : EndCore). EntersAcknowledged (held_at k.endpoint id) last.ledger new.ledger) (sym at) goes.1.follows;
       read = ap (λ (i : Intake). i.read) goes.1.is;

@@ -52,11 +52,11 @@ up_to_all core items i least past all = record {
 
 -- a wait behind a step
 pub may_wait : (shows : Bool) (left : Option ℕ) (core core' : EndCore) (asked asked' : Option ℕ) (most : ℕ) → most ≡ longest_wait shows left → core' ≡ core
-    → ((time : ℕ) × IsSleep core.endpoint.links core.moment most time × (asked' ≡ Some time)) → MayWait shows left core' asked asked'
+    → ((time : ℕ) × IsSleep core most time × (asked' ≡ Some time)) → MayWait shows left core' asked asked'
 may_wait shows left core core' asked asked' most e same (time, sleep, at) =
     inr (
       time,
-      subst (λ (k : EndCore). IsSleep k.endpoint.links k.moment (longest_wait shows left) time) (sym same)
-          (subst (λ m. IsSleep core.endpoint.links core.moment m time) e sleep),
+      subst (λ (k : EndCore). IsSleep k (longest_wait shows left) time) (sym same)
+          (subst (λ m. IsSleep core m time) e sleep),
       at,
     )

@@ -5,7 +5,7 @@ use Rattle.spx_link.specs.LinkView.{numbers_of}
 use Rattle.spx_link.specs.SequenceMarks.{distance}
 use Rattle.spx_link.specs.declared.numbers.Numbers.{Numbers}
 use Rattle.spx_messages.specs.EndpointView.{Held}
-use Rattle.ipx_site.specs.Bursts.{counted}
+use Rattle.ipx_carrier.specs.Counting.{counted}
 use Rattle.ipx_transfer.specs.Ledger.{CountsAcknowledged, IsFirstOpen, all_units, base_of, units_in}
 use Rattle.ipx_transfer.specs.declared.ledger.Ledger.{Ledger}
 

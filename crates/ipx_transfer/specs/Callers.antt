@@ -1,15 +1,21 @@
 -- The connections that a listening host holds, as they come, are heard, and go. All of it is own.
-use Rattle.std.specs.Prelude.{◌≡◌, ◌≢◌, ◌≤◌, ◌⊎◌, ◌==◌, ◌&&◌, ◌-◌, ℕ, Bool, true, false, not, IsTrue, List, [], ◌∷◌, ◌++◌, length, map, position, remove, count_by, slice_get, nat_eq, nat_le, Option, Some, None, IfSome, MatchOption, if◌then◌else◌}
+use Rattle.std.specs.Prelude.{◌≡◌, ◌≢◌, ◌≤◌, ◌⊎◌, ◌==◌, ◌&&◌, ◌-◌, ℕ, Bool, true, false, not, IsTrue, List, [], ◌∷◌, ◌++◌, length, map, position, remove, count_by, slice_get, slice_set, nat_eq, nat_le, Option, Some, None, IfSome, MatchOption, if◌then◌else◌}
 use Rattle.std.specs.List.{list_any}
 use Rattle.std.specs.Cmp.Lexicographic.{pointwise}
 use Rattle.std.specs.Coded.{Unit-prop}
 use Rattle.std.proofs.Props.{props}
-use Rattle.spx_link.specs.Offer.{offer_link}
+use Rattle.spx_link.specs.Offer.{offer_link, refusal}
+use Rattle.spx_link.specs.declared.fault.OfferFault.TheVariants as OfferFaults
+use Rattle.spx_units.specs.declared.fault.MessageFault.TheVariants as MessageFaults
+use Rattle.spx_messages.specs.declared.fault.EndFault.{EndFault}
+use Rattle.spx_messages.specs.declared.fault.EndFault.TheVariants as EndFaults
 use Rattle.spx_units.specs.Cut.{cut_of}
 use Rattle.spx_messages.specs.Changes.{ChangesEnd, SameBut, SameSelf}
 use Rattle.spx_messages.specs.EndpointView.{EndpointView, Held, held_at}
-use Rattle.ipx_carrier.specs.OutcomeCounts.{raised}
+use Rattle.ipx_carrier.specs.Counting.{raised}
+use Rattle.ipx_site.specs.Origins.{home_network}
 use Rattle.ipx_wire.specs.declared.address.Address.{Address}
+use Rattle.ipx_wire.specs.declared.address.Network.{Network}
 use Rattle.ipx_transfer.specs.CallerActions.{ends, is_unheard, standing_asked, standing_heard}
 use Rattle.ipx_transfer.specs.declared.callers.Caller.{Caller}
 use Rattle.ipx_transfer.specs.declared.callers.Standing.TheVariants as Standings
@@ -37,9 +43,9 @@ pub record LetsLinkGo (old new : EndpointView) (id : ℕ) : Type 0 where
   pub self : SameSelf old new
   pub heard : new.heard ≡ old.heard
 
--- two addresses are of one node of one network
-abbrev pub is_same_node : Address → Address → Bool
-is_same_node a b = a.network.0 == b.network.0 && pointwise nat_eq a.node.0 b.node.0
+-- two addresses are of one node of one network, for a host of this one
+abbrev pub is_same_node : Network → Address → Address → Bool
+is_same_node own a b = home_network own a == home_network own b && pointwise nat_eq a.node.0 b.node.0
 
 abbrev pub has_spoken : Caller → Bool
 has_spoken c = not (is_unheard c.standing)
@@ -48,20 +54,20 @@ abbrev pub is_ended : Caller → Bool
 is_ended c = ends c.standing
 
 -- a connection was not heard, and is of the node of an address
-abbrev pub is_unheard_of : Address → Caller → Bool
-is_unheard_of from c = is_unheard c.standing && is_same_node c.from from
+abbrev pub is_unheard_of : Network → Address → Caller → Bool
+is_unheard_of own from c = is_unheard c.standing && is_same_node own c.from from
 
--- there is no place for one more from an address: with `once` one was heard; or 16 are held; or 4 of its
--- node were not heard
-abbrev pub HasNoPlaceFor : Bool → Address → List Caller → Type 0
-HasNoPlaceFor once from callers = (IsTrue once × (list_any has_spoken callers ≡ true)) ⊎ (16 ≤ length callers)
-    ⊎ (4 ≤ count_by (is_unheard_of from) callers)
+-- there is no place at a host of a network for one more from an address: with `once` one was heard; or 16
+-- are held; or 4 of its node were not heard
+abbrev pub HasNoPlaceFor : Bool → Network → Address → List Caller → Type 0
+HasNoPlaceFor once own from callers = (IsTrue once × (list_any has_spoken callers ≡ true))
+    ⊎ (16 ≤ length callers) ⊎ (4 ≤ count_by (is_unheard_of own from) callers)
 
 -- a connection comes: where there is a place it is the last one then, and else its link is let go
 abbrev pub Admits : Bool → Caller → EndpointView → EndpointView → List Caller → List Caller → Type 0
 Admits once c old new callers callers' =
-    ((HasNoPlaceFor once c.from callers → ⊥) × (callers' ≡ callers ++ c ∷ []) × (new ≡ old))
-    ⊎ (HasNoPlaceFor once c.from callers × (callers' ≡ callers) × LetsLinkGo old new c.id)
+    ((HasNoPlaceFor once old.network c.from callers → ⊥) × (callers' ≡ callers ++ c ∷ []) × (new ≡ old))
+    ⊎ (HasNoPlaceFor once old.network c.from callers × (callers' ≡ callers) × LetsLinkGo old new c.id)
 
 -- the links of connections are forgotten, one after another
 abbrev pub LetsLinksGo : List Caller → EndpointView → EndpointView → Type 0
@@ -106,14 +112,37 @@ NotesHeard once old new callers callers' =
     (new ≡ record old { endpoint = new.endpoint; came = None })
     × DoesNoted once old.came old.moment old.endpoint new.endpoint callers callers'
 
--- a connection is asked whether it is there: a message of no bytes is queued on its link; or that is
--- refused, and its silence counts anew
+-- a connection is asked whether it is there: a message of no bytes is queued on its link
+abbrev pub QueuesNothing : EndpointView → EndpointView → Caller → Caller → Type 0
+QueuesNothing old new c c' =
+    (h : Held) × (held_at old c.id ≡ Some h) × ChangesEnd old new c.id
+    (record h { link = offer_link h.link (cut_of (record { stream = 0; body = [] })) })
+    × (c' ≡ record c { standing = standing_asked c.standing })
+
+-- so it is, or that is refused, and its silence counts anew
 abbrev pub Asks : ℕ → EndpointView → EndpointView → Caller → Caller → Type 0
 Asks now old new c c' =
-    ((h : Held) × (held_at old c.id ≡ Some h) × ChangesEnd old new c.id
-    (record h { link = offer_link h.link (cut_of (record { stream = 0; body = [] })) })
-    × (c' ≡ record c { standing = standing_asked c.standing }))
-    ⊎ (SameBut old new × (c' ≡ record c { heard = now }))
+    QueuesNothing old new c c' ⊎ (SameBut old new × (c' ≡ record c { heard = now }))
+
+-- the link of an id is open, so it takes messages
+abbrev pub TakesMessages : EndpointView → ℕ → Type 0
+TakesMessages e id = (h : Held) × (held_at e id ≡ Some h) × (refusal h.link.state ≡ None)
+
+-- it is asked where its link takes messages, and memory was not refused
+abbrev pub IsAskedUnless : Bool → EndpointView → EndpointView → Caller → Caller → Type 0
+IsAskedUnless refused old new c c' =
+    TakesMessages old c.id → refused ≡ false → QueuesNothing old new c c'
+
+-- so it is with the connection at a place; and where memory was refused, that is counted
+abbrev pub AsksOrCounts : EndpointView → EndpointView → Caller → ℕ → List Caller → List Caller → ℕ → ℕ → Type 0
+AsksOrCounts old new c place callers callers' count count' = (refused : Bool) × (c' : Caller)
+    × (callers' ≡ slice_set callers place c') × IsAskedUnless refused old new c c'
+    × (count' ≡ raised_if refused count)
+
+-- a message was refused for want of memory
+abbrev pub IsWantOfMemory : EndFault → Type 0
+IsWantOfMemory f = (f ≡ EndFaults.Message MessageFaults.OutOfMemory)
+    ⊎ (f ≡ EndFaults.Offer OfferFaults.OutOfMemory)
 
 -- with `once` a connection that was heard is the only one, and where its end was taken nothing is left to
 -- write

@@ -2,7 +2,7 @@
 use Rattle.std.specs.Prelude.{ℕ, List, [], ◌∷◌, ◌++◌, ◌==◌, ◌||◌, Option, Some, None, if◌then◌else◌}
 use Rattle.ipx_carrier.specs.Device.{Access}
 use Rattle.ipx_carrier.specs.Mapping.{ip_at}
-use Rattle.ipx_site.specs.SitePorts.{Guarded, heard_at_port}
+use Rattle.ipx_site.specs.SitePorts.{heard_at_port}
 use Rattle.ipx_site.specs.declared.host.HostFile.{HostFile}
 use Rattle.ipx_wire.specs.declared.address.Address.{Address}
 
@@ -22,12 +22,10 @@ known_ips file dials = with_dialed (file.peers.items ++ file.router ∷ []) dial
 
 -- a host hears those, and sends to them; or hears everybody, and sends to everybody. Its router and the
 -- routers of its file alone pass packets on to it
-abbrev pub host_access : HostFile → Option (List ℕ) → Access
-host_access file dials = record {
+abbrev pub guarded_host : HostFile → Option (List ℕ) → Access
+guarded_host file dials = record {
+  network = file.network;
   sends = heard_at_port file.accept (known_ips file dials);
   hears = heard_at_port file.accept (known_ips file dials);
   routers = Some (file.routers.items ++ file.router ∷ []);
 }
-
-abbrev pub guarded_host : HostFile → Option (List ℕ) → Guarded
-guarded_host file dials = record { network = file.network; access = host_access file dials }

@@ -13,7 +13,7 @@ use Rattle.ipx_transfer.specs.Callers.{NotesHeard}
 use Rattle.ipx_transfer.specs.Outlet.{Writes}
 use Rattle.ipx_transfer.specs.Passing.{PassesEach, given_each}
 use Rattle.ipx_transfer.specs.Tending.{Tidies}
-use Rattle.ipx_transfer.specs.Turning.{TakesTurn}
+use Rattle.ipx_transfer.specs.Turning.{TakesHostTurn}
 use Rattle.ipx_transfer.specs.declared.callers.Caller.{Caller}
 use Rattle.ipx_transfer.specs.declared.end_core.EndCore.{EndCore}
 use Rattle.ipx_transfer.specs.declared.listening.ListenOutcome.{ListenOutcome}
@@ -43,7 +43,7 @@ pub record HearsAndNotesAll {K : Type 0} (clock clock' : K) (old new : EndCore) 
     (once : Bool) (tells : K → ℕ → K → Type 0) (peers : Peers) : Type 0 where
   pub seen : EndCore
   pub turn : Activity
-  pub turned : TakesTurn clock clock' tells peers old seen turn
+  pub turned : TakesHostTurn clock clock' tells peers old seen turn
   pub noted : NotesIf turn.heard once seen new callers callers'
 
 -- what waits is written, and then each connection passes what it holds: these bytes in all
@@ -116,8 +116,8 @@ ServesWell {K} old once writes tells peers bytes = (new : Host K)
     × Serves old new once Ended tells peers bytes × (new.left ≡ []) × (new.written ≡ writes)
     × Appends old.written writes (old.left ++ bytes)
 
--- a host as its file says it, which listens at the socket of that, and nowhere else. It has no
--- connection yet, and nothing to write
+-- a host as its file says it, which listens at the socket of that, and nowhere else, and paces no
+-- connection. It has none yet, and nothing to write
 pub record BeginsListening {K : Type 0} (file : HostFile) (start : Host K) (peers : Peers)
     (written : Option (List ℕ)) : Type 0 where
   pub network : start.core.endpoint.network ≡ file.network
@@ -128,6 +128,7 @@ pub record BeginsListening {K : Type 0} (file : HostFile) (start : Host K) (peer
   pub alone : (s : Socket) → s.0 ≢ file.socket.0 → buffers_at start.core.endpoint s ≡ None
   pub unlinked : (id : ℕ) → held_at start.core.endpoint id ≡ None
   pub unasked : start.core.came ≡ None
+  pub unpaced : start.core.paced ≡ None
   pub from : named_in start.core.from ≡ named_in file.from
   pub own : start.core.network ≡ file.network
   pub nobody : start.callers ≡ []

@@ -5,7 +5,7 @@ use Rattle.std.specs.List.{sum_by}
 use Rattle.ipx_wire.specs.Assigned.{spx_max_data_size}
 use Rattle.spx_link.specs.SequenceMarks.{distance}
 use Rattle.spx_link.specs.declared.numbers.Numbers.{Numbers}
-use Rattle.ipx_site.specs.Bursts.{counted}
+use Rattle.ipx_carrier.specs.Counting.{counted}
 
 -- how many units a message of so many bytes is cut into: one where it has none
 abbrev pub units_in : ℕ → ℕ

@@ -8,6 +8,7 @@ pub mod Hosting
 pub mod Ledger
 pub mod Noting
 pub mod Outlet
+pub mod Paced
 pub mod Passing
 pub mod SendRounds
 pub mod Saying
@@ -20,3 +21,4 @@ pub mod Tending
 pub mod Transfer
 pub mod Turning
 pub mod Company
+pub mod Midway

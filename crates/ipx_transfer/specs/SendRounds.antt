@@ -11,7 +11,7 @@ use Rattle.ipx_transfer.specs.Books.{EntersAcknowledged}
 use Rattle.ipx_transfer.specs.Feeding.{Intake, intake}
 use Rattle.ipx_transfer.specs.SendSteps.{FeedsOn, GoesOnOrEnds, IsStepFault, SeenSoFar, Sees}
 use Rattle.ipx_transfer.specs.Transfer.{IsWholeAt}
-use Rattle.ipx_transfer.specs.Turning.{TakesTurn}
+use Rattle.ipx_transfer.specs.Turning.{TakesHostTurn}
 use Rattle.ipx_transfer.specs.declared.end_core.EndCore.{EndCore}
 use Rattle.ipx_transfer.specs.declared.ledger.Ledger.{Ledger}
 use Rattle.ipx_transfer.specs.declared.running_host.Activity.{Activity}
@@ -49,7 +49,7 @@ pub record IsSendStep {K T : Type 0} (faults : Option State → SendOutcome → 
     (answer : Result T SendOutcome) (tells : K → ℕ → K → Type 0) (peers : Peers) (id : ℕ) : Type 0 where
   pub seen : EndCore
   pub turn : Activity
-  pub turned : TakesTurn old.clock new.clock tells peers old.core seen turn
+  pub turned : TakesHostTurn old.clock new.clock tells peers old.core seen turn
   pub verdict : Option SendOutcome
   pub sees : Sees old.noted new.noted seen.endpoint seen.moment id old.closed verdict
   pub goes : GoesOnOrEnds faults id seen.endpoint (intake_of old) (intake_of new) verdict answer
@@ -60,7 +60,7 @@ pub record Round {K : Type 0} (old new : SendState K) (bytes : List ℕ) (tells 
     (peers : Peers) (id : ℕ) : Type 0 where
   pub seen : EndCore
   pub turn : Activity
-  pub turned : TakesTurn old.clock new.clock tells peers old.core seen turn
+  pub turned : TakesHostTurn old.clock new.clock tells peers old.core seen turn
   pub sees : Sees old.noted new.noted seen.endpoint seen.moment id old.closed None
   pub fed : FeedsOn id seen.endpoint (intake_of old) (intake_of new) bytes
   pub core : new.core ≡ record seen { endpoint = new.core.endpoint }
@@ -69,7 +69,7 @@ pub record Round {K : Type 0} (old new : SendState K) (bytes : List ℕ) (tells 
 pub record LastRound {K : Type 0} (old new : SendState K) (tells : K → ℕ → K → Type 0) (peers : Peers)
     (id : ℕ) : Type 0 where
   pub turn : Activity
-  pub turned : TakesTurn old.clock new.clock tells peers old.core new.core turn
+  pub turned : TakesHostTurn old.clock new.clock tells peers old.core new.core turn
   pub sees : Sees old.noted new.noted new.core.endpoint new.core.moment id old.closed (Some Done)
   pub follows : EntersAcknowledged (held_at new.core.endpoint id) old.ledger new.ledger
   pub read : new.read ≡ old.read

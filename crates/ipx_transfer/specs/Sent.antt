@@ -8,13 +8,14 @@ use Rattle.ipx_wire.specs.declared.address.Address.{Address}
 use Rattle.ipx_wire.specs.declared.address.Socket.{Socket}
 use Rattle.spx_link.specs.Offer.{dialed}
 use Rattle.spx_messages.specs.EndpointView.{buffers_at, held_at}
+use Rattle.spx_pace.specs.Pacing.{made_pacer}
 use Rattle.ipx_transfer.specs.Books.{IsUnused}
 use Rattle.ipx_transfer.specs.SendRounds.{SendState, Transfers}
 use Rattle.ipx_transfer.specs.SendSteps.{noted}
 use Rattle.ipx_transfer.specs.Transfer.{IsWholeAt}
 
 -- a host as its file says it, which listens nowhere, and whose one link asks for a connection to an
--- address. Nothing was seen of it, and nothing is read or counted
+-- address, and is paced. Nothing was seen of it, and nothing is read or counted
 pub record IsDialing {K : Type 0} (file : HostFile) (to : Address) (p : SendState K) (peers : Peers)
     (id : ℕ) : Type 0 where
   pub network : p.core.endpoint.network ≡ file.network
@@ -25,6 +26,7 @@ pub record IsDialing {K : Type 0} (file : HostFile) (to : Address) (p : SendStat
       ≡ Some (record { link = dialed id file.socket to file.buffers 0; rest = None })
   pub alone : (q : ℕ) → q ≢ id → held_at p.core.endpoint q ≡ None
   pub deaf : (s : Socket) → buffers_at p.core.endpoint s ≡ None
+  pub paced : p.core.paced ≡ Some (record { id = id; pacer = made_pacer })
   pub unseen : p.noted ≡ noted false None
   pub unread : p.read ≡ false
   pub unended : p.closed ≡ false

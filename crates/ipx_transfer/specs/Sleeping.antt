@@ -5,20 +5,29 @@ use Rattle.spx_link.specs.Due.{IsQuiet}
 use Rattle.spx_link.specs.LinkView.{LinkView}
 use Rattle.spx_link.specs.Links.{LinksView, link_at}
 use Rattle.ipx_transfer.specs.CallerActions.{IsCallerAction}
+use Rattle.ipx_transfer.specs.Paced.{HoldsBack, IsAwake}
 use Rattle.ipx_transfer.specs.Transfer.{state_at}
 use Rattle.ipx_transfer.specs.declared.callers.Caller.{Caller}
 use Rattle.ipx_transfer.specs.declared.callers.CallerAction.TheVariants.{Stays}
 use Rattle.ipx_transfer.specs.declared.end_core.EndCore.{EndCore}
 
--- so long from now no poll of any link sends anything or gives a link up, at any moment that a clock can
--- show. That is at most as long as was asked for; and where it is less, the polls of some link do so from
--- then on
-pub record IsSleep (links : LinksView) (now most time : ℕ) : Type 0 where
+-- the polls of some link send something or give it up from a moment on
+abbrev pub IsDueFrom : LinksView → ℕ → Type 0
+IsDueFrom links moment = (id : ℕ) × (l : LinkView) × (link_at links id ≡ Some l)
+    × ((t : ℕ) → moment ≤ t → IsQuiet l t → ⊥)
+
+-- so long from now no poll of any link, as it is, sends anything or gives a link up, at any moment that a
+-- clock can show. That is at most as long as was asked for; and where it is less, the polls of some link
+-- do so from then on, or a connection is paced that waits for something, which a minute does at most. What
+-- its pacer holds back waits a millisecond
+pub record IsSleep (core : EndCore) (most time : ℕ) : Type 0 where
   pub few : time ≤ most
-  pub quiet : (id t : ℕ) (l : LinkView) → link_at links id ≡ Some l
-      → now ≤ t → t < now + time → t < 2 ^ 64 → IsQuiet l t
-  pub due : time < most → (id : ℕ) × (l : LinkView) × (link_at links id ≡ Some l)
-      × ((t : ℕ) → now + time ≤ t → IsQuiet l t → ⊥)
+  pub quiet : (id t : ℕ) (l : LinkView) → link_at core.endpoint.links id ≡ Some l
+      → core.moment ≤ t → t < core.moment + time → t < 2 ^ 64 → IsQuiet l t
+  pub due : time < most
+      → IsDueFrom core.endpoint.links (core.moment + time) ⊎ IsAwake core.paced
+  pub soon : HoldsBack core.paced → time ≤ 1
+  pub awake : IsAwake core.paced → time ≤ 60000
 
 -- at a moment nothing is to be done with a connection of which nothing came, and whose link is as it is
 abbrev pub JustStaysAt : EndCore → ℕ → Caller → Type 0
@@ -48,7 +57,7 @@ longest_wait shows left = if shows then 1000 else (if is_some left then 1000 els
 -- behind a step a host that sends waits so, or not at all. What it waited last before is told too
 abbrev pub MayWait : Bool → Option ℕ → EndCore → Option ℕ → Option ℕ → Type 0
 MayWait shows left core asked asked' = (asked' ≡ asked)
-    ⊎ ((time : ℕ) × IsSleep core.endpoint.links core.moment (longest_wait shows left) time
+    ⊎ ((time : ℕ) × IsSleep core (longest_wait shows left) time
     × (asked' ≡ Some time))
 
 -- behind a step a host that listens waits so, or not at all: as long as each connection just stays and no
@@ -56,4 +65,4 @@ MayWait shows left core asked asked' = (asked' ≡ asked)
 abbrev pub MayRest : EndCore → List Caller → Option ℕ → Option ℕ → Type 0
 MayRest core callers asked asked' = (asked' ≡ asked)
     ⊎ ((rest time : ℕ) × AllStayFor core callers rest
-    × IsSleep core.endpoint.links core.moment rest time × (asked' ≡ Some time))
+    × IsSleep core rest time × (asked' ≡ Some time))

@@ -1,27 +1,19 @@
 -- The words that name an address. All of it is own.
-use Rattle.std.specs.Prelude.{◌≡◌, ℕ, List, Ok}
-use Rattle.hex.specs.Hex.{decode_sized}
-use Rattle.byteorder.specs.Endian.{big_number}
+use Rattle.std.specs.Prelude.{◌≡◌, Some, None}
+use Rattle.ipx_wire.specs.AddressText.{spelled_network, spelled_node, spelled_socket}
 use Rattle.ipx_wire.specs.declared.address.Address.{Address}
 use Rattle.ipx_transfer.specs.declared.target.Target.{Target}
 use Rattle.ipx_transfer.specs.declared.target.TargetFault.{TargetFault}
 use Rattle.ipx_transfer.specs.declared.target.TargetFault.TheVariants.{Network, Node, Socket}
 
--- a word is so many bytes, two hex digits each
-abbrev pub SpellsBytes : List ℕ → ℕ → List ℕ → Type 0
-SpellsBytes word count bytes = decode_sized word count ≡ Ok bytes
-
-abbrev pub SpellsNothing : List ℕ → ℕ → Type 0
-SpellsNothing word count = (bytes : List ℕ) → SpellsBytes word count bytes → ⊥
-
--- three words name an address, the first byte of a number first
+-- three words name an address, in eight, twelve and four hex digits
 pub record NamesAddress (t : Target) (a : Address) : Type 0 where
-  pub network : (bytes : List ℕ) × SpellsBytes t.network.now 4 bytes × (big_number 4 bytes ≡ a.network.0)
-  pub node : SpellsBytes t.node.now 6 a.node.0
-  pub socket : (bytes : List ℕ) × SpellsBytes t.socket.now 2 bytes × (big_number 2 bytes ≡ a.socket.0)
+  pub network : spelled_network t.network.now ≡ Some a.network
+  pub node : spelled_node t.node.now ≡ Some a.node
+  pub socket : spelled_socket t.socket.now ≡ Some a.socket
 
 -- the word that names nothing
 abbrev pub IsTargetFault : Target → TargetFault → Type 0
-IsTargetFault t Network = SpellsNothing t.network.now 4
-IsTargetFault t Node = SpellsNothing t.node.now 6
-IsTargetFault t Socket = SpellsNothing t.socket.now 2
+IsTargetFault t Network = spelled_network t.network.now ≡ None
+IsTargetFault t Node = spelled_node t.node.now ≡ None
+IsTargetFault t Socket = spelled_socket t.socket.now ≡ None

@@ -1,22 +1,23 @@
 -- What one turn of a host that runs does to its core and its clock. All of it is own.
-use Rattle.std.specs.Prelude.{◌≡◌, ◌<◌, ◌↔◌, ◌⊎◌, ℕ, IsTrue, false, true, List, Option, None}
+use Rattle.std.specs.Prelude.{◌≡◌, ◌<◌, ◌↔◌, ◌⊎◌, ℕ, IsTrue, false, true, List, Option, None, Ok, Err}
 use Rattle.ipx_carrier.specs.declared.fault.RunFault.TheVariants.{OutOfMemory}
 use Rattle.ipx_carrier.specs.declared.report.Report.{Report}
-use Rattle.ipx_carrier.specs.HostCore.{HostGives, Misses}
-use Rattle.ipx_carrier.specs.Runs.{EndsEarly, Runs}
+use Rattle.ipx_carrier.specs.Driving.{TakesTurn}
+use Rattle.ipx_carrier.specs.HostCore.{Misses}
 use Rattle.ipx_carrier.specs.Turns.{Given, Peers}
 use Rattle.ipx_transfer.specs.Barring.{HearsAllowed}
+use Rattle.ipx_transfer.specs.Paced.{GivesAsPlanned}
 use Rattle.ipx_transfer.specs.declared.end_core.EndCore.{EndCore}
 use Rattle.ipx_transfer.specs.declared.running_host.Activity.{Activity}
 
--- a core of one port hears all but requests of those who may not ask, gives and misses as its endpoint
--- does, and withholds nothing. It notes what the datagram was that it heard last, and the moment
+-- a core of one port hears all but requests of those who may not ask, gives as its pacer and its
+-- endpoint do, misses as its endpoint does, and withholds nothing. It notes what the datagram was that
+-- it heard last, and the moment
 abbrev pub hears : EndCore → ℕ → List ℕ → ℕ → EndCore → Type 0
 hears old port bytes now new = HearsAllowed old bytes now new
 
 abbrev pub gives : EndCore → ℕ → Option Given → EndCore → Type 0
-gives old now given new = HostGives old.endpoint now given new.endpoint
-    × (new ≡ record old { endpoint = new.endpoint; moment = now })
+gives old now given new = GivesAsPlanned old now given new
 
 abbrev pub misses : EndCore → ℕ → List ℕ → ℕ → EndCore → Type 0
 misses old port bytes now new = Misses old.endpoint bytes new.endpoint
@@ -32,11 +33,11 @@ pub record TellsOf (report : Report) (turn : Activity) : Type 0 where
   pub active : IsTrue turn.active
       ↔ ((0 < report.heard) ⊎ ((0 < report.sent) ⊎ ((0 < report.unmapped) ⊎ IsTrue turn.kept)))
 
--- one turn over sockets, as `run` takes it; or a part of one, since memory was refused: then nothing
--- was heard
-abbrev pub TakesTurn : {K : Type 0} → K → K → (K → ℕ → K → Type 0) → Peers → EndCore → EndCore → Activity → Type 0
-TakesTurn {K} clock clock_after tells peers old new turn =
-    ((report : Report) × Runs hears gives tells 1 peers 1 None None clock clock_after old new report
+-- one turn over sockets, whose traffic is not told, and what is told of it; or a part of one, since memory
+-- was refused: then nothing was heard
+abbrev pub TakesHostTurn : {K : Type 0} → K → K → (K → ℕ → K → Type 0) → Peers → EndCore → EndCore → Activity → Type 0
+TakesHostTurn {K} clock clock_after tells peers old new turn =
+    ((report : Report) × TakesTurn hears misses gives withholds tells 1 peers None None clock clock_after old new (Ok report)
     × TellsOf report turn)
-    ⊎ (EndsEarly hears misses gives withholds tells 1 peers 1 None None clock clock_after OutOfMemory old new
+    ⊎ (TakesTurn hears misses gives withholds tells 1 peers None None clock clock_after old new (Err OutOfMemory)
     × (turn.heard ≡ false) × (turn.active ≡ true))

@@ -5,12 +5,13 @@ ghost use Rattle.spx_link.specs.declared.state.State.TheVariants as States;
 ghost use Rattle.ipx_transfer.specs.CallerActions.{IsCallerAction, IsOver, IsToAsk, is_unheard, standing_asked, standing_heard};
 ghost use Rattle.ipx_transfer.specs.Callers.{heard_by, has_spoken, is_overdue, is_unheard_of};
 ghost use Rattle.ipx_transfer.specs.declared.callers.CallerAction.TheVariants as Fates;
+ghost use Rattle.ipx_site.specs.Origins.{home_network};
 
-use ipx_wire::Address;
+use ipx_wire::{Address, Network};
 use spx_link::State;
 
 /// How long a connection is kept once its end came, counted from the last datagram of it, in
-/// milliseconds: a peer that lost the confirmation asks again each half second.
+/// milliseconds: a peer that lost the confirmation asks again each second at least.
 pub const LINGER: u64 = 3000;
 
 /// How long an open connection is silent before it is asked whether it is still there, in
@@ -56,6 +57,17 @@ impl Standing {
     }
 }
 
+/// The network that an address is on, for a host of a network: 0 is its own.
+fn home_of(own: Network, address: &Address) -> Network
+    ensures { result.0 ≡ home_network own address.now }
+{
+    if address.network == Network::LOCAL {
+        own
+    } else {
+        address.network
+    }
+}
+
 /// A connection that was accepted.
 #[derive(Clone, Copy, Debug)]
 pub struct Caller {
@@ -94,12 +106,13 @@ impl Caller {
         self.standing.is_unheard() && now.saturating_sub(self.heard) >= CALL
     }
 
-    /// Whether nothing was heard of it, and it is of the node of an address.
-    pub fn is_unheard_of(&self, from: &Address) -> bool
-        ensures { result ≡ is_unheard_of from.now self.now }
+    /// Whether nothing was heard of it, and it is of the node of an address, as a host of a network
+    /// sees it.
+    pub fn is_unheard_of(&self, own: Network, from: &Address) -> bool
+        ensures { result ≡ is_unheard_of own from.now self.now }
     {
-        let same = self.from.network == from.network && self.from.node == from.node;
-        self.standing.is_unheard() && same
+        let here = home_of(own, &self.from) == home_of(own, from);
+        self.standing.is_unheard() && here && self.from.node == from.node
     }
 
     /// It is heard at a moment, if it is the one that was heard.

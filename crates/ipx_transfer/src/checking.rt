@@ -1,6 +1,6 @@
 //! What a host says of its file, without a socket: `ipx listen --check`.
 
-ghost use Rattle.std.specs.Prelude.{◌≡◌, ◌≤◌, ℕ, List, IfErr, IfOk, OnOk, string_bytes};
+ghost use Rattle.std.specs.Prelude.{◌≡◌, ◌≤◌, ℕ, List, IfOk, string_bytes};
 ghost use Rattle.std.specs.Io.KnownBytes.{Appends};
 ghost use Rattle.ipx_site.specs.Host.{IsHostText};
 ghost use Rattle.ipx_site.specs.Loading.{IsFileText};
@@ -22,7 +22,8 @@ fn own_place_to_text(alloc: Global, file: &HostFile) -> Result<String, AllocErro
     format!(in alloc; "socket {socket} network {network} node {node}")
 }
 
-/// Where a host listens: `socket .. network .. node .. udp ..`, and ` accept any` where it hears everybody.
+/// Where a host listens: `socket .. network .. node .. udp ..`, and ` accept any` where it hears
+/// everybody.
 pub fn listener_to_text(alloc: Global, file: &HostFile) -> Result<String, AllocError>
     ensures { IfOk result (λ t. string_bytes t ≡ listener_text file.now) }
 {
@@ -61,31 +62,12 @@ fn host_to_lines(alloc: Global, path: &str, file: &HostFile) -> Result<String, A
     format!(in alloc; "{listener}\n{remark}{line}")
 }
 
-/// Says what a file that was loaded has, or answers the status where it wasn't.
-fn check_loaded<R: Eprint, W: Write>(
-    rt: &R,
-    alloc: Global,
-    path: &str,
-    loaded: Result<HostFile, u8>,
-    writer: &mut W,
-) -> u8
-    ensures unread { IfErr loaded (λ status. (result ≡ status) × (writer.new ≡ writer.old)) }
-    ensures few { OnOk loaded (result ≤ 1) }
-    ensures lines { IfOk loaded (λ file. result ≡ 0 →
-        Appends (W.contents writer.old) (W.contents writer.new) (host_lines path.now file)) }
-{
-    match loaded {
-        Ok(file) => write_checked(rt, path, host_to_lines(alloc, path, &file), writer),
-        Err(status) => status,
-    }
-}
-
 /// The command `listen --check`: reads the file of a host, and writes the line that it has as it
 /// starts to listen, what is to be remarked, and a line of the file. It opens no socket: no `Net`
 /// comes in.
 ///
-/// The answer is the status: 0 where that is written; 1 where memory is refused or the writer fails;
-/// 2 for a fault of the file, which is told as `listen` does, and nothing is written.
+/// The answer is the status: 0 where that is written; 1 where memory is refused or the writer
+/// fails; 2 for a fault of the file, which is told as `listen` does, and nothing is written.
 pub fn check_host<R: Files + Eprint, W: Write>(
     rt: &R,
     alloc: Global,
@@ -99,6 +81,8 @@ pub fn check_host<R: Files + Eprint, W: Write>(
         × Appends (W.contents writer.old) (W.contents writer.new) (host_lines path.now file) }
     ensures untouched { result ≡ 2 → writer.new ≡ writer.old }
 {
-    let loaded = load_host(rt, alloc, path);
-    check_loaded(rt, alloc, path, loaded, writer)
+    match load_host(rt, alloc, path) {
+        Ok(file) => write_checked(rt, path, host_to_lines(alloc, path, &file), writer),
+        Err(status) => status,
+    }
 }

@@ -1,7 +1,7 @@
 //! Whom a host hears and sends to.
 
 ghost use Rattle.std.specs.Prelude.{◌≡◌, ◌∷◌, ◌++◌, [], IfOk};
-ghost use Rattle.ipx_site.specs.SitePorts.{guarding, heard_at_port, named};
+ghost use Rattle.ipx_site.specs.SitePorts.{access_by, heard_at_port, named};
 ghost use Rattle.ipx_transfer.specs.Company.{dialed_ip, guarded_host, known_ips};
 
 use crate::start::StartFault;
@@ -61,7 +61,7 @@ fn heard_ips(
 
 /// The guard of a host that dials this IP address.
 pub fn guard_of(alloc: Global, file: &HostFile, dials: Option<[u8; 4]>) -> Result<Guard, StartFault>
-    ensures { IfOk result (λ g. guarding g ≡ guarded_host file.now dials) }
+    ensures { IfOk result (λ g. access_by g ≡ guarded_host file.now dials) }
 {
     let sends = heard_ips(alloc, file, dials)?;
     let hears = heard_ips(alloc, file, dials)?;

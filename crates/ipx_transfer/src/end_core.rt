@@ -1,16 +1,19 @@
 //! The core of a host that one runs.
 
-ghost use Rattle.std.specs.Prelude.{◌≡◌, ◌↔◌, ℕ, IfOk, IfSome, IsTrue, Some};
+ghost use Rattle.std.specs.Prelude.{◌≡◌, ◌↔◌, ◌-◌, ℕ, IfOk, IfSome, IsNone, IsTrue, None, OnErr, OnOk, Some, min};
 ghost use Rattle.ipx_wire.specs.Ipx.{BeginsWith, PacketView};
 ghost use Rattle.spx_messages.specs.Arrives.{Arrives};
 ghost use Rattle.spx_messages.specs.EndpointView.{EndpointView};
 ghost use Rattle.spx_messages.specs.declared.arrived.Arrived.TheVariants as Arriveds;
+ghost use Rattle.spx_pace.specs.Pacing.{made_pacer};
 ghost use Rattle.ipx_site.specs.Origins.{may_ask as may_be_asked_by, named_in};
 ghost use Rattle.ipx_transfer.specs.Barring.{IsBarred};
 ghost use Rattle.ipx_transfer.specs.Noting.{Notes};
+ghost use Rattle.ipx_transfer.specs.Sleeping.{IsSleep};
 
 use crate::asking::{asker_of, is_among};
-use ipx_carrier::Core;
+use crate::pacing::{Paced, due_of, note_datagram, note_poll, numbers_of, plan};
+use ipx_carrier::{Core, raise};
 use ipx_site::Origin;
 use ipx_wire::{Address, Network, Node, OutOfMemory, decode};
 use spx_messages::{Arrived, Endpoint};
@@ -35,7 +38,8 @@ pub enum Came {
 }
 
 /// A host of one port, as `HostCore` of the carrier is, that says who may ask it for a connection.
-/// It keeps what came last, and the moment at which it was called last.
+/// It keeps what came last, and the moment at which it was called last. The connection that it paces
+/// goes by hand, as its pacer plans.
 #[derive(Drop)]
 pub struct EndCore {
     pub endpoint: Endpoint,
@@ -44,9 +48,22 @@ pub struct EndCore {
     /// Who may ask it. None stands for everybody.
     from: Option<Vec<Origin>>,
     came: Option<Came>,
+    /// The connection that is paced, if one is.
+    paced: Option<Paced>,
     /// The requests of those who may not ask.
     barred: u64,
     moment: u64,
+}
+
+/// How long it is till a moment, and no longer than `most`, in milliseconds.
+fn till(now: u64, due: Option<u64>, most: u64) -> u64
+    ensures none { IsNone due → result ≡ most }
+    ensures some { IfSome due (λ due. result ≡ min most (due - now)) }
+{
+    match due {
+        Some(due) => due.saturating_sub(now).min(most),
+        None => most,
+    }
 }
 
 /// A copy of who may ask.
@@ -90,15 +107,37 @@ impl EndCore {
         ensures network { result.network ≡ network }
         ensures from { result.from ≡ from }
         ensures nobody { result.came ≡ None }
+        ensures unpaced { result.paced ≡ None }
     {
         EndCore {
             endpoint,
             network,
             from,
             came: None,
+            paced: None,
             barred: 0,
             moment: 0,
         }
+    }
+
+    /// The connection of this id is paced from now on. It is refused only for want of memory.
+    pub fn pace(&mut self, alloc: Global, id: u16) -> Result<(), OutOfMemory>
+        ensures paced { OnOk result (self.new ≡ record self.old {
+          paced = Some (record { id = id; pacer = made_pacer });
+        }) }
+        ensures unchanged { OnErr result (self.new ≡ self.old) }
+    {
+        self.paced = Some(Paced::new(alloc, id)?);
+        Ok(())
+    }
+
+    /// How long there is nothing to do by itself, and no longer than `most`, in milliseconds: no link
+    /// has anything to send, and no pacer to plan.
+    pub fn sleep(&self, most: u64) -> u64
+        ensures { IsSleep self.now most result }
+    {
+        let links = till(self.moment, self.endpoint.next_due(), most);
+        links.min(till(self.moment, due_of(&self.paced, self.moment), most))
     }
 
     /// The moment of the last turn, in milliseconds.
@@ -160,15 +199,15 @@ impl EndCore {
 
 impl Core for EndCore {
     ghost use Rattle.std.specs.Prelude.{◌≡◌};
-    ghost use Rattle.ipx_carrier.specs.HostCore.{HostGives, Misses};
+    ghost use Rattle.ipx_carrier.specs.HostCore.{Misses};
     ghost use Rattle.ipx_transfer.specs.Barring.{HearsAllowed};
+    ghost use Rattle.ipx_transfer.specs.Paced.{GivesAsPlanned};
 
     ghost port_count = { λ c. 1 };
 
     ghost hears = { λ old port bytes now new. HearsAllowed old bytes now new };
 
-    ghost gives = { λ old now given new. HostGives old.endpoint now given new.endpoint
-        × (new ≡ record old { endpoint = new.endpoint; moment = now }) };
+    ghost gives = { λ old now given new. GivesAsPlanned old now given new };
 
     ghost misses = { λ old port bytes now new. Misses old.endpoint bytes new.endpoint
         × (new ≡ record old { endpoint = new.endpoint; moment = now }) };
@@ -189,10 +228,12 @@ impl Core for EndCore {
         self.moment = now;
         if self.bars(bytes) {
             self.came = None;
-            self.barred = self.barred.saturating_add(1);
+            raise(&mut self.barred);
             return Ok(());
         }
+        let before = numbers_of(&self.paced, &self.endpoint);
         let arrived = self.endpoint.receive(alloc, bytes, now)?;
+        note_datagram(&mut self.paced, &self.endpoint, arrived, before, now);
         self.came = self.came_of(arrived, bytes);
         Ok(())
     }
@@ -204,7 +245,10 @@ impl Core for EndCore {
         room: &mut [u8],
     ) -> Result<Option<(usize, Node, usize)>, OutOfMemory> {
         self.moment = now;
-        let Some((node, count)) = self.endpoint.poll(now, room) else {
+        plan(&mut self.paced, &mut self.endpoint, now);
+        let polled = self.endpoint.poll(now, room);
+        note_poll(&mut self.paced, &self.endpoint, room, now);
+        let Some((node, count)) = polled else {
             return Ok(None);
         };
         Ok(Some((0, node, count)))

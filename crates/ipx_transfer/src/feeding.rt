@@ -19,7 +19,7 @@ use std::net::Net;
 use std::rt::Clock;
 
 /// The most units that are handed in and not acknowledged before no more is read.
-const MOST_AHEAD: u64 = 2048;
+const MOST_AHEAD: u64 = 16_384;
 
 impl<'a, R: Net + Log + Clock + Eprint> SendingHost<'a, R> {
     /// Does what is to be done with what one read gave: bytes are handed in as one message, and
@@ -29,7 +29,7 @@ impl<'a, R: Net + Log + Clock + Eprint> SendingHost<'a, R> {
         ensures core { self.new.station.core
             ≡ record self.old.station.core { endpoint = self.new.station.core.endpoint } }
         ensures clock { self.new.station.clock ≡ self.old.station.clock }
-        ensures peers { self.new.station.wire.peers ≡ self.old.station.wire.peers }
+        ensures wire { self.new.station.wire ≡ self.old.station.wire }
         ensures readiness { self.new.station.readiness ≡ self.old.station.readiness }
         ensures id { self.new.id ≡ self.old.id }
         ensures joined { self.new.joined ≡ self.old.joined }
@@ -84,7 +84,7 @@ impl<'a, R: Net + Log + Clock + Eprint> SendingHost<'a, R> {
         ensures core { self.new.station.core
             ≡ record self.old.station.core { endpoint = self.new.station.core.endpoint } }
         ensures clock { self.new.station.clock ≡ self.old.station.clock }
-        ensures peers { self.new.station.wire.peers ≡ self.old.station.wire.peers }
+        ensures wire { self.new.station.wire ≡ self.old.station.wire }
         ensures readiness { self.new.station.readiness ≡ self.old.station.readiness }
         ensures id { self.new.id ≡ self.old.id }
         ensures joined { self.new.joined ≡ self.old.joined }
@@ -111,7 +111,7 @@ impl<'a, R: Net + Log + Clock + Eprint> SendingHost<'a, R> {
         ensures core { self.new.station.core
             ≡ record self.old.station.core { endpoint = self.new.station.core.endpoint } }
         ensures clock { self.new.station.clock ≡ self.old.station.clock }
-        ensures peers { self.new.station.wire.peers ≡ self.old.station.wire.peers }
+        ensures wire { self.new.station.wire ≡ self.old.station.wire }
         ensures readiness { self.new.station.readiness ≡ self.old.station.readiness }
         ensures id { self.new.id ≡ self.old.id }
         ensures joined { self.new.joined ≡ self.old.joined }
@@ -126,7 +126,7 @@ impl<'a, R: Net + Log + Clock + Eprint> SendingHost<'a, R> {
         ensures ends { self.old.read ≡ true → self.old.closed ≡ false
             → OnOk result (self.new.closed ≡ true) }
         // Nothing is read where all is, or too much is on its way.
-        ensures idle { (self.old.read ≡ true) ⊎ (2048 ≤ self.old.ledger.ahead)
+        ensures idle { (self.old.read ≡ true) ⊎ (16384 ≤ self.old.ledger.ahead)
             → reader.new ≡ reader.old }
         ensures fault { IfErr result IsReadFault }
     {

@@ -2,11 +2,13 @@
 
 ghost use Rattle.std.specs.Prelude.{◌≡◌, ◌↔◌, ◌<◌, ◌≤◌, true, count_by, is_some, length, map, position, vec_capacity, IfSome, IsTrue};
 ghost use Rattle.std.specs.List.{list_any};
-ghost use Rattle.ipx_transfer.specs.Callers.{Admits, Asks, HasNoPlaceFor, KeepsHeard, LetsLinkGo, LetsLinksGo, MakesRoom, heard_by, has_spoken, is_overdue, is_unheard_of, raised_if};
+ghost use Rattle.ipx_transfer.specs.Callers.{Admits, Asks, IsAskedUnless, HasNoPlaceFor, IsWantOfMemory, KeepsHeard, LetsLinkGo, LetsLinksGo, MakesRoom, heard_by, has_spoken, is_overdue, is_unheard_of, raised_if};
 
 use crate::callers::{Caller, hear_one};
-use ipx_wire::Address;
-use spx_messages::{Endpoint, Message};
+use ipx_wire::{Address, Network};
+use spx_link::OfferFault;
+use spx_messages::{EndFault, Endpoint, Message};
+use spx_units::MessageFault;
 use std::alloc::Global;
 
 /// The most connections that a host holds.
@@ -39,24 +41,31 @@ fn is_any_heard(callers: &[Caller]) -> bool
 }
 
 /// How many connections of the node of an address are held of which nothing was heard.
-fn count_unheard_of(callers: &[Caller], from: &Address) -> usize
-    ensures { result ≡ count_by (is_unheard_of from.now) callers.now }
+fn count_unheard_of(callers: &[Caller], own: Network, from: &Address) -> usize
+    ensures { result ≡ count_by (is_unheard_of own from.now) callers.now }
 {
     callers
         .iter()
-        .filter(|caller| caller.is_unheard_of(from))
+        .filter(|caller| caller.is_unheard_of(own, from))
         .count()
 }
 
-/// Whether a connection that comes from an address is let go at once: with `once` where one was
-/// heard; where 16 are held; and where of its node 4 are, of which nothing was heard.
-fn is_full(once: bool, callers: &[Caller], from: &Address) -> bool
-    ensures { IsTrue result ↔ HasNoPlaceFor once from.now callers.now }
+/// Whether a host of a network lets a connection that comes from an address go at once: with `once`
+/// where one was heard; where 16 are held; and where of its node 4 are, of which nothing was heard.
+fn is_full_on(own: Network, once: bool, callers: &[Caller], from: &Address) -> bool
+    ensures { IsTrue result ↔ HasNoPlaceFor once own from.now callers.now }
 {
     if once && is_any_heard(callers) {
         return true;
     }
-    callers.len() >= MOST_CALLERS || count_unheard_of(callers, from) >= MOST_UNHEARD
+    callers.len() >= MOST_CALLERS || count_unheard_of(callers, own, from) >= MOST_UNHEARD
+}
+
+/// Whether the host of an endpoint does.
+fn is_full(endpoint: &Endpoint, once: bool, callers: &[Caller], from: &Address) -> bool
+    ensures { IsTrue result ↔ HasNoPlaceFor once endpoint.now.network from.now callers.now }
+{
+    is_full_on(endpoint.network(), once, callers, from)
 }
 
 /// Holds a connection that comes, where there is a place for it. Else its link goes.
@@ -66,7 +75,7 @@ pub fn hold(once: bool, endpoint: &mut Endpoint, callers: &mut Vec<Caller>, call
         callers.old.items callers.new.items }
     ensures room { 16 ≤ vec_capacity callers.new }
 {
-    if is_full(once, callers, &caller.from) || callers.push(caller).is_err() {
+    if is_full(endpoint, once, callers, &caller.from) || callers.push(caller).is_err() {
         let_link_go(endpoint, caller.id);
     }
 }
@@ -144,18 +153,36 @@ pub fn count_if(more: bool, count: u64) -> u64
     if more { count.saturating_add(1) } else { count }
 }
 
+/// Whether a message was refused for want of memory.
+fn is_want_of_memory(fault: EndFault) -> bool
+    ensures { IsTrue result ↔ IsWantOfMemory fault }
+{
+    matches!(
+        fault,
+        EndFault::Message(MessageFault::OutOfMemory) | EndFault::Offer(OfferFault::OutOfMemory)
+    )
+}
+
 /// Asks whether a connection is still there, by a message of no bytes: a peer that is there
 /// acknowledges it, and without one the link is Lost some five seconds later. Where the message is
-/// refused, nothing goes out: the silence counts anew, and it is asked again after it.
-pub fn ask(alloc: Global, endpoint: &mut Endpoint, caller: &mut Caller, moment: u64)
-    ensures { Asks moment endpoint.old endpoint.new caller.old caller.new }
+/// refused, since memory is or the connection ends, nothing goes out: the silence counts anew, and
+/// it is asked again after it. It answers whether memory was refused.
+pub fn ask(alloc: Global, endpoint: &mut Endpoint, caller: &mut Caller, moment: u64) -> bool
+    ensures asks { Asks moment endpoint.old endpoint.new caller.old caller.new }
+    ensures asked { IsAskedUnless result endpoint.old endpoint.new caller.old caller.new }
 {
     let nothing = Message {
         stream: 0,
         body: Vec::new(alloc),
     };
     match endpoint.send(alloc, caller.id, &nothing) {
-        Ok(()) => caller.standing = caller.standing.asked(),
-        Err(_) => caller.heard = moment,
+        Ok(()) => {
+            caller.standing = caller.standing.asked();
+            false
+        }
+        Err(fault) => {
+            caller.heard = moment;
+            is_want_of_memory(fault)
+        }
     }
 }

@@ -4,10 +4,11 @@ ghost use Rattle.std.specs.Prelude.{◌≡◌, ◌<◌, ◌≤◌, ℕ, List, If
 ghost use Rattle.ipx_carrier.specs.Turns.{peers_of};
 ghost use Rattle.ipx_site.specs.Host.{IsHostText};
 ghost use Rattle.ipx_site.specs.Loading.{IsFileText};
+ghost use Rattle.ipx_site.specs.Steady.{NeverGoesBack};
 ghost use Rattle.ipx_site.specs.declared.host.HostFile.{HostFile as AHostFile};
 ghost use Rattle.ipx_site.specs.declared.clock.SteadyClock.{SteadyClock};
-ghost use Rattle.ipx_transfer.specs.Hosting.{ListensWell, ServesWell, host};
-ghost use Rattle.ipx_transfer.specs.Outlet.{left_of};
+ghost use Rattle.ipx_transfer.specs.Hosting.{ListensWell, ServesWell};
+ghost use Rattle.ipx_transfer.specs.Midway.{listening_at};
 
 use crate::checking::listener_to_text;
 use crate::listening::ListeningHost;
@@ -38,11 +39,8 @@ fn run_listening<R: Net + Log + Clock + Eprint, W: Write>(
     ensures unstarted { OnErr started.entry ((result ≡ 1) × (writer.new ≡ writer.old)) }
     // Where it ends well, the writer took the bodies that the takes gave, one behind the other.
     ensures well { result ≡ 0 → IfOk started.entry (λ l. (bytes : List ℕ) × ServesWell
-        (host l.station.clock l.station.core l.callers.items (left_of l.outlet)
-        (W.contents writer.old))
-        l.once (W.contents writer.new)
-        (λ old moment new. (old.last ≤ moment) × (new.last ≡ moment))
-        (peers_of l.station.wire.peers.items) bytes) }
+        (listening_at l (W.contents writer.old))
+        l.once (W.contents writer.new) NeverGoesBack (peers_of l.station.wire.peers.items) bytes) }
     ensures few { result ≤ 1 }
     ensures once { result ≡ 0 → IfOk started.entry (λ l. IsTrue l.once) }
 {
@@ -72,8 +70,7 @@ fn listen_by<R: Net + Log + Clock + Eprint, W: Write>(
     // Where it ends well, the host of the file has run, and its writer took the bodies that the
     // takes gave, one behind the other.
     ensures well { IfOk loaded (λ file. result ≡ 0 → ListensWell {K = SteadyClock R} file once
-        (W.contents writer.old) (W.contents writer.new)
-        (λ old moment new. (old.last ≤ moment) × (new.last ≡ moment))) }
+        (W.contents writer.old) (W.contents writer.new) NeverGoesBack) }
 {
     let file = match loaded {
         Ok(file) => file,
@@ -107,7 +104,7 @@ pub fn do_listen<R: Net + Log + Files + Clock + Eprint, W: Write>(
     ensures well { result ≡ 0 → (text : List ℕ) × (file : AHostFile)
         × IsFileText text × IsHostText text file
         × ListensWell {K = SteadyClock R} file once (W.contents writer.old) (W.contents writer.new)
-        (λ old moment new. (old.last ≤ moment) × (new.last ≡ moment)) }
+        NeverGoesBack }
     // For a fault of the file nothing is written.
     ensures untouched { result ≡ 2 → writer.new ≡ writer.old }
 {

@@ -1,13 +1,17 @@
 //! A host that listens: its steps, and how it comes to stop.
 
-ghost use Rattle.std.specs.Prelude.{◌≡◌, ◌≢◌, ◌<◌, ◌≤◌, ◌↔◌, ◌∷◌, ◌++◌, [], ℕ, List, false, IfOk, IsTrue, None, OnErr, OnOk, Some, Err, Ok, is_some, map, position, vec_capacity};
+ghost use Rattle.std.specs.Prelude.{◌≡◌, ◌≢◌, ◌<◌, ◌≤◌, ◌↔◌, ◌∷◌, ◌++◌, [], ℕ, List, false, IfOk, IsTrue, None, OnErr, OnOk, Some, Err, Ok, map, vec_capacity};
 ghost use Rattle.ipx_carrier.specs.Mapping.{node_at};
 ghost use Rattle.ipx_carrier.specs.Turns.{peers_of};
 ghost use Rattle.ipx_site.specs.Origins.{named_in};
+ghost use Rattle.ipx_site.specs.SitePeers.{kept_in};
+ghost use Rattle.ipx_site.specs.SitePorts.{access_by};
+ghost use Rattle.ipx_site.specs.Steady.{NeverGoesBack};
 ghost use Rattle.ipx_wire.specs.declared.address.Socket.{Socket};
 ghost use Rattle.spx_messages.specs.EndpointView.{buffers_at, held_at};
-ghost use Rattle.ipx_transfer.specs.Callers.{Admits, KeepsHeard, KeepsOne, MakesRoom, NotesHeard, caller_of, heard_by, is_overdue, keeps_one_prop, raised_if};
-ghost use Rattle.ipx_transfer.specs.Hosting.{HearsAndNotesAll, WritesAndPasses, MovesSome, Serves, StepsTo, host};
+ghost use Rattle.ipx_transfer.specs.Callers.{KeepsOne, keeps_one_prop};
+ghost use Rattle.ipx_transfer.specs.Company.{guarded_host};
+ghost use Rattle.ipx_transfer.specs.Hosting.{HearsAndNotesAll, WritesAndPasses, MovesSome, Serves, StepsTo};
 ghost use Rattle.ipx_transfer.specs.Outlet.{Writes, left_of};
 ghost use Rattle.ipx_transfer.specs.Passing.{PassesEach, PassesSome};
 ghost use Rattle.ipx_transfer.specs.Sleeping.{MayRest};
@@ -16,10 +20,9 @@ ghost use Rattle.ipx_transfer.specs.declared.callers.Caller.{Caller};
 ghost use Rattle.ipx_transfer.specs.declared.listening.ListenOutcome.{ListenOutcome as AStop};
 ghost use Rattle.ipx_transfer.specs.declared.listening.ListenOutcome.TheVariants as Stops;
 
-use crate::callers::{Caller, Standing};
-use crate::end_core::{Accepted, Came};
+use crate::callers::Caller;
 use crate::gate::Gate;
-use crate::leaving::{MOST_CALLERS, count_if, hear_caller, hold, make_room};
+use crate::leaving::MOST_CALLERS;
 use crate::outlet::{Outlet, WriteFault};
 use crate::running_host::{Activity, RunningHost};
 use crate::start::StartFault;
@@ -86,6 +89,8 @@ pub struct ListeningHost<'a, R: Clock> {
 }
 
 impl<'a, R: Net + Log + Clock> ListeningHost<'a, R> {
+    ghost use Rattle.ipx_transfer.specs.Midway.{listening_at};
+
     /// A host that listens at the socket of its file. It holds no connection yet.
     pub fn open(
         rt: &'a R,
@@ -109,12 +114,16 @@ impl<'a, R: Net + Log + Clock> ListeningHost<'a, R> {
             l.station.core.endpoint.router ≡ node_at file.now.router) }
         ensures links { IfOk result (λ l. (id : ℕ) → held_at l.station.core.endpoint id ≡ None) }
         ensures accepted { IfOk result (λ l. l.station.core.came ≡ None) }
+        ensures unpaced { IfOk result (λ l. l.station.core.paced ≡ None) }
         // Who may ask it for a connection, its file says.
         ensures from { IfOk result (λ l.
             named_in l.station.core.from ≡ named_in file.now.from) }
         ensures own { IfOk result (λ l. l.station.core.network ≡ file.now.network) }
         ensures peers { IfOk result (λ l.
             peers_of l.station.wire.peers.items ≡ (file.now.router ∷ []) ∷ []) }
+        // Whom it hears and sends to, its file says.
+        ensures guard { IfOk result (λ l.
+            map access_by l.station.wire.device.guards.items ≡ guarded_host file.now None ∷ []) }
     {
         let mut station = RunningHost::open(rt, alloc, file, None)?;
         station
@@ -131,90 +140,6 @@ impl<'a, R: Net + Log + Clock> ListeningHost<'a, R> {
             never_spoke: 0,
             of_never_spoke: Cause::new(),
         })
-    }
-
-    /// Holds a connection that was accepted at a moment, where there is a place for it.
-    fn admit(&mut self, accepted: Accepted, moment: u64)
-        ensures admits { Admits self.old.once (caller_of accepted moment)
-            self.old.station.core.endpoint self.new.station.core.endpoint
-            self.old.callers.items self.new.callers.items }
-        ensures core { self.new.station.core ≡ record self.old.station.core {
-          endpoint = self.new.station.core.endpoint;
-        } }
-        ensures clock { self.new.station.clock ≡ self.old.station.clock }
-        ensures peers { self.new.station.wire.peers ≡ self.old.station.wire.peers }
-        ensures readiness { self.new.station.readiness ≡ self.old.station.readiness }
-        ensures outlet { self.new.outlet ≡ self.old.outlet }
-        ensures once { self.new.once ≡ self.old.once }
-    {
-        let caller = Caller {
-            id: accepted.id,
-            from: accepted.from,
-            heard: moment,
-            standing: Standing::Called,
-        };
-        let endpoint = &mut self.station.core.endpoint;
-        hold(self.once, endpoint, &mut self.callers, caller);
-    }
-
-    /// Notes that a connection was heard. With `once` it stays alone.
-    fn hear_caller(&mut self, id: u16, moment: u64)
-        ensures heard { KeepsHeard self.old.once
-            self.old.station.core.endpoint self.new.station.core.endpoint
-            (map (heard_by id moment) self.old.callers.items) self.new.callers.items }
-        ensures core { self.new.station.core ≡ record self.old.station.core {
-          endpoint = self.new.station.core.endpoint;
-        } }
-        ensures clock { self.new.station.clock ≡ self.old.station.clock }
-        ensures peers { self.new.station.wire.peers ≡ self.old.station.wire.peers }
-        ensures readiness { self.new.station.readiness ≡ self.old.station.readiness }
-        ensures outlet { self.new.outlet ≡ self.old.outlet }
-        ensures once { self.new.once ≡ self.old.once }
-    {
-        let endpoint = &mut self.station.core.endpoint;
-        hear_caller(self.once, endpoint, &mut self.callers, id, moment);
-    }
-
-    /// Lets a connection go of which nothing was heard for long, since there was no link for
-    /// another.
-    fn make_room(&mut self, moment: u64)
-        ensures room { MakesRoom moment
-            self.old.station.core.endpoint self.new.station.core.endpoint
-            self.old.callers.items self.new.callers.items }
-        ensures counts { self.new.never_spoke
-            ≡ raised_if (is_some (position (is_overdue moment) self.old.callers.items))
-            self.old.never_spoke }
-        ensures core { self.new.station.core ≡ record self.old.station.core {
-          endpoint = self.new.station.core.endpoint;
-        } }
-        ensures clock { self.new.station.clock ≡ self.old.station.clock }
-        ensures peers { self.new.station.wire.peers ≡ self.old.station.wire.peers }
-        ensures readiness { self.new.station.readiness ≡ self.old.station.readiness }
-        ensures outlet { self.new.outlet ≡ self.old.outlet }
-        ensures once { self.new.once ≡ self.old.once }
-    {
-        let endpoint = &mut self.station.core.endpoint;
-        let went = make_room(endpoint, &mut self.callers, moment);
-        self.never_spoke = count_if(went, self.never_spoke);
-    }
-
-    /// Notes which connection the last datagram was of, or made, or did not find room for.
-    fn note(&mut self)
-        ensures notes { NotesHeard self.old.once self.old.station.core self.new.station.core
-            self.old.callers.items self.new.callers.items }
-        ensures clock { self.new.station.clock ≡ self.old.station.clock }
-        ensures peers { self.new.station.wire.peers ≡ self.old.station.wire.peers }
-        ensures readiness { self.new.station.readiness ≡ self.old.station.readiness }
-        ensures outlet { self.new.outlet ≡ self.old.outlet }
-        ensures once { self.new.once ≡ self.old.once }
-    {
-        let moment = self.station.moment();
-        match self.station.core.take_came() {
-            Some(Came::Heard(id)) => self.hear_caller(id, moment),
-            Some(Came::Accepted(accepted)) => self.admit(accepted, moment),
-            Some(Came::NoRoom) => self.make_room(moment),
-            None => {}
-        }
     }
 
     /// Takes from each connection. It answers whether there was anything.
@@ -236,7 +161,7 @@ impl<'a, R: Net + Log + Clock> ListeningHost<'a, R> {
           endpoint = self.new.station.core.endpoint;
         } }
         ensures clock { self.new.station.clock ≡ self.old.station.clock }
-        ensures peers { self.new.station.wire.peers ≡ self.old.station.wire.peers }
+        ensures wire { self.new.station.wire ≡ self.old.station.wire }
         ensures readiness { self.new.station.readiness ≡ self.old.station.readiness }
         ensures once { self.new.once ≡ self.old.once }
     {
@@ -259,7 +184,7 @@ impl<'a, R: Net + Log + Clock> ListeningHost<'a, R> {
             (left_of self.old.outlet) (left_of self.new.outlet)
             (W.contents writer.old) (W.contents writer.new) bytes) }
         ensures clock { self.new.station.clock ≡ self.old.station.clock }
-        ensures peers { self.new.station.wire.peers ≡ self.old.station.wire.peers }
+        ensures wire { self.new.station.wire ≡ self.old.station.wire }
         ensures readiness { self.new.station.readiness ≡ self.old.station.readiness }
         ensures once { self.new.once ≡ self.old.once }
     {
@@ -270,12 +195,16 @@ impl<'a, R: Net + Log + Clock> ListeningHost<'a, R> {
 
     /// Takes a turn, and notes the datagram that it heard.
     fn hear(&mut self, rt: &R, alloc: Global) -> Activity
+        // Behind what was kept back more may lie.
+        ensures kept { kept_in self.old.station.wire.device.kept
+            < kept_in self.new.station.wire.device.kept → IsTrue result.active }
         ensures hears { HearsAndNotesAll self.old.station.clock self.new.station.clock
             self.old.station.core self.new.station.core
             self.old.callers.items self.new.callers.items self.old.once
-            (λ old moment new. (old.last ≤ moment) × (new.last ≡ moment))
-            (peers_of self.old.station.wire.peers.items) }
+            NeverGoesBack (peers_of self.old.station.wire.peers.items) }
         ensures peers { self.new.station.wire.peers ≡ self.old.station.wire.peers }
+        ensures access { map access_by self.new.station.wire.device.guards.items
+            ≡ map access_by self.old.station.wire.device.guards.items }
         ensures readiness { self.new.station.readiness ≡ self.old.station.readiness }
         ensures outlet { self.new.outlet ≡ self.old.outlet }
         ensures once { self.new.once ≡ self.old.once }
@@ -295,15 +224,16 @@ impl<'a, R: Net + Log + Clock> ListeningHost<'a, R> {
         alloc: Global,
         writer: &mut W,
     ) -> Result<bool, ListenOutcome>
-        ensures steps { (bytes : List ℕ) × StepsTo
-            (host self.old.station.clock self.old.station.core
-            self.old.callers.items (left_of self.old.outlet) (W.contents writer.old))
-            (host self.new.station.clock self.new.station.core
-            self.new.callers.items (left_of self.new.outlet) (W.contents writer.new))
+        // Behind what was kept back more may lie.
+        ensures kept { kept_in self.old.station.wire.device.kept
+            < kept_in self.new.station.wire.device.kept → IfOk result IsTrue }
+        ensures steps { (bytes : List ℕ) × StepsTo (listening_at self.old (W.contents writer.old))
+            (listening_at self.new (W.contents writer.new))
             self.old.once (stop_in result)
-            (λ old moment new. (old.last ≤ moment) × (new.last ≡ moment))
-            (peers_of self.old.station.wire.peers.items) bytes }
+            NeverGoesBack (peers_of self.old.station.wire.peers.items) bytes }
         ensures peers { self.new.station.wire.peers ≡ self.old.station.wire.peers }
+        ensures access { map access_by self.new.station.wire.device.guards.items
+            ≡ map access_by self.old.station.wire.device.guards.items }
         ensures readiness { self.new.station.readiness ≡ self.old.station.readiness }
         ensures written { result ≡ Err Stops.Ended
             → IsTrue self.new.once × (left_of self.new.outlet ≡ []) }
@@ -322,15 +252,17 @@ impl<'a, R: Net + Log + Clock> ListeningHost<'a, R> {
         alloc: Global,
         writer: &mut W,
     ) -> Result<(), ListenOutcome>
-        ensures steps { (bytes : List ℕ) × StepsTo
-            (host self.old.station.clock self.old.station.core
-            self.old.callers.items (left_of self.old.outlet) (W.contents writer.old))
-            (host self.new.station.clock self.new.station.core
-            self.new.callers.items (left_of self.new.outlet) (W.contents writer.new))
+        // Behind what was kept back more may lie: it does not wait.
+        ensures kept { kept_in self.old.station.wire.device.kept
+            < kept_in self.new.station.wire.device.kept →
+            self.new.station.readiness.asked ≡ self.old.station.readiness.asked }
+        ensures steps { (bytes : List ℕ) × StepsTo (listening_at self.old (W.contents writer.old))
+            (listening_at self.new (W.contents writer.new))
             self.old.once (stop_in result)
-            (λ old moment new. (old.last ≤ moment) × (new.last ≡ moment))
-            (peers_of self.old.station.wire.peers.items) bytes }
+            NeverGoesBack (peers_of self.old.station.wire.peers.items) bytes }
         ensures peers { self.new.station.wire.peers ≡ self.old.station.wire.peers }
+        ensures access { map access_by self.new.station.wire.device.guards.items
+            ≡ map access_by self.old.station.wire.device.guards.items }
         // It waits only as long as no link has anything to do and each connection just stays.
         ensures rests { MayRest self.new.station.core self.new.callers.items
             self.old.station.readiness.asked self.new.station.readiness.asked }
@@ -349,14 +281,9 @@ impl<'a, R: Net + Log + Clock> ListeningHost<'a, R> {
     fn serve<W: Write>(&mut self, rt: &R, alloc: Global, writer: &mut W) -> ListenOutcome
         // What was left to write, and then the bodies that the takes gave, are what the writer
         // took, and then what is left to write: also from one step to the next.
-        ensures serves { (bytes : List ℕ) × Serves
-            (host self.old.station.clock self.old.station.core
-            self.old.callers.items (left_of self.old.outlet) (W.contents writer.old))
-            (host self.new.station.clock self.new.station.core
-            self.new.callers.items (left_of self.new.outlet) (W.contents writer.new))
-            self.old.once result
-            (λ old moment new. (old.last ≤ moment) × (new.last ≡ moment))
-            (peers_of self.old.station.wire.peers.items) bytes
+        ensures serves { (bytes : List ℕ) × Serves (listening_at self.old (W.contents writer.old))
+            (listening_at self.new (W.contents writer.new))
+            self.old.once result NeverGoesBack (peers_of self.old.station.wire.peers.items) bytes
             × Writes (left_of self.old.outlet ++ bytes) (left_of self.new.outlet)
             (W.contents writer.old) (W.contents writer.new) }
         ensures written { result ≡ Stops.Ended
@@ -373,17 +300,15 @@ impl<'a, R: Net + Log + Clock> ListeningHost<'a, R> {
 }
 
 impl<'a, R: Net + Log + Clock + Eprint> ListeningHost<'a, R> {
+    ghost use Rattle.ipx_transfer.specs.Midway.{listening_at};
+
     /// Runs until it is to end, prints why it ends, and answers the status: 0 only with `once`, and
     /// where all that was taken is written.
     pub fn finish<W: Write>(&mut self, rt: &R, alloc: Global, writer: &mut W) -> u8
         ensures serves { (stop : AStop) × (result ≡ stop_status stop) × (bytes : List ℕ) × Serves
-            (host self.old.station.clock self.old.station.core
-            self.old.callers.items (left_of self.old.outlet) (W.contents writer.old))
-            (host self.new.station.clock self.new.station.core
-            self.new.callers.items (left_of self.new.outlet) (W.contents writer.new))
-            self.old.once stop
-            (λ old moment new. (old.last ≤ moment) × (new.last ≡ moment))
-            (peers_of self.old.station.wire.peers.items) bytes
+            (listening_at self.old (W.contents writer.old))
+            (listening_at self.new (W.contents writer.new))
+            self.old.once stop NeverGoesBack (peers_of self.old.station.wire.peers.items) bytes
             × Writes (left_of self.old.outlet ++ bytes) (left_of self.new.outlet)
             (W.contents writer.old) (W.contents writer.new) }
         ensures written { result ≡ 0 → IsTrue self.new.once × (left_of self.new.outlet ≡ []) }

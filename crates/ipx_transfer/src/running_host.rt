@@ -1,28 +1,28 @@
 //! A host by its file: its endpoint, its socket and its clock.
 
-ghost use Rattle.std.specs.Prelude.{◌≡◌, ◌<◌, ◌≤◌, ◌↔◌, ◌∷◌, [], ℕ, IfOk, IsTrue, None, OnErr, Some, length, map};
+ghost use Rattle.std.specs.Prelude.{◌≡◌, ◌<◌, ◌↔◌, ◌∷◌, [], ℕ, false, true, IfOk, IsTrue, None, OnErr, Some, length, map};
 ghost use Rattle.ipx_carrier.specs.Mapping.{node_at};
-ghost use Rattle.ipx_carrier.specs.Runs.{EndsEarly, Runs};
 ghost use Rattle.ipx_carrier.specs.Turns.{peers_of};
 ghost use Rattle.ipx_site.specs.Origins.{named_in};
 ghost use Rattle.ipx_site.specs.SitePeers.{kept_in};
-ghost use Rattle.ipx_site.specs.SitePorts.{access_by, guarding};
-ghost use Rattle.ipx_carrier.specs.declared.fault.RunFault.TheVariants as RunFaults;
+ghost use Rattle.ipx_site.specs.SitePorts.{access_by};
+ghost use Rattle.ipx_site.specs.Steady.{NeverGoesBack};
 ghost use Rattle.ipx_wire.specs.declared.address.Socket.{Socket};
 ghost use Rattle.spx_link.specs.Links.{count_of};
 ghost use Rattle.spx_messages.specs.EndpointView.{buffers_at, held_at};
+ghost use Rattle.ipx_transfer.specs.Callers.{raised_if};
 ghost use Rattle.ipx_transfer.specs.Company.{guarded_host};
 ghost use Rattle.ipx_transfer.specs.Sleeping.{IsSleep};
-ghost use Rattle.ipx_transfer.specs.Turning.{TakesTurn, gives, hears, misses, withholds};
+ghost use Rattle.ipx_transfer.specs.Turning.{TakesHostTurn, TellsOf};
 
 use crate::company::guard_of;
 use crate::end_core::{EndCore, copy_origins};
+use crate::leaving::count_if;
 use crate::room::tell_room;
 use crate::start::{StartFault, check_streams};
 use crate::telling::{Counts, Telling};
-use ipx_carrier::{Report, node_of, run};
+use ipx_carrier::{KeepsBack, Report, RunFault, node_of, turn};
 use ipx_site::{Guard, HostFile, PeersOnly, Readiness, SiteSockets, SteadyClock, WaitFault};
-use ipx_wire::OutOfMemory;
 use log::Log;
 use spx_messages::Endpoint;
 use std::alloc::Global;
@@ -59,7 +59,8 @@ pub struct RunningHost<'a, R: Clock> {
     wire: Wire,
     clock: SteadyClock<'a, R>,
     readiness: Readiness,
-    unheard: u64,
+    /// How often memory was refused.
+    refused: u64,
     telling: Telling,
 }
 
@@ -77,30 +78,25 @@ impl Wire {
             peers,
         }
     }
+}
 
-    /// Takes one turn. Sockets never fail, so what ends one is that memory is refused.
-    fn run<R: Clock>(
-        &mut self,
-        alloc: Global,
-        core: &mut EndCore,
-        clock: &mut SteadyClock<'_, R>,
-    ) -> Result<Report, OutOfMemory>
-        ensures turn { IfOk result (λ report. Runs hears gives
-            (λ old moment new. (old.last ≤ moment) × (new.last ≡ moment))
-            1 (peers_of self.old.peers.items) 1 None None clock.old clock.new
-            core.old core.new report) }
-        ensures fault { OnErr result (EndsEarly hears misses gives withholds
-            (λ old moment new. (old.last ≤ moment) × (new.last ≡ moment))
-            1 (peers_of self.old.peers.items) 1 None None clock.old clock.new
-            RunFaults.OutOfMemory core.old core.new) }
-        ensures peers { self.new.peers ≡ self.old.peers }
-        ensures access { map access_by self.new.device.guards.items
-            ≡ map access_by self.old.device.guards.items }
-    {
-        match run(alloc, core, &mut self.device, &self.peers, clock, 1) {
-            Ok(report) => Ok(report),
-            Err(_) => Err(OutOfMemory),
-        }
+/// What a turn did that answered this, and whether a datagram was kept back in it.
+fn activity_of(ran: Result<Report, RunFault>, kept: bool) -> Activity
+    ensures whole { IfOk ran (λ report. TellsOf report result) }
+    ensures ended { OnErr ran ((result.heard ≡ false) × (result.active ≡ true)) }
+    ensures kept { result.kept ≡ kept }
+{
+    match ran {
+        Ok(report) => Activity {
+            heard: report.heard > 0,
+            kept,
+            active: report.heard > 0 || report.sent > 0 || report.unmapped > 0 || kept,
+        },
+        Err(_) => Activity {
+            heard: false,
+            kept,
+            active: true,
+        },
     }
 }
 
@@ -124,6 +120,7 @@ impl<'a, R: Net + Log + Clock> RunningHost<'a, R> {
             (socket : Socket) → buffers_at s.core.endpoint socket ≡ None) }
         ensures nobody { IfOk result (λ s. s.core.endpoint.heard ≡ None) }
         ensures accepted { IfOk result (λ s. s.core.came ≡ None) }
+        ensures unpaced { IfOk result (λ s. s.core.paced ≡ None) }
         ensures from { IfOk result (λ s. named_in s.core.from ≡ named_in file.now.from) }
         ensures own { IfOk result (λ s. s.core.network ≡ file.now.network) }
         // A broadcast goes to its router alone.
@@ -134,7 +131,7 @@ impl<'a, R: Net + Log + Clock> RunningHost<'a, R> {
             map (λ s. s.udp_port) s.wire.device.device.sockets.items ≡ file.now.udp_port ∷ []) }
         // Whom it hears and sends to.
         ensures guard { IfOk result (λ s.
-            map guarding s.wire.device.guards.items ≡ guarded_host file.now dials ∷ []) }
+            map access_by s.wire.device.guards.items ≡ guarded_host file.now dials ∷ []) }
     {
         check_streams(rt)?;
         let node = node_of(file.address);
@@ -150,7 +147,7 @@ impl<'a, R: Net + Log + Clock> RunningHost<'a, R> {
             wire: Wire::new(sockets, guards, peers),
             clock: SteadyClock::new(rt),
             readiness,
-            unheard: 0,
+            refused: 0,
             telling: Telling::new(),
         })
     }
@@ -159,11 +156,20 @@ impl<'a, R: Net + Log + Clock> RunningHost<'a, R> {
     pub fn watch(&mut self, fd: Option<RawFd>)
         ensures core { self.new.core ≡ self.old.core }
         ensures clock { self.new.clock ≡ self.old.clock }
-        ensures peers { self.new.wire.peers ≡ self.old.wire.peers }
+        ensures wire { self.new.wire ≡ self.old.wire }
     {
         if let Some(fd) = fd {
             let _ = self.readiness.watch_reading(fd);
         }
+    }
+
+    /// Counts that memory was refused, where it was.
+    pub fn count_refusal(&mut self, is_refused: bool)
+        ensures { self.new ≡ record self.old {
+          refused = raised_if is_refused self.old.refused;
+        } }
+    {
+        self.refused = count_if(is_refused, self.refused);
     }
 
     /// The moment of the last turn, in milliseconds from the start.
@@ -173,11 +179,11 @@ impl<'a, R: Net + Log + Clock> RunningHost<'a, R> {
         self.core.moment()
     }
 
-    /// Takes one turn. What the system or memory refuses is counted and told, and goes on.
+    /// Takes one turn. What the system or memory refuses is counted and told, and goes on; the
+    /// datagram of a turn that memory ends is lost.
     pub fn turn(&mut self, rt: &R, alloc: Global) -> Activity
-        ensures core { TakesTurn self.old.clock self.new.clock
-            (λ old moment new. (old.last ≤ moment) × (new.last ≡ moment))
-            (peers_of self.old.wire.peers.items) self.old.core self.new.core result }
+        ensures core { TakesHostTurn self.old.clock self.new.clock
+            NeverGoesBack (peers_of self.old.wire.peers.items) self.old.core self.new.core result }
         // What was kept back is something that happened: behind it more may lie.
         ensures kept { IsTrue result.kept
             ↔ kept_in self.old.wire.device.kept < kept_in self.new.wire.device.kept }
@@ -187,46 +193,28 @@ impl<'a, R: Net + Log + Clock> RunningHost<'a, R> {
             ≡ map access_by self.old.wire.device.guards.items }
         ensures readiness { self.new.readiness ≡ self.old.readiness }
     {
-        let turn = self.take_turn(alloc);
-        let counts = Counts {
+        let before = self.wire.device.kept_back();
+        let ran = turn(
+            alloc,
+            &mut self.core,
+            &mut self.wire.device,
+            &self.wire.peers,
+            &mut self.clock,
+        );
+        let kept = self.wire.device.kept_back() > before;
+        self.refused = count_if(ran.is_err(), self.refused);
+        let counts = self.counts();
+        self.telling.tell(rt, counts, self.core.moment());
+        activity_of(ran, kept)
+    }
+
+    /// How often something went wrong.
+    fn counts(&self) -> Counts {
+        Counts {
             kept: self.wire.device.kept(),
             barred: self.core.barred(),
             system: self.wire.device.device().faults(),
-            memory: self.unheard,
-        };
-        self.telling.tell(rt, counts, self.core.moment());
-        turn
-    }
-
-    /// One turn over the socket. The datagram of a turn that memory ends is lost.
-    fn take_turn(&mut self, alloc: Global) -> Activity
-        ensures core { TakesTurn self.old.clock self.new.clock
-            (λ old moment new. (old.last ≤ moment) × (new.last ≡ moment))
-            (peers_of self.old.wire.peers.items) self.old.core self.new.core result }
-        ensures kept { IsTrue result.kept
-            ↔ kept_in self.old.wire.device.kept < kept_in self.new.wire.device.kept }
-        ensures peers { self.new.wire.peers ≡ self.old.wire.peers }
-        ensures access { map access_by self.new.wire.device.guards.items
-            ≡ map access_by self.old.wire.device.guards.items }
-        ensures readiness { self.new.readiness ≡ self.old.readiness }
-    {
-        let before = self.wire.device.kept().total();
-        let ran = self.wire.run(alloc, &mut self.core, &mut self.clock);
-        let kept = self.wire.device.kept().total() > before;
-        match ran {
-            Ok(report) => Activity {
-                heard: report.heard > 0,
-                kept,
-                active: report.heard > 0 || report.sent > 0 || report.unmapped > 0 || kept,
-            },
-            Err(OutOfMemory) => {
-                self.unheard = self.unheard.saturating_add(1);
-                Activity {
-                    heard: false,
-                    kept,
-                    active: true,
-                }
-            }
+            memory: self.refused,
         }
     }
 
@@ -237,16 +225,11 @@ impl<'a, R: Net + Log + Clock> RunningHost<'a, R> {
         ensures clock { self.new.clock ≡ self.old.clock }
         ensures wire { self.new.wire ≡ self.old.wire }
         // So long the system is asked to wait, and till then no link has anything to do.
-        ensures sleeps { let core = self.old.core in (time : ℕ)
-            × IsSleep core.endpoint.links core.moment most time
+        ensures sleeps { (time : ℕ) × IsSleep self.old.core most time
             × (self.new.readiness.asked ≡ Some time) }
     {
-        let now = self.core.moment();
-        let due = match self.core.endpoint.next_due() {
-            Some(due) => due.saturating_sub(now),
-            None => most,
-        };
-        self.readiness.wait(most.min(due))?;
+        let time = self.core.sleep(most);
+        self.readiness.wait(time)?;
         Ok(())
     }
 }

@@ -5,11 +5,12 @@ ghost use Rattle.std.specs.Io.KnownBytes.{IsAtEnd};
 ghost use Rattle.ipx_carrier.specs.Turns.{peers_of};
 ghost use Rattle.ipx_site.specs.Host.{IsHostText};
 ghost use Rattle.ipx_site.specs.Loading.{IsFileText};
+ghost use Rattle.ipx_site.specs.Steady.{NeverGoesBack};
 ghost use Rattle.ipx_site.specs.declared.clock.SteadyClock.{SteadyClock};
 ghost use Rattle.ipx_wire.specs.declared.address.Address.{Address};
-ghost use Rattle.ipx_transfer.specs.SendRounds.{SendState, Transfers, place};
+ghost use Rattle.ipx_transfer.specs.Midway.{sending_at};
+ghost use Rattle.ipx_transfer.specs.SendRounds.{SendState, Transfers};
 ghost use Rattle.ipx_transfer.specs.Sent.{SendsWholeInput};
-ghost use Rattle.ipx_transfer.specs.SendSteps.{noted};
 ghost use Rattle.ipx_transfer.specs.Target.{NamesAddress};
 
 use crate::sending::SendingHost;
@@ -36,10 +37,8 @@ fn send_opened<R: Net + Log + Clock + Eprint, I: Read>(
     ensures unopened { OnErr opened.entry ((result ≡ 1) × (reader.new ≡ reader.old)) }
     // Where it ends well, it was a transfer from what was opened.
     ensures sent { IfOk opened.entry (λ s. result ≡ 0 → (last : SendState (SteadyClock R))
-        × Transfers
-        (place s.station.clock s.station.core (noted s.joined s.left)
-        s.read s.closed s.ledger (I.remaining reader.old))
-        last (λ old moment new. (old.last ≤ moment) × (new.last ≡ moment))
+        × Transfers (sending_at s (I.remaining reader.old))
+        last NeverGoesBack
         (peers_of s.station.wire.peers.items) s.id
         × (last.known ≡ I.remaining reader.new)) }
     // Where what was opened has read nothing, all is read.
@@ -66,8 +65,7 @@ fn send_loaded<R: Net + Log + Clock + Eprint, I: Read>(
     ensures status { OnOk loaded (result < 2) }
     // Where it ends well, the host of the file sent to the address all that the reader had.
     ensures sent { IfOk loaded (λ file. result ≡ 0 → SendsWholeInput {K = SteadyClock R} file to
-        (I.remaining reader.old) (I.remaining reader.new)
-        (λ old moment new. (old.last ≤ moment) × (new.last ≡ moment))) }
+        (I.remaining reader.old) (I.remaining reader.new) NeverGoesBack) }
     ensures unloaded { IfErr loaded (λ status. (result ≡ status) × (reader.new ≡ reader.old)) }
 {
     let file = match loaded {
@@ -108,8 +106,7 @@ pub fn do_send<R: Net + Log + Files + Clock + Eprint, I: Read>(
     ensures sent { result ≡ 0 → (text : List ℕ) × (file : HostFile) × (to : Address)
         × IsFileText text × IsHostText text file × NamesAddress target.entry to
         × SendsWholeInput {K = SteadyClock R} file to
-        (I.remaining reader.old) (I.remaining reader.new)
-        (λ old moment new. (old.last ≤ moment) × (new.last ≡ moment)) }
+        (I.remaining reader.old) (I.remaining reader.new) NeverGoesBack }
 {
     let to = match target.address() {
         Ok(to) => to,

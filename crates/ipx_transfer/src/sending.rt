@@ -1,15 +1,19 @@
 //! A host that sends: what it sees of its link after each turn, and how its transfer ends.
 
-ghost use Rattle.std.specs.Prelude.{◌≡◌, ◌<◌, ◌≤◌, ◌+◌, ◌↔◌, ◌⊎◌, ℕ, List, false, true, length, IfOk, IsTrue, Err, Ok, None, Option, Some};
+ghost use Rattle.std.specs.Prelude.{◌≡◌, ◌<◌, ◌+◌, ◌↔◌, ◌⊎◌, ◌∷◌, [], ℕ, List, false, true, length, map, IfOk, IsTrue, Err, Ok, None, Option, Some};
 ghost use Rattle.std.specs.Io.KnownBytes.{IsAtEnd};
 ghost use Rattle.ipx_carrier.specs.Turns.{peers_of};
+ghost use Rattle.ipx_site.specs.SitePeers.{kept_in};
+ghost use Rattle.ipx_site.specs.SitePorts.{access_by};
+ghost use Rattle.ipx_site.specs.Steady.{NeverGoesBack};
 ghost use Rattle.ipx_wire.specs.declared.address.Address.{Address};
 ghost use Rattle.spx_messages.specs.EndpointView.{held_at};
 ghost use Rattle.ipx_transfer.specs.Books.{EntersAcknowledged};
-ghost use Rattle.ipx_transfer.specs.SendRounds.{EndsWith, IsSendStep, LastsOn, Transfers, place};
+ghost use Rattle.ipx_transfer.specs.Company.{dialed_ip as ip_dialed, guarded_host};
+ghost use Rattle.ipx_transfer.specs.SendRounds.{EndsWith, IsSendStep, LastsOn, Transfers};
 ghost use Rattle.ipx_transfer.specs.Sent.{IsDialing};
 ghost use Rattle.ipx_transfer.specs.Sleeping.{MayWait, longest_wait};
-ghost use Rattle.ipx_transfer.specs.SendSteps.{IsFeedFault, IsStepFault, noted};
+ghost use Rattle.ipx_transfer.specs.SendSteps.{IsFeedFault, IsStepFault};
 ghost use Rattle.ipx_transfer.specs.Transfer.{IsWaiting, IsWholeAt, joined_at, left_at, state_at};
 ghost use Rattle.ipx_transfer.specs.declared.send_outcome.SendOutcome.TheVariants as Verdicts;
 
@@ -70,6 +74,8 @@ pub struct SendingHost<'a, R: Clock> {
 }
 
 impl<'a, R: Net + Log + Clock + Eprint> SendingHost<'a, R> {
+    ghost use Rattle.ipx_transfer.specs.Midway.{sending_at};
+
     /// A host that asks for a connection. Nothing was read, and nothing seen.
     pub fn open(
         rt: &'a R,
@@ -78,10 +84,11 @@ impl<'a, R: Net + Log + Clock + Eprint> SendingHost<'a, R> {
         to: Address,
         shows: bool,
     ) -> Result<SendingHost<'a, R>, StartFault>
-        ensures { IfOk result (λ s. (known : Option (List ℕ)) → IsDialing file.now to
-            (place s.station.clock s.station.core (noted s.joined s.left)
-            s.read s.closed s.ledger known)
-            (peers_of s.station.wire.peers.items) s.id) }
+        ensures dialing { IfOk result (λ s. (known : Option (List ℕ)) → IsDialing file.now to
+            (sending_at s known) (peers_of s.station.wire.peers.items) s.id) }
+        // It hears and sends to whom its file says, and the node that it dials.
+        ensures guard { IfOk result (λ s. map access_by s.station.wire.device.guards.items
+            ≡ guarded_host file.now (ip_dialed file.now to) ∷ []) }
     {
         let mut station = RunningHost::open(rt, alloc, file, dialed_ip(file, to))?;
         let gate = Gate::new(rt, alloc, STDIN, Interest::READABLE);
@@ -90,6 +97,7 @@ impl<'a, R: Net + Log + Clock + Eprint> SendingHost<'a, R> {
         let Ok(id) = dialed(alloc, &mut station.core.endpoint, file, to, count) else {
             return Err(StartFault::OutOfMemory);
         };
+        station.core.pace(alloc, id)?;
         Ok(SendingHost {
             station,
             id,
@@ -110,7 +118,7 @@ impl<'a, R: Net + Log + Clock + Eprint> SendingHost<'a, R> {
         ensures state { result ≡ state_at self.old.station.core.endpoint self.old.id }
         ensures core { self.new.station.core ≡ self.old.station.core }
         ensures clock { self.new.station.clock ≡ self.old.station.clock }
-        ensures peers { self.new.station.wire.peers ≡ self.old.station.wire.peers }
+        ensures wire { self.new.station.wire ≡ self.old.station.wire }
         ensures readiness { self.new.station.readiness ≡ self.old.station.readiness }
         ensures id { self.new.id ≡ self.old.id }
         ensures read { self.new.read ≡ self.old.read }
@@ -160,7 +168,7 @@ impl<'a, R: Net + Log + Clock + Eprint> SendingHost<'a, R> {
     fn show(&mut self, rt: &R)
         ensures core { self.new.station.core ≡ self.old.station.core }
         ensures clock { self.new.station.clock ≡ self.old.station.clock }
-        ensures peers { self.new.station.wire.peers ≡ self.old.station.wire.peers }
+        ensures wire { self.new.station.wire ≡ self.old.station.wire }
         ensures readiness { self.new.station.readiness ≡ self.old.station.readiness }
         ensures id { self.new.id ≡ self.old.id }
         ensures joined { self.new.joined ≡ self.old.joined }
@@ -181,19 +189,17 @@ impl<'a, R: Net + Log + Clock + Eprint> SendingHost<'a, R> {
 
     /// Takes a turn, and reads. It answers whether there may be more to do at once.
     fn step<I: Read>(&mut self, rt: &R, alloc: Global, reader: &mut I) -> Result<bool, SendOutcome>
+        // Behind what was kept back more may lie.
+        ensures kept { kept_in self.old.station.wire.device.kept
+            < kept_in self.new.station.wire.device.kept → IfOk result IsTrue }
         ensures id { self.new.id ≡ self.old.id }
         // It notes, tells and feeds by what the turn left.
-        ensures steps { IsSendStep IsFeedFault
-            (place self.old.station.clock self.old.station.core
-            (noted self.old.joined self.old.left)
-            self.old.read self.old.closed self.old.ledger (I.remaining reader.old))
-            (place self.new.station.clock self.new.station.core
-            (noted self.new.joined self.new.left)
-            self.new.read self.new.closed self.new.ledger (I.remaining reader.new))
-            result
-            (λ old moment new. (old.last ≤ moment) × (new.last ≡ moment))
-            (peers_of self.old.station.wire.peers.items) self.old.id }
+        ensures steps { IsSendStep IsFeedFault (sending_at self.old (I.remaining reader.old))
+            (sending_at self.new (I.remaining reader.new))
+            result NeverGoesBack (peers_of self.old.station.wire.peers.items) self.old.id }
         ensures peers { self.new.station.wire.peers ≡ self.old.station.wire.peers }
+        ensures access { map access_by self.new.station.wire.device.guards.items
+            ≡ map access_by self.old.station.wire.device.guards.items }
         ensures readiness { self.new.station.readiness ≡ self.old.station.readiness }
         ensures done { result ≡ Err Verdicts.Done
             → IsWholeAt self.new.station.core.endpoint self.new.id }
@@ -232,19 +238,18 @@ impl<'a, R: Net + Log + Clock + Eprint> SendingHost<'a, R> {
         alloc: Global,
         reader: &mut I,
     ) -> Result<(), SendOutcome>
+        // Behind what was kept back more may lie: it does not wait.
+        ensures kept { kept_in self.old.station.wire.device.kept
+            < kept_in self.new.station.wire.device.kept →
+            self.new.station.readiness.asked ≡ self.old.station.readiness.asked }
         ensures id { self.new.id ≡ self.old.id }
         // It notes, tells and feeds by what the turn left.
-        ensures steps { IsSendStep IsStepFault
-            (place self.old.station.clock self.old.station.core
-            (noted self.old.joined self.old.left)
-            self.old.read self.old.closed self.old.ledger (I.remaining reader.old))
-            (place self.new.station.clock self.new.station.core
-            (noted self.new.joined self.new.left)
-            self.new.read self.new.closed self.new.ledger (I.remaining reader.new))
-            result
-            (λ old moment new. (old.last ≤ moment) × (new.last ≡ moment))
-            (peers_of self.old.station.wire.peers.items) self.old.id }
+        ensures steps { IsSendStep IsStepFault (sending_at self.old (I.remaining reader.old))
+            (sending_at self.new (I.remaining reader.new))
+            result NeverGoesBack (peers_of self.old.station.wire.peers.items) self.old.id }
         ensures peers { self.new.station.wire.peers ≡ self.old.station.wire.peers }
+        ensures access { map access_by self.new.station.wire.device.guards.items
+            ≡ map access_by self.old.station.wire.device.guards.items }
         // It waits only as long as no link has anything to do; and a second at most where it shows
         // how far it is, or the end of the peer was seen.
         ensures waits { MayWait self.new.shows self.new.left self.new.station.core
@@ -272,14 +277,9 @@ impl<'a, R: Net + Log + Clock + Eprint> SendingHost<'a, R> {
         // Round by round: all that left the reader was handed in, in its order, one body behind the
         // other.
         ensures fed { result ≡ Verdicts.Done → Transfers
-            (place self.old.station.clock self.old.station.core
-            (noted self.old.joined self.old.left)
-            self.old.read self.old.closed self.old.ledger (I.remaining reader.old))
-            (place self.new.station.clock self.new.station.core
-            (noted self.new.joined self.new.left)
-            self.new.read self.new.closed self.new.ledger (I.remaining reader.new))
-            (λ old moment new. (old.last ≤ moment) × (new.last ≡ moment))
-            (peers_of self.old.station.wire.peers.items) self.old.id }
+            (sending_at self.old (I.remaining reader.old))
+            (sending_at self.new (I.remaining reader.new))
+            NeverGoesBack (peers_of self.old.station.wire.peers.items) self.old.id }
         // And the reader has nothing left.
         ensures all { result ≡ Verdicts.Done → (self.old.read ≡ true → IsAtEnd (I.remaining reader.old))
             → IsAtEnd (I.remaining reader.new) }
@@ -287,26 +287,12 @@ impl<'a, R: Net + Log + Clock + Eprint> SendingHost<'a, R> {
             → IsWholeAt self.new.station.core.endpoint self.new.id }
         ensures unanswered { result ≡ Verdicts.Unanswered → self.new.joined ≡ false }
         // Any verdict is that of a step, behind some rounds; or they never end.
-        ensures ends { EndsWith
-            (place self.old.station.clock self.old.station.core
-            (noted self.old.joined self.old.left)
-            self.old.read self.old.closed self.old.ledger (I.remaining reader.old))
-            (place self.new.station.clock self.new.station.core
-            (noted self.new.joined self.new.left)
-            self.new.read self.new.closed self.new.ledger (I.remaining reader.new))
-            result
-            (λ old moment new. (old.last ≤ moment) × (new.last ≡ moment))
-            (peers_of self.old.station.wire.peers.items) self.old.id
-            ⊎ LastsOn
-            (place self.old.station.clock self.old.station.core
-            (noted self.old.joined self.old.left)
-            self.old.read self.old.closed self.old.ledger (I.remaining reader.old))
-            (place self.new.station.clock self.new.station.core
-            (noted self.new.joined self.new.left)
-            self.new.read self.new.closed self.new.ledger (I.remaining reader.new))
-            result
-            (λ old moment new. (old.last ≤ moment) × (new.last ≡ moment))
-            (peers_of self.old.station.wire.peers.items) self.old.id }
+        ensures ends { EndsWith (sending_at self.old (I.remaining reader.old))
+            (sending_at self.new (I.remaining reader.new))
+            result NeverGoesBack (peers_of self.old.station.wire.peers.items) self.old.id
+            ⊎ LastsOn (sending_at self.old (I.remaining reader.old))
+            (sending_at self.new (I.remaining reader.new))
+            result NeverGoesBack (peers_of self.old.station.wire.peers.items) self.old.id }
     {
         for _ in 0..u64::MAX {
             if let Err(verdict) = self.step_or_wait(rt, alloc, reader) {
@@ -343,15 +329,9 @@ impl<'a, R: Net + Log + Clock + Eprint> SendingHost<'a, R> {
         ensures done { result ≡ 0 → IsWholeAt self.new.station.core.endpoint self.new.id }
         // Then, round by round, all that left the reader was handed in, in its order, one body
         // behind the other.
-        ensures fed { result ≡ 0 → Transfers
-            (place self.old.station.clock self.old.station.core
-            (noted self.old.joined self.old.left)
-            self.old.read self.old.closed self.old.ledger (I.remaining reader.old))
-            (place self.new.station.clock self.new.station.core
-            (noted self.new.joined self.new.left)
-            self.new.read self.new.closed self.new.ledger (I.remaining reader.new))
-            (λ old moment new. (old.last ≤ moment) × (new.last ≡ moment))
-            (peers_of self.old.station.wire.peers.items) self.old.id }
+        ensures fed { result ≡ 0 → Transfers (sending_at self.old (I.remaining reader.old))
+            (sending_at self.new (I.remaining reader.new))
+            NeverGoesBack (peers_of self.old.station.wire.peers.items) self.old.id }
         // And the reader has nothing left.
         ensures all { result ≡ 0 → (self.old.read ≡ true → IsAtEnd (I.remaining reader.old))
             → IsAtEnd (I.remaining reader.new) }

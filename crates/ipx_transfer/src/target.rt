@@ -3,8 +3,6 @@
 ghost use Rattle.std.specs.Prelude.{IfErr, IfOk};
 ghost use Rattle.ipx_transfer.specs.Target.{IsTargetFault, NamesAddress};
 
-use byteorder::{BigEndian, ByteOrder};
-use hex::FromHex;
 use ipx_wire::{Address, Network, Node, Socket};
 use std::fmt;
 
@@ -41,19 +39,19 @@ impl Target<'_> {
         ensures named { IfOk result (NamesAddress self.now) }
         ensures fault { IfErr result (IsTargetFault self.now) }
     {
-        let Ok(network) = <[u8; 4] as FromHex>::from_hex(self.network) else {
+        let Some(network) = Network::from_hex(self.network.as_bytes()) else {
             return Err(TargetFault::Network);
         };
-        let Ok(node) = <[u8; 6] as FromHex>::from_hex(self.node) else {
+        let Some(node) = Node::from_hex(self.node.as_bytes()) else {
             return Err(TargetFault::Node);
         };
-        let Ok(socket) = <[u8; 2] as FromHex>::from_hex(self.socket) else {
+        let Some(socket) = Socket::from_hex(self.socket.as_bytes()) else {
             return Err(TargetFault::Socket);
         };
         Ok(Address {
-            network: Network(BigEndian::read_u32(&network)),
-            node: Node(node),
-            socket: Socket(BigEndian::read_u16(&socket)),
+            network,
+            node,
+            socket,
         })
     }
 }

@@ -1,12 +1,13 @@
 //! What a host that listens does with its connections: it asks them, and lets them go.
 
 ghost use Rattle.std.specs.Prelude.{◌≡◌, ◌<◌, [], length, remove, slice_get, slice_set, take, false, All, IfSome, IsTrue, MatchOption, None, OnErr, Some, Err, Ok};
-ghost use Rattle.ipx_transfer.specs.Callers.{Asks, EndedAlone, LetsLinkGo, raised_if};
+ghost use Rattle.ipx_transfer.specs.Callers.{Asks, AsksOrCounts, EndedAlone, LetsLinkGo, raised_if};
 ghost use Rattle.ipx_transfer.specs.CallerActions.{is_unheard};
 ghost use Rattle.ipx_transfer.specs.Outlet.{left_of};
 ghost use Rattle.ipx_transfer.specs.ListenOutcomes.{parted, stop_in};
 ghost use Rattle.ipx_transfer.specs.Tending.{IsFateOf, JustStays, Tends, Tidies};
 ghost use Rattle.ipx_transfer.specs.declared.callers.Caller.{Caller};
+ghost use Rattle.ipx_transfer.specs.declared.callers.CallerAction.TheVariants as Fates;
 ghost use Rattle.ipx_transfer.specs.declared.callers.Standing.TheVariants as Standings;
 ghost use Rattle.ipx_transfer.specs.declared.listening.ListenOutcome.TheVariants as Stops;
 
@@ -45,7 +46,9 @@ fn stop_of(once: bool, fate: CallerAction, standing: Standing) -> Result<(), Lis
 impl<'a, R: Net + Log + Clock> ListeningHost<'a, R> {
     /// What becomes of a connection.
     pub fn fate_of(&self, caller: &Caller) -> CallerAction
-        ensures { IsFateOf self.now.station.core caller.now result }
+        ensures fate { IsFateOf self.now.station.core caller.now result }
+        ensures asks { IsFateOf self.now.station.core caller.now Fates.Asks
+            → result ≡ Fates.Asks }
     {
         let state = self.station.core.endpoint.state(caller.id).ok();
         let silent = self.station.moment().saturating_sub(caller.heard);
@@ -68,25 +71,31 @@ impl<'a, R: Net + Log + Clock> ListeningHost<'a, R> {
         None
     }
 
-    /// Asks whether the connection at a place is still there.
+    /// Asks whether the connection at a place is still there. Where memory is refused, that is
+    /// counted.
     fn ask(&mut self, alloc: Global, place: usize)
         requires { place < length self.old.callers.items }
         ensures asks { IfSome (slice_get self.old.callers.items place) (λ c. (c' : Caller)
             × Asks self.old.station.core.moment
             self.old.station.core.endpoint self.new.station.core.endpoint c c'
             × (self.new.callers.items ≡ slice_set self.old.callers.items place c')) }
+        ensures asked { IfSome (slice_get self.old.callers.items place) (λ c. AsksOrCounts
+            self.old.station.core.endpoint self.new.station.core.endpoint c place
+            self.old.callers.items self.new.callers.items
+            self.old.station.refused self.new.station.refused) }
         ensures core { self.new.station.core ≡ record self.old.station.core {
           endpoint = self.new.station.core.endpoint;
         } }
         ensures clock { self.new.station.clock ≡ self.old.station.clock }
-        ensures peers { self.new.station.wire.peers ≡ self.old.station.wire.peers }
+        ensures wire { self.new.station.wire ≡ self.old.station.wire }
         ensures readiness { self.new.station.readiness ≡ self.old.station.readiness }
         ensures outlet { self.new.outlet ≡ self.old.outlet }
         ensures once { self.new.once ≡ self.old.once }
     {
         let moment = self.station.moment();
         let endpoint = &mut self.station.core.endpoint;
-        ask(alloc, endpoint, &mut self.callers[place], moment);
+        let is_refused = ask(alloc, endpoint, &mut self.callers[place], moment);
+        self.station.count_refusal(is_refused);
     }
 
     /// Tells how many connections went before anything was heard of them, once a minute at most.
@@ -119,7 +128,7 @@ impl<'a, R: Net + Log + Clock> ListeningHost<'a, R> {
           endpoint = self.new.station.core.endpoint;
         } }
         ensures clock { self.new.station.clock ≡ self.old.station.clock }
-        ensures peers { self.new.station.wire.peers ≡ self.old.station.wire.peers }
+        ensures wire { self.new.station.wire ≡ self.old.station.wire }
         ensures readiness { self.new.station.readiness ≡ self.old.station.readiness }
         ensures outlet { self.new.outlet ≡ self.old.outlet }
         ensures once { self.new.once ≡ self.old.once }
@@ -137,13 +146,20 @@ impl<'a, R: Net + Log + Clock> ListeningHost<'a, R> {
         ensures tends { IfSome (slice_get self.old.callers.items place) (λ c. Tends
             self.old.once self.old.station.core c place self.new.station.core.endpoint
             self.old.callers.items self.new.callers.items (stop_in result)) }
+        // One that is to be asked is asked, where its link is open; or memory was refused, which is
+        // counted.
+        ensures asked { IfSome (slice_get self.old.callers.items place) (λ c.
+            IsFateOf self.old.station.core c Fates.Asks → AsksOrCounts
+            self.old.station.core.endpoint self.new.station.core.endpoint c place
+            self.old.callers.items self.new.callers.items
+            self.old.station.refused self.new.station.refused) }
         ensures only { OnErr result (IsTrue self.old.once) }
         ensures written { result ≡ Err Stops.Ended → left_of self.new.outlet ≡ [] }
         ensures core { self.new.station.core ≡ record self.old.station.core {
           endpoint = self.new.station.core.endpoint;
         } }
         ensures clock { self.new.station.clock ≡ self.old.station.clock }
-        ensures peers { self.new.station.wire.peers ≡ self.old.station.wire.peers }
+        ensures wire { self.new.station.wire ≡ self.old.station.wire }
         ensures readiness { self.new.station.readiness ≡ self.old.station.readiness }
         ensures outlet { self.new.outlet ≡ self.old.outlet }
         ensures once { self.new.once ≡ self.old.once }
@@ -169,7 +185,7 @@ impl<'a, R: Net + Log + Clock> ListeningHost<'a, R> {
           endpoint = self.new.station.core.endpoint;
         } }
         ensures clock { self.new.station.clock ≡ self.old.station.clock }
-        ensures peers { self.new.station.wire.peers ≡ self.old.station.wire.peers }
+        ensures wire { self.new.station.wire ≡ self.old.station.wire }
         ensures readiness { self.new.station.readiness ≡ self.old.station.readiness }
         ensures outlet { self.new.outlet ≡ self.old.outlet }
         ensures once { self.new.once ≡ self.old.once }

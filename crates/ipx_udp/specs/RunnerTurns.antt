@@ -4,23 +4,22 @@ use Rattle.std.specs.Prelude.{◌≡◌, ℕ, List, Option, None, Result, Ok, Er
 use Rattle.ipx_carrier.specs.declared.clock.SteppedClock.{SteppedClock}
 use Rattle.ipx_carrier.specs.declared.fault.RunFault.{RunFault}
 use Rattle.ipx_carrier.specs.declared.report.Report.{Report}
-use Rattle.ipx_carrier.specs.Runs.{EndsEarly, Runs}
+use Rattle.ipx_carrier.specs.Driving.{CanBegin, TakesTurn}
 use Rattle.ipx_carrier.specs.Stepped.{StepsOn}
 use Rattle.ipx_carrier.specs.Turns.{Given, Peers}
 
--- a turn can be begun: there are as many sockets as the core has ports, so many lists of peers, and no
--- socket failed yet
+-- a turn can be begun, and no socket failed yet
 abbrev pub CanTurn : ℕ → ℕ → ℕ → ℕ → Type 0
-CanTurn ports sockets lists failures = (sockets ≡ ports) × (lists ≡ ports) × (failures ≡ 0)
+CanTurn ports sockets lists failures = CanBegin ports sockets lists failures × (failures ≡ 0)
 
 module _ {C : Type 0} (hears misses : C → ℕ → List ℕ → ℕ → C → Type 0)
     (gives : C → ℕ → Option Given → C → Type 0) (withholds : C → ℕ → C → Type 0)
     (ports : ℕ) (peers : Peers) where
-  -- one turn, as `run` takes it, and how many of its packets had a node without an IP address; or a
-  -- part of one, which a fault ends. What passed at the sockets is not told
+  -- one turn, and how many of its packets had a node without an IP address; or a part of one, which a
+  -- fault ends. What passed at the sockets is not told
   abbrev pub TakesRunnerTurn : SteppedClock → SteppedClock → C → C → Result ℕ RunFault → Type 0
   TakesRunnerTurn clock clock_after old new (Ok unmapped) = (report : Report)
-      × Runs hears gives StepsOn ports peers 1 None None clock clock_after old new report
+      × TakesTurn hears misses gives withholds StepsOn ports peers None None clock clock_after old new (Ok report)
       × (unmapped ≡ report.unmapped)
   TakesRunnerTurn clock clock_after old new (Err f) =
-      EndsEarly hears misses gives withholds StepsOn ports peers 1 None None clock clock_after f old new
+      TakesTurn hears misses gives withholds StepsOn ports peers None None clock clock_after old new (Err f)

@@ -10,7 +10,7 @@ use Rattle.spx_units.specs.Cut.{cut_of}
 use Rattle.spx_units.specs.Message.{MessageView}
 use Rattle.spx_messages.specs.Changes.{AddsEnd, ChangesEnd, SameBut}
 use Rattle.spx_messages.specs.EndpointView.{EndpointView, Held, held_at}
-use Rattle.ipx_carrier.specs.OutcomeCounts.{raised}
+use Rattle.ipx_carrier.specs.Counting.{raised}
 use Rattle.ipx_carrier.specs.declared.host_core.HostCore.{HostCore}
 use Rattle.ipx_udp.specs.declared.runner.Runner.{Runner}
 use Rattle.ipx_udp.specs.declared.site.End.{End}

@@ -5,7 +5,7 @@ ghost use Rattle.ipx_carrier.specs.RunFaultNumbers.{failures_after};
 ghost use Rattle.ipx_carrier.specs.Turns.{peers_of};
 ghost use Rattle.ipx_udp.specs.RunnerTurns.{CanTurn, TakesRunnerTurn};
 
-use ipx_carrier::{Core, Datagrams, RunFault, SteppedClock, UdpDatagrams, run};
+use ipx_carrier::{Core, Datagrams, RunFault, SteppedClock, UdpDatagrams, turn};
 use std::alloc::Global;
 
 /// By how many milliseconds a clock goes on each turn.
@@ -59,18 +59,15 @@ impl<C: Core + Drop> Runner<C> {
         ensures sockets { length self.new.device.sockets.items
             ≡ length self.old.device.sockets.items }
     {
-        let ports = self.core.ports();
-        let here = self.device.ports() == ports && self.peers.len() == ports;
-        if !here || self.device.failures() > 0 {
+        if self.device.failures() > 0 {
             return Err(RunFault::Device);
         }
-        match run(
+        match turn(
             alloc,
             &mut self.core,
             &mut self.device,
             &self.peers,
             &mut self.clock,
-            1,
         ) {
             Ok(report) => Ok(report.unmapped),
             Err(fault) => Err(fault),

@@ -1,8 +1,44 @@
 //! Addresses and packets as people write them, in hex: network:node:socket.
 
+ghost use Rattle.std.specs.Prelude.{◌≡◌};
+ghost use Rattle.ipx_wire.specs.AddressText.{spelled_network, spelled_node, spelled_socket};
+
 use crate::address::{Address, Network, Node, Socket};
 use crate::ipx::Packet;
+use byteorder::{BigEndian, ByteOrder};
+use hex::FromHex;
 use std::fmt;
+
+impl Network {
+    /// The network that a text of eight hex digits spells, in either case. `None` is any other
+    /// text.
+    pub fn from_hex(text: &[u8]) -> Option<Network>
+        ensures { result ≡ spelled_network text.now }
+    {
+        let bytes = <[u8; 4] as FromHex>::from_hex(text).ok()?;
+        Some(Network(BigEndian::read_u32(&bytes)))
+    }
+}
+
+impl Node {
+    /// The node that a text of twelve hex digits spells, in either case. `None` is any other text.
+    pub fn from_hex(text: &[u8]) -> Option<Node>
+        ensures { result ≡ spelled_node text.now }
+    {
+        let bytes = <[u8; 6] as FromHex>::from_hex(text).ok()?;
+        Some(Node(bytes))
+    }
+}
+
+impl Socket {
+    /// The socket that a text of four hex digits spells, in either case. `None` is any other text.
+    pub fn from_hex(text: &[u8]) -> Option<Socket>
+        ensures { result ≡ spelled_socket text.now }
+    {
+        let bytes = <[u8; 2] as FromHex>::from_hex(text).ok()?;
+        Some(Socket(BigEndian::read_u16(&bytes)))
+    }
+}
 
 impl fmt::Display for Network {
     fn fmt<W: fmt::Write>(&self, f: &mut fmt::Formatter<W>) -> fmt::Result {

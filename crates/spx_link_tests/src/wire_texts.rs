@@ -56,6 +56,38 @@ fn texts_of_addresses(rt: HostRuntime) -> Result<(), Fail> {
     Ok(())
 }
 
+/// Texts that spell no network.
+const NO_NETWORKS: [&str; 7] = [
+    "",
+    "0000022",
+    "000000022",
+    "+0000022",
+    " 0000022",
+    "0000002g",
+    "0x000022",
+];
+
+#[test]
+fn addresses_are_read_from_hex(rt: HostRuntime) -> Result<(), Fail> {
+    assert_eq!(rt; Network::from_hex(b"00000022"), Some(Network(34)));
+    assert_eq!(rt;
+        Network::from_hex(b"fFfFfFfE"),
+        Some(Network(4_294_967_294))
+    );
+    for text in NO_NETWORKS {
+        assert_eq!(rt; Network::from_hex(text.as_bytes()), None);
+    }
+    let node = Some(Node([0, 0, 127, 0, 0, 5]));
+    assert_eq!(rt; Node::from_hex(b"00007F000005"), node);
+    assert_eq!(rt; Node::from_hex(b"00007f00000"), None);
+    assert_eq!(rt; Node::from_hex(b"00007f00000500"), None);
+    assert_eq!(rt; Socket::from_hex(b"4002"), Some(Socket(16_386)));
+    assert_eq!(rt; Socket::from_hex(b"ffff"), Some(Socket(65_535)));
+    assert_eq!(rt; Socket::from_hex(b"402"), None);
+    assert_eq!(rt; Socket::from_hex(b"-402"), None);
+    Ok(())
+}
+
 #[test]
 fn texts_of_packets(rt: HostRuntime) -> Result<(), Fail> {
     let header = IpxHeader {

@@ -15,8 +15,8 @@ use spx_link::{Numbers, Sent, State, Unit};
 
 impl Endpoint {
     /// The state of the link of an id. It is refused where no link has the id, as are `numbers`,
-    /// `is_whole` and `peek`. Ask it before `send`, which needs Live, and to see that a connection is done or
-    /// lost.
+    /// `is_whole` and `peek`. Ask it before `send`, which needs Live, and to see that a connection
+    /// is done or lost.
     pub fn state(&self, id: u16) -> Result<State, EndFault>
         ensures unknown { (result ≡ Err EndFaults.NoSuchEnd) ↔ (held_at self.now id ≡ None) }
         ensures known { IfSome (held_at self.now id) (λ h. result ≡ Ok h.link.state) }

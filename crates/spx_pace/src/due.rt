@@ -5,6 +5,9 @@ ghost use Rattle.spx_pace.specs.Pacing.{holds_back};
 
 use crate::pacer::Pacer;
 
+/// The longest time till a plan is asked for again, in milliseconds, where something is outstanding.
+const MOST_SLEEP: u64 = 60_000;
+
 impl Pacer {
     /// The moment at which a plan may differ from the last one, where nothing is heard before.
     ///
@@ -13,6 +16,8 @@ impl Pacer {
         ensures rests { IsNone result → (self.now.out ≡ 0) × (holds_back self.now ≡ false) }
         ensures none { self.now.out ≡ 0 → holds_back self.now ≡ false → IsNone result }
         ensures soon { IsTrue (holds_back self.now) → IfSome result (λ at. at ≤ now + 1) }
+        // So no timeout is slept through for longer than a minute.
+        ensures bound { IfSome result (λ at. at ≤ now + 60000) }
     {
         if self.holds_back() {
             let soon = now.saturating_add(1);
@@ -22,7 +27,8 @@ impl Pacer {
             return None;
         }
         let till = self.waits_till().unwrap_or(now);
-        Some(earlier(till, self.repair_due()))
+        let latest = now.saturating_add(MOST_SLEEP);
+        Some(earlier(till, self.repair_due()).min(latest))
     }
 
     /// Whether something would go now, but for its credit or for another that goes first.

@@ -15,6 +15,10 @@ const MOST_DOUBLED: u64 = 4000;
 /// seconds behind its end, and no longer.
 const MOST_END_WAIT: u64 = 1000;
 
+/// The shortest time that the end of a connection is waited for, which alone is outstanding: ten of
+/// these outlast a router that is started again.
+const LEAST_END_WAIT: u64 = 500;
+
 /// How many samples tell whether a queue stands.
 const RECENT: usize = 8;
 
@@ -141,7 +145,7 @@ impl RoundTrip {
 
     /// How long that of the end of a connection is waited for, which alone is outstanding.
     pub fn end_wait(&self) -> u64 {
-        self.wait.min(MOST_END_WAIT)
+        self.wait.max(LEAST_END_WAIT).min(MOST_END_WAIT)
     }
 
     /// Whether the wait was not over since the last acknowledgement.

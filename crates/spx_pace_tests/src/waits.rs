@@ -79,10 +79,10 @@ fn all_goes_again_in_order(rt: HostRuntime) -> Result<(), Fail> {
     Ok(())
 }
 
-/// The end alone is waited for a second at most, and never longer.
+/// The end alone is waited for half a second at least and a second at most, and never longer.
 #[test]
 fn the_end_alone(rt: HostRuntime) -> Result<(), Fail> {
-    for (trip, wait) in [(100, 300), (2000, 1000)] {
+    for (trip, wait) in [(100, 500), (250, 750), (2000, 1000)] {
         let mut paced = Paced::joined(rt.alloc(), trip)?;
         let mut now = 5000;
         paced.plan(now);
@@ -106,7 +106,7 @@ fn the_end_behind_a_unit(rt: HostRuntime) -> Result<(), Fail> {
     paced.send_end(5000);
     assert_eq!(rt; paced.pacer.next_due(5000), Some(11_000));
     paced.acknowledge(1, 5100);
-    // Its round trip was 100 ms, and the wait is 300.
-    assert_eq!(rt; paced.pacer.next_due(5100), Some(5400));
+    // Its round trip was 100 ms, and the wait is 300: half a second for the end, which is alone now.
+    assert_eq!(rt; paced.pacer.next_due(5100), Some(5600));
     Ok(())
 }

@@ -18,12 +18,9 @@ abbrev pub length_of : Option MessageView → ℕ
 length_of None = 0
 length_of (Some m) = length m.body
 
--- the most bytes of a message, and of a unit
+-- the most bytes of a message
 abbrev pub most_bytes : ℕ
 most_bytes = 65535
-
-abbrev pub most_unit : ℕ
-most_unit = 534
 
 -- why a message is not cut: it is too long, or its stream is the end of a connection or its
 -- confirmation

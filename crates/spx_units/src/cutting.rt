@@ -1,6 +1,7 @@
 //! A message, cut into units.
 
 ghost use Rattle.std.specs.Prelude.{◌≡◌, ◌≤◌, ◌++◌, [], ◌∷◌, All, Err, IfOk, IsOkUnless, None, OnOk, Some, length};
+ghost use Rattle.ipx_wire.specs.Assigned.{spx_max_data_size};
 ghost use Rattle.spx_units.specs.Cut.{IsCut, cut_of, unit_with};
 ghost use Rattle.spx_units.specs.Message.{cut_fault, message_view};
 ghost use Rattle.spx_units.specs.declared.fault.MessageFault.{MessageFault};
@@ -8,19 +9,16 @@ ghost use Rattle.spx_units.specs.declared.fault.MessageFault.TheVariants as Mess
 
 use crate::fault::MessageFault;
 use crate::message::{MOST_BYTES, Message};
-use ipx_wire::Fragment;
+use ipx_wire::{Fragment, SPX_MAX_DATA_SIZE};
 use spx_link::Unit;
 use std::alloc::{AllocError, Global};
-
-/// How many bytes a unit has at most.
-const MOST_UNIT: usize = 534;
 
 /// The least datastream type that no message has: that of the end of a connection.
 const END_STREAM: u8 = 0xfe;
 
 /// Adds a unit with these bytes, built where it stands: they are copied once.
 fn push_unit(units: &mut Vec<Unit>, stream: u8, last: bool, bytes: &[u8]) -> Result<(), AllocError>
-    requires { length bytes.now ≤ 534 }
+    requires { length bytes.now ≤ spx_max_data_size }
     ensures { OnOk result
         (units.new.items ≡ units.old.items ++ unit_with stream last bytes.now ∷ []) }
 {
@@ -65,10 +63,10 @@ fn cut_bytes(alloc: Global, stream: u8, bytes: &[u8]) -> Result<Vec<Unit>, Messa
         (λ v. v.items ≡ cut_of (record { stream = stream; body = bytes.now })) }
     ensures memory { IsOkUnless result MessageFaults.OutOfMemory }
 {
-    let mut units = Vec::with_capacity(alloc, bytes.len() / MOST_UNIT + 1)?;
+    let mut units = Vec::with_capacity(alloc, bytes.len() / SPX_MAX_DATA_SIZE + 1)?;
     let mut rest = bytes;
-    while rest.len() > MOST_UNIT {
-        let (piece, later) = rest.split_at(MOST_UNIT);
+    while rest.len() > SPX_MAX_DATA_SIZE {
+        let (piece, later) = rest.split_at(SPX_MAX_DATA_SIZE);
         push_unit(&mut units, stream, false, piece)?;
         rest = later;
     }

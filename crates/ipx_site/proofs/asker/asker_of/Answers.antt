@@ -1,9 +1,8 @@
-use Rattle.std.proofs.Common.{◌≡◌, ◌∙◌, List, Option, Some, None, length, refl, slice_get, subst, sym}
+use Rattle.std.proofs.Common.{◌≡◌, ◌∙◌, Option, Some, None, length, refl, slice_get, subst, sym}
 use Rattle.std.specs.Prelude.{IfNone}
 use Rattle.std.proofs.lemmas.Option.{slice_get_past, slice_get_read}
 use Rattle.ipx_router.specs.declared.port.Port.{Port}
-use Rattle.ipx_site.specs.declared.asker.Asker.{Asker}
-use Rattle.ipx_site.specs.Sparing.{AsksAt, IsGeneralQuery}
+use Rattle.ipx_site.specs.Sparing.{AsksAt}
 use Rattle.ipx_site.proofs.asker.asker_of.Goals as goal
 
 along : {A P Q : Type 0} (o : Option A) → (P → Q) → IfNone o P → IfNone o Q

@@ -1,4 +1,4 @@
-use Rattle.std.proofs.Common.{Vec, ◌≡◌, ℕ, List, Option, ◌∙◌, ap, sym, subst, true, false}
+use Rattle.std.proofs.Common.{Vec, ℕ, List, Option, ◌∙◌, ap, sym, subst}
 use Rattle.std.specs.Global.{Global}
 use Rattle.std.specs.List.{list_all}
 use Rattle.toml.specs.View.{view}

@@ -1,6 +1,7 @@
-use Rattle.std.proofs.Common.{◌≡◌, ◌-◌, ℕ, List, length, take, drop, arith, subst, sym}
+use Rattle.std.proofs.Common.{◌≡◌, ◌∙◌, ◌-◌, ℕ, Option, Some, None, List, length, take, drop, arith, subst, sym}
 use Rattle.std.proofs.lemmas.List.{length-drop, take_all}
-use Rattle.ipx_site.specs.Origins.{WritesNode}
+use Rattle.ipx_wire.specs.AddressText.{spelled_node}
+use Rattle.ipx_wire.specs.declared.address.Node.{Node}
 use Rattle.ipx_site.proofs.Naming.{no_network, no_node, places}
 use Rattle.ipx_site.proofs.origin.origin_in.Goals as goal
 
@@ -19,4 +20,6 @@ returns-in_err-node c =
     let rest : take (length text - 9) (drop 9 text) ≡ drop 9 text = take_all (length text - 9) (drop 9 text) (omega (arith, length-drop 9 text)) in
     rw c.from_residual-in_err-node.ensures
     (no_node text (λ e. omega (arith, c.if-text-eq-NETWORK_DIGITS.false, e))
-    (λ n node w. c.in_err-node.ensures node (subst (λ (l : List ℕ). WritesNode l node) (sym rest) (places text n node w).3)))
+    (λ n node w.
+    let other : ◌≡◌ {A = Option Node} None (Some node) = c.in_err-node.ensures ∙ subst (λ (l : List ℕ). spelled_node l ≡ Some node) (sym rest) (places text n node w).3 in
+    absurd (cc)))

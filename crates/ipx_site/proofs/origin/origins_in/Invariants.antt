@@ -1,4 +1,4 @@
-use Rattle.std.proofs.Common.{ℕ, List, ◌++◌, drop}
+use Rattle.std.proofs.Common.{List, ◌++◌, drop}
 use Rattle.toml.specs.View.{items_view}
 use Rattle.ipx_site.specs.Origins.{IsOrigin}
 use Rattle.ipx_site.specs.Values.{AreEach}

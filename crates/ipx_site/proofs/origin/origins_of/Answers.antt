@@ -1,7 +1,6 @@
-use Rattle.std.proofs.Common.{◌≡◌, ◌<◌, ◌≤◌, Some, arith, length, List, ap, sym, subst, ◌∙◌}
+use Rattle.std.proofs.Common.{arith, List, ap, sym, subst, ◌∙◌}
 use Rattle.std.specs.Option.{option_map}
 use Rattle.std.specs.Prelude.{IfOk}
-use Rattle.toml.specs.Data.{as_array}
 use Rattle.toml.specs.View.{array_view, items_view, view}
 use Rattle.toml.specs.declared.value.Value.{Value}
 use Rattle.ipx_site.specs.Origins.{ReadsOrigins}

@@ -4,15 +4,14 @@ use Rattle.ipx_site.specs.SitePorts.{router_port_of, router_ports, site_peers, u
 use Rattle.ipx_site.proofs.Ports.{same_length}
 use Rattle.ipx_site.proofs.routing.start.Goals as goal
 
-pub new-requires-4-clause-sockets : goal.new-requires-4-clause-sockets
-new-requires-4-clause-sockets g c =
+pub new-requires-2-clause-sockets : goal.new-requires-2-clause-sockets
+new-requires-2-clause-sockets g c =
     let ports = ap length (c.in_ok-core.ensures.router ∙ ap router_ports c.deref.ensures.value) ∙ length-map c.args.site.ports.items router_port_of in
-    ap (λ d. length d.sockets.items) c.new-2.ensures.device
-    ∙ same_length (λ s. s.udp_port) (λ p. p.udp_port) c.in_ok-sockets.sockets.sockets.items c.args.site.ports.items (c.in_ok-sockets.ensures ∙ ap udp_ports c.deref-4.ensures.value)
+    same_length (λ s. s.udp_port) (λ p. p.udp_port) c.in_ok-device.device.device.sockets.items c.args.site.ports.items (c.in_ok-device.ensures.sockets ∙ ap udp_ports c.deref-3.ensures.value)
     ∙ sym ports
 
-pub new-requires-4-clause-lists : goal.new-requires-4-clause-lists
-new-requires-4-clause-lists g c =
+pub new-requires-2-clause-lists : goal.new-requires-2-clause-lists
+new-requires-2-clause-lists g c =
     let ports = ap length (c.in_ok-core.ensures.router ∙ ap router_ports c.deref.ensures.value) ∙ length-map c.args.site.ports.items router_port_of in
     same_length (λ v. v.items) (λ p. p.peers.items) c.in_ok-peers.peers.items c.args.site.ports.items (c.in_ok-peers.ensures ∙ ap site_peers c.deref-2.ensures.value)
     ∙ sym ports

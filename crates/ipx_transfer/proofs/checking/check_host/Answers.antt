@@ -1,12 +1,19 @@
-use Rattle.std.proofs.Common.{◌≡◌}
-use Rattle.ipx_site.specs.Host.{IsHostText}
-use Rattle.ipx_site.specs.Loading.{IsFileText}
+use Rattle.std.proofs.Common.{String, ◌≡◌, ℕ, List, Result, Ok, Err, subst}
+use Rattle.std.specs.Prelude.{IfOk, IsOkAnd, string_bytes}
+use Rattle.std.specs.Global.{Global}
+use Rattle.std.specs.Io.KnownBytes.{Appends}
 use Rattle.ipx_transfer.specs.Saying.{host_lines}
-use Rattle.ipx_transfer.proofs.Checked.{written_so}
 use Rattle.ipx_transfer.proofs.checking.check_host.Goals as goal
 
-pub returns-clause-lines : goal.returns-clause-lines
-returns-clause-lines g c =
-    written_so IsFileText IsHostText (host_lines c.args.path.now) (c.check_loaded.new.writer ≡ c.args.writer.now)
-    (g.W.Write.contents c.args.writer.now) (g.W.Write.contents c.check_loaded.new.writer) c.load_host-loaded.result c.check_loaded.result
-    c.load_host-loaded.ensures.host c.load_host-loaded.ensures.fault c.check_loaded.ensures.unread c.check_loaded.ensures.lines
+-- what is written is the text that was made
+written : {E : Type 0} (IsWritten : List ℕ → Type 0) (whole : List ℕ) (lines : Result (String Global) E)
+    → IsOkAnd lines (λ l. IsWritten (string_bytes l)) → IfOk lines (λ l. string_bytes l ≡ whole) → IsWritten whole
+written IsWritten whole (Ok l) is same = subst IsWritten same is
+written IsWritten whole (Err e) is same = absurd is
+
+pub returns-in-Ok-clause-lines : goal.returns-in-Ok-clause-lines
+returns-in-Ok-clause-lines g c zero =
+    let (text, is, describes) = c.in-Ok.ensures.host in
+    let made = written (Appends (g.W.Write.contents c.args.writer.now) (g.W.Write.contents c.write_checked.new.writer))
+    (host_lines c.args.path.now c.in-Ok.file) c.host_to_lines.result (c.write_checked.ensures.written zero) c.host_to_lines.ensures in
+    (text, c.in-Ok.file, is, describes, made)

@@ -1,6 +1,5 @@
 use Rattle.std.proofs.Common.{◌∙◌, sym}
-use Rattle.ipx_transfer.specs.Hosting.{host}
-use Rattle.ipx_transfer.specs.Outlet.{left_of}
+use Rattle.ipx_transfer.specs.Midway.{listening_at}
 use Rattle.ipx_transfer.proofs.Hosted.{ended_well}
 use Rattle.ipx_transfer.proofs.listen.run_listening.Goals as goal
 
@@ -12,6 +11,6 @@ returns-in-Ok-tell_place-clause-well g c = λ zero.
     let run = c.finish.ensures.serves in
     rw (c.in-Ok.is) (
       run.2,
-      ended_well (host old.station.clock old.station.core old.callers.items (left_of old.outlet) (held c.args.writer.now))
-          (host new.station.clock new.station.core new.callers.items (left_of new.outlet) (held c.finish.new.writer)) old.once run.0 _ _ run.2 run.3 run.4 (sym run.1 ∙ zero) (c.finish.ensures.written zero).1,
+      ended_well (listening_at old (held c.args.writer.now))
+          (listening_at new (held c.finish.new.writer)) old.once run.0 _ _ run.2 run.3 run.4 (sym run.1 ∙ zero) (c.finish.ensures.written zero).1,
     )

@@ -1,7 +1,6 @@
-use Rattle.std.proofs.Common.{◌≡◌, ◌≤◌, ◌<◌, ◌+◌, ◌++◌, ◌∷◌, [], List, filter, length, vec_capacity, arith, rules, ap, sym, ◌∙◌}
+use Rattle.std.proofs.Common.{◌≡◌, filter, length, arith, rules, ap, ◌∙◌}
 use Rattle.std.proofs.lemmas.Fn.{filter_same}
 use Rattle.std.proofs.lemmas.List.Sums.{length-filter}
-use Rattle.ipx_site.specs.declared.askers.Asking.{Asking}
 use Rattle.ipx_site.specs.Askers.{AskersView, is_another_out}
 use Rattle.ipx_site.proofs.askers.Askers.take_turn.Goals as goal
 

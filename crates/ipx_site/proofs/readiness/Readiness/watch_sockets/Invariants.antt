@@ -1,5 +1,5 @@
 use Rattle.std.proofs.Common.{◌≡◌, ◌+◌}
-use Rattle.ipx_site.specs.Bursts.{counted}
+use Rattle.ipx_carrier.specs.Counting.{counted}
 use Rattle.ipx_site.proofs.readiness.Readiness.watch_sockets.Given as goal
 
 abbrev pub invariant-loop-port : goal.invariant-loop-port

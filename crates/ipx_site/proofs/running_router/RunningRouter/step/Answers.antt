@@ -1,11 +1,8 @@
-use Rattle.std.proofs.Common.{◌≡◌, ◌≤◌, ◌∙◌, ℕ, ap, refl, sym}
+use Rattle.std.proofs.Common.{◌∙◌, ℕ, ap, refl, sym}
 use Rattle.ipx_site.specs.Leisure.{IsToDo, agenda, happened}
-use Rattle.ipx_site.specs.declared.clock.SteadyClock.{SteadyClock}
+use Rattle.ipx_site.specs.Steady.{NeverGoesBack}
 use Rattle.ipx_site.proofs.Rounds.{goes_on, rests, sleeps}
 use Rattle.ipx_site.proofs.running_router.RunningRouter.step.Goals as goal
-
-abbrev tells : {R : Type 0} → SteadyClock R → ℕ → SteadyClock R → Type 0
-tells old moment new = (old.last ≤ moment) × (new.last ≡ moment)
 
 pub returns-in_err-wait-clause-core : goal.returns-in_err-wait-clause-core
 returns-in_err-wait-clause-core g c =
@@ -15,7 +12,7 @@ returns-in_err-wait-clause-core g c =
       s.clock,
       c.round-burst.result,
       c.round-burst.ensures.core,
-      rests todo s.clock s.clock tells _ _ c.round-burst.result.fault c.round-burst.result.quiet (sym c.is_some.ensures ∙ c.if-is_some.true) c.wait.ensures.asked refl,
+      rests todo s.clock s.clock NeverGoesBack _ _ c.round-burst.result.fault c.round-burst.result.quiet (sym c.is_some.ensures ∙ c.if-is_some.true) c.wait.ensures.asked refl,
     )
 
 pub returns-in_err-wait-2-clause-core : goal.returns-in_err-wait-2-clause-core
@@ -26,7 +23,7 @@ returns-in_err-wait-2-clause-core g c =
       s.clock,
       c.round-burst.result,
       c.round-burst.ensures.core,
-      sleeps todo s.clock _ tells _ _ c.round-burst.result.fault c.round-burst.result.quiet (sym c.is_some.ensures ∙ c.if-is_some.false) c.if-burst.true c.now-now.result c.leisure-leisure.result c.now-now.ensures c.leisure-leisure.ensures c.wait-then-burst.ensures.asked,
+      sleeps todo s.clock _ NeverGoesBack _ _ c.round-burst.result.fault c.round-burst.result.quiet (sym c.is_some.ensures ∙ c.if-is_some.false) c.if-burst.true c.now-now.result c.leisure-leisure.result c.now-now.ensures c.leisure-leisure.ensures c.wait-then-burst.ensures.asked,
     )
 
 pub returns-in_ok-wait-clause-core : goal.returns-in_ok-wait-clause-core
@@ -37,7 +34,7 @@ returns-in_ok-wait-clause-core g c =
       s.clock,
       c.round-burst.result,
       c.round-burst.ensures.core,
-      rests todo s.clock s.clock tells _ _ c.round-burst.result.fault c.round-burst.result.quiet (sym c.is_some.ensures ∙ c.if-is_some.true) c.wait.ensures.asked refl,
+      rests todo s.clock s.clock NeverGoesBack _ _ c.round-burst.result.fault c.round-burst.result.quiet (sym c.is_some.ensures ∙ c.if-is_some.true) c.wait.ensures.asked refl,
     )
 
 pub returns-in_ok-wait-2-clause-core : goal.returns-in_ok-wait-2-clause-core
@@ -48,7 +45,7 @@ returns-in_ok-wait-2-clause-core g c =
       s.clock,
       c.round-burst.result,
       c.round-burst.ensures.core,
-      sleeps todo s.clock _ tells _ _ c.round-burst.result.fault c.round-burst.result.quiet (sym c.is_some.ensures ∙ c.if-is_some.false) c.if-burst.true c.now-now.result c.leisure-leisure.result c.now-now.ensures c.leisure-leisure.ensures c.wait-then-burst.ensures.asked,
+      sleeps todo s.clock _ NeverGoesBack _ _ c.round-burst.result.fault c.round-burst.result.quiet (sym c.is_some.ensures ∙ c.if-is_some.false) c.if-burst.true c.now-now.result c.leisure-leisure.result c.now-now.ensures c.leisure-leisure.ensures c.wait-then-burst.ensures.asked,
     )
 
 pub returns-else-burst-clause-core : goal.returns-else-burst-clause-core
@@ -59,5 +56,5 @@ returns-else-burst-clause-core g c =
       s.clock,
       c.round-burst.result,
       c.round-burst.ensures.core,
-      goes_on todo s.clock s.clock tells _ _ c.round-burst.result.fault c.round-burst.result.quiet (sym c.is_some.ensures ∙ c.if-is_some.false) c.if-burst.false (ap (λ r. r.asked) c.round-burst.ensures.ready) refl,
+      goes_on todo s.clock s.clock NeverGoesBack _ _ c.round-burst.result.fault c.round-burst.result.quiet (sym c.is_some.ensures ∙ c.if-is_some.false) c.if-burst.false (ap (λ r. r.asked) c.round-burst.ensures.ready) refl,
     )

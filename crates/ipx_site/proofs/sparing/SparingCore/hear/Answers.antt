@@ -1,8 +1,8 @@
-use Rattle.std.proofs.Common.{◌≡◌, List, Result, Ok, Err, ap, inl, inr, refl, rules, subst}
+use Rattle.std.proofs.Common.{List, Result, Ok, Err, ap, inl, inr, refl, rules, subst}
 use Rattle.std.specs.Result.{OnOk}
 use Rattle.ipx_router.specs.declared.port.Port.{Port}
 use Rattle.ipx_site.specs.declared.asker.Asker.{Asker}
-use Rattle.ipx_site.specs.Askers.{AskersView, HasTurn, with_turn_taken}
+use Rattle.ipx_site.specs.Askers.{AskersView, HasTurn}
 use Rattle.ipx_site.specs.Sparing.{HearsSparingly, IsGeneralQuery, SparingView}
 use Rattle.ipx_site.proofs.sparing.SparingCore.hear.Goals as goal
 

@@ -9,7 +9,7 @@ use Rattle.ipx_transfer.proofs.listening.ListeningHost.first_to_tend.Goals as go
 pub loop-place-preserved : goal.loop-place-preserved
 loop-place-preserved g c =
     let stays : c.fate_of.result ≡ Fates.Stays = first_of (search rules, cc) in
-    first_more c.args.self.now.station.core c.args.self.now.callers.items c.deref-caller-items.result.now c.loop-place.place _ c.fate_of.result c.deref-caller-items.ensures.value (omega arith) c.loop-place.invariant c.fate_of.ensures stays
+    first_more c.args.self.now.station.core c.args.self.now.callers.items c.deref-caller-items.result.now c.loop-place.place _ c.fate_of.result c.deref-caller-items.ensures.value (omega arith) c.loop-place.invariant c.fate_of.ensures.fate stays
 
 pub returns-clause-first : goal.returns-clause-first
 returns-clause-first g c =

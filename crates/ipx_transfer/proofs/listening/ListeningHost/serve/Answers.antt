@@ -1,7 +1,6 @@
 use Rattle.std.proofs.Common.{◌∙◌, [], ap, arith, refl}
 use Rattle.ipx_carrier.specs.Turns.{peers_of}
-use Rattle.ipx_transfer.specs.Hosting.{host}
-use Rattle.ipx_transfer.specs.Outlet.{left_of}
+use Rattle.ipx_transfer.specs.Midway.{listening_at}
 use Rattle.ipx_transfer.proofs.Hosted.{served, served_long, steps_more}
 use Rattle.ipx_transfer.proofs.listening.ListeningHost.serve.Goals as goal
 
@@ -16,9 +15,9 @@ loop-step-preserved g c =
     let new = c.step_or_wait.new.self in
     let i = c.loop-step.invariant in
     let step = c.in_default.ensures.steps in
-    let start = host old.station.clock old.station.core old.callers.items (left_of old.outlet) (held c.args.writer.now) in
-    let before = host now.station.clock now.station.core now.callers.items (left_of now.outlet) (held c.loop-step.writer) in
-    let after = host new.station.clock new.station.core new.callers.items (left_of new.outlet) (held c.step_or_wait.new.writer) in
+    let start = listening_at old (held c.args.writer.now) in
+    let before = listening_at now (held c.loop-step.writer) in
+    let after = listening_at new (held c.step_or_wait.new.writer) in
     record {
       once = c.step_or_wait.ensures.once ∙ i.once;
       peers = c.step_or_wait.ensures.peers ∙ i.peers;
@@ -33,9 +32,9 @@ returns-in-Err-clause-serves g c =
     let new = c.step_or_wait.new.self in
     let i = c.loop-step.invariant in
     let step = c.in-Err.ensures.steps in
-    let start = host old.station.clock old.station.core old.callers.items (left_of old.outlet) (held c.args.writer.now) in
-    let before = host now.station.clock now.station.core now.callers.items (left_of now.outlet) (held c.loop-step.writer) in
-    let after = host new.station.clock new.station.core new.callers.items (left_of new.outlet) (held c.step_or_wait.new.writer) in
+    let start = listening_at old (held c.args.writer.now) in
+    let before = listening_at now (held c.loop-step.writer) in
+    let after = listening_at new (held c.step_or_wait.new.writer) in
     served c.loop-step._step start before after old.once now.once c.in-Err.stop _ _ _ i.steps.0 step.0 i.once (ap (λ l. peers_of l.items) i.peers) i.steps.1 step.1
 
 pub returns-clause-serves : goal.returns-clause-serves
@@ -44,6 +43,6 @@ returns-clause-serves g c =
     let old = c.args.self.now in
     let now = c.loop-step.self in
     let i = c.loop-step.invariant in
-    let start = host old.station.clock old.station.core old.callers.items (left_of old.outlet) (held c.args.writer.now) in
-    let before = host now.station.clock now.station.core now.callers.items (left_of now.outlet) (held c.loop-step.writer) in
+    let start = listening_at old (held c.args.writer.now) in
+    let before = listening_at now (held c.loop-step.writer) in
     served_long c.loop-step._step start before old.once _ _ i.steps.0 (omega (arith, c.loop-step-test.false, c.loop-step.auto._step-end)) i.steps.1

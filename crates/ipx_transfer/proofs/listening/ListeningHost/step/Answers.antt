@@ -1,7 +1,6 @@
 use Rattle.std.proofs.Common.{◌∙◌, Some}
 use Rattle.std.proofs.lemmas.Result.{err_from_is_err_and}
-use Rattle.ipx_transfer.specs.Hosting.{host}
-use Rattle.ipx_transfer.specs.Outlet.{left_of}
+use Rattle.ipx_transfer.specs.Midway.{listening_at}
 use Rattle.ipx_transfer.proofs.Hosted.{stepped, tidied_to}
 use Rattle.ipx_transfer.proofs.listening.ListeningHost.step.Goals as goal
 
@@ -17,7 +16,7 @@ returns-in_err-tidy-clause-steps g c =
     let p = err_from_is_err_and c.from_residual-in_err-tidy.result c.from_residual-in_err-tidy.ensures.1 in
     rw (p.1, p.2) (
       moves.0,
-      tidied_to (host old.station.clock old.station.core old.callers.items (left_of old.outlet) (held c.args.writer.now))
-          (host new.station.clock new.station.core new.callers.items (left_of new.outlet) (held c.pass.new.writer)) old.once stop _ _ moves.0
+      tidied_to (listening_at old (held c.args.writer.now))
+          (listening_at new (held c.pass.new.writer)) old.once stop _ _ moves.0
           (stepped old.station.clock heard.station.clock passed.station.clock new.station.clock old.station.core heard.station.core passed.station.core new.station.core old.callers.items heard.callers.items passed.callers.items new.callers.items old.outlet heard.outlet passed.outlet new.outlet old.once passed.once (held c.args.writer.now) (held c.pass.new.writer) (Some stop) _ _ moves.0 c.hear-turn.ensures.hears c.hear-turn.ensures.outlet c.pass.ensures.clock (c.pass.ensures.once ∙ c.hear-turn.ensures.once) moves.1 c.tidy.ensures.clock c.tidy.ensures.outlet c.in_err-tidy.ensures.tidies),
     )

@@ -49,7 +49,7 @@ loop-tended-preserved g c =
       tends = tends_more old.once old.station.core l.station.core new.station.core old.callers.items l.callers.items new.callers.items c.loop-tended._tended i.tends one;
       core = c.tend.ensures.core ∙ ap (λ (k : EndCore). record k { endpoint = new.station.core.endpoint }) i.core;
       clock = c.tend.ensures.clock ∙ i.clock;
-      peers = c.tend.ensures.peers ∙ i.peers;
+      wire = c.tend.ensures.wire ∙ i.wire;
       readiness = c.tend.ensures.readiness ∙ i.readiness;
       outlet = c.tend.ensures.outlet ∙ i.outlet;
       before = λ is alone.

@@ -11,7 +11,7 @@ invariant-loop-tended g l = record {
   tends : TendsOn l._tended l.fn.self.once l.fn.self.station.core l.self.station.core l.fn.self.callers.items l.self.callers.items;
   core : l.self.station.core ≡ record l.fn.self.station.core { endpoint = l.self.station.core.endpoint };
   clock : l.self.station.clock ≡ l.fn.self.station.clock;
-  peers : l.self.station.wire.peers ≡ l.fn.self.station.wire.peers;
+  wire : l.self.station.wire ≡ l.fn.self.station.wire;
   readiness : l.self.station.readiness ≡ l.fn.self.station.readiness;
   outlet : l.self.outlet ≡ l.fn.self.outlet;
   before : IsTrue l.self.once → EndedAlone l.self.callers.items → EndedAlone l.fn.self.callers.items;

@@ -2,8 +2,8 @@ use Rattle.std.proofs.Common.{arith, refl, rules}
 use Rattle.std.proofs.lemmas.Grind.{common_steps}
 use Rattle.ipx_transfer.proofs.sending.SendingHost.open.Goals as goal
 
-pub returns : goal.returns
-returns g c = λ known. record {
+pub returns-clause-dialing : goal.returns-clause-dialing
+returns-clause-dialing g c = λ known. record {
   network = first_of (search rules, grind (arith, common_steps));
   node = first_of (search rules, grind (arith, common_steps));
   router = first_of (search rules, grind (arith, common_steps));
@@ -11,6 +11,7 @@ returns g c = λ known. record {
   link = first_of (search rules, grind (arith, common_steps));
   alone = λ q other. first_of (search rules, grind (arith, common_steps));
   deaf = λ s. first_of (search rules, grind (arith, common_steps));
+  paced = first_of (search rules, grind (arith, common_steps));
   unseen = refl;
   unread = refl;
   unended = refl;

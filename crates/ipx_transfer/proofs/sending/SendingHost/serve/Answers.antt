@@ -2,6 +2,7 @@ use Rattle.std.proofs.Common.{◌∙◌, ℕ, List, [], Option, Err, inl, refl, 
 use Rattle.std.specs.List.{concat}
 use Rattle.std.specs.Io.KnownBytes.{Consumes, IsAtEnd}
 use Rattle.ipx_carrier.specs.Turns.{peers_of}
+use Rattle.ipx_transfer.specs.Midway.{sending_at}
 use Rattle.ipx_transfer.specs.SendRounds.{place}
 use Rattle.ipx_transfer.specs.SendSteps.{noted}
 use Rattle.ipx_transfer.specs.Transfer.{IsWholeAt}
@@ -17,9 +18,9 @@ loop-preserved g c =
     let now = c.loop.self in
     let new = c.step_or_wait.new.self in
     let fed = c.loop.invariant.fed in
-    let start = place old.station.clock old.station.core (noted old.joined old.left) old.read old.closed old.ledger (g.I.Read.remaining c.args.reader.now) in
-    let before = place now.station.clock now.station.core (noted now.joined now.left) now.read now.closed now.ledger (g.I.Read.remaining c.loop.reader) in
-    let after = place new.station.clock new.station.core (noted new.joined new.left) new.read new.closed new.ledger (g.I.Read.remaining c.step_or_wait.new.reader) in
+    let start = sending_at old (g.I.Read.remaining c.args.reader.now) in
+    let before = sending_at now (g.I.Read.remaining c.loop.reader) in
+    let after = sending_at new (g.I.Read.remaining c.step_or_wait.new.reader) in
     let among = ap (λ l. peers_of l.items) c.loop.invariant.peers in
     let step = same_step _ before after _ _ _ _ old.id now.id c.loop.invariant.id among c.in_default.ensures.steps in
     record {
@@ -36,8 +37,8 @@ returns-in-Err-clause-fed g c = λ done.
     let fed = c.loop.invariant.fed in
     let known = g.I.Read.remaining c.args.reader.now in
     let start = place old.station.clock old.station.core (noted old.joined old.left) old.read old.closed old.ledger known in
-    let before = place now.station.clock now.station.core (noted now.joined now.left) now.read now.closed now.ledger (g.I.Read.remaining c.loop.reader) in
-    let after = place new.station.clock new.station.core (noted new.joined new.left) new.read new.closed new.ledger (g.I.Read.remaining c.step_or_wait.new.reader) in
+    let before = sending_at now (g.I.Read.remaining c.loop.reader) in
+    let after = sending_at new (g.I.Read.remaining c.step_or_wait.new.reader) in
     let among = ap (λ l. peers_of l.items) c.loop.invariant.peers in
     let step = same_step _ before after _ _ _ _ old.id now.id c.loop.invariant.id among c.in-Err.ensures.steps in
     let last = last_round before after _ _ old.id c.in-Err.verdict done step in
@@ -58,9 +59,9 @@ returns-in-Err-clause-all g c = λ done was.
     let now = c.loop.self in
     let new = c.step_or_wait.new.self in
     let fed = c.loop.invariant.fed in
-    let start = place old.station.clock old.station.core (noted old.joined old.left) old.read old.closed old.ledger (g.I.Read.remaining c.args.reader.now) in
-    let before = place now.station.clock now.station.core (noted now.joined now.left) now.read now.closed now.ledger (g.I.Read.remaining c.loop.reader) in
-    let after = place new.station.clock new.station.core (noted new.joined new.left) new.read new.closed new.ledger (g.I.Read.remaining c.step_or_wait.new.reader) in
+    let start = sending_at old (g.I.Read.remaining c.args.reader.now) in
+    let before = sending_at now (g.I.Read.remaining c.loop.reader) in
+    let after = sending_at new (g.I.Read.remaining c.step_or_wait.new.reader) in
     let among = ap (λ l. peers_of l.items) c.loop.invariant.peers in
     let step = same_step _ before after _ _ _ _ old.id now.id c.loop.invariant.id among c.in-Err.ensures.steps in
     let last = last_round before after _ _ old.id c.in-Err.verdict done step in
@@ -73,9 +74,9 @@ returns-in-Err-clause-ends g c =
     let now = c.loop.self in
     let new = c.step_or_wait.new.self in
     let fed = c.loop.invariant.fed in
-    let start = place old.station.clock old.station.core (noted old.joined old.left) old.read old.closed old.ledger (g.I.Read.remaining c.args.reader.now) in
-    let before = place now.station.clock now.station.core (noted now.joined now.left) now.read now.closed now.ledger (g.I.Read.remaining c.loop.reader) in
-    let after = place new.station.clock new.station.core (noted new.joined new.left) new.read new.closed new.ledger (g.I.Read.remaining c.step_or_wait.new.reader) in
+    let start = sending_at old (g.I.Read.remaining c.args.reader.now) in
+    let before = sending_at now (g.I.Read.remaining c.loop.reader) in
+    let after = sending_at new (g.I.Read.remaining c.step_or_wait.new.reader) in
     let among = ap (λ l. peers_of l.items) c.loop.invariant.peers in
     let step = same_step _ before after _ _ _ _ old.id now.id c.loop.invariant.id among c.in-Err.ensures.steps in
     inl (record { bodies = fed.0; last = before; rounds = fed.2; step = step })

@@ -1,17 +1,16 @@
 use Rattle.std.proofs.Common.{ap, inl}
 use Rattle.std.proofs.lemmas.Result.{err_from_is_err_and}
+use Rattle.ipx_transfer.specs.Midway.{sending_at}
 use Rattle.ipx_transfer.proofs.Fed.{step_err, step_ok, step_unwaited, step_waited}
 use Rattle.ipx_transfer.proofs.Slept.{may_wait}
-use Rattle.ipx_transfer.specs.SendRounds.{place}
-use Rattle.ipx_transfer.specs.SendSteps.{noted}
 use Rattle.ipx_transfer.proofs.sending.SendingHost.step_or_wait.Goals as goal
 
 pub returns-then-branch-clause-steps : goal.returns-then-branch-clause-steps
 returns-then-branch-clause-steps g c =
     let old = c.args.self.now in
     let new = c.step.new.self in
-    let before = place old.station.clock old.station.core (noted old.joined old.left) old.read old.closed old.ledger (g.I.Read.remaining c.args.reader.now) in
-    let after = place new.station.clock new.station.core (noted new.joined new.left) new.read new.closed new.ledger (g.I.Read.remaining c.step.new.reader) in
+    let before = sending_at old (g.I.Read.remaining c.args.reader.now) in
+    let after = sending_at new (g.I.Read.remaining c.step.new.reader) in
     step_ok before after c.in_ok-step.field-0 _ _ old.id c.in_ok-step.ensures.steps
 
 pub returns-in-Ok-clause-steps : goal.returns-in-Ok-clause-steps
@@ -19,8 +18,8 @@ returns-in-Ok-clause-steps g c =
     let old = c.args.self.now in
     let new = c.step.new.self in
     let waited = c.wait.new.self in
-    let before = place old.station.clock old.station.core (noted old.joined old.left) old.read old.closed old.ledger (g.I.Read.remaining c.args.reader.now) in
-    let after = place new.station.clock new.station.core (noted new.joined new.left) new.read new.closed new.ledger (g.I.Read.remaining c.step.new.reader) in
+    let before = sending_at old (g.I.Read.remaining c.args.reader.now) in
+    let after = sending_at new (g.I.Read.remaining c.step.new.reader) in
     step_waited before new.station.clock waited.clock new.station.core waited.core _ _ _ _ _ _ _ _ old.id c.wait.ensures.clock c.wait.ensures.core
     (step_ok before after c.in_ok-step.field-0 _ _ old.id c.in_ok-step.ensures.steps)
 
@@ -29,8 +28,8 @@ returns-in-Err-clause-steps g c =
     let old = c.args.self.now in
     let new = c.step.new.self in
     let waited = c.wait.new.self in
-    let before = place old.station.clock old.station.core (noted old.joined old.left) old.read old.closed old.ledger (g.I.Read.remaining c.args.reader.now) in
-    let after = place new.station.clock new.station.core (noted new.joined new.left) new.read new.closed new.ledger (g.I.Read.remaining c.step.new.reader) in
+    let before = sending_at old (g.I.Read.remaining c.args.reader.now) in
+    let after = sending_at new (g.I.Read.remaining c.step.new.reader) in
     step_waited before new.station.clock waited.clock new.station.core waited.core _ _ _ _ _ _ _ _ old.id c.wait.ensures.clock c.wait.ensures.core
     (step_unwaited before after c.in_ok-step.field-0 _ _ old.id c.in_ok-step.ensures.steps)
 
@@ -38,8 +37,8 @@ pub returns-in_err-step-clause-steps : goal.returns-in_err-step-clause-steps
 returns-in_err-step-clause-steps g c =
     let old = c.args.self.now in
     let new = c.step.new.self in
-    let before = place old.station.clock old.station.core (noted old.joined old.left) old.read old.closed old.ledger (g.I.Read.remaining c.args.reader.now) in
-    let after = place new.station.clock new.station.core (noted new.joined new.left) new.read new.closed new.ledger (g.I.Read.remaining c.step.new.reader) in
+    let before = sending_at old (g.I.Read.remaining c.args.reader.now) in
+    let after = sending_at new (g.I.Read.remaining c.step.new.reader) in
     let p = err_from_is_err_and c.from_residual.result c.from_residual.ensures.1 in
     rw (p.1, p.2) (step_err before after _ _ _ old.id c.in_err-step.ensures.steps)
 

@@ -1,0 +1,207 @@
+-- Turns one after another, as a burst takes them.
+use Rattle.std.proofs.Common.{◌≡◌, ◌≤◌, ◌<◌, ℕ, zero, suc, ◌+◌, List, [], ◌∷◌, ◌++◌, length, sum_by, Bool, true, false, Option, Some, None, Result, Ok, Err, IfOk, IfErr, OnOk, IsTrue, ◌↔◌, refl, sym, subst, ap, ◌∙◌, arith, length-append}
+use Rattle.std.proofs.lemmas.List.Elements.{All-nil, All-push}
+use Rattle.std.proofs.lemmas.List.Sums.{sum_by_push}
+use Rattle.ipx_carrier.specs.declared.fault.RunFault.{RunFault}
+use Rattle.ipx_carrier.specs.declared.fault.RunFault.TheVariants.{Device}
+use Rattle.ipx_carrier.specs.declared.report.Report.{Report}
+use Rattle.ipx_carrier.specs.Turns.{Given, Peers}
+use Rattle.ipx_carrier.specs.Runs.{EndsEarly, Runs}
+use Rattle.ipx_carrier.specs.declared.report.Burst.{Burst}
+use Rattle.ipx_carrier.specs.Counting.{counted}
+use Rattle.ipx_carrier.specs.Device.{Traffic}
+use Rattle.ipx_carrier.specs.Driving.{AreBusy, Bursts, CanBegin, Chain, CountsTurns, Ends, IsIdle, Stops, TakesTurn, TurnTaken, no_turns, refused}
+
+-- a turn can be begun over the same as before
+pub begins_again : {ports ports_now device device_now lists failed failed_now : ℕ} → ports_now ≡ ports
+    → device_now ≡ device → failed_now ≡ failed → CanBegin ports device lists failed → CanBegin ports_now device_now lists failed_now
+begins_again e f g can = rw (e, f, g) can
+
+-- where none can be begun, the first one ends the burst, and there is none where none is to be taken
+pub refused_first : (count most : ℕ) (x y : Burst) (f : RunFault) → count < most → x ≡ no_turns → f ≡ Device
+    → y ≡ record x { fault = Some f } → y ≡ refused most
+refused_first count zero x y f few none e is = absurd (omega (arith, few))
+refused_first count (suc most) x y f few none e is = rw (is, none, e) refl
+
+-- a result that is a fault is this one, and no value
+fault_in : {T : Type 0} → Result T RunFault → RunFault
+fault_in (Ok x) = Device
+fault_in (Err f) = f
+
+went : {T : Type 0} → Result T RunFault → Type 0
+went (Ok x) = Unit {0}
+went (Err f) = ⊥
+
+pub same_fault : {T : Type 0} (f g : RunFault) → ◌≡◌ {A = Result T RunFault} (Err f) (Err g) → f ≡ g
+unfolding fault_in
+same_fault f g e = ap fault_in e
+
+pub no_fault : {T : Type 0} (x : T) (f : RunFault) → ◌≡◌ {A = Result T RunFault} (Ok x) (Err f) → ⊥
+unfolding went
+no_fault x f e = subst went e tt
+
+-- a report is idle, or not, as its test says
+holds : Bool → Type 0
+holds true = Unit {0}
+holds false = ⊥
+
+pub is_busy_so : (b : Bool) (r : Report) → IsTrue b ↔ ((r.heard ≡ 0) × (r.sent ≡ 0)) → b ≡ false → (r.heard ≡ 0) × (r.sent ≡ 0) → ⊥
+unfolding holds
+is_busy_so b r h e idle = subst holds (sym (h.1 idle) ∙ e) tt
+
+pub refused_none : (count most : ℕ) (x : Burst) → count ≡ 0 → count ≡ most → x ≡ no_turns → x ≡ refused most
+refused_none count most x first all none = rw (← all, first, none) refl
+
+-- a turn that was taken, by what it answers
+module _ {C K : Type 0} (hears misses : C → ℕ → List ℕ → ℕ → C → Type 0)
+    (gives : C → ℕ → Option Given → C → Type 0) (withholds : C → ℕ → C → Type 0)
+    (tells : K → ℕ → K → Type 0) (ports : ℕ) (peers : Peers) where
+  pub takes : (before after : Option Traffic) (l m : K) (b c : C) (ran : Result Report RunFault)
+      → IfOk ran (λ report. Runs hears gives tells ports peers 1 before after l m b c report)
+      → IfErr ran (λ f. EndsEarly hears misses gives withholds tells ports peers 1 before after l m f b c)
+      → TakesTurn hears misses gives withholds tells ports peers before after l m b c ran
+  takes before after l m b c (Ok report) well ill = well
+  takes before after l m b c (Err f) well ill = ill
+
+  -- what passed is not told any more
+  pub ran_untold : (before after : Option Traffic) (l m : K) (b c : C) (report : Report)
+      → Runs hears gives tells ports peers 1 before after l m b c report → Runs hears gives tells ports peers 1 None None l m b c report
+  ran_untold before after l m b c report h = (h.0, h.1, h.2, tt, h.4, h.5)
+
+  pub ended_untold : (before after : Option Traffic) (l m : K) (f : RunFault) (b c : C)
+      → EndsEarly hears misses gives withholds tells ports peers 1 before after l m f b c → EndsEarly hears misses gives withholds tells ports peers 1 None None l m f b c
+  ended_untold before after l m f b c h = (h.0, h.1, h.2, h.3, h.4, h.5, h.6, tt, h.8)
+
+-- what holds of a turn in any case
+pub on_whole : {P : Type 0} (ran : Result Report RunFault) → P → OnOk ran P
+on_whole (Ok report) p = p
+on_whole (Err f) p = tt
+
+-- one more is counted
+more_counted : (f : TurnTaken → ℕ) (ts : List TurnTaken) (t : TurnTaken) (before after : ℕ)
+    → before ≡ counted (sum_by f ts) → after ≡ counted (before + f t)
+    → after ≡ counted (sum_by f (ts ++ t ∷ []))
+more_counted f ts t before after e k =
+    let s : sum_by f (ts ++ t ∷ []) ≡ sum_by f ts + f t = sum_by_push f ts t in
+    omega (arith, e, k, s)
+
+-- a burst that counts one more turn
+abbrev pub CountsOne : Report → Burst → Burst → Type 0
+CountsOne r b c = (c.heard ≡ counted (b.heard + r.heard)) × (c.sent ≡ counted (b.sent + r.sent))
+    × (c.unmapped ≡ counted (b.unmapped + r.unmapped))
+
+more_counts : (ts : List TurnTaken) (t : TurnTaken) (x y : Burst) → CountsTurns ts x → CountsOne t.report x y → CountsTurns (ts ++ t ∷ []) y
+more_counts ts t x y h counts = (
+  more_counted (λ t. t.report.heard) ts t x.heard y.heard h.0 counts.0,
+  more_counted (λ t. t.report.sent) ts t x.sent y.sent h.1 counts.1,
+  more_counted (λ t. t.report.unmapped) ts t x.unmapped y.unmapped h.2 counts.2,
+)
+
+-- a turn by its report and what was kept back
+abbrev pub taken : Report → ℕ → ℕ → TurnTaken
+taken r before after = record { report = r; before = before; after = after }
+
+module _ {C K : Type 0} (hears : C → ℕ → List ℕ → ℕ → C → Type 0)
+    (gives : C → ℕ → Option Given → C → Type 0) (tells : K → ℕ → K → Type 0)
+    (ports : ℕ) (peers : Peers) where
+  -- so many whole turns, none of them idle, and their counts
+  abbrev pub Goes : ℕ → Burst → ℕ → ℕ → K → K → C → C → Type 0
+  Goes count b kept kept_after clock clock_after old new = (turns : List TurnTaken) × (length turns ≡ count)
+      × Chain hears gives tells ports peers turns kept kept_after clock clock_after old new
+      × CountsTurns turns b × AreBusy turns
+
+  chain_on : (ts : List TurnTaken) (t : TurnTaken) (i j : ℕ) (k l m : K) (a b c : C) → Chain hears gives tells ports peers ts i j k l a b
+      → t.before ≡ j → j ≤ t.after → Runs hears gives tells ports peers 1 None None l m b c t.report
+      → Chain hears gives tells ports peers (ts ++ t ∷ []) i t.after k m a c
+  chain_on [] t i j k l m a b c h e le ran =
+      let ran' = subst (λ l. Runs hears gives tells ports peers 1 None None l m b c t.report) h.1 ran in (
+        m,
+        c,
+        rw (← h.0) e,
+        rw (← h.0) le,
+        subst (λ b. Runs hears gives tells ports peers 1 None None k m b c t.report) h.2 ran',
+        (refl, refl, refl),
+      )
+  chain_on (s ∷ ss) t i j k l m a b c h e le ran = (h.0, h.1, h.2, h.3, h.4, chain_on ss t s.after j h.0 l m h.1 b c h.5 e le ran)
+
+  pub goes_nowhere : (i : ℕ) (k : K) (a : C) (burst : Burst) → CountsTurns [] burst → Goes 0 burst i i k k a a
+  goes_nowhere i k a burst counts = ([], refl, (refl, refl, refl), counts, All-nil (λ t. IsIdle t → ⊥))
+
+  -- one more turn, idle or not
+  one_more : (here count : ℕ) (i j n : ℕ) (k l m : K) (a b c : C) (x : Burst) (report : Report) → here ≡ ports
+      → (h : Goes count x i j k l a b) → j ≤ n → Runs hears gives tells here peers 1 None None l m b c report
+      → Chain hears gives tells ports peers (h.0 ++ taken report j n ∷ []) i n k m a c
+  one_more here count i j n k l m a b c x report e h le ran =
+      chain_on h.0 (taken report j n) i j k l m a b c h.2 refl le (subst (λ n. Runs hears gives tells n peers 1 None None l m b c report) e ran)
+
+  pub goes_on : (here count : ℕ) (i j n : ℕ) (k l m : K) (a b c : C) (x y : Burst) (report : Report) → here ≡ ports
+      → Goes count x i j k l a b → j ≤ n → Runs hears gives tells here peers 1 None None l m b c report → CountsOne report x y
+      → (IsIdle (taken report j n) → ⊥) → Goes (count + 1) y i n k m a c
+  goes_on here count i j n k l m a b c x y report e h le ran counts busy = (
+    h.0 ++ taken report j n ∷ [],
+    omega (arith, length-append h.0 (taken report j n ∷ []), h.1),
+    one_more here count i j n k l m a b c x report e h le ran,
+    more_counts h.0 (taken report j n) x y h.3 counts,
+    All-push (λ t. IsIdle t → ⊥) h.0 (taken report j n) h.4 busy,
+  )
+
+module _ {C K : Type 0} (hears misses : C → ℕ → List ℕ → ℕ → C → Type 0)
+    (gives : C → ℕ → Option Given → C → Type 0) (withholds : C → ℕ → C → Type 0)
+    (tells : K → ℕ → K → Type 0) (ports : ℕ) (peers : Peers) where
+  nothing_more : (fault : Option RunFault) (j : ℕ) (l : K) (b : C) → fault ≡ None
+      → Ends hears misses gives withholds tells ports peers fault j j l l b b
+  nothing_more fault j l b e =
+      subst (λ (it : Option RunFault). Ends hears misses gives withholds tells ports peers it j j l l b b) (sym e) (refl, refl, refl)
+
+  -- no fault ended it, and it is not quiet: there were so many turns
+  pub ends_at_most : (count most : ℕ) (i j : ℕ) (k l : K) (a b : C) (x : Burst) → count ≡ most → x.fault ≡ None → x.quiet ≡ false
+      → Goes hears gives tells ports peers count x i j k l a b
+      → Bursts hears misses gives withholds tells ports peers most x i j k l a b
+  ends_at_most count most i j k l a b x all e f h = (
+    h.0,
+    j,
+    l,
+    b,
+    h.2,
+    nothing_more x.fault j l b e,
+    h.3,
+    subst (λ (it : Option RunFault). Stops most h.0 it x.quiet) (sym e)
+        (subst (λ (it : Bool). Stops most h.0 None it) (sym f) (omega (arith, h.1, all), h.4)),
+  )
+
+  pub ends_quietly : (here count most : ℕ) (i j n : ℕ) (k l m : K) (a b c : C) (x y z : Burst) (report : Report) → here ≡ ports
+      → count < most → Goes hears gives tells ports peers count x i j k l a b → n ≡ j
+      → Runs hears gives tells here peers 1 None None l m b c report → (report.heard ≡ 0) × (report.sent ≡ 0)
+      → CountsOne report x y → y.fault ≡ None → z ≡ record y { quiet = true }
+      → Bursts hears misses gives withholds tells ports peers most z i n k m a c
+  unfolding one_more
+  ends_quietly here count most i j n k l m a b c x y z report e few h same ran idle counts f is =
+      let last = taken report j n in
+      subst (λ (it : Burst). Bursts hears misses gives withholds tells ports peers most it i n k m a c) (sym is) (
+        h.0 ++ last ∷ [],
+        n,
+        m,
+        c,
+        one_more hears gives tells ports peers here count i j n k l m a b c x report e h (omega (arith, same)) ran,
+        nothing_more y.fault n m c f,
+        more_counts h.0 last x y h.3 counts,
+        subst (λ (it : Option RunFault). Stops most (h.0 ++ last ∷ []) it true) (sym f)
+            (omega (arith, length-append h.0 (last ∷ []), h.1, few), (h.0, last, refl, h.4, (idle.0, idle.1, same))),
+      )
+
+  pub ends_badly : (here count most : ℕ) (i j n : ℕ) (k l m : K) (a b c : C) (x y : Burst) (f : RunFault) → here ≡ ports
+      → count < most → x.quiet ≡ false → y ≡ record x { fault = Some f }
+      → Goes hears gives tells ports peers count x i j k l a b → j ≤ n
+      → EndsEarly hears misses gives withholds tells here peers 1 None None l m f b c
+      → Bursts hears misses gives withholds tells ports peers most y i n k m a c
+  ends_badly here count most i j n k l m a b c x y f e few loud is h le how =
+      subst (λ (it : Burst). Bursts hears misses gives withholds tells ports peers most it i n k m a c) (sym is) (
+        h.0,
+        j,
+        l,
+        b,
+        h.2,
+        (le, subst (λ n. EndsEarly hears misses gives withholds tells n peers 1 None None l m f b c) e how),
+        h.3,
+        (omega (arith, h.1, few), h.4, loud),
+      )

@@ -1,0 +1,126 @@
+//! Turns of a core over a device: one, and one after another as long as there is something to do.
+
+ghost use Rattle.std.specs.Prelude.{◌≡◌, ◌⊎◌, ◌≤◌, ◌↔◌, ◌+◌, ◌<◌, ◌^◌, IfOk, IfErr, IsTrue, OnOk, Err, length};
+ghost use Rattle.ipx_carrier.specs.Driving.{Bursts, CanBegin, TakesTurn, failed_after, refused};
+ghost use Rattle.ipx_carrier.specs.RunFaultNumbers.{failures_after};
+ghost use Rattle.ipx_carrier.specs.Runs.{EndsEarly, Runs};
+ghost use Rattle.ipx_carrier.specs.Turns.{peers_of};
+
+use crate::clock::Clock;
+use crate::cores::Core;
+use crate::datagrams::{Datagrams, KeepsBack};
+use crate::fault::RunFault;
+use crate::report::{Burst, Report};
+use crate::running::run;
+use std::alloc::Global;
+
+/// Whether what a report tells of neither heard nor sent.
+fn is_idle(report: Report) -> bool
+    ensures { IsTrue result ↔ (report.heard ≡ 0) × (report.sent ≡ 0) }
+{
+    report.heard == 0 && report.sent == 0
+}
+
+/// Whether a turn can be begun.
+fn can_begin<C: Core, D: Datagrams>(core: &C, device: &D, peers: &[Vec<[u8; 4]>]) -> bool
+    ensures { IsTrue result ↔ CanBegin (C.port_count core.now) (D.port_count device.now)
+        (length peers.now) (D.failed device.now) }
+{
+    let ports = core.ports();
+    device.ports() == ports && peers.len() == ports && device.failures() < u64::MAX
+}
+
+/// Takes one turn, as `run` does. A device with other ports than the core, lists of peers for other
+/// ports, or a device that failed too often to count once more, is a device that fails: the error is
+/// `Device`, and nothing else happens.
+pub fn turn<C: Core, D: Datagrams, K: Clock>(
+    alloc: Global,
+    core: &mut C,
+    device: &mut D,
+    peers: &[Vec<[u8; 4]>],
+    clock: &mut K,
+) -> Result<Report, RunFault>
+    ensures turn { IfOk result (λ report.
+        Runs C.hears C.gives K.tells (C.port_count core.old) (peers_of peers.now) 1
+        (D.traffic device.old) (D.traffic device.new) clock.old clock.new
+        core.old core.new report) }
+    ensures fault { IfErr result (λ f.
+        ((core.new ≡ core.old) × ((f ≡ RunFault.Device) × ((device.new ≡ device.old)
+        × (CanBegin (C.port_count core.old) (D.port_count device.old) (length peers.now)
+        (D.failed device.old) → ⊥)) × (clock.new ≡ clock.old)))
+        ⊎ EndsEarly C.hears C.misses C.gives C.withholds K.tells
+        (C.port_count core.old) (peers_of peers.now) 1
+        (D.traffic device.old) (D.traffic device.new) clock.old clock.new
+        f core.old core.new) }
+    // Where a turn can be begun one is, and else nothing happens.
+    ensures begins { CanBegin (C.port_count core.old) (D.port_count device.old)
+        (length peers.now) (D.failed device.old)
+        → TakesTurn C.hears C.misses C.gives C.withholds K.tells
+        (C.port_count core.old) (peers_of peers.now)
+        (D.traffic device.old) (D.traffic device.new) clock.old clock.new
+        core.old core.new result }
+    ensures refused { (CanBegin (C.port_count core.old) (D.port_count device.old)
+        (length peers.now) (D.failed device.old) → ⊥) → (result ≡ Err RunFault.Device)
+        × (core.new ≡ core.old) × (device.new ≡ device.old) × (clock.new ≡ clock.old) }
+    ensures begun { OnOk result (CanBegin (C.port_count core.old) (D.port_count device.old)
+        (length peers.now) (D.failed device.old)) }
+    ensures failures { CanBegin (C.port_count core.old) (D.port_count device.old)
+        (length peers.now) (D.failed device.old)
+        → D.failed device.new ≡ failures_after result (D.failed device.old) }
+    ensures ports { C.port_count core.new ≡ C.port_count core.old }
+    ensures device_ports { D.port_count device.new ≡ D.port_count device.old }
+    ensures access { D.access device.new ≡ D.access device.old }
+    ensures kept_back { D.kept_back device.old ≤ D.kept_back device.new }
+{
+    if !can_begin(core, device, peers) {
+        return Err(RunFault::Device);
+    }
+    run(alloc, core, device, peers, clock, 1)
+}
+
+/// Takes turns until one neither hears nor sends and keeps no datagram back, until a fault ends one,
+/// or until there were so many.
+///
+/// After a quiet burst nothing was left to read, so one waits; after another one takes the next.
+/// Where no turn can be begun, as `turn` says, the fault is `Device`, and nothing happens.
+pub fn burst<C: Core, D: KeepsBack, K: Clock>(
+    alloc: Global,
+    core: &mut C,
+    device: &mut D,
+    peers: &[Vec<[u8; 4]>],
+    clock: &mut K,
+    most: u32,
+) -> Burst
+    // Where turns can be begun, what the core and the clock are then comes of whole turns, each as
+    // `run` takes it, which are counted, and of a part of one where a fault ended it.
+    ensures turns { CanBegin (C.port_count core.old) (D.port_count device.old)
+        (length peers.now) (D.failed device.old)
+        → Bursts C.hears C.misses C.gives C.withholds K.tells (C.port_count core.old)
+        (peers_of peers.now) most result (D.kept_back device.old) (D.kept_back device.new)
+        clock.old clock.new core.old core.new }
+    // Where none can, nothing happens.
+    ensures refused { (CanBegin (C.port_count core.old) (D.port_count device.old)
+        (length peers.now) (D.failed device.old) → ⊥) → (result ≡ refused most)
+        × (core.new ≡ core.old) × (device.new ≡ device.old) × (clock.new ≡ clock.old) }
+    ensures failures { CanBegin (C.port_count core.old) (D.port_count device.old)
+        (length peers.now) (D.failed device.old)
+        → D.failed device.new ≡ failed_after result.fault (D.failed device.old) }
+    ensures ports { C.port_count core.new ≡ C.port_count core.old }
+    ensures device_ports { D.port_count device.new ≡ D.port_count device.old }
+    // Who may speak stays.
+    ensures access { D.access device.new ≡ D.access device.old }
+{
+    let mut burst = Burst::none();
+    for _turn in 0..most {
+        let kept = device.kept_back();
+        let report = match turn(alloc, core, device, peers, clock) {
+            Ok(report) => report,
+            Err(fault) => return burst.ended_by(fault),
+        };
+        burst = burst.with(report);
+        if is_idle(report) && device.kept_back() == kept {
+            return burst.quieted();
+        }
+    }
+    burst
+}

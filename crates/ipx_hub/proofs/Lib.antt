@@ -1,0 +1,5 @@
+pub mod Alike
+pub mod Back
+pub mod Goes
+pub mod Known
+pub mod Room

@@ -1,0 +1,107 @@
+-- What a port with several ends does with a frame that one of them gave. All of it is own.
+use Rattle.std.specs.Prelude.{ℕ, List, [], take, drop, length, replicate, Bool, not, ◌&&◌, ◌||◌, Option, nat_le, if◌then◌else◌}
+use Rattle.std.specs.Str.{bytes_eq}
+use Rattle.ipx_wire.specs.declared.address.Node.{Node}
+use Rattle.ipx_frames.specs.declared.wire.KeptFrame.{KeptFrame}
+use Rattle.ipx_frames.specs.declared.wire.WirePort.{WirePort}
+use Rattle.ipx_frames.specs.declared.wire_counts.WireCounts.{WireCounts}
+use Rattle.ipx_frames.specs.Frame.{is_group}
+use Rattle.ipx_frames.specs.FrameFault.{node_of}
+use Rattle.ipx_frames.specs.Wire.{frame_counted, frames_raised, no_frames}
+use Rattle.ipx_hub.specs.declared.onward.Onward.{Onward}
+use Rattle.ipx_hub.specs.declared.onward.Onward.TheVariants.{Nowhere, ToOne, ToAll, ToOthers}
+use Rattle.ipx_hub.specs.declared.stations.Station.{Station}
+use Rattle.ipx_hub.specs.WireEnds.{end_of_station, stations_with, way_past}
+
+-- a port of several ends: whether they are joined, which stations are known, what came, and how
+-- many frames were to go on
+pub record HubView : Type 0 where
+  pub port : WirePort
+  pub joined : Bool
+  pub stations : List Station
+  pub counts : WireCounts
+  pub passed : ℕ
+
+-- nothing came yet
+abbrev pub new_hub : WirePort → Bool → HubView
+new_hub port joined = record {
+  port = port;
+  joined = joined;
+  stations = [];
+  counts = no_frames;
+  passed = 0;
+}
+
+-- so many bytes may go on: no fewer than the addresses and the length or type, and no more than a
+-- full frame of 1,514 with a tag (IEEE 802.1Q) and its check sequence, four bytes each
+abbrev pub may_pass : ℕ → Bool
+may_pass n = nat_le 14 n && nat_le n 1522
+
+-- the station that a frame is for, and the one that sent it
+abbrev pub station_to : List ℕ → Node
+station_to bytes = node_of (take 6 bytes)
+
+abbrev pub station_from : List ℕ → Node
+station_from bytes = node_of (take 6 (drop 6 bytes))
+
+-- an address that a station behind an end may have: no group's, not zero, and not the port's own
+abbrev pub may_be_behind : Node → Node → Bool
+may_be_behind own node =
+    not (is_group node.0 || bytes_eq node.0 (replicate 6 0) || bytes_eq node.0 own.0)
+
+-- which stations are known, once one sent a frame from an end
+abbrev pub stations_from : Node → Node → ℕ → ℕ → List Station → List Station
+stations_from own from end now known =
+    if may_be_behind own from
+    then stations_with (record { node = from; end = end; moment = now }) known
+    else known
+
+-- the same for bytes
+abbrev pub stations_behind : Node → List ℕ → ℕ → ℕ → List Station → List Station
+stations_behind own bytes end now known =
+    if may_pass (length bytes) then stations_from own (station_from bytes) end now known else known
+
+-- where a frame goes on to, by the stations that are known: nowhere one of the port's own, which came
+-- back, nor one that is for the port
+abbrev pub way_between : Node → Node → Node → ℕ → Option ℕ → Onward
+way_between own to from end place =
+    if bytes_eq from.0 own.0 || bytes_eq to.0 own.0 then Nowhere else way_past end place
+
+-- the same for bytes, where the ends are joined
+abbrev pub way_joined : Node → List ℕ → ℕ → ℕ → List Station → Onward
+way_joined own bytes end now known =
+    if may_pass (length bytes)
+    then way_between own (station_to bytes) (station_from bytes) end
+    (end_of_station (station_to bytes) now known)
+    else Nowhere
+
+abbrev pub way_behind : HubView → List ℕ → ℕ → ℕ → Onward
+way_behind h bytes end now =
+    if h.joined then way_joined h.port.own bytes end now h.stations else Nowhere
+
+-- one more frame that was to go on
+abbrev pub passed_with : Onward → ℕ → ℕ
+passed_with Nowhere n = n
+passed_with (ToOne e) n = frames_raised n
+passed_with ToAll n = frames_raised n
+passed_with (ToOthers giver) n = frames_raised n
+
+-- the sender is known, if a station may have that address
+abbrev pub hub_knowing : HubView → List ℕ → ℕ → ℕ → HubView
+hub_knowing h bytes end now =
+    record h { stations = stations_behind h.port.own bytes end now h.stations }
+
+-- the hub behind a frame that an end gave: its sender is known, and it is counted if it is to go on
+abbrev pub hub_passing : HubView → List ℕ → ℕ → ℕ → HubView
+hub_passing h bytes end now = record (hub_knowing h bytes end now) {
+  passed = passed_with (way_behind (hub_knowing h bytes end now) bytes end now) h.passed;
+}
+
+-- one more frame whose packet went to the core, and one that was kept from it: nothing but its count is
+-- another
+abbrev pub hub_handing : HubView → HubView
+hub_handing h =
+    record h { counts = record h.counts { handed_on = frames_raised h.counts.handed_on } }
+
+abbrev pub hub_keeping : KeptFrame → HubView → HubView
+hub_keeping k h = record h { counts = frame_counted k h.counts }

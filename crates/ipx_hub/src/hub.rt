@@ -1,0 +1,186 @@
+//! A port on a wire of several ends.
+
+ghost use Rattle.std.specs.Prelude.{◌≡◌, List, ℕ, IfOk, IfErr, IsOkAnd, false};
+ghost use Rattle.ipx_wire.specs.Ipx.{IsPartOf};
+ghost use Rattle.ipx_frames.specs.Frame.{packet_place};
+ghost use Rattle.ipx_frames.specs.Wire.{IsForCore, KeepsFrame};
+ghost use Rattle.ipx_hub.specs.Heard.{HubView, hub_handing, hub_keeping, hub_knowing, hub_passing, new_hub, way_behind};
+ghost use Rattle.ipx_hub.specs.WireEnds.{end_of_station, is_way_to, way_out};
+
+use crate::onward::{Onward, out_to};
+use crate::passing::{addresses_of, between, count_passed, know};
+use crate::stations::{Station, Stations};
+use ipx_frames::{KeptFrame, WireCounts, WirePort};
+use ipx_wire::Node;
+use std::alloc::{AllocError, Global};
+use std::marker::Model;
+
+/// A port on a wire of several ends, as a hub between them.
+#[derive(Drop)]
+pub struct Hub {
+    port: WirePort,
+    joined: bool,
+    stations: Stations,
+    counts: WireCounts,
+    passed: u64,
+}
+
+impl Model for Hub {
+    ghost use Rattle.ipx_hub.specs.Heard.{HubView};
+
+    ghost Value = { HubView };
+
+    ghost view = { λ h. record {
+      port = h.port;
+      joined = h.joined;
+      stations = h.stations;
+      counts = h.counts;
+      passed = h.passed;
+    } };
+}
+
+impl Hub {
+    /// A hub that heard nothing yet. Frames of one end go on to others where they are joined. Memory
+    /// is taken here alone.
+    pub fn new(alloc: Global, port: WirePort, joined: bool) -> Result<Hub, AllocError>
+        ensures { IfOk result (λ h. h ≡ new_hub port joined) }
+    {
+        let stations = Stations::new(alloc)?;
+        Ok(Hub {
+            port,
+            joined,
+            stations,
+            counts: WireCounts::new(),
+            passed: 0,
+        })
+    }
+
+    /// The port: `WirePort::frame_into` writes its frames.
+    pub fn port(&self) -> WirePort
+        ensures { result ≡ self.now.port }
+    {
+        self.port
+    }
+
+    /// What became of the frames that came, at the core.
+    pub fn counts(&self) -> WireCounts
+        ensures { result ≡ self.now.counts }
+    {
+        self.counts
+    }
+
+    /// How many frames were to go on from one end to others: also where there is no other end, so
+    /// that nobody got them.
+    pub fn passed(&self) -> u64
+        ensures { result ≡ self.now.passed }
+    {
+        self.passed
+    }
+
+    /// The stations that were heard, the one that was heard last behind the others.
+    pub fn stations(&self) -> &[Station]
+        ensures { result.now ≡ self.now.stations }
+    {
+        self.stations.all()
+    }
+
+    /// Where a frame of the port's own to a node goes: to the end where the node was heard, or to
+    /// each.
+    pub fn way_to(&self, node: Node, now: u64) -> Onward
+        ensures { result ≡ way_out (end_of_station node now self.now.stations) }
+    {
+        out_to(self.stations.end_of(node, now))
+    }
+
+    /// A frame that the end `end` gave at the moment `now`, in ms: to which other ends it goes on,
+    /// as it came, and the packet in it that goes to the core, or why none does. No memory is taken:
+    /// the table has room for 1,024 stations, never for more.
+    ///
+    /// One calls it with whatever came from an end, and sends the bytes on to the ends that
+    /// `Onward::is_to` names. From then on the sender is known to be at that end, for five minutes
+    /// and as long as it is among the 1,024 that were heard last. A group, zero and the port's own
+    /// address are no sender, and bytes that may not go on, fewer than 14 or more than 1,522, tell
+    /// of none.
+    pub fn hear<'a>(
+        &mut self,
+        end: usize,
+        bytes: &'a [u8],
+        now: u64,
+    ) -> (Onward, Result<&'a [u8], KeptFrame>)
+        // Which ends it goes on to, never the one that gave it.
+        ensures onward { result.0 ≡ way_behind self.new bytes.now end now }
+        ensures back { is_way_to result.0 end ≡ false }
+        // What goes to the core, that all that is to go there does, and why another does not.
+        ensures heard { IfOk result.1 (λ r. IsForCore self.old.port bytes.now r.now) }
+        ensures lent { IfOk result.1 (λ r.
+            IsPartOf bytes.entry (packet_place self.old.port.encapsulation) r) }
+        ensures only { (packet : List ℕ) → IsForCore self.old.port bytes.now packet
+            → IsOkAnd result.1 (λ r. r.now ≡ packet) }
+        ensures kept { IfErr result.1 (λ k. KeepsFrame self.old.port bytes.now k) }
+        // What the hub is then.
+        ensures handing { IfOk result.1 (λ _.
+            self.new ≡ hub_handing (hub_passing self.old bytes.now end now)) }
+        ensures keeping { IfErr result.1 (λ k.
+            self.new ≡ hub_keeping k (hub_passing self.old bytes.now end now)) }
+    {
+        let onward = self.pass(end, bytes, now);
+        let taken = self.take(bytes);
+        (onward, taken)
+    }
+
+    /// Where a frame goes on to that an end gave.
+    fn way(&self, end: usize, bytes: &[u8], now: u64) -> Onward
+        ensures { result ≡ way_behind self.now bytes.now end now }
+    {
+        if !self.joined {
+            return Onward::Nowhere;
+        }
+        match addresses_of(bytes) {
+            Some((to, from)) => {
+                let place = self.stations.end_of(to, now);
+                between(self.port.own, to, from, end, place)
+            }
+            None => Onward::Nowhere,
+        }
+    }
+
+    /// The sender of a frame, where a station may have its address, is known from now on.
+    fn know_sender(&mut self, end: usize, bytes: &[u8], now: u64)
+        ensures { self.new ≡ hub_knowing self.old bytes.now end now }
+    {
+        if let Some((_, from)) = addresses_of(bytes) {
+            know(&mut self.stations, self.port.own, from, end, now);
+        }
+    }
+
+    /// Where a frame that an end gave goes on to, once its sender is known. It is counted if it is to
+    /// go on.
+    fn pass(&mut self, end: usize, bytes: &[u8], now: u64) -> Onward
+        ensures onward { result ≡ way_behind self.new bytes.now end now }
+        ensures leaves { self.new ≡ hub_passing self.old bytes.now end now }
+    {
+        self.know_sender(end, bytes, now);
+        let onward = self.way(end, bytes, now);
+        count_passed(&mut self.passed, onward);
+        onward
+    }
+
+    /// The packet in a frame that goes to the core, which is counted.
+    fn take<'a>(&mut self, bytes: &'a [u8]) -> Result<&'a [u8], KeptFrame>
+        ensures heard { IfOk result (λ r. IsForCore self.old.port bytes.now r.now) }
+        ensures lent { IfOk result (λ r.
+            IsPartOf bytes.entry (packet_place self.old.port.encapsulation) r) }
+        ensures only { (packet : List ℕ) → IsForCore self.old.port bytes.now packet
+            → IsOkAnd result (λ r. r.now ≡ packet) }
+        ensures kept { IfErr result (λ k. KeepsFrame self.old.port bytes.now k) }
+        ensures handing { IfOk result (λ _. self.new ≡ hub_handing self.old) }
+        ensures keeping { IfErr result (λ k. self.new ≡ hub_keeping k self.old) }
+    {
+        let taken = self.port.hear(bytes);
+        match taken {
+            Ok(_) => self.counts.count_handed_on(),
+            Err(kept) => self.counts.count_kept(kept),
+        }
+        taken
+    }
+}

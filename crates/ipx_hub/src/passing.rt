@@ -1,0 +1,74 @@
+//! Whether a frame goes on from one end to others, and whose it is.
+
+ghost use Rattle.std.specs.Prelude.{◌≡◌, ◌==◌, IfSome, is_some, length};
+ghost use Rattle.ipx_hub.specs.Heard.{may_be_behind, may_pass, passed_with, station_from, station_to, stations_from, way_between};
+
+use crate::onward::{Onward, past};
+use crate::stations::{Station, Stations};
+use ipx_frames::stations_of;
+use ipx_wire::Node;
+
+/// The most bytes that go on: a full frame of 1,514 with a tag of 802.1Q and its check sequence.
+pub const MOST_PASSED_SIZE: usize = 1522;
+
+/// The size of the addresses and the length or type.
+const HEADER_SIZE: usize = 14;
+
+/// The station that a frame is for, and the one that sent it, of bytes that may go on.
+pub fn addresses_of(bytes: &[u8]) -> Option<(Node, Node)>
+    ensures to { IfSome result (λ r. r.0 ≡ station_to bytes.now) }
+    ensures from { IfSome result (λ r. r.1 ≡ station_from bytes.now) }
+    ensures passes { is_some result ≡ may_pass (length bytes.now) }
+{
+    if bytes.len() < HEADER_SIZE || bytes.len() > MOST_PASSED_SIZE {
+        return None;
+    }
+    match stations_of(&bytes[..HEADER_SIZE]) {
+        Ok(stations) => Some(stations),
+        Err(_) => None,
+    }
+}
+
+/// Whether a station behind an end may have an address.
+fn may_be_there(own: Node, node: Node) -> bool
+    ensures { result ≡ may_be_behind own node }
+{
+    let is_group = node.0[0] % 2 == 1;
+    !(is_group || node == Node([0; 6]) || node == own)
+}
+
+/// A frame came from an end: its sender is known there from now on, where a station may have that
+/// address.
+pub fn know(stations: &mut Stations, own: Node, from: Node, end: usize, now: u64)
+    ensures { stations.new ≡ stations_from own from end now stations.old }
+{
+    if may_be_there(own, from) {
+        stations.put(Station {
+            node: from,
+            end,
+            moment: now,
+        });
+    }
+}
+
+/// Where a frame goes on to that an end gave, to a station at a known end, or at any.
+pub fn between(own: Node, to: Node, from: Node, end: usize, place: Option<usize>) -> Onward
+    ensures { result ≡ way_between own to from end place }
+{
+    if from == own || to == own {
+        return Onward::Nowhere;
+    }
+    past(end, place)
+}
+
+/// Counts a frame that is to go on, if it is.
+pub fn count_passed(passed: &mut u64, onward: Onward)
+    ensures { passed.new ≡ passed_with onward passed.old }
+{
+    match onward {
+        Onward::Nowhere => {}
+        Onward::ToOne(_) | Onward::ToAll | Onward::ToOthers(_) => {
+            *passed = passed.saturating_add(1);
+        }
+    }
+}

@@ -1,0 +1,46 @@
+-- What a router counts itself, and what stands in its figures. All of it is own.
+use Rattle.std.specs.Prelude.{◌≡◌, ℕ, ◌+◌, ◌/◌, Option, Some, None, length}
+use Rattle.ipx_carrier.specs.Counting.{counted, raised}
+use Rattle.ipx_carrier.specs.OutcomeCounts.{outcomes_in}
+use Rattle.ipx_carrier.specs.RouterCore.{CoreView}
+use Rattle.ipx_carrier.specs.declared.fault.RunFault.{RunFault}
+use Rattle.ipx_carrier.specs.declared.fault.RunFault.TheVariants.{Device, OutOfMemory}
+use Rattle.ipx_site.specs.Sparing.{SparingView}
+use Rattle.ipx_site.specs.declared.figures.Figures.{Figures}
+use Rattle.ipx_site.specs.declared.peers.KeptBack.{KeptBack}
+use Rattle.ipx_site.specs.declared.router_counts.RouterCounts.{RouterCounts}
+use Rattle.ipx_carrier.specs.declared.report.Burst.{Burst}
+use Rattle.ipx_site.specs.declared.watch.Known.{Known}
+
+-- nothing was counted yet
+abbrev pub no_counts : RouterCounts
+no_counts = record { unmapped = 0; device_faults = 0; memory_faults = 0; file_faults = 0 }
+
+-- memory was refused once more
+abbrev pub with_memory_fault : RouterCounts → RouterCounts
+with_memory_fault t = record t { memory_faults = raised t.memory_faults }
+
+-- what ended a burst is counted by its cause
+abbrev pub with_fault : Option RunFault → RouterCounts → RouterCounts
+with_fault None t = t
+with_fault (Some Device) t = record t { device_faults = raised t.device_faults }
+with_fault (Some OutOfMemory) t = with_memory_fault t
+
+-- so a burst is: the packets whose node has no IP address, and what ended it
+abbrev pub with_burst : Burst → RouterCounts → RouterCounts
+with_burst b t = with_fault b.fault (record t { unmapped = counted (t.unmapped + b.unmapped) })
+
+-- the figures of a router at a moment, in milliseconds since its start, besides how often it happened of
+-- which a line is told: by what it counts itself, what its core counts, what its device kept back, how many
+-- datagrams the system took, and what it knew as it looked last
+pub record AreFigures (tally : RouterCounts) (core : SparingView CoreView) (kept : KeptBack) (sent : ℕ) (known : Known) (now : ℕ) (f : Figures) : Type 0 where
+  -- each datagram that was heard became something. A query that came too often is none of them
+  pub heard : f.heard ≡ counted (outcomes_in core.core.fates)
+  pub fates : f.fates ≡ core.core.fates
+  pub too_often : f.too_often ≡ core.kept
+  pub kept_back : f.kept ≡ kept
+  pub sent_out : f.sent ≡ sent
+  pub unmapped : f.unmapped ≡ tally.unmapped
+  pub routes : f.routes ≡ length known.networks.items
+  pub services : f.services ≡ length known.services.items
+  pub seconds : f.seconds ≡ now / 1000

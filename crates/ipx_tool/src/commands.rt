@@ -1,0 +1,169 @@
+//! The commands of the program, each once: its name, its words and options, and what is said of it.
+
+use crate::texts;
+
+/// A word that a command wants, under the name that its help gives it.
+pub struct WordShape {
+    pub name: &'static str,
+    pub help: &'static str,
+}
+
+/// What stands behind an option.
+#[derive(Clone, Copy, PartialEq, Eq)]
+pub enum OptionValue {
+    Nothing,
+    /// A port of UDP, which the help calls `P`.
+    Port,
+}
+
+/// An option of a command, by its word without the dashes before it. Of the options of a command
+/// one at most is given.
+pub struct OptionShape {
+    pub name: &'static str,
+    pub value: OptionValue,
+    pub help: &'static str,
+}
+
+/// A command. All its words are wanted.
+pub struct CommandShape {
+    pub name: &'static str,
+    pub about: &'static str,
+    pub long_about: &'static str,
+    pub statuses: &'static str,
+    pub words: &'static [WordShape],
+    pub options: &'static [OptionShape],
+}
+
+pub const HOP: &str = "hop";
+
+pub const SHOW: &str = "show";
+
+pub const CHECK: &str = "check";
+
+pub const SIM: &str = "sim";
+
+pub const UDP: &str = "udp";
+
+pub const ROUTE: &str = "route";
+
+pub const LISTEN: &str = "listen";
+
+pub const SEND: &str = "send";
+
+pub const PORT_OPTION: &str = "--port";
+/// What stands before a port in one word with it.
+pub const PORT_IS: &str = "--port=";
+
+pub const ONCE_OPTION: &str = "--once";
+
+pub const CHECK_OPTION: &str = "--check";
+
+const HOST_FILE: WordShape = WordShape {
+    name: "HOST",
+    help: "The file of the host",
+};
+
+const CHECKS_FILE: OptionShape = OptionShape {
+    name: "check",
+    value: OptionValue::Nothing,
+    help: "Says what stands in the file, and binds nothing",
+};
+
+/// All commands, in the order in which the help tells them.
+pub const COMMANDS: [CommandShape; 8] = [
+    CommandShape {
+        name: HOP,
+        about: "What a router with two ports does with one packet",
+        long_about: texts::HOP,
+        statuses: texts::HOP_STATUSES,
+        words: &[],
+        options: &[],
+    },
+    CommandShape {
+        name: SHOW,
+        about: "The fields of one packet",
+        long_about: texts::SHOW,
+        statuses: texts::SHOW_STATUSES,
+        words: &[WordShape {
+            name: "HEX",
+            help: "The packet, two hex digits a byte",
+        }],
+        options: &[],
+    },
+    CommandShape {
+        name: CHECK,
+        about: "Whether packets have the outcomes that they are to have",
+        long_about: texts::CHECK,
+        statuses: texts::CHECK_STATUSES,
+        words: &[],
+        options: &[],
+    },
+    CommandShape {
+        name: SIM,
+        about: "A network in memory, run by a script",
+        long_about: texts::SIM,
+        statuses: texts::SIM_STATUSES,
+        words: &[],
+        options: &[],
+    },
+    CommandShape {
+        name: UDP,
+        about: "A script over UDP sockets of the loopback",
+        long_about: texts::UDP,
+        statuses: texts::UDP_STATUSES,
+        words: &[],
+        options: &[OptionShape {
+            name: "port",
+            value: OptionValue::Port,
+            help: "The UDP port of every socket, 1 to 65535; 213 where none is given",
+        }],
+    },
+    CommandShape {
+        name: ROUTE,
+        about: "A router of one site, over UDP",
+        long_about: texts::ROUTE,
+        statuses: texts::ROUTE_STATUSES,
+        words: &[WordShape {
+            name: "SITE",
+            help: "The file of the site",
+        }],
+        options: &[CHECKS_FILE],
+    },
+    CommandShape {
+        name: LISTEN,
+        about: "A host that takes connections, and writes the messages that come",
+        long_about: texts::LISTEN,
+        statuses: texts::LISTEN_STATUSES,
+        words: &[HOST_FILE],
+        options: &[
+            OptionShape {
+                name: "once",
+                value: OptionValue::Nothing,
+                help: "Ends behind the first connection that is heard",
+            },
+            CHECKS_FILE,
+        ],
+    },
+    CommandShape {
+        name: SEND,
+        about: "A host that asks for a connection, and sends its input",
+        long_about: texts::SEND,
+        statuses: texts::SEND_STATUSES,
+        words: &[
+            HOST_FILE,
+            WordShape {
+                name: "NET",
+                help: "The network to dial, eight hex digits",
+            },
+            WordShape {
+                name: "NODE",
+                help: "The node there, twelve hex digits",
+            },
+            WordShape {
+                name: "SOCKET",
+                help: "Its socket, four hex digits",
+            },
+        ],
+        options: &[],
+    },
+];

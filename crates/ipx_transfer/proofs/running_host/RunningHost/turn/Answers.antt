@@ -1,0 +1,14 @@
+use Rattle.std.proofs.Common.{◌∙◌, ap, arith, length}
+use Rattle.ipx_carrier.specs.Driving.{CanBegin}
+use Rattle.ipx_carrier.specs.Turns.{peers_of}
+use Rattle.ipx_site.specs.Steady.{NeverGoesBack}
+use Rattle.ipx_transfer.proofs.Turning.{took}
+use Rattle.ipx_transfer.proofs.running_host.RunningHost.turn.Goals as goal
+
+pub returns-clause-core : goal.returns-clause-core
+returns-clause-core g c =
+    let wire = c.args.self.now.wire in
+    let can : CanBegin 1 (length wire.device.device.sockets.items) (length c.deref.result.now) 0 =
+    (wire.one_socket, ap length c.deref.ensures.value ∙ wire.one_list, omega arith) in
+    took c.args.self.now.clock c.turn-ran.new.clock NeverGoesBack (peers_of wire.peers.items) (peers_of c.deref.result.now) c.args.self.now.core c.turn-ran.new.core c.turn-ran.result c.activity_of.result (ap peers_of c.deref.ensures.value)
+    (c.turn-ran.ensures.failures can) (c.turn-ran.ensures.begins can) c.activity_of.ensures.whole c.activity_of.ensures.ended
