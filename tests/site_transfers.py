@@ -4,11 +4,12 @@ import time
 from site_world import listed, some_bytes, until
 
 NETWORK = "00000044"
-# 20 MB at these numbers of buffers, and three senders of 5 MB to one listener.
+# 20 MB at these numbers of buffers, and three senders of 5 MB to one listener. A machine that is busy takes seven seconds
+# where an idle one takes two.
 BUFFERS = {64: ("127.0.1.148", "127.0.1.149"), 512: ("127.0.1.150", "127.0.1.151"), 8192: ("127.0.1.152", "127.0.1.153")}
 MANY, SENDERS = "127.0.1.154", ["127.0.1.155", "127.0.1.156", "127.0.1.157"]
 TRANSFERRING = [*(address for pair in BUFFERS.values() for address in pair), MANY, *SENDERS]
-SECONDS, LIMIT = 5, 20
+SECONDS = 20
 
 
 def check_one(sites, buffers, addresses):
@@ -21,7 +22,7 @@ def check_one(sites, buffers, addresses):
     listener = sites.start_listener("--once", name=names[0])
     start = time.monotonic()
     sender = sites.start_sender(names[1], [data], NETWORK, addresses[0])
-    sites.check_transfer(f"{2 * sites.size / 1e6:g} MB at {buffers} buffers", listener, sender, data, LIMIT)
+    sites.check_transfer(f"{2 * sites.size / 1e6:g} MB at {buffers} buffers", listener, sender, data, SECONDS)
     took = time.monotonic() - start
     sites.check(f"at {buffers} buffers it takes under {SECONDS} s", took < SECONDS, f"{took:.1f} s")
 
@@ -36,7 +37,7 @@ def check_three(sites):
     for number, (address, data) in enumerate(zip(SENDERS, thirds)):
         sites.host(f"many-sender{number}", NETWORK, address, "127.0.1.89", "4003")
         senders.append(sites.start_sender(f"many-sender{number}", [data], NETWORK, MANY))
-    statuses = [sender.status(LIMIT) for sender in senders]
+    statuses = [sender.status(SECONDS) for sender in senders]
     took = time.monotonic() - start
     until(lambda: len(listener.out) >= sum(map(len, thirds)), 5)
     listener.end()
