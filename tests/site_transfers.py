@@ -4,8 +4,8 @@ import time
 from site_world import listed, some_bytes, until
 
 NETWORK = "00000044"
-# 20 MB at these numbers of buffers, and three senders of 5 MB to one listener. A machine that is busy takes seven seconds
-# where an idle one takes two.
+# 20 MB at these numbers of buffers, and three senders of 5 MB to one listener. A listener stays
+# for three seconds behind the end, which count; a busy machine has taken four more.
 BUFFERS = {64: ("127.0.1.148", "127.0.1.149"), 512: ("127.0.1.150", "127.0.1.151"), 8192: ("127.0.1.152", "127.0.1.153")}
 MANY, SENDERS = "127.0.1.154", ["127.0.1.155", "127.0.1.156", "127.0.1.157"]
 TRANSFERRING = [*(address for pair in BUFFERS.values() for address in pair), MANY, *SENDERS]
