@@ -2,6 +2,7 @@ pub mod Counting
 pub mod Holding
 pub mod Noted
 pub mod Passed
+pub mod Told
 pub mod Written
 pub mod Turning
 pub mod Acknowledged

@@ -8,7 +8,7 @@ use Rattle.spx_units.specs.WrittenPackets.{IsRequestFor}
 use Rattle.ipx_carrier.specs.Counting.{raised}
 use Rattle.ipx_site.specs.Origins.{may_ask, named_in}
 use Rattle.ipx_transfer.specs.Noting.{HearsAndNotes}
-use Rattle.ipx_transfer.specs.Paced.{SamePaced}
+use Rattle.ipx_transfer.specs.Paced.{NotesAnswer}
 use Rattle.ipx_transfer.specs.declared.end_core.EndCore.{EndCore}
 
 -- bytes ask for a connection, in the name of an address
@@ -26,11 +26,11 @@ IsBarred core bytes = (a : Address) × IsAskedBy bytes a
     × (may_ask (named_in core.from) core.network a ≡ false)
 
 -- what the core of a host hears: a request of one who may not ask is counted, and its endpoint is as it
--- was; of anything else its endpoint reads, and what is noted. Its pacer may see it
+-- was; of anything else its endpoint reads, and what is noted. Its pacer is told
 abbrev pub HearsAllowed : EndCore → List ℕ → ℕ → EndCore → Type 0
 HearsAllowed old bytes now new =
     ((IsBarred old bytes → ⊥) × HearsAndNotes old.endpoint bytes now new.endpoint new.came
-    × SamePaced old.paced new.paced
+    × NotesAnswer old.endpoint bytes now new.endpoint old.paced new.paced
     × (new ≡ record old { endpoint = new.endpoint; came = new.came; paced = new.paced; moment = now }))
     ⊎ (IsBarred old bytes
     × (new ≡ record old { came = None; barred = raised old.barred; moment = now }))

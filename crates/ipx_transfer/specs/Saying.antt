@@ -6,7 +6,7 @@ use Rattle.std.specs.Fmt.{decimal}
 use Rattle.std.specs.Int.{w16, w32, to_be_bytes}
 use Rattle.hex.specs.Hex.{encode_lower}
 use Rattle.ipx_carrier.specs.Mapping.{node_at}
-use Rattle.ipx_site.specs.Checked.{dotted_text, others_text, reached_text}
+use Rattle.ipx_site.specs.Checked.{dotted_text, each_behind, others_text, peer_remark, reached_text}
 use Rattle.ipx_site.specs.declared.host.HostFile.{HostFile}
 
 -- where it listens: its socket in 4 hex digits, its network in 8 and its node in 12
@@ -26,6 +26,10 @@ abbrev pub router_remark : HostFile → List ℕ
 router_remark h =
     if pointwise nat_eq h.router h.address then codes "the router is its own address\n" else []
 
+-- its own address is none of its peers, and none of these stands twice
+abbrev pub peers_remarks : HostFile → List ℕ
+peers_remarks h = each_behind (peer_remark [] h.address) [] h.peers.items
+
 -- the line of the file itself
 abbrev pub host_line : List ℕ → HostFile → List ℕ
 host_line path h =
@@ -34,4 +38,5 @@ host_line path h =
 
 -- all that is printed of a host's file
 abbrev pub host_lines : List ℕ → HostFile → List ℕ
-host_lines path h = listener_text h ++ (10 ∷ (router_remark h ++ host_line path h))
+host_lines path h =
+    listener_text h ++ (10 ∷ (router_remark h ++ (peers_remarks h ++ host_line path h)))

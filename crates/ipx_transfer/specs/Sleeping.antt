@@ -1,11 +1,11 @@
 -- How long a host waits, and what has nothing to do till then: its links by themselves, and its connections
 -- by their silence. All of it is own.
-use Rattle.std.specs.Prelude.{◌≡◌, ◌≤◌, ◌<◌, ◌⊎◌, ◌^◌, ◌-◌, ◌+◌, ℕ, Bool, List, Option, Some, All, is_some, slice_get, if◌then◌else◌}
+use Rattle.std.specs.Prelude.{◌≡◌, ◌≤◌, ◌<◌, ◌⊎◌, ◌^◌, ◌-◌, ◌+◌, ℕ, Bool, List, Option, Some, All, IfSome, IsSomeAnd, is_some, slice_get, if◌then◌else◌}
 use Rattle.spx_link.specs.Due.{IsQuiet}
 use Rattle.spx_link.specs.LinkView.{LinkView}
 use Rattle.spx_link.specs.Links.{LinksView, link_at}
 use Rattle.ipx_transfer.specs.CallerActions.{IsCallerAction}
-use Rattle.ipx_transfer.specs.Paced.{HoldsBack, IsAwake}
+use Rattle.ipx_transfer.specs.Paced.{HoldsBack, IsAwake, paced_due}
 use Rattle.ipx_transfer.specs.Transfer.{state_at}
 use Rattle.ipx_transfer.specs.declared.callers.Caller.{Caller}
 use Rattle.ipx_transfer.specs.declared.callers.CallerAction.TheVariants.{Stays}
@@ -17,15 +17,17 @@ IsDueFrom links moment = (id : ℕ) × (l : LinkView) × (link_at links id ≡ S
     × ((t : ℕ) → moment ≤ t → IsQuiet l t → ⊥)
 
 -- so long from now no poll of any link, as it is, sends anything or gives a link up, at any moment that a
--- clock can show. That is at most as long as was asked for; and where it is less, the polls of some link
--- do so from then on, or a connection is paced that waits for something, which a minute does at most. What
--- its pacer holds back waits a millisecond
+-- clock can show, and the pacer of the connection that is paced, if one is, plans nothing else before. That is at
+-- most as long as was asked for; and where it is less, the polls of some link do so from then on, or the pacer may
+-- plan something else then. What a pacer holds back waits a millisecond at most, and an acknowledgement a minute
 pub record IsSleep (core : EndCore) (most time : ℕ) : Type 0 where
   pub few : time ≤ most
   pub quiet : (id t : ℕ) (l : LinkView) → link_at core.endpoint.links id ≡ Some l
       → core.moment ≤ t → t < core.moment + time → t < 2 ^ 64 → IsQuiet l t
+  pub planned : IfSome (paced_due core.paced core.moment) (λ at. time ≤ at - core.moment)
   pub due : time < most
-      → IsDueFrom core.endpoint.links (core.moment + time) ⊎ IsAwake core.paced
+      → IsDueFrom core.endpoint.links (core.moment + time)
+      ⊎ IsSomeAnd (paced_due core.paced core.moment) (λ at. time ≡ at - core.moment)
   pub soon : HoldsBack core.paced → time ≤ 1
   pub awake : IsAwake core.paced → time ≤ 60000
 

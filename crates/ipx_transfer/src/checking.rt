@@ -5,10 +5,12 @@ ghost use Rattle.std.specs.Io.KnownBytes.{Appends};
 ghost use Rattle.ipx_site.specs.Host.{IsHostText};
 ghost use Rattle.ipx_site.specs.Loading.{IsFileText};
 ghost use Rattle.ipx_site.specs.declared.host.HostFile.{HostFile as AHostFile};
-ghost use Rattle.ipx_transfer.specs.Saying.{host_line, host_lines, listener_text, own_place_text, router_remark};
+ghost use Rattle.ipx_transfer.specs.Saying.{host_line, host_lines, listener_text, own_place_text, peers_remarks, router_remark};
 
 use ipx_carrier::node_of;
-use ipx_site::{HostFile, dotted, load_host, others, reached_to_text, write_checked};
+use ipx_site::{
+    HostFile, dotted, load_host, others, peers_to_remarks, reached_to_text, write_checked,
+};
 use std::alloc::{AllocError, Global};
 use std::io::Write;
 use std::rt::Files;
@@ -44,6 +46,13 @@ fn remark_on_router(file: &HostFile) -> &'static str
     }
 }
 
+/// What is remarked on the peers of a host.
+fn remarks_on_peers(alloc: Global, file: &HostFile) -> Result<String, AllocError>
+    ensures { IfOk result (λ t. string_bytes t ≡ peers_remarks file.now) }
+{
+    peers_to_remarks(alloc, "", file.address, &file.peers)
+}
+
 /// The line of the file itself.
 fn file_to_line(alloc: Global, path: &str, file: &HostFile) -> Result<String, AllocError>
     ensures { IfOk result (λ t. string_bytes t ≡ host_line path.now file.now) }
@@ -58,8 +67,9 @@ fn host_to_lines(alloc: Global, path: &str, file: &HostFile) -> Result<String, A
 {
     let listener = listener_to_text(alloc, file)?;
     let remark = remark_on_router(file);
+    let peers = remarks_on_peers(alloc, file)?;
     let line = file_to_line(alloc, path, file)?;
-    format!(in alloc; "{listener}\n{remark}{line}")
+    format!(in alloc; "{listener}\n{remark}{peers}{line}")
 }
 
 /// The command `listen --check`: reads the file of a host, and writes the line that it has as it

@@ -2,7 +2,8 @@
 
 ghost use Rattle.std.specs.Prelude.{◌≡◌, ◌≤◌, ◌+◌, IfOk, IfSome, IsNone, Some};
 ghost use Rattle.spx_pace.specs.Pacing.{made_pacer};
-ghost use Rattle.ipx_transfer.specs.Paced.{HoldsBack, IsAwake, Plans, SamePaced};
+ghost use Rattle.ipx_transfer.specs.Paced.{HoldsBack, IsAwake, NotesDatagram, NotesPoll, Plans};
+ghost use Rattle.ipx_transfer.specs.Paced.{paced_due, paced_numbers};
 
 use ipx_wire::{OutOfMemory, decode, decode_spx};
 use spx_link::{Numbers, Received};
@@ -35,8 +36,7 @@ impl Paced {
 
     /// The link of the connection may do what its pacer plans, at the next poll. It goes by hand.
     fn plan(&mut self, endpoint: &mut Endpoint, now: u64)
-        ensures plans { Plans (Some self.old) endpoint.old endpoint.new }
-        ensures same { self.new.id ≡ self.old.id }
+        ensures { Plans (Some self.old) (Some self.new) endpoint.old endpoint.new }
     {
         let Ok(numbers) = endpoint.numbers(self.id) else {
             return;
@@ -51,7 +51,7 @@ impl Paced {
     /// The endpoint was polled, and has written a packet at the front of these bytes, if it gave
     /// one.
     fn gave(&mut self, endpoint: &Endpoint, bytes: &[u8], now: u64)
-        ensures { self.new.id ≡ self.old.id }
+        ensures { NotesPoll (Some self.old) endpoint.now (Some self.new) }
     {
         let Some((id, what)) = endpoint.sent() else {
             return;
@@ -66,25 +66,31 @@ impl Paced {
     }
 
     /// The endpoint answered a datagram so. The link of the connection had these numbers before.
-    fn heard(&mut self, endpoint: &Endpoint, arrived: Arrived, before: Numbers, now: u64)
-        ensures { self.new.id ≡ self.old.id }
+    fn heard(&mut self, endpoint: &Endpoint, arrived: Arrived, before: Option<Numbers>, now: u64)
+        ensures { NotesDatagram (Some self.old) arrived endpoint.now (Some self.new) }
     {
         let Arrived::Link(id, received) = arrived else {
             return;
         };
+        if id != self.id {
+            return;
+        }
+        if let Received::Stranger = received {
+            return;
+        }
         let Ok(numbers) = endpoint.numbers(self.id) else {
             return;
         };
-        if id == self.id && received != Received::Stranger {
-            let joined = received == Received::Joined;
-            self.pacer.heard(before, numbers, joined, now);
-        }
+        let joined = received == Received::Joined;
+        let before = before.unwrap_or(numbers);
+        self.pacer.heard(before, numbers, joined, now);
     }
 }
 
 /// The moment at which a plan of the connection that is paced, if one is, may differ from the last
 /// one.
 pub fn due_of(paced: &Option<Paced>, now: u64) -> Option<u64>
+    ensures value { result ≡ paced_due paced.now now }
     ensures soon { HoldsBack paced.now → IfSome result (λ at. at ≤ now + 1) }
     ensures bound { IfSome result (λ at. at ≤ now + 60000) }
     ensures rests { IsNone result → HoldsBack paced.now → ⊥ }
@@ -97,17 +103,16 @@ pub fn due_of(paced: &Option<Paced>, now: u64) -> Option<u64>
 
 /// Before a poll: the link of the connection that is paced, if one is, may do what its pacer plans.
 pub fn plan(paced: &mut Option<Paced>, endpoint: &mut Endpoint, now: u64)
-    ensures plans { Plans paced.old endpoint.old endpoint.new }
-    ensures same { SamePaced paced.old paced.new }
+    ensures { Plans paced.old paced.new endpoint.old endpoint.new }
 {
     if let Some(paced) = paced {
         paced.plan(endpoint, now);
     }
 }
 
-/// Behind a poll, which wrote these bytes.
+/// Behind a poll, which wrote these bytes: the pacer is told of them.
 pub fn note_poll(paced: &mut Option<Paced>, endpoint: &Endpoint, bytes: &[u8], now: u64)
-    ensures { SamePaced paced.old paced.new }
+    ensures { NotesPoll paced.old endpoint.now paced.new }
 {
     if let Some(paced) = paced {
         paced.gave(endpoint, bytes, now);
@@ -115,13 +120,15 @@ pub fn note_poll(paced: &mut Option<Paced>, endpoint: &Endpoint, bytes: &[u8], n
 }
 
 /// The numbers of the link of the connection that is paced, if one is.
-pub fn numbers_of(paced: &Option<Paced>, endpoint: &Endpoint) -> Option<Numbers> {
+pub fn numbers_of(paced: &Option<Paced>, endpoint: &Endpoint) -> Option<Numbers>
+    ensures { result ≡ paced_numbers paced.now endpoint.now }
+{
     let paced = paced.as_ref()?;
     endpoint.numbers(paced.id).ok()
 }
 
-/// Behind a datagram, which the endpoint answered so. The link of the connection that is paced had
-/// these numbers before.
+/// Behind a datagram, which the endpoint answered so: the pacer is told of it. The link of the
+/// connection that is paced had these numbers before, where it was there.
 pub fn note_datagram(
     paced: &mut Option<Paced>,
     endpoint: &Endpoint,
@@ -129,9 +136,9 @@ pub fn note_datagram(
     before: Option<Numbers>,
     now: u64,
 )
-    ensures { SamePaced paced.old paced.new }
+    ensures { NotesDatagram paced.old arrived endpoint.now paced.new }
 {
-    if let (Some(paced), Some(before)) = (paced, before) {
+    if let Some(paced) = paced {
         paced.heard(endpoint, arrived, before, now);
     }
 }

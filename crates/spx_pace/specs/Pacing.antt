@@ -1,6 +1,6 @@
 -- What a pacer holds, as its contracts see it, and what it lets a link do (own).
-use Rattle.std.specs.Prelude.{ℕ, ◌+◌, ◌-◌, ◌/◌, ◌&&◌, ◌||◌, if◌then◌else◌, Bool, min, nat_lt}
-use Rattle.std.specs.Prelude.{Option, None, Some, is_some}
+use Rattle.std.specs.Prelude.{ℕ, ◌+◌, ◌-◌, ◌/◌, ◌^◌, ◌&&◌, ◌||◌, if◌then◌else◌, Bool, min, nat_lt}
+use Rattle.std.specs.Prelude.{Option, None, Some, is_some, unwrap_or}
 use Rattle.spx_link.specs.Limits.{most_units}
 use Rattle.spx_pace.specs.declared.plan.Plan.{Plan}
 use Rattle.spx_pace.specs.declared.gave.Gave.{Gave}
@@ -8,7 +8,8 @@ use Rattle.spx_pace.specs.declared.gave.Gave.TheVariants as Gaves
 
 -- positions count units from 0. `out` units from `base` on are outstanding; `left` of them came, or
 -- are given up, and `flying` went again; those from `from` up to `to` are to go again. The window
--- and the credit are in 256ths of a unit
+-- and the credit are in 256ths of a unit. At `wakes` it has waited long enough for an acknowledgement, or for
+-- a unit that went again
 pub record PacerView : Type 0 where
   pub base : ℕ
   pub out : ℕ
@@ -18,6 +19,11 @@ pub record PacerView : Type 0 where
   pub to : ℕ
   pub window : ℕ
   pub credit : ℕ
+  pub wakes : Option ℕ
+
+-- so long behind a moment, or the last that a clock can show
+abbrev pub behind : ℕ → ℕ → ℕ
+behind now time = min (now + time) (2 ^ 64 - 1)
 
 -- a pacer as it is made: a window of 27 units, and credit of 10
 abbrev pub made_pacer : PacerView
@@ -31,6 +37,7 @@ made_pacer =
       to = 0;
       window = 6912;
       credit = 2560;
+      wakes = None;
     }
 
 -- as many are outstanding as a link says; where none is, none is on its way
@@ -76,6 +83,14 @@ plan_of p =
 -- something would go now, but for its credit or for another that goes first
 abbrev pub holds_back : PacerView → Bool
 holds_back p = is_some (place_again p) || (nat_lt p.credit 256 && nat_lt 0 (spare p))
+
+-- the moment at which what is planned may differ, where nothing is heard before: where something is held back in
+-- a millisecond, else where units are outstanding in a minute at most; at once where it does not wait
+abbrev pub due_at : PacerView → ℕ → Option ℕ
+due_at p now =
+    if holds_back p
+    then Some (min (behind now 1) (unwrap_or p.wakes (behind now 1)))
+    else (if nat_lt 0 p.out then Some (min (unwrap_or p.wakes now) (behind now 60000)) else None)
 
 -- the credit once a packet was given: a unit costs one
 abbrev pub credit_after : ℕ → Gave → ℕ

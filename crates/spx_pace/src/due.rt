@@ -1,7 +1,7 @@
 //! When something is due by itself.
 
 ghost use Rattle.std.specs.Prelude.{◌≡◌, ◌+◌, ◌≤◌, IfSome, IsNone, IsTrue, false};
-ghost use Rattle.spx_pace.specs.Pacing.{holds_back};
+ghost use Rattle.spx_pace.specs.Pacing.{due_at, holds_back};
 
 use crate::pacer::Pacer;
 
@@ -13,6 +13,7 @@ impl Pacer {
     ///
     /// None only where nothing is outstanding and nothing is held back.
     pub fn next_due(&self, now: u64) -> Option<u64>
+        ensures value { result ≡ due_at self.now now }
         ensures rests { IsNone result → (self.now.out ≡ 0) × (holds_back self.now ≡ false) }
         ensures none { self.now.out ≡ 0 → holds_back self.now ≡ false → IsNone result }
         ensures soon { IsTrue (holds_back self.now) → IfSome result (λ at. at ≤ now + 1) }
@@ -21,14 +22,23 @@ impl Pacer {
     {
         if self.holds_back() {
             let soon = now.saturating_add(1);
-            return Some(earlier(soon, self.waits_till()));
+            return Some(soon.min(self.wakes.unwrap_or(soon)));
         }
         if self.out == 0 {
             return None;
         }
-        let till = self.waits_till().unwrap_or(now);
         let latest = now.saturating_add(MOST_SLEEP);
-        Some(earlier(till, self.repair_due()).min(latest))
+        Some(self.wakes.unwrap_or(now).min(latest))
+    }
+
+    /// Notes till when it waits.
+    pub(crate) fn note_wait(&mut self)
+        ensures { self.new ≡ record self.old { wakes = self.new.wakes } }
+    {
+        self.wakes = match (self.waits_till(), self.repair_due()) {
+            (Some(till), Some(due)) => Some(till.min(due)),
+            (till, _) => till,
+        };
     }
 
     /// Whether something would go now, but for its credit or for another that goes first.
@@ -60,15 +70,5 @@ impl Pacer {
             return None;
         }
         Some(spoke.saturating_add(self.trip.plain_wait()))
-    }
-}
-
-/// The earlier of two moments, where there is another.
-fn earlier(due: u64, other: Option<u64>) -> u64
-    ensures { result ≤ due }
-{
-    match other {
-        Some(other) => due.min(other),
-        None => due,
     }
 }

@@ -24,6 +24,7 @@ impl Pacer {
             Gave::Again => self.sends_again(now),
             Gave::Other => {}
         }
+        self.note_wait();
     }
 
     /// The request was sent. One that was sent before measures nothing.

@@ -34,6 +34,7 @@ impl Pacer {
         } else {
             self.count(after.out, now);
         }
+        self.note_wait();
     }
 
     /// The request was answered.

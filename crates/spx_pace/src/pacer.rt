@@ -40,6 +40,9 @@ pub struct Pacer {
     pub(crate) safe: u64,
     /// Since when an acknowledgement is waited for.
     pub(crate) timer: Option<u64>,
+    /// When it has waited long enough for an acknowledgement, or for a unit that went again, as the
+    /// last call left it. None where it does not wait.
+    pub(crate) wakes: Option<u64>,
     /// When a unit was sent last.
     pub(crate) spoke: Option<u64>,
     /// When the request was sent, where it was sent once.
@@ -66,6 +69,7 @@ impl Model for Pacer {
       to = p.repair.to;
       window = p.window.size;
       credit = p.credit.amount;
+      wakes = p.wakes;
     } };
 }
 
@@ -91,6 +95,7 @@ impl Pacer {
             past: 0,
             safe: 0,
             timer: None,
+            wakes: None,
             spoke: None,
             asked_at: None,
             asked: false,

@@ -29,6 +29,7 @@ impl Pacer {
         self.tend(now);
         let rate = self.window.rate(self.trip.smoothed());
         self.credit.grow(rate, now);
+        self.note_wait();
         self.choose()
     }
 
