@@ -244,6 +244,9 @@ CHECKED = [
     ("listen", changed(HOST, "router", '"127.0.1.20"') + "buffers = 512\n",
      ["socket 4002 network 00000011 node 00007f000114 udp 127.0.1.20:20999", "the router is its own address",
       "it.toml: router 127.0.1.20, buffers 512"]),
+    ("listen", HOST + 'peers = ["127.0.1.30", "127.0.1.20", "127.0.1.30", "127.0.1.31"]\n',
+     ["socket 4002 network 00000011 node 00007f000114 udp 127.0.1.20:20999", "peer 127.0.1.20 is its own address",
+      "peer 127.0.1.30 stands twice", "it.toml: router 127.0.1.1, buffers 1024"]),
 ]
 
 

@@ -10,7 +10,7 @@ use Rattle.spx_messages.specs.declared.arrived.Arrived.{Arrived}
 use Rattle.spx_messages.specs.declared.arrived.Arrived.TheVariants.{Link}
 use Rattle.spx_messages.specs.declared.fault.EndFault.{EndFault}
 use Rattle.spx_pace.specs.Pacing.{PacerView}
-use Rattle.ipx_transfer.specs.Paced.{IsReadBy, NotesGiven, NotesHeard, PlansLink}
+use Rattle.ipx_transfer.specs.Paced.{LinkReads, NotesGiven, NotesHeard, PlansLink}
 
 -- where no numbers of a link are told it is not there
 pub absent : (there : Option Held) (told : Result Numbers EndFault) (fault : EndFault)
@@ -46,16 +46,16 @@ given_other id other what said there pacer is not =
     subst (λ s. NotesGiven id s there pacer pacer) (sym is) (given_beside id other what there pacer not)
 
 -- it was for no link, for another one, or was a stranger's
-pub read_none : (id : ℕ) (arrived : Arrived) → ((x : ℕ) (r : Received) → arrived ≡ Link x r → ⊥) → IsReadBy id arrived → ⊥
+pub read_none : (id : ℕ) (arrived : Arrived) → ((x : ℕ) (r : Received) → arrived ≡ Link x r → ⊥) → LinkReads id arrived → ⊥
 read_none id arrived none (received, is, known) = none id received is
 
-pub read_other : (id other : ℕ) (r : Received) (arrived : Arrived) → arrived ≡ Link other r → (other ≡ id → ⊥) → IsReadBy id arrived → ⊥
+pub read_other : (id other : ℕ) (r : Received) (arrived : Arrived) → arrived ≡ Link other r → (other ≡ id → ⊥) → LinkReads id arrived → ⊥
 read_other id other r arrived said not (received, is, known) = not (cc)
 
-pub read_stranger : (id other : ℕ) (r : Received) (arrived : Arrived) → arrived ≡ Link other r → r ≡ Stranger → IsReadBy id arrived → ⊥
+pub read_stranger : (id other : ℕ) (r : Received) (arrived : Arrived) → arrived ≡ Link other r → r ≡ Stranger → LinkReads id arrived → ⊥
 read_stranger id other r arrived said stranger (received, is, known) = known (cc)
 
-pub unread : (id : ℕ) (arrived : Arrived) (pacer : PacerView) (there : Option Held) → (IsReadBy id arrived → ⊥)
+pub unread : (id : ℕ) (arrived : Arrived) (pacer : PacerView) (there : Option Held) → (LinkReads id arrived → ⊥)
     → NotesHeard id arrived pacer pacer there
 unread id arrived pacer there not = record { counts = λ read. absurd (not read); stays = λ _. refl }
 

@@ -14,7 +14,7 @@ use Rattle.spx_messages.specs.EndpointView.{EndpointView, Held, held_at}
 use Rattle.spx_messages.specs.declared.arrived.Arrived.{Arrived}
 use Rattle.spx_messages.specs.declared.arrived.Arrived.TheVariants.{Link}
 use Rattle.spx_pace.specs.Giving.{gave_of}
-use Rattle.spx_pace.specs.Pacing.{PacerView, credit_after, due_at, holds_back, plan_of}
+use Rattle.spx_pace.specs.Pacing.{PacerView, credit_after, wakes_at, holds_back, plan_of}
 use Rattle.spx_pace.specs.declared.plan.Plan.{Plan}
 use Rattle.ipx_transfer.specs.declared.end_core.EndCore.{EndCore}
 use Rattle.ipx_transfer.specs.declared.pacing.Paced.{Paced}
@@ -67,14 +67,14 @@ NotesPoll (Some paced) e after = (pacer : PacerView) × (after ≡ Some (record 
     × NotesGiven paced.id e.said (held_at e paced.id) paced.pacer pacer
 
 -- the link of an id read a datagram, and took it for its peer's
-abbrev pub IsReadBy : ℕ → Arrived → Type 0
-IsReadBy id arrived = (received : Received) × (arrived ≡ Link id received) × (received ≢ Stranger)
+abbrev pub LinkReads : ℕ → Arrived → Type 0
+LinkReads id arrived = (received : Received) × (arrived ≡ Link id received) × (received ≢ Stranger)
 
 -- behind a datagram the pacer of the link of an id, which was there before and is now, has counted as many units outstanding
 -- as that link where it read it, and is as it was where it did not
 pub record NotesHeard (id : ℕ) (arrived : Arrived) (pacer pacer' : PacerView) (there : Option Held) : Type 0 where
-  pub counts : IsReadBy id arrived → IfSome there (λ h. pacer'.out ≡ h.link.out)
-  pub stays : (IsReadBy id arrived → ⊥) → pacer' ≡ pacer
+  pub counts : LinkReads id arrived → IfSome there (λ h. pacer'.out ≡ h.link.out)
+  pub stays : (LinkReads id arrived → ⊥) → pacer' ≡ pacer
 
 -- that of the connection that is paced, if one is
 abbrev pub NotesDatagram : Option Paced → Arrived → EndpointView → Option Paced → Type 0
@@ -95,7 +95,7 @@ paced_numbers (Some paced) e = option_map (λ h. numbers_of h.link) (held_at e p
 -- the moment at which the pacer of the connection that is paced, if one is, may plan something else
 abbrev pub paced_due : Option Paced → ℕ → Option ℕ
 paced_due None now = None
-paced_due (Some paced) now = due_at paced.pacer now
+paced_due (Some paced) now = wakes_at paced.pacer now
 
 -- a connection is paced whose pacer holds something back
 abbrev pub HoldsBack : Option Paced → Type 0

@@ -86,8 +86,8 @@ holds_back p = is_some (place_again p) || (nat_lt p.credit 256 && nat_lt 0 (spar
 
 -- the moment at which what is planned may differ, where nothing is heard before: where something is held back in
 -- a millisecond, else where units are outstanding in a minute at most; at once where it does not wait
-abbrev pub due_at : PacerView → ℕ → Option ℕ
-due_at p now =
+abbrev pub wakes_at : PacerView → ℕ → Option ℕ
+wakes_at p now =
     if holds_back p
     then Some (min (behind now 1) (unwrap_or p.wakes (behind now 1)))
     else (if nat_lt 0 p.out then Some (min (unwrap_or p.wakes now) (behind now 60000)) else None)

@@ -1,7 +1,7 @@
 //! When something is due by itself.
 
 ghost use Rattle.std.specs.Prelude.{◌≡◌, ◌+◌, ◌≤◌, IfSome, IsNone, IsTrue, false};
-ghost use Rattle.spx_pace.specs.Pacing.{due_at, holds_back};
+ghost use Rattle.spx_pace.specs.Pacing.{wakes_at, holds_back};
 
 use crate::pacer::Pacer;
 
@@ -13,7 +13,7 @@ impl Pacer {
     ///
     /// None only where nothing is outstanding and nothing is held back.
     pub fn next_due(&self, now: u64) -> Option<u64>
-        ensures value { result ≡ due_at self.now now }
+        ensures value { result ≡ wakes_at self.now now }
         ensures rests { IsNone result → (self.now.out ≡ 0) × (holds_back self.now ≡ false) }
         ensures none { self.now.out ≡ 0 → holds_back self.now ≡ false → IsNone result }
         ensures soon { IsTrue (holds_back self.now) → IfSome result (λ at. at ≤ now + 1) }
