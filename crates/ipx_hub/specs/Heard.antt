@@ -11,16 +11,17 @@ use Rattle.ipx_frames.specs.Wire.{frame_counted, frames_raised, no_frames}
 use Rattle.ipx_hub.specs.declared.onward.Onward.{Onward}
 use Rattle.ipx_hub.specs.declared.onward.Onward.TheVariants.{Nowhere, ToOne, ToAll, ToOthers}
 use Rattle.ipx_hub.specs.declared.stations.Station.{Station}
-use Rattle.ipx_hub.specs.WireEnds.{end_of_station, stations_with, way_past}
+use Rattle.ipx_hub.specs.WireEnds.{end_of_station, stations_with, way_out, way_past}
 
--- a port of several ends: whether they are joined, which stations are known, what came, and how
--- many frames were to go on
+-- a port of several ends: whether they are joined, which stations are known, what came, how many frames
+-- were to go on, and how many packets of the core no frame could carry
 pub record HubView : Type 0 where
   pub port : WirePort
   pub joined : Bool
   pub stations : List Station
   pub counts : WireCounts
   pub passed : ℕ
+  pub refused : ℕ
 
 -- nothing came yet
 abbrev pub new_hub : WirePort → Bool → HubView
@@ -30,6 +31,7 @@ new_hub port joined = record {
   stations = [];
   counts = no_frames;
   passed = 0;
+  refused = 0;
 }
 
 -- so many bytes may go on: no fewer than the addresses and the length or type, and no more than a
@@ -79,6 +81,12 @@ abbrev pub way_behind : HubView → List ℕ → ℕ → ℕ → Onward
 way_behind h bytes end now =
     if h.joined then way_joined h.port.own bytes end now h.stations else Nowhere
 
+-- where a frame of the port's own to a node goes: a group's to each end, and else to the end at which its station is
+-- known, or to each
+abbrev pub way_of_own : Node → ℕ → List Station → Onward
+way_of_own node now known =
+    if is_group node.0 then ToAll else way_out (end_of_station node now known)
+
 -- one more frame that was to go on
 abbrev pub passed_with : Onward → ℕ → ℕ
 passed_with Nowhere n = n
@@ -105,3 +113,7 @@ hub_handing h =
 
 abbrev pub hub_keeping : KeptFrame → HubView → HubView
 hub_keeping k h = record h { counts = frame_counted k h.counts }
+
+-- one more packet of the core that no frame could carry: nothing but its count is another
+abbrev pub hub_refusing : HubView → HubView
+hub_refusing h = record h { refused = frames_raised h.refused }

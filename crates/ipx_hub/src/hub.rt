@@ -1,16 +1,18 @@
 //! A port on a wire of several ends.
 
-ghost use Rattle.std.specs.Prelude.{◌≡◌, List, ℕ, IfOk, IfErr, IsOkAnd, false};
-ghost use Rattle.ipx_wire.specs.Ipx.{IsPartOf};
-ghost use Rattle.ipx_frames.specs.Frame.{packet_place};
+ghost use Rattle.std.specs.Prelude.{◌≡◌, List, ℕ, IfOk, IfErr, IsOkAnd, OnErr, OnOk, None, Some, drop, false, length, take};
+ghost use Rattle.ipx_wire.specs.Ipx.{IsPartOf, number};
+ghost use Rattle.ipx_frames.specs.Frame.{frame_of, own_bytes, packet_place};
+ghost use Rattle.ipx_frames.specs.SentFrame.{IsSentFrame, sending_fault, sent_size};
 ghost use Rattle.ipx_frames.specs.Wire.{IsForCore, KeepsFrame};
-ghost use Rattle.ipx_hub.specs.Heard.{HubView, hub_handing, hub_keeping, hub_knowing, hub_passing, new_hub, way_behind};
-ghost use Rattle.ipx_hub.specs.WireEnds.{end_of_station, is_way_to, way_out};
+ghost use Rattle.ipx_hub.specs.Heard.{HubView, hub_handing, hub_keeping, hub_knowing, hub_passing, hub_refusing, new_hub};
+ghost use Rattle.ipx_hub.specs.Heard.{way_behind, way_of_own};
+ghost use Rattle.ipx_hub.specs.WireEnds.{is_way_to};
 
 use crate::onward::{Onward, out_to};
-use crate::passing::{addresses_of, between, count_passed, know};
+use crate::passing::{addresses_of, between, count_passed, is_group, know};
 use crate::stations::{Station, Stations};
-use ipx_frames::{KeptFrame, WireCounts, WirePort};
+use ipx_frames::{FrameFault, KeptFrame, WireCounts, WirePort};
 use ipx_wire::Node;
 use std::alloc::{AllocError, Global};
 use std::marker::Model;
@@ -23,6 +25,7 @@ pub struct Hub {
     stations: Stations,
     counts: WireCounts,
     passed: u64,
+    refused: u64,
 }
 
 impl Model for Hub {
@@ -36,6 +39,7 @@ impl Model for Hub {
       stations = h.stations;
       counts = h.counts;
       passed = h.passed;
+      refused = h.refused;
     } };
 }
 
@@ -52,10 +56,11 @@ impl Hub {
             stations,
             counts: WireCounts::new(),
             passed: 0,
+            refused: 0,
         })
     }
 
-    /// The port: `WirePort::frame_into` writes its frames.
+    /// The port.
     pub fn port(&self) -> WirePort
         ensures { result ≡ self.now.port }
     {
@@ -84,12 +89,57 @@ impl Hub {
         self.stations.all()
     }
 
-    /// Where a frame of the port's own to a node goes: to the end where the node was heard, or to
-    /// each.
-    pub fn way_to(&self, node: Node, now: u64) -> Onward
-        ensures { result ≡ way_out (end_of_station node now self.now.stations) }
+    /// How many packets of the core no frame could carry.
+    pub fn refused(&self) -> u64
+        ensures { result ≡ self.now.refused }
     {
+        self.refused
+    }
+
+    /// Where a frame of the port's own to a node goes at the moment `now`, in ms: a broadcast to each
+    /// end; else to the end where the node was heard, or to each.
+    pub fn way_to(&self, node: Node, now: u64) -> Onward
+        ensures { result ≡ way_of_own node now self.now.stations }
+    {
+        if is_group(node) {
+            return Onward::ToAll;
+        }
         out_to(self.stations.end_of(node, now))
+    }
+
+    /// Writes the frame that a packet of the core for a node goes by at the front of `out`, and
+    /// answers which ends it is for, as `way_to` says, and its size.
+    ///
+    /// It refuses what `WirePort::frame_into` refuses, by the same faults, and counts that. Then
+    /// `out` is as it was. No memory is taken.
+    pub fn frame_into(
+        &mut self,
+        node: Node,
+        packet: &[u8],
+        now: u64,
+        out: &mut [u8],
+    ) -> Result<(Onward, usize), FrameFault>
+        ensures ends { IfOk result (λ r. r.0 ≡ way_of_own node now self.old.stations) }
+        ensures count { IfOk result (λ r.
+            r.1 ≡ sent_size self.old.port.encapsulation (number 2 2 packet.now)) }
+        ensures written { IfOk result (λ r. IsSentFrame self.old.port.encapsulation
+            (frame_of node self.old.port.own (own_bytes packet.now)) (take r.1 out.new)) }
+        ensures rest { IfOk result (λ r. drop r.1 out.new ≡ drop r.1 out.old) }
+        ensures sent { OnOk result (self.new ≡ self.old) }
+        ensures unchanged { OnErr result (out.new ≡ out.old) }
+        ensures counted { OnErr result (self.new ≡ hub_refusing self.old) }
+        ensures fault { IfErr result (λ f. sending_fault self.old.port.encapsulation packet.now
+            (length out.old) ≡ Some f) }
+        ensures whole { IfOk result (λ _. sending_fault self.old.port.encapsulation packet.now
+            (length out.old) ≡ None) }
+    {
+        match self.port.frame_into(node, packet, out) {
+            Ok(size) => Ok((self.way_to(node, now), size)),
+            Err(fault) => {
+                self.refused = self.refused.saturating_add(1);
+                Err(fault)
+            }
+        }
     }
 
     /// A frame that the end `end` gave at the moment `now`, in ms: to which other ends it goes on,

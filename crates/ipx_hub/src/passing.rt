@@ -1,6 +1,7 @@
 //! Whether a frame goes on from one end to others, and whose it is.
 
 ghost use Rattle.std.specs.Prelude.{◌≡◌, ◌==◌, IfSome, is_some, length};
+ghost use Rattle.ipx_frames.specs.Frame;
 ghost use Rattle.ipx_hub.specs.Heard.{may_be_behind, may_pass, passed_with, station_from, station_to, stations_from, way_between};
 
 use crate::onward::{Onward, past};
@@ -29,12 +30,18 @@ pub fn addresses_of(bytes: &[u8]) -> Option<(Node, Node)>
     }
 }
 
+/// Whether an address is a group's.
+pub fn is_group(node: Node) -> bool
+    ensures { result ≡ Frame.is_group node.0 }
+{
+    node.0[0] % 2 == 1
+}
+
 /// Whether a station behind an end may have an address.
 fn may_be_there(own: Node, node: Node) -> bool
     ensures { result ≡ may_be_behind own node }
 {
-    let is_group = node.0[0] % 2 == 1;
-    !(is_group || node == Node([0; 6]) || node == own)
+    !(is_group(node) || node == Node([0; 6]) || node == own)
 }
 
 /// A frame came from an end: its sender is known there from now on, where a station may have that

@@ -14,3 +14,5 @@ mod fixture;
 mod known;
 #[cfg(test)]
 mod refused;
+#[cfg(test)]
+mod sending;

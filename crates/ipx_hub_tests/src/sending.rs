@@ -1,0 +1,66 @@
+//! Frames of the port's own, and the ends that they are for.
+
+use crate::caller::give;
+use crate::fixture::{CAME, FIRST, PORT, SECOND, frame};
+use ipx_frames::FrameFault;
+use ipx_hub::{Hub, Onward};
+use ipx_wire::Node;
+use std::test::Fail;
+
+/// A packet of 30 bytes from the port to the first station.
+const PACKET: [u8; 30] = [
+    0xff, 0xff, 0, 0x1e, 0, 4, 0, 0, 0, 0x22, 2, 0, 0, 0, 0, 0x42, 0x40, 2, 0, 0, 0, 0x11, 2, 0, 0,
+    0, 0, 1, 0x40, 2,
+];
+
+/// A frame goes to the end of a station that is known, to each end where it is not, and a broadcast
+/// always does.
+#[test]
+fn ends_of_the_ports_frames(rt: HostRuntime) -> Result<(), Fail> {
+    let mut hub = Hub::new(rt.alloc(), PORT, true)?;
+    give(&mut hub, 1, &frame(SECOND, FIRST), 1000);
+    let mut out = [0xaa; 64];
+    assert_eq!(rt;
+        hub.frame_into(FIRST, &PACKET, 1010, &mut out),
+        Ok((Onward::ToOne(1), 60))
+    );
+    // To the station, from the port, Ethernet II, the packet, zeroes up to 60, and no more.
+    assert_eq!(rt;
+        &out[..14],
+        [2, 0, 0, 0, 0, 0x42, 2, 0, 0, 0, 0, 1, 0x81, 0x37].as_slice()
+    );
+    assert_eq!(rt; &out[14..44], PACKET.as_slice());
+    assert_eq!(rt; &out[44..60], [0; 16].as_slice());
+    assert_eq!(rt; &out[60..], [0xaa; 4].as_slice());
+    assert_eq!(rt;
+        hub.frame_into(SECOND, &PACKET, 1010, &mut out),
+        Ok((Onward::ToAll, 60))
+    );
+    // Nobody can take the broadcast address for a station's.
+    give(&mut hub, 2, &frame(FIRST, Node::BROADCAST), 1020);
+    assert_eq!(rt;
+        hub.frame_into(Node::BROADCAST, &PACKET, 1030, &mut out),
+        Ok((Onward::ToAll, 60))
+    );
+    assert_eq!(rt; hub.way_to(Node::BROADCAST, 1030), Onward::ToAll);
+    assert_eq!(rt; hub.refused(), 0);
+    Ok(())
+}
+
+/// What no frame can carry is counted, and nothing else changes.
+#[test]
+fn packets_that_no_frame_carries(rt: HostRuntime) -> Result<(), Fail> {
+    let mut hub = Hub::new(rt.alloc(), PORT, true)?;
+    give(&mut hub, 0, &CAME, 1000);
+    let mut out = [0xaa; 59];
+    assert_eq!(rt;
+        hub.frame_into(FIRST, &PACKET, 1010, &mut out),
+        Err(FrameFault::NoRoom(60, 59))
+    );
+    assert_eq!(rt; out, [0xaa; 59]);
+    assert_eq!(rt; hub.refused(), 1);
+    assert_eq!(rt; hub.stations().len(), 1);
+    assert_eq!(rt; hub.counts().handed_on, 1);
+    assert_eq!(rt; hub.way_to(FIRST, 1010), Onward::ToOne(0));
+    Ok(())
+}
