@@ -4,8 +4,8 @@ import time
 from site_world import listed, some_bytes, until
 
 NETWORK = "00000044"
-# 20 MB at these numbers of buffers, and three senders of 5 MB to one listener. A listener stays
-# for three seconds behind the end, which count; a busy machine has taken four more.
+# 20 MB at these numbers of buffers, and three senders of 5 MB at 64 to one listener. A listener stays for three seconds
+# behind the end, which count; a busy machine has taken four more.
 BUFFERS = {64: ("127.0.1.148", "127.0.1.149"), 512: ("127.0.1.150", "127.0.1.151"), 8192: ("127.0.1.152", "127.0.1.153")}
 MANY, SENDERS = "127.0.1.154", ["127.0.1.155", "127.0.1.156", "127.0.1.157"]
 TRANSFERRING = [*(address for pair in BUFFERS.values() for address in pair), MANY, *SENDERS]
@@ -29,13 +29,13 @@ def check_one(sites, buffers, addresses):
 
 def check_three(sites):
     """Three senders at once to one listener: each sends bytes of its own third."""
-    sites.host("many-listener", NETWORK, MANY, "127.0.1.89", "4002", listed("peers", SENDERS))
+    sites.host("many-listener", NETWORK, MANY, "127.0.1.89", "4002", "buffers = 64\n" + listed("peers", SENDERS))
     thirds = [bytes(byte % 85 + 85 * number for byte in some_bytes(sites.seed + 11 + number, sites.size // 2))
               for number in range(3)]
     listener = sites.start_listener(name="many-listener")
     start, senders = time.monotonic(), []
     for number, (address, data) in enumerate(zip(SENDERS, thirds)):
-        sites.host(f"many-sender{number}", NETWORK, address, "127.0.1.89", "4003")
+        sites.host(f"many-sender{number}", NETWORK, address, "127.0.1.89", "4003", "buffers = 64\n")
         senders.append(sites.start_sender(f"many-sender{number}", [data], NETWORK, MANY))
     statuses = [sender.status(SECONDS) for sender in senders]
     took = time.monotonic() - start
