@@ -53,10 +53,13 @@ fn take(rt: &impl Print, alloc: Global, host: &mut Endpoint, id: u16) -> Result<
     Ok(())
 }
 
-/// One asks for a connection and the other accepts it; then a message goes over, and is taken.
-pub fn pass_a_message(rt: &impl Print, alloc: Global) -> Result<()> {
-    let mut caller = host(alloc, 3);
-    let mut called = host(alloc, 4);
+/// Has one side ask the other for a connection. Gives the connection's id at each.
+fn connect(
+    rt: &impl Print,
+    alloc: Global,
+    caller: &mut Endpoint,
+    called: &mut Endpoint,
+) -> Result<Option<(u16, u16)>> {
     let to = Address {
         network: NETWORK,
         node: node(4),
@@ -64,11 +67,31 @@ pub fn pass_a_message(rt: &impl Print, alloc: Global) -> Result<()> {
     };
     called.listen(alloc, to.socket, BUFFERS)?;
     let id = caller.dial(alloc, Socket(0x5000), to, BUFFERS, 0)?;
-    let Some(Arrived::Accepted(accepted)) = pass(rt, alloc, &mut caller, &mut called)? else {
+    let Some(Arrived::Accepted(accepted)) = pass(rt, alloc, caller, called)? else {
+        return Ok(None);
+    };
+    pass(rt, alloc, called, caller)?;
+    Ok(Some((id, accepted)))
+}
+
+/// Connects two hosts, and passes a message from the one that asks.
+fn talk(
+    rt: &impl Print,
+    alloc: Global,
+    caller: &mut Endpoint,
+    called: &mut Endpoint,
+) -> Result<()> {
+    let Some((id, accepted)) = connect(rt, alloc, caller, called)? else {
         return Ok(());
     };
-    pass(rt, alloc, &mut called, &mut caller)?;
     caller.send(alloc, id, &message(alloc)?)?;
-    pass(rt, alloc, &mut caller, &mut called)?;
-    take(rt, alloc, &mut called, accepted)
+    pass(rt, alloc, caller, called)?;
+    take(rt, alloc, called, accepted)
+}
+
+/// One asks for a connection and the other accepts it; then a message goes over, and is taken.
+pub fn pass_a_message(rt: &impl Print, alloc: Global) -> Result<()> {
+    let mut caller = host(alloc, 3);
+    let mut called = host(alloc, 4);
+    talk(rt, alloc, &mut caller, &mut called)
 }
