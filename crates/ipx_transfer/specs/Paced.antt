@@ -70,8 +70,8 @@ NotesPoll (Some paced) e after = (pacer : PacerView) × (after ≡ Some (record 
 abbrev pub LinkReads : ℕ → Arrived → Type 0
 LinkReads id arrived = (received : Received) × (arrived ≡ Link id received) × (received ≢ Stranger)
 
--- behind a datagram the pacer of the link of an id, which was there before and is now, has counted as many units outstanding
--- as that link where it read it, and is as it was where it did not
+-- behind a datagram the pacer of the link of an id has counted as many units outstanding as that link, where it read it
+-- and is there; where it did not read it, the pacer is as it was
 pub record NotesHeard (id : ℕ) (arrived : Arrived) (pacer pacer' : PacerView) (there : Option Held) : Type 0 where
   pub counts : LinkReads id arrived → IfSome there (λ h. pacer'.out ≡ h.link.out)
   pub stays : (LinkReads id arrived → ⊥) → pacer' ≡ pacer
