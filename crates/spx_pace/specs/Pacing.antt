@@ -1,15 +1,17 @@
 -- What a pacer holds, as its contracts see it, and what it lets a link do (own).
-use Rattle.std.specs.Prelude.{ℕ, ◌+◌, ◌-◌, ◌/◌, ◌^◌, ◌&&◌, ◌||◌, if◌then◌else◌, Bool, min, nat_lt}
-use Rattle.std.specs.Prelude.{Option, None, Some, is_some, unwrap_or}
+use Rattle.std.specs.Prelude.{ℕ, ◌+◌, ◌-◌, ◌*◌, ◌/◌, ◌^◌, ◌&&◌, ◌||◌, ◌==◌, if◌then◌else◌, Bool, false, min, max, nat_lt, nat_le}
+use Rattle.std.specs.Prelude.{Option, None, Some, is_some, option_map, unwrap_or}
 use Rattle.spx_link.specs.Limits.{most_units}
 use Rattle.spx_pace.specs.declared.plan.Plan.{Plan}
 use Rattle.spx_pace.specs.declared.gave.Gave.{Gave}
 use Rattle.spx_pace.specs.declared.gave.Gave.TheVariants as Gaves
+use Rattle.spx_pace.specs.Measured.{TripView, doubled_wait, end_wait, slack}
 
 -- positions count units from 0. `out` units from `base` on are outstanding; `left` of them came, or
 -- are given up, and `flying` went again; those from `from` up to `to` are to go again. The window
--- and the credit are in 256ths of a unit. At `wakes` it has waited long enough for an acknowledgement, or for
--- a unit that went again
+-- and the credit are in 256ths of a unit. An acknowledgement is waited for since `timer`, where one is, and `ended` is
+-- whether the end of the connection was sent. While it `mends` what duplicates say is missing, the first outstanding
+-- unit went again at `fixed_at`, and was missing again `tries` times
 pub record PacerView : Type 0 where
   pub base : ℕ
   pub out : ℕ
@@ -19,7 +21,12 @@ pub record PacerView : Type 0 where
   pub to : ℕ
   pub window : ℕ
   pub credit : ℕ
-  pub wakes : Option ℕ
+  pub trip : TripView
+  pub timer : Option ℕ
+  pub ended : Bool
+  pub mends : Bool
+  pub fixed_at : ℕ
+  pub tries : ℕ
 
 -- so long behind a moment, or the last that a clock can show
 abbrev pub behind : ℕ → ℕ → ℕ
@@ -37,16 +44,26 @@ made_pacer =
       to = 0;
       window = 6912;
       credit = 2560;
-      wakes = None;
+      trip = record { wait = 500; doubled = 0; smoothed = 500 };
+      timer = None;
+      ended = false;
+      mends = false;
+      fixed_at = 0;
+      tries = 0;
     }
 
--- as many are outstanding as a link says; where none is, none is on its way
-abbrev pub with_outstanding : PacerView → ℕ → PacerView
-with_outstanding p out =
+-- an acknowledgement is waited for where units are outstanding: since when it was, or else from now on
+abbrev pub waited_since : Option ℕ → ℕ → ℕ → Option ℕ
+waited_since timer out now = if nat_lt 0 out then Some (unwrap_or timer now) else None
+
+-- as many are outstanding as a link says now; where none is, none is on its way
+abbrev pub with_outstanding : PacerView → ℕ → ℕ → PacerView
+with_outstanding p out now =
     record p {
       out = out;
       left = min p.left out;
       flying = if nat_lt 0 out then p.flying else 0;
+      timer = waited_since p.timer out now;
     }
 
 -- how many units are on their way
@@ -84,13 +101,29 @@ plan_of p =
 abbrev pub holds_back : PacerView → Bool
 holds_back p = is_some (place_again p) || (nat_lt p.credit 256 && nat_lt 0 (spare p))
 
+-- till when an acknowledgement is waited for: that of the end, where it alone is outstanding, as long as such a one
+abbrev pub waits_till : PacerView → Option ℕ
+waits_till p =
+    option_map (λ since. behind since (if p.ended && (p.out == 1) then end_wait p.trip else doubled_wait p.trip)) p.timer
+
+-- when the first outstanding unit, which went again, is missing again: behind a round trip and its slack, which each
+-- time doubles, up to 64 times. None where nothing is mended, or others are to go first
+abbrev pub missing_at : PacerView → Option ℕ
+missing_at p =
+    if p.mends && nat_le p.to (max p.from p.base)
+    then Some (behind p.fixed_at (slack p.trip * 2 ^ min p.tries 6)) else None
+
+-- when it has waited long enough for an acknowledgement, or for a unit that went again
+abbrev pub wakes : PacerView → Option ℕ
+wakes p = option_map (λ till. min till (unwrap_or (missing_at p) till)) (waits_till p)
+
 -- the moment at which what is planned may differ, where nothing is heard before: where something is held back in
 -- a millisecond, else where units are outstanding in a minute at most; at once where it does not wait
 abbrev pub wakes_at : PacerView → ℕ → Option ℕ
 wakes_at p now =
     if holds_back p
-    then Some (min (behind now 1) (unwrap_or p.wakes (behind now 1)))
-    else (if nat_lt 0 p.out then Some (min (unwrap_or p.wakes now) (behind now 60000)) else None)
+    then Some (min (behind now 1) (unwrap_or (wakes p) (behind now 1)))
+    else (if nat_lt 0 p.out then Some (min (unwrap_or (wakes p) now) (behind now 60000)) else None)
 
 -- the credit once a packet was given: a unit costs one
 abbrev pub credit_after : ℕ → Gave → ℕ

@@ -24,7 +24,6 @@ impl Pacer {
             Gave::Again => self.sends_again(now),
             Gave::Other => {}
         }
-        self.note_wait();
     }
 
     /// The request was sent. One that was sent before measures nothing.

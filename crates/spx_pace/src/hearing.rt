@@ -34,12 +34,11 @@ impl Pacer {
         } else {
             self.count(after.out, now);
         }
-        self.note_wait();
     }
 
     /// The request was answered.
     fn answered(&mut self, now: u64)
-        ensures { self.new ≡ self.old }
+        ensures { self.new ≡ record self.old { trip = self.new.trip } }
     {
         if let Some(asked_at) = self.asked_at {
             self.trip.answer_request(now.saturating_sub(asked_at));
@@ -72,7 +71,7 @@ impl Pacer {
     /// The last unit that an acknowledgement takes tells the round trip, where it was sent once
     /// (RFC 6298, Karn's rule).
     fn measure(&mut self, units: u16, now: u64)
-        ensures { self.new ≡ self.old }
+        ensures { self.new ≡ record self.old { trip = self.new.trip } }
     {
         let last = self.base.saturating_add(u64::from(units.saturating_sub(1)));
         if let Some(sent) = self.sent.at(last) {

@@ -29,7 +29,6 @@ impl Pacer {
         self.tend(now);
         let rate = self.window.rate(self.trip.smoothed());
         self.credit.grow(rate, now);
-        self.note_wait();
         self.choose()
     }
 

@@ -1,6 +1,8 @@
 //! Units that go again: which are to, and which did.
 
-ghost use Rattle.std.specs.Prelude.{◌≡◌, max, nat_le};
+ghost use Rattle.std.specs.Prelude.{◌≡◌, ◌*◌, ◌^◌, ◌&&◌, Some, None, if◌then◌else◌, is_some, max, min, nat_le};
+ghost use Rattle.std.specs.Prelude.{not};
+ghost use Rattle.spx_pace.specs.Pacing.{behind};
 
 /// What stands of a repair. Positions count units from 0.
 ///
@@ -37,8 +39,11 @@ const MOST_RUN: u64 = 64;
 impl Repair {
     /// Nothing is being repaired.
     pub fn new() -> Repair
+        ensures off { result.recover ≡ None }
         ensures from { result.from ≡ 0 }
         ensures to { result.to ≡ 0 }
+        ensures fixed_at { result.fixed_at ≡ 0 }
+        ensures tries { result.tries ≡ 0 }
     {
         Repair {
             recover: None,
@@ -73,7 +78,9 @@ impl Repair {
     }
 
     /// Whether something is being repaired.
-    pub fn is_on(&self) -> bool {
+    pub fn is_on(&self) -> bool
+        ensures { result ≡ is_some self.now.recover }
+    {
         self.recover.is_some()
     }
 
@@ -136,15 +143,16 @@ impl Repair {
 
     /// When the first outstanding unit is missing again, which went again a round trip and its
     /// slack ago. Each time doubles that. None where others are to go first.
-    pub fn missing_at(&self, base: u64, slack: u64) -> Option<u64> {
+    pub fn missing_at(&self, base: u64, slack: u64) -> Option<u64>
+        ensures { result ≡ (if is_some self.now.recover && not self.now.timed
+            && nat_le self.now.to (max self.now.from base)
+            then Some (behind self.now.fixed_at (slack * 2 ^ min self.now.tries 6)) else None) }
+    {
         if !self.is_on() || self.timed || !self.is_idle(base) {
             return None;
         }
-        let mut wait = slack;
-        for _ in 0..self.tries.min(6) {
-            wait = wait.saturating_mul(2);
-        }
-        Some(self.fixed_at.saturating_add(wait))
+        let times = 2_u64.saturating_pow(self.tries.min(6));
+        Some(self.fixed_at.saturating_add(slack.saturating_mul(times)))
     }
 
     /// The first outstanding unit goes again once more.
