@@ -1,5 +1,5 @@
 -- What a pacer holds, as its contracts see it, and what it lets a link do (own).
-use Rattle.std.specs.Prelude.{ℕ, ◌+◌, ◌-◌, ◌*◌, ◌/◌, ◌^◌, ◌&&◌, ◌||◌, ◌==◌, if◌then◌else◌, Bool, false, min, max, nat_lt, nat_le}
+use Rattle.std.specs.Prelude.{ℕ, ◌+◌, ◌-◌, ◌*◌, ◌/◌, ◌^◌, ◌&&◌, ◌||◌, ◌==◌, if◌then◌else◌, Bool, true, false, min, max, nat_lt, nat_le}
 use Rattle.std.specs.Prelude.{Option, None, Some, is_some, option_map, unwrap_or}
 use Rattle.spx_link.specs.Limits.{most_units}
 use Rattle.spx_pace.specs.declared.plan.Plan.{Plan}
@@ -125,6 +125,31 @@ wakes_at p now =
     then Some (min (behind now 1) (unwrap_or (wakes p) (behind now 1)))
     else (if nat_lt 0 p.out then Some (min (unwrap_or (wakes p) now) (behind now 60000)) else None)
 
+-- whether there is such a moment, and it came
+abbrev pub is_over : Option ℕ → ℕ → Bool
+is_over None now = false
+is_over (Some at) now = nat_le at now
+
+-- what is due by itself: where the wait for an acknowledgement is over, the first outstanding unit goes again, none is
+-- on its way, and the next wait is twice as long; where one is missing again, it goes once more
+abbrev pub tended : PacerView → ℕ → PacerView
+tended p now =
+    if is_over (waits_till p) now
+    then record p {
+      left = p.out;
+      flying = 0;
+      from = p.base;
+      to = behind p.base 1;
+      trip = record p.trip { doubled = min (p.trip.doubled + 1) (2 ^ 32 - 1) };
+      timer = Some now;
+      mends = false;
+      fixed_at = now;
+      tries = 0;
+    }
+    else (if is_over (missing_at p) now
+    then record p { from = p.base; to = behind p.base 1; tries = min (p.tries + 1) (2 ^ 32 - 1) }
+    else p)
+
 -- the credit once a packet was given: a unit costs one
 abbrev pub credit_after : ℕ → Gave → ℕ
 credit_after credit Gaves.Request = credit
@@ -132,3 +157,17 @@ credit_after credit Gaves.Unit = credit - 256
 credit_after credit Gaves.End = credit - 256
 credit_after credit Gaves.Again = credit - 256
 credit_after credit Gaves.Other = credit
+
+-- a packet was given: a unit costs credit, the end is the last one, and of those that are to go again the first went
+abbrev pub given_by : PacerView → Gave → ℕ → PacerView
+given_by p Gaves.Request now = p
+given_by p Gaves.Unit now = record p { credit = p.credit - 256 }
+given_by p Gaves.End now = record p { credit = p.credit - 256; ended = true }
+given_by p Gaves.Again now =
+    record p {
+      credit = p.credit - 256;
+      flying = min (p.flying + 1) (2 ^ 16 - 1);
+      from = behind (max p.from p.base) 1;
+      fixed_at = if nat_le p.from p.base then now else p.fixed_at;
+    }
+given_by p Gaves.Other now = p

@@ -1,7 +1,7 @@
 //! Units that go again: which are to, and which did.
 
-ghost use Rattle.std.specs.Prelude.{◌≡◌, ◌*◌, ◌^◌, ◌&&◌, Some, None, if◌then◌else◌, is_some, max, min, nat_le};
-ghost use Rattle.std.specs.Prelude.{not};
+ghost use Rattle.std.specs.Prelude.{◌≡◌, ◌+◌, ◌-◌, ◌*◌, ◌^◌, ◌&&◌, Some, None, if◌then◌else◌, is_some, max, min, nat_le};
+ghost use Rattle.std.specs.Prelude.{false, not};
 ghost use Rattle.spx_pace.specs.Pacing.{behind};
 
 /// What stands of a repair. Positions count units from 0.
@@ -61,7 +61,14 @@ impl Repair {
     }
 
     /// One that begins with the unit at `base`, up to `next`.
-    pub fn begin(base: u64, next: u64, now: u64) -> Repair {
+    pub fn begin(base: u64, next: u64, now: u64) -> Repair
+        ensures on { result.recover ≡ Some next }
+        ensures from { result.from ≡ base }
+        ensures to { result.to ≡ behind base 1 }
+        ensures fixed_at { result.fixed_at ≡ now }
+        ensures tries { result.tries ≡ 0 }
+        ensures timed { result.timed ≡ false }
+    {
         Repair {
             recover: Some(next),
             run: 1,
@@ -156,7 +163,13 @@ impl Repair {
     }
 
     /// The first outstanding unit goes again once more.
-    pub fn repeat(&mut self, base: u64) {
+    pub fn repeat(&mut self, base: u64)
+        ensures { self.new ≡ record self.old {
+          from = base;
+          to = behind base 1;
+          tries = min (self.old.tries + 1) (2 ^ 32 - 1);
+        } }
+    {
         self.from = base;
         self.to = base.saturating_add(1);
         self.tries = self.tries.saturating_add(1);
