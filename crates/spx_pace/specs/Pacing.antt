@@ -1,7 +1,8 @@
 -- What a pacer holds, as its contracts see it, and what it lets a link do (own).
 use Rattle.std.specs.Prelude.{ℕ, ◌+◌, ◌-◌, ◌*◌, ◌/◌, ◌^◌, ◌&&◌, ◌||◌, ◌==◌, if◌then◌else◌, Bool, true, false, min, max, nat_lt, nat_le}
-use Rattle.std.specs.Prelude.{Option, None, Some, is_some, option_map, unwrap_or}
+use Rattle.std.specs.Prelude.{◌≡◌, ◌<◌, ◌≤◌, ◌⊎◌, IsTrue, Option, None, Some, is_some, option_map, unwrap_or}
 use Rattle.spx_link.specs.Limits.{most_units}
+use Rattle.spx_link.specs.declared.numbers.Numbers.{Numbers}
 use Rattle.spx_pace.specs.declared.plan.Plan.{Plan}
 use Rattle.spx_pace.specs.declared.gave.Gave.{Gave}
 use Rattle.spx_pace.specs.declared.gave.Gave.TheVariants as Gaves
@@ -149,6 +150,20 @@ tended p now =
     else (if is_over (missing_at p) now
     then record p { from = p.base; to = behind p.base 1; tries = min (p.tries + 1) (2 ^ 32 - 1) }
     else p)
+
+-- a packet acknowledges nothing, brings nothing, and allows no more, while units are outstanding
+abbrev pub is_double : Numbers → Numbers → Bool
+is_double before after =
+    nat_le before.out after.out && nat_lt 0 after.out && nat_le after.room before.room && (before.expected == after.expected)
+
+-- an acknowledgement is waited for since before, or from now on, where units are outstanding
+abbrev pub WaitsOn : Option ℕ → ℕ → ℕ → Option ℕ → Type 0
+WaitsOn timer out now timer' = (timer' ≡ waited_since timer out now) ⊎ ((0 < out) × (timer' ≡ Some now))
+
+-- where it mends, the first outstanding unit went again now, or as before; it was not missing more often since
+abbrev pub MendsOn : PacerView → ℕ → PacerView → Type 0
+MendsOn old now new = IsTrue new.mends → ((new.fixed_at ≡ now) × (new.tries ≡ 0))
+    ⊎ (IsTrue old.mends × (new.fixed_at ≡ old.fixed_at) × (new.tries ≤ old.tries))
 
 -- the credit once a packet was given: a unit costs one
 abbrev pub credit_after : ℕ → Gave → ℕ

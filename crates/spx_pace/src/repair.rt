@@ -1,7 +1,7 @@
 //! Units that go again: which are to, and which did.
 
 ghost use Rattle.std.specs.Prelude.{◌≡◌, ◌+◌, ◌-◌, ◌*◌, ◌^◌, ◌&&◌, Some, None, if◌then◌else◌, is_some, max, min, nat_le};
-ghost use Rattle.std.specs.Prelude.{false, not};
+ghost use Rattle.std.specs.Prelude.{◌⊎◌, false, not};
 ghost use Rattle.spx_pace.specs.Pacing.{behind};
 
 /// What stands of a repair. Positions count units from 0.
@@ -105,7 +105,12 @@ impl Repair {
 
     /// An acknowledgement came, and the unit at `base` is the next that is missing: `left` of
     /// those behind it came.
-    pub fn go_on(&mut self, base: u64, left: u64, recover: u64, now: u64) {
+    pub fn go_on(&mut self, base: u64, left: u64, recover: u64, now: u64)
+        ensures recover { self.new.recover ≡ self.old.recover }
+        ensures timed { self.new.timed ≡ self.old.timed }
+        ensures tries { self.new.tries ≡ 0 }
+        ensures fixed_at { (self.new.fixed_at ≡ now) ⊎ (self.new.fixed_at ≡ self.old.fixed_at) }
+    {
         self.tries = 0;
         let wanted = recover.saturating_sub(base);
         if self.timed {
@@ -119,7 +124,9 @@ impl Repair {
 
     /// How many may go again, where so many of those wanted are missing: a sixth of them, where
     /// many are.
-    fn choose_run(&mut self, wanted: u64, missing: u64) {
+    fn choose_run(&mut self, wanted: u64, missing: u64)
+        ensures { self.new ≡ record self.old { run = self.new.run; messy = self.new.messy } }
+    {
         let many = self.crowded || missing.saturating_mul(6) > wanted;
         if missing > 6 && many {
             self.run = wanted.div_ceil(6);
@@ -130,7 +137,12 @@ impl Repair {
     }
 
     /// Those of the run that were not to go again yet are.
-    fn ask(&mut self, base: u64, recover: u64, now: u64) {
+    fn ask(&mut self, base: u64, recover: u64, now: u64)
+        ensures recover { self.new.recover ≡ self.old.recover }
+        ensures timed { self.new.timed ≡ self.old.timed }
+        ensures tries { self.new.tries ≡ self.old.tries }
+        ensures fixed_at { (self.new.fixed_at ≡ now) ⊎ (self.new.fixed_at ≡ self.old.fixed_at) }
+    {
         let was_idle = self.is_idle(base);
         let first = self.fixed.max(base);
         let end = base.saturating_add(self.run).min(recover);

@@ -61,7 +61,9 @@ impl RoundTrip {
     }
 
     /// A request was answered at its first sending.
-    pub fn answer_request(&mut self, trip: u64) {
+    pub fn answer_request(&mut self, trip: u64)
+        ensures { self.new.doubled ≡ self.old.doubled }
+    {
         self.first = Some(trip);
         self.wait = trip.saturating_mul(3).max(LEAST_WAIT);
     }
