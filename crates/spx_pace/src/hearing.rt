@@ -97,7 +97,7 @@ impl Pacer {
     fn grow(&mut self, units: u16, flight: u64, now: u64)
         ensures { self.new ≡ record self.old { window = self.new.window } }
     {
-        if flight.saturating_add(3).saturating_mul(UNIT) >= self.window.size() {
+        if self.window.is_limit(flight) {
             self.window.grow(u64::from(units), now, &self.trip);
         }
     }

@@ -123,13 +123,19 @@ impl Repair {
     }
 
     /// How many may go again, where so many of those wanted are missing: a sixth of them, where
-    /// many are.
+    /// many are. Where a queue stood twice as many as are missing, if that is more: of what is too
+    /// much for a line every second one is lost.
     fn choose_run(&mut self, wanted: u64, missing: u64)
         ensures { self.new ≡ record self.old { run = self.new.run; messy = self.new.messy } }
     {
         let many = self.crowded || missing.saturating_mul(6) > wanted;
         if missing > 6 && many {
-            self.run = wanted.div_ceil(6);
+            let twice = if self.crowded {
+                missing.saturating_mul(2)
+            } else {
+                0
+            };
+            self.run = wanted.div_ceil(6).max(twice);
             self.messy = true;
         } else {
             self.run = 1;

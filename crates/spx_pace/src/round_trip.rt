@@ -131,10 +131,21 @@ impl RoundTrip {
     /// Whether a queue stands on the line: the least of the last eight samples is over the least
     /// of all by an eighth, at least 4 and at most 16 (RFC 9406, its threshold).
     pub fn is_queued(&self) -> bool {
+        self.is_over(8, 16)
+    }
+
+    /// Whether one begins to stand: it is over by a 32nd, at least 4 and at most 8.
+    pub fn is_slowing(&self) -> bool {
+        self.is_over(32, 8)
+    }
+
+    /// Whether the last eight samples are over the least of all by that part of it, at least 4 and
+    /// at most so many.
+    fn is_over(&self, part: u64, most: u64) -> bool {
         let Some(least) = self.least else {
             return false;
         };
-        let over = (least / 8).max(4).min(16);
+        let over = (least / part.max(1)).max(4).min(most);
         self.recent
             .iter()
             .all(|trip| *trip >= least.saturating_add(over))
