@@ -1,0 +1,2 @@
+pub mod EndTraffic
+pub mod OnWires
