@@ -27,7 +27,7 @@ const FRAME_ROOM: usize = 1536;
 pub struct Wires<D: EndSockets + Drop> {
     sockets: D,
     hubs: Vec<Hub>,
-    now: u64,
+    moment: u64,
     kept: u64,
     failures: u64,
 }
@@ -37,12 +37,12 @@ impl<D: EndSockets + Drop> Wires<D> {
     pub fn new(sockets: D, hubs: Vec<Hub>) -> Wires<D>
         ensures sockets { result.sockets ≡ sockets }
         ensures hubs { result.hubs.items ≡ hubs.items }
-        ensures fresh { (result.now ≡ 0) × (result.kept ≡ 0) × (result.failures ≡ 0) }
+        ensures fresh { (result.moment ≡ 0) × (result.kept ≡ 0) × (result.failures ≡ 0) }
     {
         Wires {
             sockets,
             hubs,
-            now: 0,
+            moment: 0,
             kept: 0,
             failures: 0,
         }
@@ -50,10 +50,10 @@ impl<D: EndSockets + Drop> Wires<D> {
 
     /// Sets the moment, in ms, at which what comes and goes from now on does so. One calls it before
     /// each turn.
-    pub fn set_moment(&mut self, now: u64)
-        ensures { self.new ≡ record self.old { now = now } }
+    pub fn set_moment(&mut self, moment: u64)
+        ensures { self.new ≡ record self.old { moment = moment } }
     {
-        self.now = now;
+        self.moment = moment;
     }
 
     /// The sockets, to be asked between two runs.
@@ -82,19 +82,19 @@ impl<D: EndSockets + Drop> Wires<D> {
     fn send_frame(&mut self, port: usize, node: Node, packet: &[u8]) -> PacketSent
         requires hub { port < length self.old.hubs.items }
         requires there { port < length (D.ends_of self.old.sockets) }
-        ensures sent { SendsPacket (slice_index (D.ends_of self.old.sockets) port) self.old.now
+        ensures sent { SendsPacket (slice_index (D.ends_of self.old.sockets) port) self.old.moment
             port node packet.now result
             (wires_view self.old.hubs.items self.old.kept
             (D.traffic self.old.sockets) (D.failed self.old.sockets))
             (wires_view self.new.hubs.items self.new.kept
             (D.traffic self.new.sockets) (D.failed self.new.sockets)) }
-        ensures rest { (self.new.now ≡ self.old.now) × (self.new.failures ≡ self.old.failures) }
+        ensures rest { (self.new.moment ≡ self.old.moment) × (self.new.failures ≡ self.old.failures) }
         ensures ends { D.ends_of self.new.sockets ≡ D.ends_of self.old.sockets }
         ensures kept_back { D.kept_back self.new.sockets ≡ D.kept_back self.old.sockets }
     {
         let mut frame = [0; FRAME_MAX_SIZE];
         let hub = &mut self.hubs[port];
-        match hub.frame_into(node, packet, self.now, &mut frame) {
+        match hub.frame_into(node, packet, self.moment, &mut frame) {
             Ok((way, size)) => {
                 send_to_ends(&mut self.sockets, port, way, &frame[..size]);
                 PacketSent::Copies(1)
@@ -113,20 +113,20 @@ impl<D: EndSockets + Drop> Wires<D> {
     ) -> Option<usize>
         requires hub { port < length self.old.hubs.items }
         requires there { port < length (D.ends_of self.old.sockets) }
-        ensures heard { HearsBehind (slice_index (D.ends_of self.old.sockets) port) self.old.now
+        ensures heard { HearsBehind (slice_index (D.ends_of self.old.sockets) port) self.old.moment
             (length room.old) (frame_at port bytes.now end) [] room.new result
             (wires_view self.old.hubs.items self.old.kept
             (D.traffic self.old.sockets) (D.failed self.old.sockets))
             (wires_view self.new.hubs.items self.new.kept
             (D.traffic self.new.sockets) (D.failed self.new.sockets)) }
         ensures within { IfSome result (λ n. n ≤ length room.old) }
-        ensures rest { (self.new.now ≡ self.old.now) × (self.new.failures ≡ self.old.failures) }
+        ensures rest { (self.new.moment ≡ self.old.moment) × (self.new.failures ≡ self.old.failures) }
         ensures grows { self.old.kept ≤ self.new.kept }
         ensures ends { D.ends_of self.new.sockets ≡ D.ends_of self.old.sockets }
         ensures kept_back { D.kept_back self.new.sockets ≡ D.kept_back self.old.sockets }
     {
         let hub = &mut self.hubs[port];
-        let (way, count) = take_packet(hub, end, bytes, self.now, room);
+        let (way, count) = take_packet(hub, end, bytes, self.moment, room);
         send_to_ends(&mut self.sockets, port, way, bytes);
         if count.is_none() {
             raise(&mut self.kept);
@@ -177,7 +177,7 @@ impl<D: EndSockets + Drop> Segments for Wires<D> {
         requires countable { self.old.failures + 1 < 2 ^ 64 }
         // The frame of the packet goes to the ends of its node, or none can carry it.
         ensures sent { IfOk result (λ sent. SendsPacket
-            (slice_index (D.ends_of self.old.sockets) port) self.old.now port node packet.now sent
+            (slice_index (D.ends_of self.old.sockets) port) self.old.moment port node packet.now sent
             (wires_view self.old.hubs.items self.old.kept
             (D.traffic self.old.sockets) (D.failed self.old.sockets))
             (wires_view self.new.hubs.items self.new.kept
@@ -186,7 +186,7 @@ impl<D: EndSockets + Drop> Segments for Wires<D> {
         ensures count { IfOk result (λ sent. count_in sent
             ≡ copies_count (by_frames (map (λ h. h.port) self.old.hubs.items))
             (record { port = port; node = node; bytes = packet.now })) }
-        ensures moment { self.new.now ≡ self.old.now }
+        ensures moment { self.new.moment ≡ self.old.moment }
         ensures failures { self.new.failures ≡ device_failures result self.old.failures }
         ensures ports { length self.new.hubs.items ≡ length self.old.hubs.items }
         ensures ways { map (λ h. h.port) self.new.hubs.items
@@ -205,7 +205,7 @@ impl<D: EndSockets + Drop> Segments for Wires<D> {
         // A frame came from an end and went on from there, or none came.
         ensures received { IfOk result (λ up. (came : Option EndFrame)
             × IfSome came (λ frame. frame.port ≡ port)
-            × HearsAnswerOf (slice_index (D.ends_of self.old.sockets) port) self.old.now
+            × HearsAnswerOf (slice_index (D.ends_of self.old.sockets) port) self.old.moment
             (length room.old) came room.new up
             (wires_view self.old.hubs.items self.old.kept
             (D.traffic self.old.sockets) (D.failed self.old.sockets))
@@ -215,7 +215,7 @@ impl<D: EndSockets + Drop> Segments for Wires<D> {
         ensures refused { OnErr result ((self.new.hubs.items ≡ self.old.hubs.items)
             × (self.new.kept ≡ self.old.kept)
             × (D.traffic self.new.sockets ≡ D.traffic self.old.sockets)) }
-        ensures moment { self.new.now ≡ self.old.now }
+        ensures moment { self.new.moment ≡ self.old.moment }
         ensures failures { self.new.failures ≡ device_failures result self.old.failures }
         ensures ports { length self.new.hubs.items ≡ length self.old.hubs.items }
         ensures ways { map (λ h. h.port) self.new.hubs.items
