@@ -1,2 +1,3 @@
 pub mod EndTraffic
 pub mod OnWires
+pub mod Places

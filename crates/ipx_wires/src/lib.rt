@@ -6,8 +6,10 @@
 
 mod end_sockets;
 mod reaching;
+mod sockets;
 mod taking;
 mod wires;
 
 pub use end_sockets::{EndSockets, FrameCame};
+pub use sockets::{Place, WireSockets};
 pub use wires::Wires;
