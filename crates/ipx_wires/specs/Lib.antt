@@ -1,3 +1,3 @@
 pub mod EndTraffic
 pub mod OnWires
-pub mod Places
+pub mod WirePlaces

@@ -1,7 +1,9 @@
 //! Sockets of UDP as those of wires: each datagram is one Ethernet frame.
 
-ghost use Rattle.std.specs.Prelude.{◌≡◌, ◌<◌, ◌≤◌, ◌↔◌, ◌++◌, ◌∷◌, [], IfSome, IsSome, OnErr, OnOk, length};
-ghost use Rattle.ipx_wires.specs.Places.{end_at_place, ends_behind, is_place};
+ghost use Rattle.std.specs.Prelude.{◌≡◌, ◌<◌, ◌≤◌, ◌↔◌, ◌++◌, ◌∷◌, [], IfOk, IfSome, IsSome, OnErr, OnOk, length, slice_index};
+ghost use Rattle.ipx_carrier.specs.Counting.{raised};
+ghost use Rattle.ipx_wires.specs.EndTraffic.{failures_counted};
+ghost use Rattle.ipx_wires.specs.WirePlaces.{end_at_place, ends_behind, is_place};
 
 use crate::end_sockets::{EndSockets, FrameCame};
 use ipx_carrier::{DeviceFault, bound_socket, place_of, raise};
@@ -143,7 +145,16 @@ impl EndSockets for WireSockets {
         self.strangers
     }
 
-    fn send(&mut self, port: usize, end: usize, bytes: &[u8]) -> Result<(), DeviceFault> {
+    fn send(&mut self, port: usize, end: usize, bytes: &[u8]) -> Result<(), DeviceFault>
+        requires there { port < length (ends_behind self.old.wires.items) }
+        requires end { end < slice_index (ends_behind self.old.wires.items) port }
+        // The system took it or refused it, and that is counted.
+        ensures sent { OnOk result (self.new.sent ≡ raised self.old.sent) }
+        ensures refused { OnErr result (self.new.sent ≡ self.old.sent) }
+        ensures failures { self.new.failures ≡ failures_counted result self.old.failures }
+        ensures rest { (self.new.wires ≡ self.old.wires) × (self.new.faults ≡ self.old.faults)
+            × (self.new.strangers ≡ self.old.strangers) }
+    {
         let wire = &self.wires[port];
         let to = wire.ends[end];
         match wire.socket.send_to(bytes, place_of(to.ip, to.udp_port)) {
@@ -158,7 +169,20 @@ impl EndSockets for WireSockets {
         }
     }
 
-    fn receive(&mut self, port: usize, room: &mut [u8]) -> Result<Option<FrameCame>, DeviceFault> {
+    fn receive(&mut self, port: usize, room: &mut [u8]) -> Result<Option<FrameCame>, DeviceFault>
+        requires { port < length (ends_behind self.old.wires.items) }
+        // What came from an end is answered, and what came from none is counted.
+        ensures end { IfOk result (λ came. IfSome came (λ c.
+            c.end < slice_index (ends_behind self.old.wires.items) port)) }
+        ensures within { IfOk result (λ came. IfSome came (λ c. c.size ≤ length room.old)) }
+        ensures answered { IfOk result (λ came. IsSome came
+            → self.new.strangers ≡ self.old.strangers) }
+        ensures kept_back { self.old.strangers ≤ self.new.strangers }
+        ensures goes_on { OnErr result ⊥ }
+        ensures faults { self.old.faults ≤ self.new.faults }
+        ensures rest { (self.new.wires ≡ self.old.wires) × (self.new.sent ≡ self.old.sent)
+            × (self.new.failures ≡ self.old.failures) }
+    {
         for _try in 0..TRIES {
             let wire = &self.wires[port];
             match wire.socket.recv_from(room) {

@@ -18,8 +18,8 @@ use ipx_wire::Node;
 const FRAME_ROOM: usize = 1536;
 
 /// Ports on wires of several ends, each with a hub of its own: frames of an end go on to others, the
-/// core gets what is for it, and its packets go by frames. They are as many ports as there are hubs
-/// and the sockets have.
+/// core gets what is for it, and its packets go by frames. There are as many ports as both the sockets
+/// and the hubs are for.
 ///
 /// A frame that can't be sent to one end is lost there, as one is on the way, and the sockets count
 /// it.
@@ -70,8 +70,8 @@ impl<D: EndSockets + Drop> Wires<D> {
         &self.hubs
     }
 
-    /// How much that came was kept from the core, and had not to be heard: frames that no hub hands
-    /// on, and what came from no end.
+    /// How much that came was kept from the core: frames whose hub did, also those that went on, and
+    /// what came from no end.
     pub fn kept_back(&self) -> u128
         ensures { result ≡ self.now.kept + D.kept_back self.now.sockets }
     {

@@ -10,3 +10,5 @@ mod fixture;
 mod memory;
 #[cfg(test)]
 mod sending;
+#[cfg(test)]
+mod sockets;
