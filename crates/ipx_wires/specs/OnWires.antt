@@ -16,7 +16,7 @@ use Rattle.ipx_carrier.specs.declared.segments.PacketSent.{PacketSent}
 use Rattle.ipx_carrier.specs.declared.segments.PacketSent.TheVariants.{Unmapped, Copies}
 use Rattle.ipx_carrier.specs.Counting.{raised}
 use Rattle.ipx_carrier.specs.Turns.{Given, Ways}
-use Rattle.ipx_wires.specs.EndTraffic.{EndFrame, EndTraffic, EndsPass, frame_at, frames_in, raised_times}
+use Rattle.ipx_wires.specs.EndTraffic.{EndFrame, EndTraffic, EndsPass, frame_at, raised_times}
 
 -- a frame that is handed to the wire of a port: `IsSentFrame` says which bytes it is
 pub record WireFrame : Type 0 where

@@ -1,6 +1,6 @@
 //! What the core gets of a frame that came from an end.
 
-ghost use Rattle.std.specs.Prelude.{◌≡◌, ◌≤◌, IfSome, false, length, take};
+ghost use Rattle.std.specs.Prelude.{◌≡◌, ◌≤◌, IfSome, None, false, length, take};
 ghost use Rattle.ipx_hub.specs.Heard.{way_behind};
 ghost use Rattle.ipx_hub.specs.WireEnds.{is_way_to};
 ghost use Rattle.ipx_wires.specs.OnWires.{TakesPacket};
@@ -31,6 +31,7 @@ pub fn take_packet(
     ensures taken { TakesPacket hub.old end bytes.now now (length room.old) room.new result.1
         hub.new }
     ensures within { IfSome result.1 (λ n. n ≤ length room.old) }
+    ensures untouched { result.1 ≡ None → room.new ≡ room.old }
 {
     let (way, packet) = hub.hear(end, bytes, now);
     match packet {

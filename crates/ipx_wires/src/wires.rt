@@ -1,6 +1,6 @@
 //! Ports on wires.
 
-ghost use Rattle.std.specs.Prelude.{◌≡◌, ◌<◌, ◌≤◌, ◌+◌, ◌^◌, [], Option, IfOk, IfSome, OnErr, length, map, min, slice_index};
+ghost use Rattle.std.specs.Prelude.{◌≡◌, ◌<◌, ◌≤◌, ◌+◌, ◌^◌, [], Option, None, IfOk, IfSome, OnErr, length, map, min, slice_index};
 ghost use Rattle.ipx_carrier.specs.RunFaultNumbers.{device_failures};
 ghost use Rattle.ipx_carrier.specs.Segments.{copies_count, count_in};
 ghost use Rattle.ipx_wires.specs.EndTraffic.{EndFrame, frame_at};
@@ -120,6 +120,7 @@ impl<D: EndSockets + Drop> Wires<D> {
             (wires_view self.new.hubs.items self.new.kept
             (D.traffic self.new.sockets) (D.failed self.new.sockets)) }
         ensures within { IfSome result (λ n. n ≤ length room.old) }
+        ensures untouched { result ≡ None → room.new ≡ room.old }
         ensures rest { (self.new.moment ≡ self.old.moment) × (self.new.failures ≡ self.old.failures) }
         ensures grows { self.old.kept ≤ self.new.kept }
         ensures ends { D.ends_of self.new.sockets ≡ D.ends_of self.old.sockets }
@@ -136,7 +137,7 @@ impl<D: EndSockets + Drop> Wires<D> {
 }
 
 impl<D: EndSockets + Drop> Segments for Wires<D> {
-    ghost use Rattle.std.specs.Prelude.{List, ℕ, None};
+    ghost use Rattle.std.specs.Prelude.{List, ℕ};
     ghost use Rattle.ipx_wires.specs.OnWires.{WireFrame};
 
     ghost Copy = { WireFrame };
@@ -212,6 +213,9 @@ impl<D: EndSockets + Drop> Segments for Wires<D> {
             (wires_view self.new.hubs.items self.new.kept
             (D.traffic self.new.sockets) (D.failed self.new.sockets))) }
         ensures within { IfOk result (λ up. IfSome up (λ n. n ≤ length room.old)) }
+        // The room is as it was where nothing is for the core.
+        ensures untouched { IfOk result (λ up. up ≡ None → room.new ≡ room.old) }
+        ensures vain { OnErr result (room.new ≡ room.old) }
         ensures refused { OnErr result ((self.new.hubs.items ≡ self.old.hubs.items)
             × (self.new.kept ≡ self.old.kept)
             × (D.traffic self.new.sockets ≡ D.traffic self.old.sockets)) }

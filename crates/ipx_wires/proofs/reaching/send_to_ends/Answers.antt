@@ -13,7 +13,7 @@ loop-end-init g c = record {
 pub loop-end-preserved : goal.loop-end-preserved
 loop-end-preserved g c =
     elim c.if-is_to.branch [
-      then-is_to w ↦ rw w.sockets-is (record {
+      | then-is_to w ↦ rw w.sockets-is (record {
         reached = reaches_sent w.send.result c.args.way c.loop-end.end c.args.port c.args.bytes.now _ _ _ _ _ _ (sym c.is_to.ensures ∙ w.if-is_to.true) c.loop-end.invariant.reached w.send.ensures.sent w.send.ensures.refused w.send.ensures.failures;
         ends = w.send.ensures.ends ∙ c.loop-end.invariant.ends;
         kept_back = w.send.ensures.kept_back ∙ c.loop-end.invariant.kept_back;
