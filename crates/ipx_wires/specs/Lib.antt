@@ -1,0 +1,3 @@
+pub mod EndTraffic
+pub mod OnWires
+pub mod WirePlaces
