@@ -84,6 +84,11 @@ impl Window {
 
     /// So many units were acknowledged while the window was the limit.
     pub fn grow(&mut self, units: u64, now: u64, trip: &RoundTrip) {
+        if self.is_to_start_again(now, trip) {
+            self.threshold = MOST;
+            self.epoch = None;
+            self.fresh = false;
+        }
         if !self.is_starting() {
             self.climb(units, now, trip);
         } else if self.ends_start(trip) {
@@ -93,6 +98,17 @@ impl Window {
         } else {
             self.widen(units.min(4).saturating_mul(UNIT));
         }
+    }
+
+    /// Whether the queue that ended slow start was none: within five round trips it is gone (RFC 9406,
+    /// its conservative slow start).
+    fn is_to_start_again(&self, now: u64, trip: &RoundTrip) -> bool {
+        let since = match self.epoch {
+            Some(epoch) => epoch.since,
+            None => now,
+        };
+        let soon = trip.smoothed().saturating_mul(5);
+        self.fresh && !trip.is_slowing() && now.saturating_sub(since) <= soon
     }
 
     /// Whether slow start ends: a queue stands on the line, or one begins to, and the window is not
