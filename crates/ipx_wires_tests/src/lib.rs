@@ -7,7 +7,9 @@ mod circle;
 #[cfg(test)]
 mod fixture;
 #[cfg(test)]
-mod memory;
+mod refused;
+#[cfg(test)]
+mod running;
 #[cfg(test)]
 mod sending;
 #[cfg(test)]
