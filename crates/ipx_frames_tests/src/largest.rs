@@ -55,8 +55,8 @@ fn largest_of_each_encapsulation(rt: HostRuntime) -> Result<(), Fail> {
 #[test]
 fn longer_than_the_largest(rt: HostRuntime) {
     let mut frame = [0; 1515];
-    frame[..1514].copy_from_slice(&largest(&RAW));
-    assert_eq!(rt; fault_of(&frame), Some(FrameFault::FrameLong(1515)));
-    frame[..1514].copy_from_slice(&largest(&ETHERNET_II));
-    assert_eq!(rt; fault_of(&frame), Some(FrameFault::FrameLong(1515)));
+    for whole in [largest(&RAW), largest(&LLC), largest(&SNAP), largest(&ETHERNET_II)] {
+        frame[..1514].copy_from_slice(&whole);
+        assert_eq!(rt; fault_of(&frame), Some(FrameFault::FrameLong(1515)));
+    }
 }

@@ -5,7 +5,7 @@ use ipx_frames::FrameFault;
 use ipx_wire::{IpxFault, Node};
 use std::test::Fail;
 
-const ROWS: [Refused; 68] = [
+const ROWS: [Refused; 71] = [
     Refused {
         name: "a packet over the length, 802.3",
         frame: "0200000000010200000000420021ffff00220004000000220200000000014002000000110200\
@@ -327,6 +327,24 @@ const ROWS: [Refused; 68] = [
         frame: "0200000000010200000000420600ffff00220004000000220200000000014002000000110200\
          0000004240026576656e000000000000000000000000",
         fault: FrameFault::OtherType(0x0600),
+    },
+    Refused {
+        name: "a tag before it, 802.3",
+        frame: "020000000001020000000042810000050022ffff002200040000002202000000000140020000\
+         001102000000004240026576656e000000000000000000000000",
+        fault: FrameFault::Tagged(0x8100),
+    },
+    Refused {
+        name: "a tag before it, 802.2",
+        frame: "020000000001020000000042810000050025e0e003ffff002200040000002202000000000140\
+         020000001102000000004240026576656e000000000000000000",
+        fault: FrameFault::Tagged(0x8100),
+    },
+    Refused {
+        name: "a tag before it, snap",
+        frame: "02000000000102000000004281000005002aaaaa030000008137ffff00220004000000220200\
+         0000000140020000001102000000004240026576656e00000000",
+        fault: FrameFault::Tagged(0x8100),
     },
     Refused {
         name: "a tag from the station itself",

@@ -1,10 +1,15 @@
 -- What words ask for in more than one form, and that they ask for one command at most.
-use Rattle.std.proofs.Common.{◌≡◌, ◌≢◌, ◌≤◌, ◌<◌, ℕ, ◌+◌, ◌*◌, true, false, true≢false, inl, inr, List, [], ◌∷◌, ◌++◌, length, map, drop, get_or, length-drop, Option, Some, None, codes, arith, ap, sym, subst, refl, ◌∙◌}
+use Rattle.std.proofs.Common.{◌≡◌, ◌≢◌, ◌≤◌, ◌<◌, ℕ, ◌+◌, ◌*◌, true, false, true≢false, inl, inr, List, [], ◌∷◌, ◌++◌, length, map, drop, get_or, length-drop, Option, Some, None, option_map, Result, Ok, Err, codes, arith, ap, sym, subst, refl, ◌∙◌}
 use Rattle.std.proofs.lemmas.List.{length-map}
 use Rattle.std.specs.Str.Parse.{digits_value, without_leading_plus}
 use Rattle.std.specs.Str.Pattern.{FindsTextPrefix, StripsPrefix}
+use Rattle.std.specs.Result.{result_ok}
+use Rattle.hex.specs.Hex.{decode_sized}
+use Rattle.hex.proofs.HexLemmas.{decode_sized-ok}
+use Rattle.ipx_wire.specs.AddressText.{spelled_node}
+use Rattle.ipx_wire.specs.declared.address.Node.{Node}
 use Rattle.ipx_tool.specs.declared.words.Task.{Task}
-use Rattle.ipx_tool.specs.declared.words.Task.TheVariants.{Hop, Show, Check, Sim, Udp, Route, CheckSite, Listen, CheckHost, Send}
+use Rattle.ipx_tool.specs.declared.words.Task.TheVariants.{Hop, Show, ShowFrames, Check, Sim, Udp, Route, CheckSite, Listen, CheckHost, Send}
 use Rattle.ipx_tool.specs.Words.{AskForOne, AsksFor, Finds, IsPlain, IsUdpPort, IsSame}
 
 -- what begins with `-` is an option
@@ -19,6 +24,15 @@ port_or_check e = omega (arith, ap (λ (word : List ℕ). get_or word 2 0) e)
 
 once_or_check : codes "--once" ≡ codes "--check" → ⊥
 once_or_check e = omega (arith, ap (λ (word : List ℕ). get_or word 2 0) e)
+
+port_or_frame : codes "--port" ≡ codes "--frame" → ⊥
+port_or_frame e = omega (arith, ap (λ (word : List ℕ). get_or word 2 0) e)
+
+once_or_frame : codes "--once" ≡ codes "--frame" → ⊥
+once_or_frame e = omega (arith, ap (λ (word : List ℕ). get_or word 2 0) e)
+
+check_or_frame : codes "--check" ≡ codes "--frame" → ⊥
+check_or_frame e = omega (arith, ap (λ (word : List ℕ). get_or word 2 0) e)
 
 -- the second and the third of some words
 second : {words same : List (List ℕ)} → words ≡ same → get_or words 1 [] ≡ get_or same 1 []
@@ -42,12 +56,18 @@ joined command text (CheckSite file) (inr e, plain) =
 joined command text (CheckHost file) (inl e, plain) = absurd (port_or_check (second e))
 joined command text (CheckHost file) (inr e, plain) =
     let option : file.now ≡ codes "--port" = cc in absurd (not_plain file.now _ option plain)
+joined command text (ShowFrames node) (other, is, inl e) = absurd (port_or_frame (second e))
+joined command text (ShowFrames node) (other, is, inr e) = absurd (cc)
 joined command text _ asks = absurd (cc)
 
 pub parted : (command text : List ℕ) (task : Task) → AsksFor (command ∷ (codes "--port=" ++ text) ∷ []) task
     → AsksFor (command ∷ codes "--port" ∷ text ∷ []) task
 parted command text (Show packet) (e, plain) =
     let option : packet.now ≡ codes "--port=" ++ text = cc in absurd (not_plain packet.now _ option plain)
+parted command text (ShowFrames node) (other, is, inl e) = absurd (cc)
+parted command text (ShowFrames node) (other, is, inr e) =
+    let words : codes "--port=" ++ text ≡ codes "--frame=" ++ other = second e in
+    absurd (omega (arith, ap (λ (word : List ℕ). get_or word 2 0) words))
 parted command text (Udp port) (inl asks) = absurd (cc)
 parted command text (Udp port) (inr (other, is, inl e)) = absurd (cc)
 parted command text (Udp port) (inr (other, is, inr e)) = inr (other, is, inl (cc))
@@ -75,6 +95,71 @@ found_joined command text word None is none =
 found_joined command text word (Some task) is asks =
     subst (λ w. AsksFor (command ∷ w ∷ []) task) (sym is) (joined command text task asks)
 
+-- likewise `--frame`
+frame_joined : (command text : List ℕ) (task : Task) → AsksFor (command ∷ codes "--frame" ∷ text ∷ []) task
+    → AsksFor (command ∷ (codes "--frame=" ++ text) ∷ []) task
+frame_joined command text (ShowFrames node) (other, is, inl e) = (other, is, inr (cc))
+frame_joined command text (ShowFrames node) (other, is, inr e) = absurd (cc)
+frame_joined command text (Udp port) (inl asks) = absurd (cc)
+frame_joined command text (Udp port) (inr (other, is, inl e)) = absurd (port_or_frame (sym (second e)))
+frame_joined command text (Udp port) (inr (other, is, inr e)) = absurd (cc)
+frame_joined command text (Listen file true) (inl e, plain) = absurd (once_or_frame (sym (second e)))
+frame_joined command text (Listen file true) (inr e, plain) =
+    let option : file.now ≡ codes "--frame" = cc in absurd (not_plain file.now _ option plain)
+frame_joined command text (CheckSite file) (inl e, plain) = absurd (check_or_frame (sym (second e)))
+frame_joined command text (CheckSite file) (inr e, plain) =
+    let option : file.now ≡ codes "--frame" = cc in absurd (not_plain file.now _ option plain)
+frame_joined command text (CheckHost file) (inl e, plain) = absurd (check_or_frame (sym (second e)))
+frame_joined command text (CheckHost file) (inr e, plain) =
+    let option : file.now ≡ codes "--frame" = cc in absurd (not_plain file.now _ option plain)
+frame_joined command text _ asks = absurd (cc)
+
+frame_parted : (command text : List ℕ) (task : Task) → AsksFor (command ∷ (codes "--frame=" ++ text) ∷ []) task
+    → AsksFor (command ∷ codes "--frame" ∷ text ∷ []) task
+frame_parted command text (Show packet) (e, plain) =
+    let option : packet.now ≡ codes "--frame=" ++ text = cc in absurd (not_plain packet.now _ option plain)
+frame_parted command text (ShowFrames node) (other, is, inl e) = absurd (cc)
+frame_parted command text (ShowFrames node) (other, is, inr e) = (other, is, inl (cc))
+frame_parted command text (Udp port) (inl asks) = absurd (cc)
+frame_parted command text (Udp port) (inr (other, is, inl e)) = absurd (cc)
+frame_parted command text (Udp port) (inr (other, is, inr e)) =
+    let words : codes "--frame=" ++ text ≡ codes "--port=" ++ other = second e in
+    absurd (omega (arith, ap (λ (word : List ℕ). get_or word 2 0) words))
+frame_parted command text (Route file) (e, plain) =
+    let option : file.now ≡ codes "--frame=" ++ text = cc in absurd (not_plain file.now _ option plain)
+frame_parted command text (Listen file false) (e, plain) =
+    let option : file.now ≡ codes "--frame=" ++ text = cc in absurd (not_plain file.now _ option plain)
+frame_parted command text (Listen file true) (inl e, plain) = absurd (cc)
+frame_parted command text (Listen file true) (inr e, plain) = absurd (cc)
+frame_parted command text (CheckSite file) (inl e, plain) = absurd (cc)
+frame_parted command text (CheckSite file) (inr e, plain) = absurd (cc)
+frame_parted command text (CheckHost file) (inl e, plain) = absurd (cc)
+frame_parted command text (CheckHost file) (inr e, plain) = absurd (cc)
+frame_parted command text _ asks = absurd (cc)
+
+pub frame_found_joined : (command text word : List ℕ) (found : Option Task) → word ≡ codes "--frame=" ++ text
+    → Finds (AsksFor (command ∷ codes "--frame" ∷ text ∷ [])) found → Finds (AsksFor (command ∷ word ∷ [])) found
+frame_found_joined command text word None is none =
+    λ task asks. none task (frame_parted command text task (subst (λ w. AsksFor (command ∷ w ∷ []) task) is asks))
+frame_found_joined command text word (Some task) is asks =
+    subst (λ w. AsksFor (command ∷ w ∷ []) task) (sym is) (frame_joined command text task asks)
+
+-- a node is spelled by twelve signs
+found_ok : {A B E : Type 0} (f : A → B) (r : Result A E) (b : B) → option_map f (result_ok r) ≡ Some b → (a : A) × (r ≡ Ok a)
+found_ok f (Ok a) b e = (a, refl)
+found_ok f (Err x) b e = absurd (cc)
+
+spelled_length : (text : List ℕ) (node : Node) → spelled_node text ≡ Some node → length text ≡ 12
+spelled_length text node is =
+    let r = found_ok _ (decode_sized text 6) node is in
+    omega (arith, decode_sized-ok text 6 r.0 r.1)
+
+not_once_node : (text : List ℕ) (node : Node) → codes "--once" ≡ text → spelled_node text ≡ Some node → ⊥
+not_once_node text node e is = omega (arith, ap length e, spelled_length text node is)
+
+not_check_node : (text : List ℕ) (node : Node) → codes "--check" ≡ text → spelled_node text ≡ Some node → ⊥
+not_check_node text node e is = omega (arith, ap length e, spelled_length text node is)
+
 -- no port is written `--once`
 not_once : (port : ℕ) → IsUdpPort (codes "--once") port → ⊥
 not_once port is = let digit = is.0.1.0 in omega arith
@@ -97,6 +182,8 @@ behind command file (CheckSite other) (inr e, plain) =
 behind command file (CheckHost other) (inl e, plain) = absurd (once_or_check (second e))
 behind command file (CheckHost other) (inr e, plain) =
     let option : other.now ≡ codes "--once" = cc in absurd (not_plain other.now _ option plain)
+behind command file (ShowFrames node) (text, is, inl e) = absurd (once_or_frame (second e))
+behind command file (ShowFrames node) (text, is, inr e) = absurd (cc)
 behind command file _ asks = absurd (cc)
 
 pub before : (command file : List ℕ) (task : Task) → AsksFor (command ∷ file ∷ codes "--once" ∷ []) task
@@ -114,6 +201,8 @@ before command file (CheckSite other) (inr e, plain) = absurd (once_or_check (th
 before command file (CheckHost other) (inl e, plain) =
     let option : other.now ≡ codes "--once" = cc in absurd (not_plain other.now _ option plain)
 before command file (CheckHost other) (inr e, plain) = absurd (once_or_check (third e))
+before command file (ShowFrames node) (text, is, inl e) = absurd (not_once_node text node (third e) is)
+before command file (ShowFrames node) (text, is, inr e) = absurd (cc)
 before command file _ asks = absurd (cc)
 
 pub found_behind : (command file : List ℕ) (found : Option Task) → Finds (AsksFor (command ∷ codes "--once" ∷ file ∷ [])) found
@@ -136,6 +225,8 @@ check_behind command file (CheckSite other) (inr e, plain) =
 check_behind command file (CheckHost other) (inl e, plain) = (inr (cc), plain)
 check_behind command file (CheckHost other) (inr e, plain) =
     let option : other.now ≡ codes "--check" = cc in absurd (not_plain other.now _ option plain)
+check_behind command file (ShowFrames node) (text, is, inl e) = absurd (check_or_frame (second e))
+check_behind command file (ShowFrames node) (text, is, inr e) = absurd (cc)
 check_behind command file _ asks = absurd (cc)
 
 check_before : (command file : List ℕ) (task : Task) → AsksFor (command ∷ file ∷ codes "--check" ∷ []) task
@@ -153,6 +244,8 @@ check_before command file (CheckSite other) (inr e, plain) = (inl (cc), plain)
 check_before command file (CheckHost other) (inl e, plain) =
     let option : other.now ≡ codes "--check" = cc in absurd (not_plain other.now _ option plain)
 check_before command file (CheckHost other) (inr e, plain) = (inl (cc), plain)
+check_before command file (ShowFrames node) (text, is, inl e) = absurd (not_check_node text node (third e) is)
+check_before command file (ShowFrames node) (text, is, inr e) = absurd (cc)
 check_before command file _ asks = absurd (cc)
 
 pub found_check : (command file : List ℕ) (found : Option Task) → Finds (AsksFor (command ∷ codes "--check" ∷ file ∷ [])) found
@@ -165,6 +258,8 @@ none_so_many : (words : List (List ℕ)) → length words ≢ 2 → length words
     → (task : Task) → AsksFor (drop 1 words) task → ⊥
 none_so_many words two three four six Hop asks = omega (arith, length-drop 1 words, ap length asks)
 none_so_many words two three four six (Show packet) (e, plain) = omega (arith, length-drop 1 words, ap length e)
+none_so_many words two three four six (ShowFrames node) (text, is, inl e) = omega (arith, length-drop 1 words, ap length e)
+none_so_many words two three four six (ShowFrames node) (text, is, inr e) = omega (arith, length-drop 1 words, ap length e)
 none_so_many words two three four six Check asks = omega (arith, length-drop 1 words, ap length asks)
 none_so_many words two three four six Sim asks = omega (arith, length-drop 1 words, ap length asks)
 none_so_many words two three four six (Udp port) (inl (e, is)) = omega (arith, length-drop 1 words, ap length e)
@@ -220,6 +315,7 @@ found_for found are finds = subst (λ (ws : List (List ℕ)). Finds (AsksFor ws)
 abbrev name : Task → List ℕ
 name Hop = codes "hop"
 name (Show packet) = codes "show"
+name (ShowFrames node) = codes "show"
 name Check = codes "check"
 name Sim = codes "sim"
 name (Udp port) = codes "udp"
@@ -236,6 +332,8 @@ mark word = get_or word 0 0 * 256 + get_or word 1 0
 named : (words : List (List ℕ)) (task : Task) → AsksFor words task → get_or words 0 [] ≡ name task
 named words Hop asks = ap (λ ws. get_or ws 0 []) asks
 named words (Show packet) (e, plain) = ap (λ ws. get_or ws 0 []) e
+named words (ShowFrames node) (text, is, inl e) = ap (λ ws. get_or ws 0 []) e
+named words (ShowFrames node) (text, is, inr e) = ap (λ ws. get_or ws 0 []) e
 named words Check asks = ap (λ ws. get_or ws 0 []) asks
 named words Sim asks = ap (λ ws. get_or ws 0 []) asks
 named words (Udp port) (inl (e, is)) = ap (λ ws. get_or ws 0 []) e
@@ -266,9 +364,26 @@ one_port words port other (inr (text, is, inl e)) (inr (next, too, inr f)) = abs
 one_port words port other (inr (text, is, inr e)) (inr (next, too, inl f)) = absurd (cc)
 one_port words port other (inr (text, is, inr e)) (inr (next, too, inr f)) = one_value text next port other (cc) is too
 
+same_node : (text next : List ℕ) (node other : Node) → text ≡ next → spelled_node text ≡ Some node → spelled_node next ≡ Some other → node ≡ other
+same_node text next node other same is too =
+    let both : Some node ≡ Some other = sym is ∙ ap spelled_node same ∙ too in cc
+
+one_node : (words : List (List ℕ)) (node other : Node) → AsksFor words (ShowFrames node) → AsksFor words (ShowFrames other) → node ≡ other
+one_node words node other (text, is, inl e) (next, too, inl f) = same_node text next node other (cc) is too
+one_node words node other (text, is, inl e) (next, too, inr f) = absurd (cc)
+one_node words node other (text, is, inr e) (next, too, inl f) = absurd (cc)
+one_node words node other (text, is, inr e) (next, too, inr f) = same_node text next node other (cc) is too
+
 one_of_a_name : (words : List (List ℕ)) (task other : Task) → name task ≡ name other → AsksFor words task → AsksFor words other → IsSame task other
 one_of_a_name words Hop Hop same asks too = tt
 one_of_a_name words (Show packet) (Show other) same (e, plain) (f, also) = cc
+one_of_a_name words (Show packet) (ShowFrames node) same (e, plain) (text, is, inl f) = absurd (cc)
+one_of_a_name words (Show packet) (ShowFrames node) same (e, plain) (text, is, inr f) =
+    let option : packet.now ≡ codes "--frame=" ++ text = cc in absurd (not_plain packet.now _ option plain)
+one_of_a_name words (ShowFrames node) (Show packet) same (text, is, inl f) (e, plain) = absurd (cc)
+one_of_a_name words (ShowFrames node) (Show packet) same (text, is, inr f) (e, plain) =
+    let option : packet.now ≡ codes "--frame=" ++ text = cc in absurd (not_plain packet.now _ option plain)
+one_of_a_name words (ShowFrames node) (ShowFrames other) same asks too = one_node words node other asks too
 one_of_a_name words Check Check same asks too = tt
 one_of_a_name words Sim Sim same asks too = tt
 one_of_a_name words (Udp port) (Udp other) same asks too = one_port words port other asks too

@@ -1,10 +1,11 @@
 -- Which words ask for which command.
-use Rattle.std.specs.Prelude.{◌≡◌, ◌≤◌, ℕ, false, true, ◌⊎◌, List, [], ◌∷◌, ◌++◌, Option, MatchOption, codes, nat_eq}
+use Rattle.std.specs.Prelude.{◌≡◌, ◌≤◌, ℕ, false, true, ◌⊎◌, List, [], ◌∷◌, ◌++◌, Option, Some, MatchOption, codes, nat_eq}
 use Rattle.std.specs.List.{starts_with}
 use Rattle.std.specs.Str.Parse.{IsNumeral, digits_value, without_leading_plus}
+use Rattle.ipx_wire.specs.AddressText.{spelled_node}
 use Rattle.ipx_carrier.specs.Mapping.{usual_port}
 use Rattle.ipx_tool.specs.declared.words.Task.{Task}
-use Rattle.ipx_tool.specs.declared.words.Task.TheVariants.{Hop, Show, Check, Sim, Udp, Route, CheckSite, Listen, CheckHost, Send}
+use Rattle.ipx_tool.specs.declared.words.Task.TheVariants.{Hop, Show, ShowFrames, Check, Sim, Udp, Route, CheckSite, Listen, CheckHost, Send}
 
 -- a word that is no option: it does not begin with `-`
 abbrev pub IsPlain : List ℕ → Type 0
@@ -16,12 +17,15 @@ IsUdpPort text port = IsNumeral 10 (without_leading_plus text)
     × (digits_value 10 (without_leading_plus text) ≡ port) × (1 ≤ port) × (port ≤ 65535)
 
 -- the words behind the program's own name ask for this command. `udp` stands alone, and the port is
--- the usual one then, or before `--port` and a text that writes the port, in two words or joined by `=`. `listen`
+-- the usual one then, or before `--port` and a text that writes the port, in two words or joined by `=`; so `show`
+-- stands before `--frame` and a text that spells a node. `listen`
 -- has `--once` before or behind its file, or not at all; `route` and `listen` with `--check` there
 -- only check the file. A packet, a file and the three words of a target are no options
 abbrev pub AsksFor : List (List ℕ) → Task → Type 0
 AsksFor words Hop = words ≡ codes "hop" ∷ []
 AsksFor words (Show packet) = (words ≡ codes "show" ∷ packet.now ∷ []) × IsPlain packet.now
+AsksFor words (ShowFrames node) = (text : List ℕ) × (spelled_node text ≡ Some node)
+    × ((words ≡ codes "show" ∷ codes "--frame" ∷ text ∷ []) ⊎ (words ≡ codes "show" ∷ (codes "--frame=" ++ text) ∷ []))
 AsksFor words Check = words ≡ codes "check" ∷ []
 AsksFor words Sim = words ≡ codes "sim" ∷ []
 AsksFor words (Udp port) = ((words ≡ codes "udp" ∷ []) × (port ≡ usual_port))
@@ -49,6 +53,7 @@ Finds {A} IsSo found = MatchOption found ((a : A) → IsSo a → ⊥) IsSo
 abbrev pub IsSame : Task → Task → Type 0
 IsSame Hop Hop = Unit {0}
 IsSame (Show packet) (Show other) = packet.now ≡ other.now
+IsSame (ShowFrames node) (ShowFrames other) = node ≡ other
 IsSame Check Check = Unit {0}
 IsSame Sim Sim = Unit {0}
 IsSame (Udp port) (Udp other) = port ≡ other

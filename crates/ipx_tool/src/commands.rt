@@ -6,6 +6,8 @@ use crate::texts;
 pub struct WordShape {
     pub name: &'static str,
     pub help: &'static str,
+    /// The option that stands in place of it.
+    pub unless: Option<&'static str>,
 }
 
 /// What stands behind an option.
@@ -14,6 +16,8 @@ pub enum OptionValue {
     Nothing,
     /// A port of UDP, which the help calls `P`.
     Port,
+    /// The address of a station.
+    Node,
 }
 
 /// An option of a command, by its word without the dashes before it. Of the options of a command
@@ -24,7 +28,7 @@ pub struct OptionShape {
     pub help: &'static str,
 }
 
-/// A command. All its words are wanted.
+/// A command. All its words are wanted, but where an option stands in place of one.
 pub struct CommandShape {
     pub name: &'static str,
     pub about: &'static str,
@@ -54,6 +58,11 @@ pub const PORT_OPTION: &str = "--port";
 /// What stands before a port in one word with it.
 pub const PORT_IS: &str = "--port=";
 
+pub const FRAME_OPTION: &str = "--frame";
+
+/// What stands before a station in one word with it.
+pub const FRAME_IS: &str = "--frame=";
+
 pub const ONCE_OPTION: &str = "--once";
 
 pub const CHECK_OPTION: &str = "--check";
@@ -61,6 +70,7 @@ pub const CHECK_OPTION: &str = "--check";
 const HOST_FILE: WordShape = WordShape {
     name: "HOST",
     help: "The file of the host",
+    unless: None,
 };
 
 const CHECKS_FILE: OptionShape = OptionShape {
@@ -87,8 +97,13 @@ pub const COMMANDS: [CommandShape; 8] = [
         words: &[WordShape {
             name: "HEX",
             help: "The packet, two hex digits a byte",
+            unless: Some("frame"),
         }],
-        options: &[],
+        options: &[OptionShape {
+            name: "frame",
+            value: OptionValue::Node,
+            help: "Reads frames from standard input, as the station NODE hears them",
+        }],
     },
     CommandShape {
         name: CHECK,
@@ -126,6 +141,7 @@ pub const COMMANDS: [CommandShape; 8] = [
         words: &[WordShape {
             name: "SITE",
             help: "The file of the site",
+            unless: None,
         }],
         options: &[CHECKS_FILE],
     },
@@ -154,14 +170,17 @@ pub const COMMANDS: [CommandShape; 8] = [
             WordShape {
                 name: "NET",
                 help: "The network to dial, eight hex digits",
+                unless: None,
             },
             WordShape {
                 name: "NODE",
                 help: "The node there, twelve hex digits",
+                unless: None,
             },
             WordShape {
                 name: "SOCKET",
                 help: "Its socket, four hex digits",
+                unless: None,
             },
         ],
         options: &[],

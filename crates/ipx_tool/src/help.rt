@@ -9,8 +9,15 @@ use std::alloc::Global;
 /// The version of the program.
 pub const VERSION: &str = "0.1.0";
 
-fn word_arg<'a>(alloc: Global, word: &WordShape) -> Arg<'a> {
-    Arg::new(alloc, word.name).required(true).help(word.help)
+fn word_arg<'a>(alloc: Global, word: &WordShape) -> Result<Arg<'a>, Error> {
+    let arg = Arg::new(alloc, word.name).help(word.help);
+    match word.unless {
+        None => Ok(arg.required(true)),
+        Some(option) => {
+            let arg = arg.required_unless_present(option)?;
+            Ok(arg.conflicts_with(option)?)
+        }
+    }
 }
 
 fn option_arg<'a>(alloc: Global, option: &OptionShape) -> Arg<'a> {
@@ -22,6 +29,7 @@ fn option_arg<'a>(alloc: Global, option: &OptionShape) -> Arg<'a> {
         OptionValue::Port => arg
             .value_name("P")
             .value_parser(ValueParser::unsigned(1, 65_535)),
+        OptionValue::Node => arg.value_name("NODE"),
     }
 }
 
@@ -45,7 +53,7 @@ fn with_words<'a>(
 ) -> Result<Command<'a>, Error> {
     let mut command = command;
     for word in words {
-        command = command.arg(word_arg(alloc, word))?;
+        command = command.arg(word_arg(alloc, word)?)?;
     }
     Ok(command)
 }

@@ -8,6 +8,7 @@ mod words;
 
 use clap::error::ErrorKind;
 use ipx_commands::{do_check, do_hop, do_show, tell_no_memory};
+use ipx_shown_frames::do_show_frames;
 use ipx_sim::do_sim;
 use ipx_site::{check_site, do_route};
 use ipx_transfer::{check_host, do_listen, do_send};
@@ -37,6 +38,9 @@ fn do_task(rt: &HostRuntime, task: Task<'_>) -> Result<u8, u8> {
     match task {
         Task::Hop => do_hop(rt.alloc(), &mut rt.stdin(), &mut io::writer(rt)),
         Task::Show(text) => do_show(rt.alloc(), text, &mut io::writer(rt)),
+        Task::ShowFrames(own) => {
+            do_show_frames(rt.alloc(), own, &mut rt.stdin(), &mut io::writer(rt))
+        }
         Task::Check => do_check(rt.alloc(), &mut rt.stdin(), &mut io::writer(rt)),
         Task::Sim => do_sim(rt.alloc(), &mut rt.stdin(), &mut io::writer(rt)),
         Task::Udp(port) => do_udp(rt, rt.alloc(), &mut rt.stdin(), &mut io::writer(rt), port),

@@ -41,11 +41,18 @@ The fields of one packet
 
 Reads no input: the packet is the word HEX. It prints the IPX header, and then what the body
 holds: an SPX packet (type 5), RIP (destination socket 0453) or SAP (0452).
-A packet that is refused prints refused (n) TEXT, with the number and name of the fault.";
+A packet that is refused prints refused (n) TEXT, with the number and name of the fault.
+
+With --frame it reads Ethernet frames from standard input, at most 1000000 bytes, a line of hex
+each, from the destination address on. Of each it prints what the station NODE hears:
+  frame E to NODE from NODE   E is 802.3, 802.2, snap or ethernet-ii; its packet's lines follow
+  refused (n) TEXT            why the station does not hear it, n from 40 to 50
+  line K bad                  line K is no hex";
 
 pub const SHOW_STATUSES: &str = "\
-Status 0: printed. 1: the packet is refused; writing failed, or memory ran out.
-2: HEX is no hex (line 1 bad).
+Status 0: printed. 1: the packet is refused; reading or writing failed, or memory ran out.
+2: HEX is no hex (line 1 bad). With --frame the greatest of the lines' statuses, and 2 for too long
+an input (line 0 bad).
 
 Example:
   $ ipx show ffff001e00000000002200007f00000540000000001100007f0000035000

@@ -5,20 +5,23 @@ ghost use Rattle.std.specs.List.{starts_with};
 ghost use Rattle.ipx_tool.specs.Words.{AskForOne, AsksFor, Finds, IsPlain, IsUdpPort};
 
 use crate::commands::{
-    CHECK, CHECK_OPTION, HOP, LISTEN, ONCE_OPTION, PORT_IS, PORT_OPTION, ROUTE, SEND, SHOW, SIM,
-    UDP,
+    CHECK, CHECK_OPTION, FRAME_IS, FRAME_OPTION, HOP, LISTEN, ONCE_OPTION, PORT_IS, PORT_OPTION,
+    ROUTE, SEND, SHOW, SIM, UDP,
 };
 use crate::help::whole_command;
 use clap::Error;
 use clap::error::ErrorKind;
 use ipx_carrier::UDP_PORT;
 use ipx_transfer::Target;
+use ipx_wire::Node;
 use std::alloc::Global;
 
 /// A command of the program. The text of `Show` is its packet in hex.
 pub enum Task<'a> {
     Hop,
     Show(&'a str),
+    /// The station that hears the frames.
+    ShowFrames(Node),
     Check,
     Sim,
     /// The UDP port of every socket.
@@ -38,8 +41,8 @@ pub enum Task<'a> {
 /// The command that the words ask for, the program's own name first: just `hop`, `check`, `sim` or
 /// `udp`; `show`, `route` or `listen` and one word that is no option; `listen` and such a word with
 /// `--once` before or behind it; `route` or `listen` and such a word with `--check` there; `send`
-/// and four words that are no options; or `udp` and a port, as `--port P` or `--port=P`. No other
-/// words ask for one.
+/// and four words that are no options; `udp` and a port, as `--port P` or `--port=P`; or `show` and
+/// a station, as `--frame NODE` or `--frame=NODE`. No other words ask for one.
 pub fn task_of(words: &[String]) -> Option<Task<'_>>
     ensures { Finds (AsksFor (drop 1 (map string_bytes words.now))) result }
 {
@@ -152,17 +155,32 @@ fn udp_task<'a>(command: &str, text: &str) -> Option<Task<'a>>
     Some(Task::Udp(port_of(text)?))
 }
 
-/// A command with one word more: one that is no option, or the port of `udp`.
+/// Frames that are shown, as the station hears them that a text spells.
+fn frames_task<'a>(command: &str, text: &str) -> Option<Task<'a>>
+    ensures { Finds (AsksFor (command.now ∷ codes "--frame" ∷ text.now ∷ [])) result }
+{
+    if command != SHOW {
+        return None;
+    }
+    Some(Task::ShowFrames(Node::from_hex(text.as_bytes())?))
+}
+
+/// A command with one word more: one that is no option, or the port of `udp` or the station of `show`
+/// in one word with its option.
 fn one_word_task<'a>(command: &str, word: &'a str) -> Option<Task<'a>>
     ensures { Finds (AsksFor (command.now ∷ word.now ∷ [])) result }
 {
-    match word.strip_prefix(PORT_IS) {
-        Some(port) => udp_task(command, port),
-        None => word_task(command, word),
+    if let Some(port) = word.strip_prefix(PORT_IS) {
+        return udp_task(command, port);
     }
+    if let Some(node) = word.strip_prefix(FRAME_IS) {
+        return frames_task(command, node);
+    }
+    word_task(command, word)
 }
 
-/// A command with two words more: the port of `udp`, or a file and `--once` or `--check`.
+/// A command with two words more: the port of `udp`, the station of `show`, or a file and `--once`
+/// or `--check`.
 fn option_task<'a>(command: &str, first: &'a str, second: &'a str) -> Option<Task<'a>>
     ensures { Finds (AsksFor (command.now ∷ first.now ∷ second.now ∷ [])) result }
 {
@@ -180,6 +198,9 @@ fn option_task<'a>(command: &str, first: &'a str, second: &'a str) -> Option<Tas
     }
     if second == CHECK_OPTION {
         return check_task(command, first);
+    }
+    if first == FRAME_OPTION {
+        return frames_task(command, second);
     }
     None
 }
@@ -200,9 +221,16 @@ pub fn fault_of(alloc: Global, words: &[String]) -> Error {
 fn usage_of(alloc: Global, words: &[String]) -> Result<Error, Error> {
     let mut command = whole_command(alloc)?;
     command.try_get_matches_from_mut(words)?;
-    let error = command.error(
-        ErrorKind::UnknownArgument,
-        "a word too many: '--' has no place here",
-    )?;
+    let error = if words.iter().any(|word| word.as_str() == "--") {
+        command.error(
+            ErrorKind::UnknownArgument,
+            "a word too many: '--' has no place here",
+        )?
+    } else {
+        command.error(
+            ErrorKind::ValueValidation,
+            "NODE is to be twelve hex digits",
+        )?
+    };
     Ok(error)
 }

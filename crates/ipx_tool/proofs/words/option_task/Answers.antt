@@ -31,3 +31,8 @@ returns-then-eq-5 c =
     let r = c.check_task-then-eq-5.result in
     subst (λ (w : List ℕ). Finds (AsksFor (c.args.command.now ∷ c.args.first.now ∷ w ∷ [])) r) (sym check)
     (found_check c.args.command.now c.args.first.now r c.check_task-then-eq-5.ensures)
+
+pub returns-then-eq-6 : goal.returns-then-eq-6
+returns-then-eq-6 c =
+    let frame : c.args.first.now ≡ codes "--frame" = search rules in
+    subst (λ (w : List ℕ). Finds (AsksFor (c.args.command.now ∷ w ∷ c.args.second.now ∷ [])) c.frames_task.result) (sym frame) c.frames_task.ensures

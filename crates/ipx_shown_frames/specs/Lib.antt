@@ -1,0 +1,2 @@
+pub mod ShownFrame
+pub mod FrameLine

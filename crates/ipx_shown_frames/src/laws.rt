@@ -1,0 +1,17 @@
+//! That `show --frame` writes one thing for one input.
+
+ghost use Rattle.std.specs.Prelude.{◌≡◌, ℕ, List};
+ghost use Rattle.ipx_wire.specs.declared.address.Node.{Node};
+ghost use Rattle.ipx_shown_frames.specs.ShownFrame.{ShowsFrames};
+
+use ipx_commands::reading_is_one;
+use ipx_frames::bytes_are_one_frame;
+
+/// What `show --frame` writes for an input, and the status, are one.
+pub fn shown_frames_are_one()
+    ensures { (own : Node) (input a b : List ℕ) (s t : ℕ) → ShowsFrames own input a s
+        → ShowsFrames own input b t → (a ≡ b) × (s ≡ t) }
+{
+    reading_is_one();
+    bytes_are_one_frame();
+}
