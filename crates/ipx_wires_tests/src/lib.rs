@@ -9,6 +9,8 @@ mod fixture;
 #[cfg(test)]
 mod memory;
 #[cfg(test)]
+mod running;
+#[cfg(test)]
 mod sending;
 #[cfg(test)]
 mod sockets;
