@@ -5,11 +5,13 @@
 #![tactic(auto)]
 
 mod end_sockets;
+mod memory;
 mod reaching;
 mod sockets;
 mod taking;
 mod wires;
 
 pub use end_sockets::{EndSockets, FrameCame};
+pub use memory::{MemoryEnds, MemoryFrame};
 pub use sockets::{Place, WireSockets};
 pub use wires::Wires;

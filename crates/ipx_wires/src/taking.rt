@@ -8,7 +8,7 @@ ghost use Rattle.ipx_wires.specs.OnWires.{TakesPacket};
 use ipx_hub::{Hub, Onward};
 
 /// Puts bytes to the front of a room, as many as it takes.
-fn put_front(bytes: &[u8], room: &mut [u8]) -> usize
+pub fn put_front(bytes: &[u8], room: &mut [u8]) -> usize
     ensures put { take result room.new ≡ take (length room.old) bytes.now }
     ensures within { result ≤ length room.old }
 {

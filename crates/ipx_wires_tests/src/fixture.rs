@@ -1,12 +1,10 @@
 //! A wire with three ends, a station at each, and the frames that they send.
 
-use crate::memory::{EndBytes, MemoryEnds};
 use ipx_frames::{Encapsulation, WirePort};
 use ipx_hub::Hub;
 use ipx_wire::{Network, Node};
-use ipx_wires::{EndSockets, Wires};
-use std::alloc::Global;
-use std::test::Fail;
+use ipx_wires::{EndSockets, MemoryEnds, MemoryFrame, Wires};
+use std::alloc::{AllocError, Global};
 
 /// The port, which has the network 22 in Ethernet II.
 pub const PORT: WirePort = WirePort {
@@ -36,19 +34,29 @@ pub fn frame(to: Node, from: Node) -> [u8; 44] {
     bytes
 }
 
-/// A port on the wire of these sockets.
-pub fn wires<D: EndSockets + Drop>(alloc: Global, sockets: D) -> Result<Wires<D>, Fail> {
+/// Sockets in memory, of one port with three ends.
+pub fn three_ends(alloc: Global) -> Result<MemoryEnds, AllocError> {
+    Ok(MemoryEnds::new(alloc, vec![in alloc; 3]?))
+}
+
+/// The hub of the port, whose ends are joined.
+pub fn hubs(alloc: Global) -> Result<Vec<Hub>, AllocError> {
     let hub = Hub::new(alloc, PORT, true)?;
-    Ok(Wires::new(sockets, vec![in alloc; hub]?))
+    Ok(vec![in alloc; hub]?)
+}
+
+/// A port on the wire of these sockets.
+pub fn wires<D: EndSockets + Drop>(alloc: Global, sockets: D) -> Result<Wires<D>, AllocError> {
+    Ok(Wires::new(sockets, hubs(alloc)?))
 }
 
 /// Whether these ends, and no others, took these bytes, as the last of all that was sent.
 pub fn took(sockets: &MemoryEnds, ends: &[usize], bytes: &[u8]) -> bool {
-    let sent = sockets.sent();
+    let sent = sockets.went();
     if sent.len() < ends.len() {
         return false;
     }
-    let last: &[EndBytes] = &sent[sent.len() - ends.len()..];
+    let last: &[MemoryFrame] = &sent[sent.len() - ends.len()..];
     last.iter().zip(ends.iter()).all(|(sent, end)| sent.end == *end
         && sent.bytes.as_slice() == bytes)
 }

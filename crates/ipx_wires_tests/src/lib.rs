@@ -7,7 +7,7 @@ mod circle;
 #[cfg(test)]
 mod fixture;
 #[cfg(test)]
-mod memory;
+mod refused;
 #[cfg(test)]
 mod running;
 #[cfg(test)]

@@ -1,7 +1,6 @@
 //! A router whose one port is on a wire with three ends.
 
-use crate::fixture::{FIRST, PORT, frame, wires};
-use crate::memory::MemoryEnds;
+use crate::fixture::{FIRST, PORT, frame, three_ends, wires};
 use ipx_carrier::{RouterCore, SteppedClock, run_segments};
 use ipx_router::{Port, Router};
 use ipx_wire::Node;
@@ -19,9 +18,9 @@ fn a_router_on_a_wire(rt: HostRuntime) -> Result<(), Fail> {
     };
     let router = Router::new(alloc, vec![in alloc; port]?)?;
     let mut core = RouterCore::new(alloc, router);
-    let mut ends = MemoryEnds::new(alloc, None);
-    ends.put(0, &frame(FIRST, Node([2, 0, 0, 0, 0, 0x44])))?;
-    ends.put(1, &frame(PORT.own, FIRST))?;
+    let mut ends = three_ends(alloc)?;
+    ends.put(0, 0, &frame(FIRST, Node([2, 0, 0, 0, 0, 0x44])))?;
+    ends.put(0, 1, &frame(PORT.own, FIRST))?;
     let mut wires = wires(alloc, ends)?;
     let mut clock = SteppedClock::new(0, 10);
     let first = run_segments(alloc, &mut core, &mut wires, &mut clock, 1)?;
@@ -30,7 +29,7 @@ fn a_router_on_a_wire(rt: HostRuntime) -> Result<(), Fail> {
     assert_eq!(rt; first.unmapped, 0);
     // The frame of the station to both other ends, and then what the router asks: a request of RIP
     // and one of SAP, to each of three.
-    let sent = wires.sockets().sent();
+    let sent = wires.sockets().went();
     assert_eq!(rt; sent.len(), 8);
     let all = [
         0xff, 0xff, 0xff, 0xff, 0xff, 0xff, 2, 0, 0, 0, 0, 1, 0x81, 0x37,

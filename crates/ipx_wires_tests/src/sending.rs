@@ -1,7 +1,6 @@
 //! Packets of the core, and the ends that their frames go to.
 
-use crate::fixture::{FIRST, PACKET, PORT, SECOND, frame, took, wires};
-use crate::memory::MemoryEnds;
+use crate::fixture::{FIRST, PACKET, PORT, SECOND, frame, three_ends, took, wires};
 use ipx_carrier::{PacketSent, Segments};
 use ipx_wire::Node;
 use std::test::Fail;
@@ -18,17 +17,17 @@ fn padded(to: Node) -> [u8; 60] {
 #[test]
 fn packets_to_stations(rt: HostRuntime) -> Result<(), Fail> {
     let alloc = rt.alloc();
-    let mut ends = MemoryEnds::new(alloc, None);
-    ends.put(1, &frame(PORT.own, SECOND))?;
+    let mut ends = three_ends(alloc)?;
+    ends.put(0, 1, &frame(PORT.own, SECOND))?;
     let mut wires = wires(alloc, ends)?;
     wires.set_moment(1000);
     let mut room = [0; 1536];
     assert!(rt; matches!(wires.receive(0, &mut room), Ok(Some(30))));
     assert!(rt; matches!(wires.send(0, FIRST, &PACKET), Ok(PacketSent::Copies(1))));
-    assert_eq!(rt; wires.sockets().sent().len(), 3);
+    assert_eq!(rt; wires.sockets().went().len(), 3);
     assert!(rt; took(wires.sockets(), &[0, 1, 2], &padded(FIRST)));
     assert!(rt; matches!(wires.send(0, SECOND, &PACKET), Ok(PacketSent::Copies(1))));
-    assert_eq!(rt; wires.sockets().sent().len(), 4);
+    assert_eq!(rt; wires.sockets().went().len(), 4);
     assert!(rt; took(wires.sockets(), &[1], &padded(SECOND)));
     wires.set_moment(301_000);
     assert!(rt; matches!(wires.send(0, SECOND, &PACKET), Ok(PacketSent::Copies(1))));
@@ -39,7 +38,7 @@ fn packets_to_stations(rt: HostRuntime) -> Result<(), Fail> {
             Ok(PacketSent::Copies(1))
         )
     );
-    assert_eq!(rt; wires.sockets().sent().len(), 10);
+    assert_eq!(rt; wires.sockets().went().len(), 10);
     assert!(rt; took(wires.sockets(), &[0, 1, 2], &padded(Node::BROADCAST)));
     Ok(())
 }
@@ -48,7 +47,7 @@ fn packets_to_stations(rt: HostRuntime) -> Result<(), Fail> {
 #[test]
 fn bytes_that_are_no_packet(rt: HostRuntime) -> Result<(), Fail> {
     let alloc = rt.alloc();
-    let mut wires = wires(alloc, MemoryEnds::new(alloc, None))?;
+    let mut wires = wires(alloc, three_ends(alloc)?)?;
     assert!(rt;
         matches!(
             wires.send(0, FIRST, &PACKET[..29]),
@@ -56,7 +55,7 @@ fn bytes_that_are_no_packet(rt: HostRuntime) -> Result<(), Fail> {
         )
     );
     assert_eq!(rt; wires.hubs()[0].refused(), 1);
-    assert_eq!(rt; wires.sockets().sent().len(), 0);
+    assert_eq!(rt; wires.sockets().went().len(), 0);
     assert_eq!(rt; wires.failures(), 0);
     Ok(())
 }
