@@ -51,8 +51,8 @@ def check_three(sites):
 
 
 def check_room_told(sites, room, wanted):
-    """Where sockets get less than they ask for, a host says so just where its buffers want over eight times that: a
-    unit takes 1,280 bytes."""
+    """Where sockets get less than they ask for, a host says so just where its buffers want over twice that: a unit
+    takes 1,280 bytes."""
     line = f"its socket holds {room} bytes: net.core.rmem_max = {wanted} gives it what it asks for"
     for number, buffers in enumerate((64, 8192)):
         name = f"room-{buffers}"
@@ -60,7 +60,7 @@ def check_room_told(sites, room, wanted):
         host = sites.start_listener(name=name)
         until(lambda: any("socket 4002" in one for one in host.said()), 5)  # pylint: disable=cell-var-from-loop
         says = any(one.endswith(line) for one in host.said())
-        sites.check(f"a host with {buffers} buffers and its room", says == (buffers * 1280 > 8 * room), str(host.said()))
+        sites.check(f"a host with {buffers} buffers and its room", says == (buffers * 1280 > 2 * room), str(host.said()))
         host.end()
 
 

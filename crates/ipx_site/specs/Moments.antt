@@ -27,6 +27,11 @@ IsReached moment now = MatchOption moment ⊥ (λ t. t ≤ now)
 abbrev pub IsDue : Cause → ℕ → ℕ → Type 0
 IsDue c count now = (c.told < count) × IsMinuteOver c.at now
 
+-- a cause that happened so often, before a moment and behind it: it is told then, exactly where it is due
+abbrev pub IsToldIfDue : ℕ → ℕ → Cause → Cause → Type 0
+IsToldIfDue count now before after = (IsDue before count now → (after.told ≡ count) × (after.at ≡ Some now))
+    × ((IsDue before count now → ⊥) → after ≡ before)
+
 -- a cause that was not told yet
 abbrev pub untold : Cause
 untold = record { told = 0; at = None }
@@ -39,3 +44,9 @@ IsOneDueOf count causes happened now = (place : ℕ) × (place < count)
 -- one of them all is
 abbrev pub IsOneDue : List Cause → List ℕ → ℕ → Type 0
 IsOneDue causes happened now = IsOneDueOf (length causes) causes happened now
+
+-- each of them is told then, exactly where it is due
+abbrev pub AreToldIfDue : List ℕ → ℕ → List Cause → List Cause → Type 0
+AreToldIfDue happened now before after = (length after ≡ length before)
+    × ((place : ℕ) → place < length before → IsToldIfDue (get_or happened place 0) now
+    (get_or before place untold) (get_or after place untold))

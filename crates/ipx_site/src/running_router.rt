@@ -2,7 +2,8 @@
 
 ghost use Rattle.std.specs.Prelude.{◌≡◌, length, map};
 ghost use Rattle.ipx_carrier.specs.Turns.{peers_of};
-ghost use Rattle.ipx_site.specs.Leisure.{IsLeisure, IsToDo, agenda, happened, happened_in, look_after};
+ghost use Rattle.ipx_site.specs.Leisure.{IsLeisure, IsToDo, agenda, counts_told, happened, happened_in, look_after};
+ghost use Rattle.ipx_site.specs.Moments.{AreToldIfDue};
 ghost use Rattle.ipx_site.specs.SitePeers.{kept_in};
 ghost use Rattle.ipx_site.specs.SitePorts.{access_by};
 ghost use Rattle.ipx_site.specs.RouterRounds.{AsksAgain, IsRound, SleepsBehind};
@@ -127,6 +128,7 @@ impl<'a, R: SystemClock> RunningRouter<'a, R> {
         ensures peers { self.new.peers ≡ self.old.peers }
         ensures clock { self.new.clock ≡ self.old.clock }
         ensures ready { self.new.ready ≡ self.old.ready }
+        ensures troubles { self.new.troubles ≡ self.old.troubles }
     {
         if let Some(moment) = asking_moment(self.asked) {
             if now >= moment {
@@ -143,6 +145,7 @@ impl<'a, R: SystemClock> RunningRouter<'a, R> {
         ensures peers { self.new.peers ≡ self.old.peers }
         ensures clock { self.new.clock ≡ self.old.clock }
         ensures ready { self.new.ready ≡ self.old.ready }
+        ensures troubles { self.new.troubles ≡ self.old.troubles }
         ensures asked { self.new.asked ≡ self.old.asked }
     {
         if !is_over(self.looked, self.look_period(), now) {
@@ -166,6 +169,7 @@ impl<'a, R: SystemClock> RunningRouter<'a, R> {
         ensures peers { self.new.peers ≡ self.old.peers }
         ensures clock { self.new.clock ≡ self.old.clock }
         ensures ready { self.new.ready ≡ self.old.ready }
+        ensures troubles { self.new.troubles ≡ self.old.troubles }
         ensures asked { self.new.asked ≡ self.old.asked }
     {
         if !is_over(self.written, PERIOD, now) {
@@ -192,6 +196,10 @@ impl<'a, R: SystemClock> RunningRouter<'a, R> {
         ensures peers { self.new.peers ≡ self.old.peers }
         ensures clock { self.new.clock ≡ self.old.clock }
         ensures ready { self.new.ready ≡ self.old.ready }
+        // Each trouble that is due is told, and no other.
+        ensures told { AreToldIfDue (counts_told (happened self.new.tally self.new.core
+            self.new.device.kept self.new.device.refused self.new.device.device.faults)) now
+            self.old.troubles.causes self.new.troubles.causes }
     {
         self.ask(now);
         self.look(rt, alloc, now);

@@ -1,8 +1,8 @@
 //! The troubles that a person is told of, each at most once a minute.
 
-ghost use Rattle.std.specs.Prelude.{◌≡◌, ◌↔◌, ◌<◌, ◌^◌, ℕ, None, Some, get_or};
+ghost use Rattle.std.specs.Prelude.{◌≡◌, ◌↔◌, ◌<◌, ◌^◌, ℕ, None, get_or, replicate};
 ghost use Rattle.ipx_site.specs.Leisure.{IsLineDue, counts_of, counts_told, happened_in};
-ghost use Rattle.ipx_site.specs.Moments.{IsDue, IsOneDue, IsReached};
+ghost use Rattle.ipx_site.specs.Moments.{AreToldIfDue, IsOneDue, IsReached, IsToldIfDue, untold};
 
 use crate::causes::Cause;
 use crate::figures::Figures;
@@ -46,8 +46,7 @@ pub struct Troubles {
 }
 
 fn tell<R: Log>(rt: &R, cause: &mut Cause, count: u64, now: u64, what: &str)
-    ensures told { IsDue cause.old count now → (cause.new.told ≡ count) × (cause.new.at ≡ Some now) }
-    ensures silent { (IsDue cause.old count now → ⊥) → cause.new ≡ cause.old }
+    ensures { IsToldIfDue count now cause.old cause.new }
 {
     if let Some(more) = cause.tell(count, now) {
         warn!(rt; target: "ipx", "{more} {what} ({count} since the start)");
@@ -57,9 +56,7 @@ fn tell<R: Log>(rt: &R, cause: &mut Cause, count: u64, now: u64, what: &str)
 /// Logs how many of these there were since it was told last, if it is time, with who sent the last
 /// of them, where that is known.
 fn tell_kept<R: Log>(rt: &R, cause: &mut Cause, kept: Kept, now: u64, what: &str)
-    ensures told { IsDue cause.old kept.count now
-        → (cause.new.told ≡ kept.count) × (cause.new.at ≡ Some now) }
-    ensures silent { (IsDue cause.old kept.count now → ⊥) → cause.new ≡ cause.old }
+    ensures { IsToldIfDue kept.count now cause.old cause.new }
 {
     let count = kept.count;
     let Some(ip) = kept.last else {
@@ -74,9 +71,13 @@ fn tell_kept<R: Log>(rt: &R, cause: &mut Cause, kept: Kept, now: u64, what: &str
 }
 
 /// Tells those troubles for which it is time, each by the cause at its place.
-pub fn tell_each<R: Log>(rt: &R, causes: &mut [Cause], troubles: &[Trouble], now: u64) {
-    for (cause, trouble) in causes.iter_mut().zip(troubles) {
-        tell_kept(rt, cause, trouble.kept, now, trouble.what);
+pub fn tell_each<R: Log>(rt: &R, causes: &mut [Cause], troubles: &[Trouble], now: u64)
+    ensures { AreToldIfDue (counts_of troubles.now) now causes.old causes.new }
+{
+    for (place, cause) in causes.iter_mut().enumerate() {
+        if let Some(trouble) = troubles.get(place) {
+            tell_kept(rt, cause, trouble.kept, now, trouble.what);
+        }
     }
 }
 
@@ -122,14 +123,19 @@ fn troubles_in(f: &Figures) -> [Trouble; CAUSES]
 
 impl Troubles {
     /// None was told yet.
-    pub fn new() -> Troubles {
+    pub fn new() -> Troubles
+        ensures { result.causes ≡ replicate 10 untold }
+    {
         Troubles {
             causes: [Cause::new(); CAUSES],
         }
     }
 
     /// Tells those for which it is time.
-    pub fn tell<R: Log>(&mut self, rt: &R, figures: &Figures, now: u64) {
+    pub fn tell<R: Log>(&mut self, rt: &R, figures: &Figures, now: u64)
+        ensures { AreToldIfDue (counts_told (happened_in figures.now)) now self.old.causes
+            self.new.causes }
+    {
         tell_each(rt, &mut self.causes, &troubles_in(figures), now);
     }
 

@@ -18,8 +18,8 @@ use Rattle.spx_messages.specs.declared.fault.EndFault.TheVariants as EndFaults
 use Rattle.spx_messages.specs.declared.taken.Taken.{Taken}
 use Rattle.ipx_transfer.specs.Books.{EntersAcknowledged}
 use Rattle.ipx_transfer.specs.Dropping.{DropsCame}
-use Rattle.ipx_transfer.specs.Feeding.{Feeds, Intake, KeepsQueue, LeavesIntake, SameQueue, intake}
-use Rattle.ipx_transfer.specs.SendRounds.{IsSendStep, SendState, intake_of, place}
+use Rattle.ipx_transfer.specs.Feeding.{Feeds, FeedState, KeepsQueue, LeavesIntake, SameQueue, feed_state}
+use Rattle.ipx_transfer.specs.SendRounds.{IsSendStep, SendState, feeding_of, place}
 use Rattle.ipx_transfer.specs.SendSteps.{FeedsOn, GoesOnOrEnds, IsFeedFault, IsStepFault, SeenSoFar, Sees}
 use Rattle.ipx_transfer.specs.Transfer.{IsWaiting, IsWholeAt, ended_at, joined_at, left_at, state_at, verdict_at}
 use Rattle.ipx_carrier.specs.Turns.{Peers}
@@ -152,25 +152,25 @@ sees_later joined joined' left left' old seen moment id closed verdict p q s =
       tells = subst (λ (b : Bool). verdict ≡ option_map (ended_at closed) (verdict_at s.whole b s.waits (state_at seen id))) (sym p) s.tells;
     }
 
-pub same_intake : (e e' : EndpointView) (r r' c c' : Bool) (l l' : Ledger) (k : Option (List ℕ)) → e' ≡ e → r' ≡ r → c' ≡ c → l' ≡ l → intake e' r' c' l' k ≡ intake e r c l k
+pub same_intake : (e e' : EndpointView) (r r' c c' : Bool) (l l' : Ledger) (k : Option (List ℕ)) → e' ≡ e → r' ≡ r → c' ≡ c → l' ≡ l → feed_state e' r' c' l' k ≡ feed_state e r c l k
 same_intake e e' r r' c c' l l' k p q s t = cc
 
 -- what the link acknowledges was counted, what came was dropped, and then the link was fed
-pub stepped : (id id' : ℕ) (core core' : EndCore) (start dropped : EndpointView) (read read' closed closed' : Bool) (ledger ledger' : Ledger) (known : Option (List ℕ)) (new : Intake) (bytes : List ℕ)
+pub stepped : (id id' : ℕ) (core core' : EndCore) (start dropped : EndpointView) (read read' closed closed' : Bool) (ledger ledger' : Ledger) (known : Option (List ℕ)) (new : FeedState) (bytes : List ℕ)
     → id' ≡ id → core' ≡ core → read' ≡ read → closed' ≡ closed → EntersAcknowledged (held_at core.endpoint id) ledger ledger' → DropsCame core'.endpoint dropped id'
-    → Feeds (intake dropped read' closed' ledger' known) new id' bytes → (state_at core.endpoint id ≢ Some Live → LeavesIntake (intake dropped read' closed' ledger' known) new bytes)
-    → FeedsOn id core.endpoint (intake start read closed ledger known) new bytes
+    → Feeds (feed_state dropped read' closed' ledger' known) new id' bytes → (state_at core.endpoint id ≢ Some Live → LeavesIntake (feed_state dropped read' closed' ledger' known) new bytes)
+    → FeedsOn id core.endpoint (feed_state start read closed ledger known) new bytes
 stepped id id' core core' start dropped read read' closed closed' ledger ledger' known new bytes p q r s follows drops fed only =
     record {
       ledger = ledger';
       follows = follows;
       dropped = dropped;
       drops = subst (λ (i : ℕ). DropsCame core.endpoint dropped i) p (subst (λ (k : EndCore). DropsCame k.endpoint dropped id') q drops);
-      feeds = subst (λ (i : ℕ). Feeds (intake dropped read closed ledger' known) new i bytes) p
-          (subst (λ (b : Bool). Feeds (intake dropped b closed ledger' known) new id' bytes) r
-          (subst (λ (b : Bool). Feeds (intake dropped read' b ledger' known) new id' bytes) s fed));
-      only = λ other. subst (λ (b : Bool). LeavesIntake (intake dropped b closed ledger' known) new bytes) r
-          (subst (λ (b : Bool). LeavesIntake (intake dropped read' b ledger' known) new bytes) s (only other));
+      feeds = subst (λ (i : ℕ). Feeds (feed_state dropped read closed ledger' known) new i bytes) p
+          (subst (λ (b : Bool). Feeds (feed_state dropped b closed ledger' known) new id' bytes) r
+          (subst (λ (b : Bool). Feeds (feed_state dropped read' b ledger' known) new id' bytes) s fed));
+      only = λ other. subst (λ (b : Bool). LeavesIntake (feed_state dropped b closed ledger' known) new bytes) r
+          (subst (λ (b : Bool). LeavesIntake (feed_state dropped read' b ledger' known) new bytes) s (only other));
     }
 
 -- the clock is as the turn left it
@@ -189,15 +189,15 @@ went_on seen look mid shown looked fed showed =
     subst (λ (k : EndCore). k ≡ record seen { endpoint = k.endpoint }) (sym showed) on
 
 -- a step that goes on waits; its faults are faults of both
-goes_ok : (id : ℕ) (seen : EndpointView) (old new : Intake) (v : Option SendOutcome) (more : Bool) → GoesOnOrEnds IsFeedFault id seen old new v (Ok more) → GoesOnOrEnds {T = Unit {0}} IsStepFault id seen old new v (Ok tt)
+goes_ok : (id : ℕ) (seen : EndpointView) (old new : FeedState) (v : Option SendOutcome) (more : Bool) → GoesOnOrEnds IsFeedFault id seen old new v (Ok more) → GoesOnOrEnds {T = Unit {0}} IsStepFault id seen old new v (Ok tt)
 goes_ok id seen old new (Some w) more goes = absurd (let no = goes.0 in cc)
 goes_ok id seen old new None more goes = (tt, goes.1)
 
-goes_unwaited : (id : ℕ) (seen : EndpointView) (old new : Intake) (v : Option SendOutcome) (more : Bool) → GoesOnOrEnds IsFeedFault id seen old new v (Ok more) → GoesOnOrEnds {T = Unit {0}} IsStepFault id seen old new v (Err Unwaited)
+goes_unwaited : (id : ℕ) (seen : EndpointView) (old new : FeedState) (v : Option SendOutcome) (more : Bool) → GoesOnOrEnds IsFeedFault id seen old new v (Ok more) → GoesOnOrEnds {T = Unit {0}} IsStepFault id seen old new v (Err Unwaited)
 goes_unwaited id seen old new (Some w) more goes = absurd (let no = goes.0 in cc)
 goes_unwaited id seen old new None more goes = (inr refl, tt)
 
-goes_err : (id : ℕ) (seen : EndpointView) (old new : Intake) (v : Option SendOutcome) (f : SendOutcome) → GoesOnOrEnds {T = Bool} IsFeedFault id seen old new v (Err f) → GoesOnOrEnds {T = Unit {0}} IsStepFault id seen old new v (Err f)
+goes_err : (id : ℕ) (seen : EndpointView) (old new : FeedState) (v : Option SendOutcome) (f : SendOutcome) → GoesOnOrEnds {T = Bool} IsFeedFault id seen old new v (Err f) → GoesOnOrEnds {T = Unit {0}} IsStepFault id seen old new v (Err f)
 goes_err id seen old new (Some w) f goes =
     let same : f ≡ w = (let is = goes.0 in cc) in
     (subst (λ (x : SendOutcome). ◌≡◌ {A = Result (Unit {0}) SendOutcome} (Err f) (Err x)) same refl, goes.1)
@@ -211,7 +211,7 @@ step_ok old new more tells peers id s = record {
   turned = s.turned;
   verdict = s.verdict;
   sees = s.sees;
-  goes = goes_ok id s.seen.endpoint (intake_of old) (intake_of new) s.verdict more s.goes;
+  goes = goes_ok id s.seen.endpoint (feeding_of old) (feeding_of new) s.verdict more s.goes;
   core = s.core;
 }
 
@@ -223,7 +223,7 @@ step_unwaited old new more tells peers id s = record {
   turned = s.turned;
   verdict = s.verdict;
   sees = s.sees;
-  goes = goes_unwaited id s.seen.endpoint (intake_of old) (intake_of new) s.verdict more s.goes;
+  goes = goes_unwaited id s.seen.endpoint (feeding_of old) (feeding_of new) s.verdict more s.goes;
   core = s.core;
 }
 
@@ -235,7 +235,7 @@ step_err old new f tells peers id s = record {
   turned = s.turned;
   verdict = s.verdict;
   sees = s.sees;
-  goes = goes_err id s.seen.endpoint (intake_of old) (intake_of new) s.verdict f s.goes;
+  goes = goes_err id s.seen.endpoint (feeding_of old) (feeding_of new) s.verdict f s.goes;
   core = s.core;
 }
 

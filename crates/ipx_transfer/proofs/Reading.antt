@@ -5,8 +5,7 @@ use Rattle.std.specs.Prelude.{IfErr, IfOk, IsOk, OnErr, OnOk}
 use Rattle.std.specs.Io.KnownBytes.{Consumes, Keeps, ReadConsumes}
 use Rattle.spx_messages.specs.EndpointView.{EndpointView}
 use Rattle.ipx_transfer.specs.Books.{Enters, EntersRead}
-use Rattle.ipx_transfer.specs.Feeding.{HandsIn, HandsOn, ReadsOn, intake}
-use Rattle.ipx_transfer.specs.declared.end_core.EndCore.{EndCore}
+use Rattle.ipx_transfer.specs.Feeding.{HandsIn, HandsOn, ReadsOn, feed_state}
 use Rattle.ipx_transfer.specs.declared.ledger.Ledger.{Ledger}
 use Rattle.ipx_transfer.specs.declared.send_outcome.SendOutcome.{SendOutcome}
 use Rattle.ipx_transfer.specs.declared.send_outcome.SendOutcome.TheVariants as Verdicts
@@ -16,14 +15,14 @@ kept_bytes None k' kept = tt
 kept_bytes (Some xs) None kept = absurd kept
 kept_bytes (Some xs) (Some ys) kept = sym kept
 
-pub read_on : {E : Type 0} (r : Result ℕ E) (answer : Result Bool SendOutcome) (core core' : EndCore) (read read' closed closed' : Bool) (l l' : Ledger) (k k' : Option (List ℕ)) (buf room : List ℕ) (id : ℕ)
+pub read_on : {E : Type 0} (r : Result ℕ E) (answer : Result Bool SendOutcome) (e e' : EndpointView) (read read' closed closed' : Bool) (l l' : Ledger) (k k' : Option (List ℕ)) (buf room : List ℕ) (id : ℕ)
     → read ≡ false → closed' ≡ closed → ReadConsumes k k' r buf → 0 < length buf
-    → IfOk r (λ n. OnOk answer (HandsOn core.endpoint core'.endpoint id (take n room) × EntersRead l l' (take n room)))
+    → IfOk r (λ n. OnOk answer (HandsOn e e' id (take n room) × EntersRead l l' (take n room)))
     → IfOk r (λ n. n ≡ 0 → (answer ≡ Ok true) × (read' ≡ true)) → IfOk r (λ n. n ≢ 0 → read' ≡ read)
-    → OnErr r ((core' ≡ core) × (read' ≡ read) × (l' ≡ l)) → room ≡ buf
-    → OnOk answer ((bytes : List ℕ) × ReadsOn (intake core.endpoint read closed l k) (intake core'.endpoint read' closed' l' k') id bytes)
-read_on r (Err v) core core' read read' closed closed' l l' k k' buf room id unread same consumes roomy came over more still filled = tt
-read_on (Ok n) (Ok b) core core' read read' closed closed' l l' k k' buf room id unread same consumes roomy came over more still filled = (
+    → OnErr r ((e' ≡ e) × (read' ≡ read) × (l' ≡ l)) → room ≡ buf
+    → OnOk answer ((bytes : List ℕ) × ReadsOn (feed_state e read closed l k) (feed_state e' read' closed' l' k') id bytes)
+read_on r (Err v) e e' read read' closed closed' l l' k k' buf room id unread same consumes roomy came over more still filled = tt
+read_on (Ok n) (Ok b) e e' read read' closed closed' l l' k k' buf room id unread same consumes roomy came over more still filled = (
   take n room,
   record {
     unread = unread;
@@ -37,12 +36,12 @@ read_on (Ok n) (Ok b) core core' read read' closed closed' l l' k k' buf room id
     ];
   },
 )
-read_on (Err x) (Ok b) core core' read read' closed closed' l l' k k' buf room id unread same consumes roomy came over more still filled = (
+read_on (Err x) (Ok b) e e' read read' closed closed' l l' k k' buf room id unread same consumes roomy came over more still filled = (
   [],
   record {
     unread = unread;
     taken = kept_bytes k k' consumes;
-    handed = ap (λ (c : EndCore). c.endpoint) still.0;
+    handed = still.0;
     entered = still.2;
     same = same;
     all = λ is. absurd (let no = sym (still.1 ∙ unread) ∙ is in cc);
@@ -50,12 +49,12 @@ read_on (Err x) (Ok b) core core' read read' closed closed' l l' k k' buf room i
 )
 
 -- where it can't be read, nothing was read
-pub unread_on : {E : Type 0} (r : Result ℕ E) (answer : Result Bool SendOutcome) (core core' : EndCore) (read read' : Bool) (l l' : Ledger) (k k' : Option (List ℕ)) (room : List ℕ)
+pub unread_on : {E : Type 0} (r : Result ℕ E) (answer : Result Bool SendOutcome) (e e' : EndpointView) (read read' : Bool) (l l' : Ledger) (k k' : Option (List ℕ)) (room : List ℕ)
     → ReadConsumes k k' r room → IfOk r (λ n. IfErr answer (λ v. v ≡ Verdicts.OutOfMemory))
-    → OnErr r ((core' ≡ core) × (read' ≡ read) × (l' ≡ l)) → answer ≡ Err Verdicts.Unread → Keeps k k' × (core' ≡ core)
-unread_on (Ok n) (Ok b) core core' read read' l l' k k' room consumes memory still is = absurd (cc)
-unread_on (Ok n) (Err v) core core' read read' l l' k k' room consumes memory still is = absurd (cc)
-unread_on (Err x) answer core core' read read' l l' k k' room consumes memory still is = (consumes, still.0)
+    → OnErr r ((e' ≡ e) × (read' ≡ read) × (l' ≡ l)) → answer ≡ Err Verdicts.Unread → Keeps k k' × (e' ≡ e)
+unread_on (Ok n) (Ok b) e e' read read' l l' k k' room consumes memory still is = absurd (cc)
+unread_on (Ok n) (Err v) e e' read read' l l' k k' room consumes memory still is = absurd (cc)
+unread_on (Err x) answer e e' read read' l l' k k' room consumes memory still is = (consumes, still.0)
 
 -- what was read and handed in
 pub on_some : (e e' : EndpointView) (id : ℕ) (l l' : Ledger) (xs : List ℕ) (n : ℕ) → length xs ≡ n → n ≢ 0 → HandsIn e e' id xs → Enters l l' n → HandsOn e e' id xs × EntersRead l l' xs

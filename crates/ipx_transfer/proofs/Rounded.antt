@@ -9,8 +9,8 @@ use Rattle.ipx_wire.specs.declared.address.Address.{Address}
 use Rattle.spx_link.specs.declared.state.State.{State}
 use Rattle.spx_messages.specs.EndpointView.{EndpointView, held_at}
 use Rattle.ipx_transfer.specs.Books.{EntersAcknowledged}
-use Rattle.ipx_transfer.specs.Feeding.{Feeds, Intake}
-use Rattle.ipx_transfer.specs.SendRounds.{IsSendStep, LastRound, SendState, Round, Rounds, Transfers, intake_of}
+use Rattle.ipx_transfer.specs.Feeding.{Feeds, FeedState}
+use Rattle.ipx_transfer.specs.SendRounds.{IsSendStep, LastRound, SendState, Round, Rounds, Transfers, feeding_of}
 use Rattle.ipx_transfer.specs.Sent.{IsDialing, SendsWholeInput}
 use Rattle.ipx_transfer.specs.SendSteps.{GoesOnOrEnds, IsStepFault, Sees}
 use Rattle.ipx_transfer.specs.Transfer.{state_at}
@@ -30,12 +30,12 @@ consumes_on (Some x) (Some y) None bs cs p q = absurd q
 consumes_on (Some x) (Some y) (Some z) bs cs p q = p ∙ ap (λ l. bs ++ l) q ∙ sym (append_assoc bs cs z)
 
 -- what left the reader in one feeding is its body
-fed_bytes : (old new : Intake) (id : ℕ) (bytes : List ℕ) → Feeds old new id bytes → Consumes old.known new.known bytes
+fed_bytes : (old new : FeedState) (id : ℕ) (bytes : List ℕ) → Feeds old new id bytes → Consumes old.known new.known bytes
 fed_bytes old new id bytes (inl reads) = reads.taken
 fed_bytes old new id bytes (inr (inl ends)) =
-    subst (λ l. Consumes old.known new.known l) (sym ends.none) (subst (λ (i : Intake). Consumes old.known i.known []) (sym ends.is) (consumes_none old.known))
+    subst (λ l. Consumes old.known new.known l) (sym ends.none) (subst (λ (i : FeedState). Consumes old.known i.known []) (sym ends.is) (consumes_none old.known))
 fed_bytes old new id bytes (inr (inr rests)) =
-    subst (λ l. Consumes old.known new.known l) (sym rests.none) (subst (λ (i : Intake). Consumes old.known i.known []) (sym rests.same) (consumes_none old.known))
+    subst (λ l. Consumes old.known new.known l) (sym rests.none) (subst (λ (i : FeedState). Consumes old.known i.known []) (sym rests.same) (consumes_none old.known))
 
 -- and in one after another the bodies, one behind the other
 pub rounds_bytes : {K : Type 0} (old : SendState K) (bodies : List (List ℕ)) (new : SendState K) (tells : K → ℕ → K → Type 0) (peers : Peers) (id : ℕ)
@@ -43,21 +43,21 @@ pub rounds_bytes : {K : Type 0} (old : SendState K) (bodies : List (List ℕ)) (
 rounds_bytes {K} old [] new tells peers id same = subst (λ (p : SendState K). Consumes old.known p.known []) (sym same) (consumes_none old.known)
 rounds_bytes old (bytes ∷ more) new tells peers id (next, round, rest) =
     consumes_on old.known next.known new.known bytes (concat more)
-    (fed_bytes (record (intake_of old) { endpoint = round.fed.dropped; ledger = round.fed.ledger }) (intake_of next) id bytes round.fed.feeds)
+    (fed_bytes (record (feeding_of old) { endpoint = round.fed.dropped; ledger = round.fed.ledger }) (feeding_of next) id bytes round.fed.feeds)
     (rounds_bytes next more new tells peers id rest)
 
 -- where all is read, the reader is at its end
-fed_end : (old new : Intake) (id : ℕ) (bytes : List ℕ) → Feeds old new id bytes → (old.read ≡ true → IsAtEnd old.known) → new.read ≡ true → IsAtEnd new.known
+fed_end : (old new : FeedState) (id : ℕ) (bytes : List ℕ) → Feeds old new id bytes → (old.read ≡ true → IsAtEnd old.known) → new.read ≡ true → IsAtEnd new.known
 fed_end old new id bytes (inl reads) was is = (reads.all is).1
-fed_end old new id bytes (inr (inl ends)) was is = subst (λ (i : Intake). IsAtEnd i.known) (sym ends.is) (was ends.read)
-fed_end old new id bytes (inr (inr rests)) was is = subst (λ (i : Intake). i.read ≡ true → IsAtEnd i.known) (sym rests.same) was is
+fed_end old new id bytes (inr (inl ends)) was is = subst (λ (i : FeedState). IsAtEnd i.known) (sym ends.is) (was ends.read)
+fed_end old new id bytes (inr (inr rests)) was is = subst (λ (i : FeedState). i.read ≡ true → IsAtEnd i.known) (sym rests.same) was is
 
 pub rounds_end : {K : Type 0} (old : SendState K) (bodies : List (List ℕ)) (new : SendState K) (tells : K → ℕ → K → Type 0) (peers : Peers) (id : ℕ)
     → Rounds old bodies new tells peers id → (old.read ≡ true → IsAtEnd old.known) → new.read ≡ true → IsAtEnd new.known
 rounds_end {K} old [] new tells peers id same was is = subst (λ (p : SendState K). p.read ≡ true → IsAtEnd p.known) (sym same) was is
 rounds_end old (bytes ∷ more) new tells peers id (next, round, rest) was is =
     rounds_end next more new tells peers id rest
-    (fed_end (record (intake_of old) { endpoint = round.fed.dropped; ledger = round.fed.ledger }) (intake_of next) id bytes round.fed.feeds was) is
+    (fed_end (record (feeding_of old) { endpoint = round.fed.dropped; ledger = round.fed.ledger }) (feeding_of next) id bytes round.fed.feeds was) is
 
 -- one more
 rounds_more : {K : Type 0} (old : SendState K) (bodies : List (List ℕ)) (last new : SendState K) (tells : K → ℕ → K → Type 0) (peers : Peers) (id : ℕ) (bytes : List ℕ)
@@ -77,10 +77,10 @@ same_step faults old new answer tells peers here id id' same among s =
 round_of : {K : Type 0} (last new : SendState K) (tells : K → ℕ → K → Type 0) (peers : Peers) (id : ℕ) (s : IsSendStep {T = Unit {0}} IsStepFault last new (Ok tt) tells peers id) (v : Option SendOutcome) → s.verdict ≡ v
     → (bytes : List ℕ) × Round last new bytes tells peers id
 round_of last new tells peers id s (Some w) is =
-    let goes = subst (λ (v : Option SendOutcome). GoesOnOrEnds {T = Unit {0}} IsStepFault id s.seen.endpoint (intake_of last) (intake_of new) v (Ok tt)) is s.goes in
+    let goes = subst (λ (v : Option SendOutcome). GoesOnOrEnds {T = Unit {0}} IsStepFault id s.seen.endpoint (feeding_of last) (feeding_of new) v (Ok tt)) is s.goes in
     absurd (let no = goes.0 in cc)
 round_of last new tells peers id s None is =
-    let goes = subst (λ (v : Option SendOutcome). GoesOnOrEnds {T = Unit {0}} IsStepFault id s.seen.endpoint (intake_of last) (intake_of new) v (Ok tt)) is s.goes in (
+    let goes = subst (λ (v : Option SendOutcome). GoesOnOrEnds {T = Unit {0}} IsStepFault id s.seen.endpoint (feeding_of last) (feeding_of new) v (Ok tt)) is s.goes in (
       goes.1.0,
       record {
         seen = s.seen;
@@ -112,12 +112,12 @@ not_fault state (inr e) = cc
 last_of : {K : Type 0} (last new : SendState K) (tells : K → ℕ → K → Type 0) (peers : Peers) (id : ℕ) (s : IsSendStep {T = Unit {0}} IsStepFault last new (Err Done) tells peers id) (v : Option SendOutcome) → s.verdict ≡ v
     → LastRound last new tells peers id
 last_of last new tells peers id s None is =
-    let goes = subst (λ (v : Option SendOutcome). GoesOnOrEnds {T = Unit {0}} IsStepFault id s.seen.endpoint (intake_of last) (intake_of new) v (Err Done)) is s.goes in
+    let goes = subst (λ (v : Option SendOutcome). GoesOnOrEnds {T = Unit {0}} IsStepFault id s.seen.endpoint (feeding_of last) (feeding_of new) v (Err Done)) is s.goes in
     absurd (not_fault (state_at s.seen.endpoint id) goes.0)
 last_of last new tells peers id s (Some w) is =
-    let goes = subst (λ (v : Option SendOutcome). GoesOnOrEnds {T = Unit {0}} IsStepFault id s.seen.endpoint (intake_of last) (intake_of new) v (Err Done)) is s.goes in
+    let goes = subst (λ (v : Option SendOutcome). GoesOnOrEnds {T = Unit {0}} IsStepFault id s.seen.endpoint (feeding_of last) (feeding_of new) v (Err Done)) is s.goes in
     let same : w ≡ Done = (let it = goes.0 in cc) in
-    let at : new.core ≡ s.seen = subst (λ (e : EndpointView). new.core ≡ record s.seen { endpoint = e }) (ap (λ (i : Intake). i.endpoint) goes.1.is) s.core in
+    let at : new.core ≡ s.seen = subst (λ (e : EndpointView). new.core ≡ record s.seen { endpoint = e }) (ap (λ (i : FeedState). i.endpoint) goes.1.is) s.core in
     let sees : Sees last.noted new.noted s.seen.endpoint s.seen.moment id last.closed (Some Done) =
     subst (λ (v : Option SendOutcome). Sees last.noted new.noted s.seen.endpoint s.seen.moment id last.closed v) (is ∙ ap (λ (f : SendOutcome). Some f) same) s.sees in
     record {
@@ -125,9 +125,9 @@ last_of last new tells peers id s (Some w) is =
       turned = subst (λ (k : EndCore). TakesHostTurn last.clock new.clock tells peers last.core k s.turn) (sym at) s.turned;
       sees = subst (λ (k : EndCore). Sees last.noted new.noted k.endpoint k.moment id last.closed (Some Done)) (sym at) sees;
       follows = subst (λ (k : EndCore). EntersAcknowledged (held_at k.endpoint id) last.ledger new.ledger) (sym at) goes.1.follows;
-      read = ap (λ (i : Intake). i.read) goes.1.is;
-      closed = ap (λ (i : Intake). i.closed) goes.1.is;
-      known = ap (λ (i : Intake). i.known) goes.1.is;
+      read = ap (λ (i : FeedState). i.read) goes.1.is;
+      closed = ap (λ (i : FeedState). i.closed) goes.1.is;
+      known = ap (λ (i : FeedState). i.known) goes.1.is;
     }
 
 pub last_round : {K : Type 0} (last new : SendState K) (tells : K → ℕ → K → Type 0) (peers : Peers) (id : ℕ) (f : SendOutcome)

@@ -47,15 +47,15 @@ KeepsQueue (Some old) (Some new) = SameQueue old.link new.link
 
 -- where a transfer stands between its reader and its link: whether all is read, whether the end is
 -- queued, what is counted, and what the reader has left, where that is known
-pub record Intake : Type 0 where
+pub record FeedState : Type 0 where
   pub endpoint : EndpointView
   pub read : Bool
   pub closed : Bool
   pub ledger : Ledger
   pub known : Option (List ℕ)
 
-abbrev pub intake : EndpointView → Bool → Bool → Ledger → Option (List ℕ) → Intake
-intake endpoint read closed ledger known = record {
+abbrev pub feed_state : EndpointView → Bool → Bool → Ledger → Option (List ℕ) → FeedState
+feed_state endpoint read closed ledger known = record {
   endpoint = endpoint;
   read = read;
   closed = closed;
@@ -65,7 +65,7 @@ intake endpoint read closed ledger known = record {
 
 -- the reader gives these bytes, which are handed in and counted; where all is read then, it has none
 -- left
-pub record ReadsOn (old new : Intake) (id : ℕ) (bytes : List ℕ) : Type 0 where
+pub record ReadsOn (old new : FeedState) (id : ℕ) (bytes : List ℕ) : Type 0 where
   pub unread : old.read ≡ false
   pub taken : Consumes old.known new.known bytes
   pub handed : HandsOn old.endpoint new.endpoint id bytes
@@ -74,7 +74,7 @@ pub record ReadsOn (old new : Intake) (id : ℕ) (bytes : List ℕ) : Type 0 whe
   pub all : new.read ≡ true → (bytes ≡ []) × IsAtEnd new.known
 
 -- all is read, and the end is queued; nothing is read
-pub record EndsInput (old new : Intake) (id : ℕ) (bytes : List ℕ) : Type 0 where
+pub record EndsInput (old new : FeedState) (id : ℕ) (bytes : List ℕ) : Type 0 where
   pub read : old.read ≡ true
   pub unqueued : old.closed ≡ false
   pub queued : QueuesEnd old.endpoint new.endpoint id
@@ -82,10 +82,10 @@ pub record EndsInput (old new : Intake) (id : ℕ) (bytes : List ℕ) : Type 0 w
   pub none : bytes ≡ []
 
 -- nothing is read, handed in, queued or counted
-pub record LeavesIntake (old new : Intake) (bytes : List ℕ) : Type 0 where
+pub record LeavesIntake (old new : FeedState) (bytes : List ℕ) : Type 0 where
   pub same : new ≡ old
   pub none : bytes ≡ []
 
 -- what one step feeds into a link, of the bytes that leave the reader
-abbrev pub Feeds : Intake → Intake → ℕ → List ℕ → Type 0
+abbrev pub Feeds : FeedState → FeedState → ℕ → List ℕ → Type 0
 Feeds old new id bytes = ReadsOn old new id bytes ⊎ EndsInput old new id bytes ⊎ LeavesIntake old new bytes

@@ -22,3 +22,4 @@ pub mod Transfer
 pub mod Turning
 pub mod Company
 pub mod Midway
+pub mod HostLines

@@ -1,17 +1,25 @@
--- Where a host that sends, and one that listens, is between two steps, as a whole. All of it is own.
+-- Where a host that sends, what it reads into its link, and a host that listens are between two steps,
+-- as a whole. All of it is own.
 use Rattle.std.specs.Prelude.{ℕ, List, Option}
 use Rattle.ipx_site.specs.declared.clock.SteadyClock.{SteadyClock}
+use Rattle.spx_messages.specs.EndpointView.{EndpointView}
+use Rattle.ipx_transfer.specs.Feeding.{FeedState, feed_state}
 use Rattle.ipx_transfer.specs.Hosting.{Host, host}
 use Rattle.ipx_transfer.specs.Outlet.{left_of}
 use Rattle.ipx_transfer.specs.SendRounds.{SendState, place}
 use Rattle.ipx_transfer.specs.SendSteps.{noted}
+use Rattle.ipx_transfer.specs.declared.intake.Intake.{Intake}
 use Rattle.ipx_transfer.specs.declared.listening.ListeningHost.{ListeningHost}
 use Rattle.ipx_transfer.specs.declared.sending.SendingHost.{SendingHost}
 
--- one that sends, and whose reader has this left, where that is known
+-- an intake, whose endpoint is this, and whose reader has this left, where that is known
+abbrev pub feeding_at : Intake → EndpointView → Option (List ℕ) → FeedState
+feeding_at i endpoint known = feed_state endpoint i.read i.closed i.ledger known
+
+-- a host that sends, and whose reader has this left, where that is known
 abbrev pub sending_at : {R : Type 0} → SendingHost R → Option (List ℕ) → SendState (SteadyClock R)
 sending_at s known =
-    place s.station.clock s.station.core (noted s.joined s.left) s.read s.closed s.ledger known
+    place s.station.clock s.station.core (noted s.joined s.left) s.intake.read s.intake.closed s.intake.ledger known
 
 -- one that listens, and whose writer took this, where that is known
 abbrev pub listening_at : {R : Type 0} → ListeningHost R → Option (List ℕ) → Host (SteadyClock R)

@@ -8,7 +8,7 @@ use Rattle.ipx_carrier.specs.Turns.{Peers}
 use Rattle.spx_link.specs.declared.state.State.{State}
 use Rattle.spx_messages.specs.EndpointView.{held_at}
 use Rattle.ipx_transfer.specs.Books.{EntersAcknowledged}
-use Rattle.ipx_transfer.specs.Feeding.{Intake, intake}
+use Rattle.ipx_transfer.specs.Feeding.{FeedState, feed_state}
 use Rattle.ipx_transfer.specs.SendSteps.{FeedsOn, GoesOnOrEnds, IsStepFault, SeenSoFar, Sees}
 use Rattle.ipx_transfer.specs.Transfer.{IsWholeAt}
 use Rattle.ipx_transfer.specs.Turning.{TakesHostTurn}
@@ -40,8 +40,8 @@ place clock core noted read closed ledger known = record {
   known = known;
 }
 
-abbrev pub intake_of : {K : Type 0} → SendState K → Intake
-intake_of p = intake p.core.endpoint p.read p.closed p.ledger p.known
+abbrev pub feeding_of : {K : Type 0} → SendState K → FeedState
+feeding_of p = feed_state p.core.endpoint p.read p.closed p.ledger p.known
 
 -- one step, and its answer: a turn, which leaves a core; by this it is noted and told how the
 -- connection stands, and the transfer ends or goes on. Nothing else of the core changes
@@ -52,7 +52,7 @@ pub record IsSendStep {K T : Type 0} (faults : Option State → SendOutcome → 
   pub turned : TakesHostTurn old.clock new.clock tells peers old.core seen turn
   pub verdict : Option SendOutcome
   pub sees : Sees old.noted new.noted seen.endpoint seen.moment id old.closed verdict
-  pub goes : GoesOnOrEnds faults id seen.endpoint (intake_of old) (intake_of new) verdict answer
+  pub goes : GoesOnOrEnds faults id seen.endpoint (feeding_of old) (feeding_of new) verdict answer
   pub core : new.core ≡ record seen { endpoint = new.core.endpoint }
 
 -- one round: a step with no verdict, which feeds these bytes
@@ -62,7 +62,7 @@ pub record Round {K : Type 0} (old new : SendState K) (bytes : List ℕ) (tells 
   pub turn : Activity
   pub turned : TakesHostTurn old.clock new.clock tells peers old.core seen turn
   pub sees : Sees old.noted new.noted seen.endpoint seen.moment id old.closed None
-  pub fed : FeedsOn id seen.endpoint (intake_of old) (intake_of new) bytes
+  pub fed : FeedsOn id seen.endpoint (feeding_of old) (feeding_of new) bytes
   pub core : new.core ≡ record seen { endpoint = new.core.endpoint }
 
 -- the last one is a turn alone, which tells that all is done

@@ -7,7 +7,7 @@ use Rattle.spx_link.specs.declared.state.State.TheVariants.{Live}
 use Rattle.spx_messages.specs.EndpointView.{EndpointView, held_at}
 use Rattle.ipx_transfer.specs.Books.{EntersAcknowledged}
 use Rattle.ipx_transfer.specs.Dropping.{DropsCame}
-use Rattle.ipx_transfer.specs.Feeding.{Feeds, Intake, LeavesIntake}
+use Rattle.ipx_transfer.specs.Feeding.{Feeds, FeedState, LeavesIntake}
 use Rattle.ipx_transfer.specs.Transfer.{IsWaiting, IsWholeAt, ended_at, joined_at, left_at, state_at, verdict_at}
 use Rattle.ipx_transfer.specs.declared.ledger.Ledger.{Ledger}
 use Rattle.ipx_transfer.specs.declared.send_outcome.SendOutcome.{SendOutcome}
@@ -35,7 +35,7 @@ pub record Sees (old new : SeenSoFar) (seen : EndpointView) (moment id : ℕ) (c
 
 -- what the link that was seen acknowledges is counted; what came is let go; and then the link is fed
 -- these bytes, where it was seen Live, and nothing else
-pub record FeedsOn (id : ℕ) (seen : EndpointView) (old new : Intake) (bytes : List ℕ) : Type 0 where
+pub record FeedsOn (id : ℕ) (seen : EndpointView) (old new : FeedState) (bytes : List ℕ) : Type 0 where
   pub ledger : Ledger
   pub follows : EntersAcknowledged (held_at seen id) old.ledger ledger
   pub dropped : EndpointView
@@ -45,12 +45,12 @@ pub record FeedsOn (id : ℕ) (seen : EndpointView) (old new : Intake) (bytes : 
       → LeavesIntake (record old { endpoint = dropped; ledger = ledger }) new bytes
 
 -- what the link that was seen acknowledges is counted, and nothing is dropped or fed
-pub record FeedsNothing (id : ℕ) (seen : EndpointView) (old new : Intake) : Type 0 where
+pub record FeedsNothing (id : ℕ) (seen : EndpointView) (old new : FeedState) : Type 0 where
   pub follows : EntersAcknowledged (held_at seen id) old.ledger new.ledger
   pub is : new ≡ record old { endpoint = seen; ledger = new.ledger }
 
 -- a verdict ends the transfer, and nothing is fed; with none it goes on, but for faults of its own
-abbrev pub GoesOnOrEnds : {T : Type 0} → (Option State → SendOutcome → Type 0) → ℕ → EndpointView → Intake → Intake → Option SendOutcome → Result T SendOutcome → Type 0
+abbrev pub GoesOnOrEnds : {T : Type 0} → (Option State → SendOutcome → Type 0) → ℕ → EndpointView → FeedState → FeedState → Option SendOutcome → Result T SendOutcome → Type 0
 GoesOnOrEnds faults id seen old new (Some v) answer = (answer ≡ Err v) × FeedsNothing id seen old new
 GoesOnOrEnds faults id seen old new None answer = IfErr answer (faults (state_at seen id))
     × OnOk answer ((bytes : List ℕ) × FeedsOn id seen old new bytes)

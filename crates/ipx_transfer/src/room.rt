@@ -8,13 +8,12 @@ use log::{Log, warn};
 /// How many bytes of the room of a socket a unit takes.
 const UNIT_ROOM: u64 = 1280;
 
-/// Whether a socket with this room gets less than it asks for, and holds less than an eighth of what
-/// so many buffers let a peer send. A peer that paces itself spreads that, so a socket holds what
-/// comes while its host is busy.
+/// Whether a socket with this room gets less than it asks for, and holds less than half of what so
+/// many buffers let a peer send.
 fn is_short(buffers: u16, room: u32) -> bool
-    ensures { IsTrue result ↔ ((room < 4194304) × (8 * room < buffers * 1280)) }
+    ensures { IsTrue result ↔ ((room < 4194304) × (2 * room < buffers * 1280)) }
 {
-    room < SOCKET_ROOM && 8 * u64::from(room) < u64::from(buffers) * UNIT_ROOM
+    room < SOCKET_ROOM && 2 * u64::from(room) < u64::from(buffers) * UNIT_ROOM
 }
 
 /// Tells that the socket of a host holds less than its buffers want.

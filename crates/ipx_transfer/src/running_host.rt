@@ -3,6 +3,7 @@
 ghost use Rattle.std.specs.Prelude.{◌≡◌, ◌<◌, ◌↔◌, ◌∷◌, [], ℕ, false, true, IfOk, IsTrue, None, OnErr, Some, length, map};
 ghost use Rattle.ipx_carrier.specs.Mapping.{node_at};
 ghost use Rattle.ipx_carrier.specs.Turns.{peers_of};
+ghost use Rattle.ipx_site.specs.Moments.{AreToldIfDue};
 ghost use Rattle.ipx_site.specs.Origins.{named_in};
 ghost use Rattle.ipx_site.specs.SitePeers.{kept_in};
 ghost use Rattle.ipx_site.specs.SitePorts.{access_by};
@@ -12,6 +13,7 @@ ghost use Rattle.spx_link.specs.Links.{count_of};
 ghost use Rattle.spx_messages.specs.EndpointView.{buffers_at, held_at};
 ghost use Rattle.ipx_transfer.specs.Callers.{raised_if};
 ghost use Rattle.ipx_transfer.specs.Company.{guarded_host};
+ghost use Rattle.ipx_transfer.specs.HostLines.{counts_of_host, host_counts};
 ghost use Rattle.ipx_transfer.specs.Sleeping.{IsSleep};
 ghost use Rattle.ipx_transfer.specs.Turning.{TakesHostTurn, TellsOf};
 
@@ -78,6 +80,49 @@ impl Wire {
             peers,
         }
     }
+
+    /// The socket of a host by its file, bound, with what waits for it.
+    fn open<R: Net + Log>(
+        rt: &R,
+        alloc: Global,
+        file: &HostFile,
+        dials: Option<[u8; 4]>,
+    ) -> Result<(Wire, Readiness), StartFault>
+        ensures peers { IfOk result (λ r. peers_of r.0.peers.items ≡ (file.now.router ∷ []) ∷ []) }
+        ensures udp_port { IfOk result (λ r.
+            map (λ s. s.udp_port) r.0.device.device.sockets.items ≡ file.now.udp_port ∷ []) }
+        ensures guard { IfOk result (λ r.
+            map access_by r.0.device.guards.items ≡ guarded_host file.now dials ∷ []) }
+    {
+        let router = vec![in alloc; file.router]?;
+        let peers = vec![in alloc; router]?;
+        let guards = vec![in alloc; guard_of(alloc, file, dials)?]?;
+        let sockets = SiteSockets::bind_one(rt, alloc, file.address, file.udp_port)?;
+        tell_room(rt, &sockets, file.buffers);
+        let readiness = Readiness::new(rt, alloc, &sockets)?;
+        Ok((Wire::new(sockets, guards, peers), readiness))
+    }
+}
+
+/// The core of a host by its file, without a link.
+fn core_of(alloc: Global, file: &HostFile) -> Result<EndCore, StartFault>
+    ensures network { IfOk result (λ c. c.endpoint.network ≡ file.now.network) }
+    ensures node { IfOk result (λ c. c.endpoint.node ≡ node_at file.now.address) }
+    ensures router { IfOk result (λ c. c.endpoint.router ≡ node_at file.now.router) }
+    ensures links { IfOk result (λ c. (id : ℕ) → held_at c.endpoint id ≡ None) }
+    ensures last { IfOk result (λ c. c.endpoint.links.last ≡ 0) }
+    ensures count { IfOk result (λ c. count_of c.endpoint.links ≡ 0) }
+    ensures deaf { IfOk result (λ c. (socket : Socket) → buffers_at c.endpoint socket ≡ None) }
+    ensures nobody { IfOk result (λ c. c.endpoint.heard ≡ None) }
+    ensures accepted { IfOk result (λ c. c.came ≡ None) }
+    ensures unpaced { IfOk result (λ c. c.paced ≡ None) }
+    ensures from { IfOk result (λ c. named_in c.from ≡ named_in file.now.from) }
+    ensures own { IfOk result (λ c. c.network ≡ file.now.network) }
+{
+    let node = node_of(file.address);
+    let endpoint = Endpoint::new(alloc, file.network, node, node_of(file.router));
+    let origins = copy_origins(alloc, &file.from)?;
+    Ok(EndCore::new(endpoint, file.network, origins))
 }
 
 /// What a turn did that answered this, and whether a datagram was kept back in it.
@@ -134,17 +179,11 @@ impl<'a, R: Net + Log + Clock> RunningHost<'a, R> {
             map access_by s.wire.device.guards.items ≡ guarded_host file.now dials ∷ []) }
     {
         check_streams(rt)?;
-        let node = node_of(file.address);
-        let endpoint = Endpoint::new(alloc, file.network, node, node_of(file.router));
-        let router = vec![in alloc; file.router]?;
-        let peers = vec![in alloc; router]?;
-        let guards = vec![in alloc; guard_of(alloc, file, dials)?]?;
-        let sockets = SiteSockets::bind_one(rt, alloc, file.address, file.udp_port)?;
-        tell_room(rt, &sockets, file.buffers);
-        let readiness = Readiness::new(rt, alloc, &sockets)?;
+        let core = core_of(alloc, file)?;
+        let (wire, readiness) = Wire::open(rt, alloc, file, dials)?;
         Ok(RunningHost {
-            core: EndCore::new(endpoint, file.network, copy_origins(alloc, &file.from)?),
-            wire: Wire::new(sockets, guards, peers),
+            core,
+            wire,
             clock: SteadyClock::new(rt),
             readiness,
             refused: 0,
@@ -192,6 +231,10 @@ impl<'a, R: Net + Log + Clock> RunningHost<'a, R> {
         ensures access { map access_by self.new.wire.device.guards.items
             ≡ map access_by self.old.wire.device.guards.items }
         ensures readiness { self.new.readiness ≡ self.old.readiness }
+        // Each trouble that is due behind the turn is told, and no other.
+        ensures told { AreToldIfDue (counts_of_host (host_counts self.new.wire.device.kept
+            self.new.core.barred self.new.wire.device.device.faults self.new.refused))
+            self.new.core.moment self.old.telling.causes self.new.telling.causes }
     {
         let before = self.wire.device.kept_back();
         let ran = turn(
@@ -209,7 +252,10 @@ impl<'a, R: Net + Log + Clock> RunningHost<'a, R> {
     }
 
     /// How often something went wrong.
-    fn counts(&self) -> Counts {
+    fn counts(&self) -> Counts
+        ensures { result ≡ host_counts self.now.wire.device.kept self.now.core.barred
+            self.now.wire.device.device.faults self.now.refused }
+    {
         Counts {
             kept: self.wire.device.kept(),
             barred: self.core.barred(),

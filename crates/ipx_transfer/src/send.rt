@@ -42,7 +42,7 @@ fn send_opened<R: Net + Log + Clock + Eprint, I: Read>(
         (peers_of s.station.wire.peers.items) s.id
         × (last.known ≡ I.remaining reader.new)) }
     // Where what was opened has read nothing, all is read.
-    ensures all { IfOk opened.entry (λ s. (s.read ≡ false) × (s.closed ≡ false)) → result ≡ 0
+    ensures all { IfOk opened.entry (λ s. (s.intake.read ≡ false) × (s.intake.closed ≡ false)) → result ≡ 0
         → IsAtEnd (I.remaining reader.new) }
 {
     match opened {

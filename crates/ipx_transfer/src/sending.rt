@@ -18,23 +18,19 @@ ghost use Rattle.ipx_transfer.specs.Transfer.{IsWaiting, IsWholeAt, joined_at, l
 ghost use Rattle.ipx_transfer.specs.declared.send_outcome.SendOutcome.TheVariants as Verdicts;
 
 use crate::company::dialed_ip;
-use crate::gate::Gate;
 use crate::handing::drop_what_came;
 use crate::ids::{dialed, passed_ids};
-use crate::ledger::Ledger;
+use crate::intake::Intake;
 use crate::running_host::RunningHost;
 use crate::send_outcome::{SendOutcome, ended_by, verdict_of};
 use crate::start::StartFault;
 use ipx_site::HostFile;
 use ipx_wire::Address;
 use log::Log;
-use mio::Interest;
 use spx_link::State;
-use spx_messages::MOST_BYTES;
 use std::alloc::Global;
-use std::io::{self, Read};
+use std::io::Read;
 use std::net::Net;
-use std::os::fd::RawFd;
 use std::rt::Clock;
 
 /// How long the rest of the acknowledgements is waited for once the peer ended the connection too,
@@ -46,31 +42,18 @@ const SECOND: u64 = 1000;
 
 const LONG: u64 = 3_600_000;
 
-/// The descriptor of standard input.
-const STDIN: RawFd = 0;
-
 /// A host that sends.
 #[derive(Drop)]
 pub struct SendingHost<'a, R: Clock> {
     pub station: RunningHost<'a, R>,
     pub id: u16,
-    pub gate: Gate,
-    pub room: Vec<u8>,
-    pub ledger: Ledger,
+    pub intake: Intake,
     /// Whether the connection was open.
     pub joined: bool,
-    /// Whether all of the input is read.
-    pub read: bool,
-    /// Whether the end is queued.
-    pub closed: bool,
     /// When the end of the peer was seen.
     pub left: Option<u64>,
     pub shows: bool,
     pub next_shown: u64,
-    /// The end is queued only where all is read.
-    ghost order: { closed ≡ true → read ≡ true },
-    /// A read always has room.
-    ghost roomy: { 0 < length room.items },
 }
 
 impl<'a, R: Net + Log + Clock + Eprint> SendingHost<'a, R> {
@@ -91,8 +74,8 @@ impl<'a, R: Net + Log + Clock + Eprint> SendingHost<'a, R> {
             ≡ guarded_host file.now (ip_dialed file.now to) ∷ []) }
     {
         let mut station = RunningHost::open(rt, alloc, file, dialed_ip(file, to))?;
-        let gate = Gate::new(rt, alloc, STDIN, Interest::READABLE);
-        station.watch(gate.fd());
+        let intake = Intake::new(rt, alloc)?;
+        station.watch(intake.gate.fd());
         let count = passed_ids(rt);
         let Ok(id) = dialed(alloc, &mut station.core.endpoint, file, to, count) else {
             return Err(StartFault::OutOfMemory);
@@ -101,12 +84,8 @@ impl<'a, R: Net + Log + Clock + Eprint> SendingHost<'a, R> {
         Ok(SendingHost {
             station,
             id,
-            gate,
-            room: vec![in alloc; 0; MOST_BYTES]?,
-            ledger: Ledger::new(alloc),
+            intake,
             joined: false,
-            read: false,
-            closed: false,
             left: None,
             shows,
             next_shown: 0,
@@ -116,23 +95,20 @@ impl<'a, R: Net + Log + Clock + Eprint> SendingHost<'a, R> {
     /// Notes how the connection stands, and answers its state.
     fn look(&mut self) -> Option<State>
         ensures state { result ≡ state_at self.old.station.core.endpoint self.old.id }
-        ensures core { self.new.station.core ≡ self.old.station.core }
-        ensures clock { self.new.station.clock ≡ self.old.station.clock }
-        ensures wire { self.new.station.wire ≡ self.old.station.wire }
-        ensures readiness { self.new.station.readiness ≡ self.old.station.readiness }
+        ensures station { self.new.station ≡ self.old.station }
         ensures id { self.new.id ≡ self.old.id }
-        ensures read { self.new.read ≡ self.old.read }
-        ensures closed { self.new.closed ≡ self.old.closed }
+        ensures read { self.new.intake.read ≡ self.old.intake.read }
+        ensures closed { self.new.intake.closed ≡ self.old.intake.closed }
         // What the link acknowledges is counted.
         ensures ledger { EntersAcknowledged (held_at self.old.station.core.endpoint self.old.id)
-            self.old.ledger self.new.ledger }
+            self.old.intake.ledger self.new.intake.ledger }
         ensures joined { self.new.joined ≡ joined_at self.old.joined result }
         ensures left { self.new.left
             ≡ left_at self.old.left result self.old.station.core.moment }
     {
         let endpoint = &self.station.core.endpoint;
         if let Ok(numbers) = endpoint.numbers(self.id) {
-            self.ledger.acknowledge(numbers);
+            self.intake.ledger.acknowledge(numbers);
         }
         let state = endpoint.state(self.id).ok();
         match state {
@@ -156,34 +132,31 @@ impl<'a, R: Net + Log + Clock + Eprint> SendingHost<'a, R> {
     /// Whether the rest may still be acknowledged, where the peer ended the connection.
     fn waits(&self) -> bool
         ensures { IsTrue result
-            ↔ IsWaiting self.now.closed self.now.left self.now.station.core.moment }
+            ↔ IsWaiting self.now.intake.closed self.now.left self.now.station.core.moment }
     {
         match self.left {
-            Some(left) => { self.closed && self.station.moment().saturating_sub(left) < PATIENCE }
+            Some(left) => {
+                self.intake.closed && self.station.moment().saturating_sub(left) < PATIENCE
+            }
             None => true,
         }
     }
 
     /// Shows how far it is, once a second.
     fn show(&mut self, rt: &R)
-        ensures core { self.new.station.core ≡ self.old.station.core }
-        ensures clock { self.new.station.clock ≡ self.old.station.clock }
-        ensures wire { self.new.station.wire ≡ self.old.station.wire }
-        ensures readiness { self.new.station.readiness ≡ self.old.station.readiness }
+        ensures station { self.new.station ≡ self.old.station }
         ensures id { self.new.id ≡ self.old.id }
+        ensures intake { self.new.intake ≡ self.old.intake }
         ensures joined { self.new.joined ≡ self.old.joined }
         ensures left { self.new.left ≡ self.old.left }
-        ensures read { self.new.read ≡ self.old.read }
-        ensures closed { self.new.closed ≡ self.old.closed }
-        ensures ledger { self.new.ledger ≡ self.old.ledger }
     {
         let moment = self.station.moment();
         if !self.shows || moment < self.next_shown {
             return;
         }
         self.next_shown = moment.saturating_add(SECOND);
-        let acknowledged = self.ledger.acknowledged();
-        let given = self.ledger.given();
+        let acknowledged = self.intake.ledger.acknowledged();
+        let given = self.intake.ledger.given();
         let _ = eprint!(rt; "\r{acknowledged} of {given} bytes acknowledged");
     }
 
@@ -205,17 +178,18 @@ impl<'a, R: Net + Log + Clock + Eprint> SendingHost<'a, R> {
             → IsWholeAt self.new.station.core.endpoint self.new.id }
         // Then all is read, and the end is queued.
         ensures ended { result ≡ Err Verdicts.Done
-            → (self.new.closed ≡ true) × (self.new.read ≡ true) }
+            → (self.new.intake.closed ≡ true) × (self.new.intake.read ≡ true) }
         ensures unanswered { result ≡ Err Verdicts.Unanswered → self.new.joined ≡ false }
     {
         let turn = self.station.turn(rt, alloc);
         let state = self.look();
         let whole = self.is_whole();
         if let Some(verdict) = verdict_of(state, whole, self.joined, self.waits()) {
-            return Err(ended_by(verdict, self.closed));
+            return Err(ended_by(verdict, self.intake.closed));
         }
-        drop_what_came(alloc, &mut self.station.core.endpoint, self.id);
-        let fed = state == Some(State::Live) && self.feed(alloc, reader)?;
+        let endpoint = &mut self.station.core.endpoint;
+        drop_what_came(alloc, endpoint, self.id);
+        let fed = state == Some(State::Live) && self.intake.feed(alloc, endpoint, self.id, reader)?;
         self.show(rt);
         Ok(turn.active || fed)
     }
@@ -258,7 +232,7 @@ impl<'a, R: Net + Log + Clock + Eprint> SendingHost<'a, R> {
             → IsWholeAt self.new.station.core.endpoint self.new.id }
         // Then all is read, and the end is queued.
         ensures ended { result ≡ Err Verdicts.Done
-            → (self.new.closed ≡ true) × (self.new.read ≡ true) }
+            → (self.new.intake.closed ≡ true) × (self.new.intake.read ≡ true) }
         ensures unanswered { result ≡ Err Verdicts.Unanswered → self.new.joined ≡ false }
     {
         if self.step(rt, alloc, reader)? {
@@ -281,7 +255,7 @@ impl<'a, R: Net + Log + Clock + Eprint> SendingHost<'a, R> {
             (sending_at self.new (I.remaining reader.new))
             NeverGoesBack (peers_of self.old.station.wire.peers.items) self.old.id }
         // And the reader has nothing left.
-        ensures all { result ≡ Verdicts.Done → (self.old.read ≡ true → IsAtEnd (I.remaining reader.old))
+        ensures all { result ≡ Verdicts.Done → (self.old.intake.read ≡ true → IsAtEnd (I.remaining reader.old))
             → IsAtEnd (I.remaining reader.new) }
         ensures done { result ≡ Verdicts.Done
             → IsWholeAt self.new.station.core.endpoint self.new.id }
@@ -304,8 +278,8 @@ impl<'a, R: Net + Log + Clock + Eprint> SendingHost<'a, R> {
 
     /// Prints how a transfer ended. Where all went well that is a line on a terminal alone.
     fn tell(&self, rt: &R, to: Address, verdict: SendOutcome) {
-        let given = self.ledger.given();
-        let acknowledged = self.ledger.acknowledged();
+        let given = self.intake.ledger.given();
+        let acknowledged = self.intake.ledger.acknowledged();
         if self.shows {
             let _ = eprintln!(rt; "\r{acknowledged} of {given} bytes acknowledged");
         }
@@ -333,7 +307,7 @@ impl<'a, R: Net + Log + Clock + Eprint> SendingHost<'a, R> {
             (sending_at self.new (I.remaining reader.new))
             NeverGoesBack (peers_of self.old.station.wire.peers.items) self.old.id }
         // And the reader has nothing left.
-        ensures all { result ≡ 0 → (self.old.read ≡ true → IsAtEnd (I.remaining reader.old))
+        ensures all { result ≡ 0 → (self.old.intake.read ≡ true → IsAtEnd (I.remaining reader.old))
             → IsAtEnd (I.remaining reader.new) }
     {
         let verdict = self.serve(rt, alloc, reader);

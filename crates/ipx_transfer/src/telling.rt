@@ -1,5 +1,10 @@
 //! What goes wrong at a host again and again, and is told.
 
+ghost use Rattle.std.specs.Prelude.{◌≡◌, replicate};
+ghost use Rattle.ipx_site.specs.Leisure.{counts_of};
+ghost use Rattle.ipx_site.specs.Moments.{AreToldIfDue, untold};
+ghost use Rattle.ipx_transfer.specs.HostLines.{counts_of_host};
+
 use ipx_site::{Cause, KeptBack, Trouble, tell_each};
 use log::Log;
 
@@ -26,7 +31,9 @@ pub struct Telling {
 }
 
 /// The troubles of a host.
-fn troubles_in(counts: Counts) -> [Trouble; CAUSES] {
+fn troubles_in(counts: Counts) -> [Trouble; CAUSES]
+    ensures { counts_of result ≡ counts_of_host counts }
+{
     let kept = counts.kept;
     [
         Trouble::from(kept.strangers, "datagrams came from nobody who is heard"),
@@ -40,14 +47,18 @@ fn troubles_in(counts: Counts) -> [Trouble; CAUSES] {
 
 impl Telling {
     /// Nothing was told yet.
-    pub fn new() -> Telling {
+    pub fn new() -> Telling
+        ensures { result.causes ≡ replicate 6 untold }
+    {
         Telling {
             causes: [Cause::new(); CAUSES],
         }
     }
 
     /// Tells what it is time to tell.
-    pub fn tell<R: Log>(&mut self, rt: &R, counts: Counts, now: u64) {
+    pub fn tell<R: Log>(&mut self, rt: &R, counts: Counts, now: u64)
+        ensures { AreToldIfDue (counts_of_host counts) now self.old.causes self.new.causes }
+    {
         tell_each(rt, &mut self.causes, &troubles_in(counts), now);
     }
 }

@@ -1,7 +1,7 @@
 //! Cubes, and their roots (RFC 9438, CUBIC).
 
-/// What a cube of milliseconds is in units, in which a window grows: one a second cubed.
-const SCALE: u64 = 1_000_000_000;
+/// How many cubed milliseconds are a unit, by which a window grows: two and a half a second cubed.
+const SCALE: u64 = 400_000_000;
 
 /// The third power.
 fn cube(n: u64) -> u64 {

@@ -1,7 +1,7 @@
 //! When something is due by itself.
 
 ghost use Rattle.std.specs.Prelude.{◌≡◌, ◌+◌, ◌≤◌, IfSome, IsNone, IsTrue, false};
-ghost use Rattle.spx_pace.specs.Pacing.{wakes_at, holds_back};
+ghost use Rattle.spx_pace.specs.Pacing.{holds_back, missing_at, waits_till, wakes_at};
 
 use crate::pacer::Pacer;
 
@@ -22,23 +22,24 @@ impl Pacer {
     {
         if self.holds_back() {
             let soon = now.saturating_add(1);
-            return Some(soon.min(self.wakes.unwrap_or(soon)));
+            return Some(soon.min(self.wakes().unwrap_or(soon)));
         }
         if self.out == 0 {
             return None;
         }
         let latest = now.saturating_add(MOST_SLEEP);
-        Some(self.wakes.unwrap_or(now).min(latest))
+        Some(self.wakes().unwrap_or(now).min(latest))
     }
 
-    /// Notes till when it waits.
-    pub(crate) fn note_wait(&mut self)
-        ensures { self.new ≡ record self.old { wakes = self.new.wakes } }
+    /// When it has waited long enough for an acknowledgement, or for a unit that went again. None
+    /// where it does not wait.
+    fn wakes(&self) -> Option<u64>
+        ensures { result ≡ Rattle.spx_pace.specs.Pacing.wakes self.now }
     {
-        self.wakes = match (self.waits_till(), self.repair_due()) {
+        match (self.waits_till(), self.repair_due()) {
             (Some(till), Some(due)) => Some(till.min(due)),
             (till, _) => till,
-        };
+        }
     }
 
     /// Whether something would go now, but for its credit or for another that goes first.
@@ -49,7 +50,9 @@ impl Pacer {
     }
 
     /// Till when an acknowledgement is waited for.
-    pub(crate) fn waits_till(&self) -> Option<u64> {
+    pub(crate) fn waits_till(&self) -> Option<u64>
+        ensures { result ≡ waits_till self.now }
+    {
         let wait = if self.ended && self.out == 1 {
             self.trip.end_wait()
         } else {
@@ -59,7 +62,9 @@ impl Pacer {
     }
 
     /// When the first outstanding unit goes again, which went again before.
-    pub(crate) fn repair_due(&self) -> Option<u64> {
+    pub(crate) fn repair_due(&self) -> Option<u64>
+        ensures { result ≡ missing_at self.now }
+    {
         self.repair.missing_at(self.base, self.trip.with_slack())
     }
 

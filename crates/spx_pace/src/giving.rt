@@ -1,7 +1,8 @@
 //! What a packet that the link gave puts on the line.
 
 ghost use Rattle.std.specs.Prelude.{◌≡◌, ◌-◌};
-ghost use Rattle.spx_pace.specs.Pacing.{credit_after};
+ghost use Rattle.spx_pace.specs.Pacing.{credit_after, given_by, with_outstanding};
+ghost use Rattle.spx_pace.specs.declared.gave.Gave.TheVariants as Gaves;
 
 use crate::gave::Gave;
 use crate::pacer::Pacer;
@@ -10,6 +11,7 @@ use spx_link::Numbers;
 impl Pacer {
     /// The link gave a packet, and has these numbers since.
     pub fn gave(&mut self, what: Gave, after: Numbers, now: u64)
+        ensures value { self.new ≡ given_by (with_outstanding self.old after.out now) what now }
         ensures counts { self.new.out ≡ after.out }
         ensures credit { self.new.credit ≡ credit_after self.old.credit what }
     {
@@ -24,7 +26,6 @@ impl Pacer {
             Gave::Again => self.sends_again(now),
             Gave::Other => {}
         }
-        self.note_wait();
     }
 
     /// The request was sent. One that was sent before measures nothing.
@@ -47,8 +48,7 @@ impl Pacer {
 
     /// The first unit that was to go again went.
     fn sends_again(&mut self, now: u64)
-        ensures counts { self.new.out ≡ self.old.out }
-        ensures credit { self.new.credit ≡ self.old.credit - 256 }
+        ensures { self.new ≡ given_by self.old Gaves.Again now }
     {
         let position = self.repair.from.max(self.base);
         self.sent.put(position, None);

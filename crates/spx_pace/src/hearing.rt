@@ -1,7 +1,8 @@
 //! What a packet that the link read says of the line.
 
-ghost use Rattle.std.specs.Prelude.{◌≡◌};
-ghost use Rattle.spx_pace.specs.Pacing.{PacerView};
+ghost use Rattle.std.specs.Prelude.{◌≡◌, ◌+◌, ◌-◌, ◌<◌, ◌≤◌, ◌⊎◌, None, Some, false, true};
+ghost use Rattle.spx_pace.specs.Pacing.{MendsOn, WaitsOn, behind, is_double, waited_since};
+ghost use Rattle.spx_pace.specs.Pacing.{with_outstanding};
 
 use crate::pacer::Pacer;
 use crate::repair::Repair;
@@ -19,7 +20,15 @@ impl Pacer {
     /// is a duplicate: one of those behind a missing unit came. Three of them say that it is
     /// missing, fewer where fewer are outstanding (RFC 5681, RFC 5827).
     pub fn heard(&mut self, before: Numbers, after: Numbers, joined: bool, now: u64)
-        ensures { self.new.out ≡ after.out }
+        ensures counts { self.new.out ≡ after.out }
+        ensures acknowledged { after.out < before.out
+            → (self.new.timer ≡ waited_since None after.out now) × (self.new.trip.doubled ≡ 0) }
+        ensures waits { before.out ≤ after.out → WaitsOn self.old.timer after.out now self.new.timer
+            × (self.new.trip.doubled ≡ self.old.trip.doubled) }
+        ensures counted { before.out ≤ after.out → is_double before after ≡ false
+            → self.new ≡ record (with_outstanding self.old after.out now) { trip = self.new.trip } }
+        ensures mends { MendsOn self.old now self.new }
+        ensures ended { self.new.ended ≡ self.old.ended }
     {
         if joined {
             self.answered(now);
@@ -34,12 +43,12 @@ impl Pacer {
         } else {
             self.count(after.out, now);
         }
-        self.note_wait();
     }
 
     /// The request was answered.
     fn answered(&mut self, now: u64)
-        ensures { self.new ≡ self.old }
+        ensures value { self.new ≡ record self.old { trip = self.new.trip } }
+        ensures doubled { self.new.trip.doubled ≡ self.old.trip.doubled }
     {
         if let Some(asked_at) = self.asked_at {
             self.trip.answer_request(now.saturating_sub(asked_at));
@@ -49,7 +58,11 @@ impl Pacer {
 
     /// So many units were acknowledged, and `flight` were on their way before.
     fn acknowledged(&mut self, units: u16, out: u16, flight: u64, now: u64)
-        ensures { self.new.out ≡ out }
+        ensures counts { self.new.out ≡ out }
+        ensures timer { self.new.timer ≡ waited_since None out now }
+        ensures doubled { self.new.trip.doubled ≡ 0 }
+        ensures mends { MendsOn self.old now self.new }
+        ensures ended { self.new.ended ≡ self.old.ended }
     {
         if self.doubles == 0 && !self.repair.is_on() {
             self.measure(units, now);
@@ -72,7 +85,7 @@ impl Pacer {
     /// The last unit that an acknowledgement takes tells the round trip, where it was sent once
     /// (RFC 6298, Karn's rule).
     fn measure(&mut self, units: u16, now: u64)
-        ensures { self.new ≡ self.old }
+        ensures { self.new ≡ record self.old { trip = self.new.trip } }
     {
         let last = self.base.saturating_add(u64::from(units.saturating_sub(1)));
         if let Some(sent) = self.sent.at(last) {
@@ -82,16 +95,20 @@ impl Pacer {
 
     /// The window grows, where it was the limit.
     fn grow(&mut self, units: u16, flight: u64, now: u64)
-        ensures { self.new.out ≡ self.old.out }
+        ensures { self.new ≡ record self.old { window = self.new.window } }
     {
-        if flight.saturating_add(3).saturating_mul(UNIT) >= self.window.size() {
+        if self.window.is_limit(flight) {
             self.window.grow(u64::from(units), now, &self.trip);
         }
     }
 
     /// Units were acknowledged while something is repaired.
     fn mend(&mut self, units: u16, recover: u64, now: u64)
-        ensures { self.new.out ≡ self.old.out }
+        ensures counts { self.new.out ≡ self.old.out }
+        ensures timer { self.new.timer ≡ self.old.timer }
+        ensures trip { self.new.trip ≡ self.old.trip }
+        ensures ended { self.new.ended ≡ self.old.ended }
+        ensures mends { MendsOn self.old now self.new }
     {
         self.flying = self.flying.saturating_sub(1);
         if self.base >= recover {
@@ -108,7 +125,11 @@ impl Pacer {
 
     /// A duplicate came.
     fn doubled(&mut self, now: u64)
-        ensures { self.new.out ≡ self.old.out }
+        ensures counts { self.new.out ≡ self.old.out }
+        ensures timer { (self.new.timer ≡ self.old.timer) ⊎ (self.new.timer ≡ Some now) }
+        ensures trip { self.new.trip ≡ self.old.trip }
+        ensures ended { self.new.ended ≡ self.old.ended }
+        ensures mends { MendsOn self.old now self.new }
     {
         if self.ignore > 0 {
             self.ignore -= 1;
@@ -137,7 +158,7 @@ impl Pacer {
 
     /// A packet left the line while something is repaired.
     fn widen(&mut self)
-        ensures { self.new.out ≡ self.old.out }
+        ensures { self.new ≡ record self.old { window = self.new.window } }
     {
         if self.repair.timed {
             self.window.widen_to_threshold(UNIT / 2);
@@ -148,7 +169,15 @@ impl Pacer {
 
     /// A repair begins with the first outstanding unit.
     pub(crate) fn enter(&mut self, now: u64)
-        ensures { self.new.out ≡ self.old.out }
+        ensures { self.new ≡ record self.old {
+          flying = 0;
+          from = self.old.base;
+          to = behind self.old.base 1;
+          window = self.new.window;
+          mends = true;
+          fixed_at = now;
+          tries = 0;
+        } }
     {
         let next = self.next();
         let queued = self.trip.is_queued();

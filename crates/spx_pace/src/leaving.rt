@@ -1,6 +1,7 @@
 //! The end of a repair.
 
 ghost use Rattle.std.specs.Prelude.{◌≡◌};
+ghost use Rattle.spx_pace.specs.Pacing.{MendsOn};
 
 use crate::pacer::Pacer;
 use crate::repair::Repair;
@@ -15,7 +16,11 @@ impl Pacer {
     /// come say nothing. Else units that came behind the first outstanding one say that it is
     /// missing too.
     pub(crate) fn leave(&mut self, now: u64)
-        ensures { self.new.out ≡ self.old.out }
+        ensures counts { self.new.out ≡ self.old.out }
+        ensures timer { self.new.timer ≡ self.old.timer }
+        ensures trip { self.new.trip ≡ self.old.trip }
+        ensures ended { self.new.ended ≡ self.old.ended }
+        ensures mends { MendsOn self.old now self.new }
     {
         let blind = self.repair.messy || self.repair.timed;
         self.repair = Repair::new();

@@ -1,6 +1,7 @@
 //! The pacer of a connection: what it holds.
 
-ghost use Rattle.std.specs.Prelude.{◌≡◌, IfOk};
+ghost use Rattle.std.specs.Prelude.{◌≡◌, ◌&&◌, IfOk, is_some, not};
+ghost use Rattle.spx_pace.specs.Measured.{trip_of};
 ghost use Rattle.spx_pace.specs.Pacing.{PacerView, flight, made_pacer, place_again};
 ghost use Rattle.spx_pace.specs.Pacing.{with_outstanding};
 
@@ -40,9 +41,6 @@ pub struct Pacer {
     pub(crate) safe: u64,
     /// Since when an acknowledgement is waited for.
     pub(crate) timer: Option<u64>,
-    /// When it has waited long enough for an acknowledgement, or for a unit that went again, as the
-    /// last call left it. None where it does not wait.
-    pub(crate) wakes: Option<u64>,
     /// When a unit was sent last.
     pub(crate) spoke: Option<u64>,
     /// When the request was sent, where it was sent once.
@@ -69,7 +67,12 @@ impl Model for Pacer {
       to = p.repair.to;
       window = p.window.size;
       credit = p.credit.amount;
-      wakes = p.wakes;
+      trip = trip_of p.trip;
+      timer = p.timer;
+      ended = p.ended;
+      mends = is_some p.repair.recover && not p.repair.timed;
+      fixed_at = p.repair.fixed_at;
+      tries = p.repair.tries;
     } };
 }
 
@@ -95,7 +98,6 @@ impl Pacer {
             past: 0,
             safe: 0,
             timer: None,
-            wakes: None,
             spoke: None,
             asked_at: None,
             asked: false,
@@ -142,7 +144,7 @@ impl Pacer {
 
     /// So many units are outstanding now, as the link says.
     pub(crate) fn count(&mut self, out: u16, now: u64)
-        ensures { self.new ≡ with_outstanding self.old out }
+        ensures { self.new ≡ with_outstanding self.old out now }
     {
         self.out = out;
         self.left = self.left.min(out);

@@ -1,7 +1,8 @@
 //! What the link may do at its next poll.
 
 ghost use Rattle.std.specs.Prelude.{◌≡◌, ◌+◌, ◌<◌, ◌≤◌, IfSome, IsTrue};
-ghost use Rattle.spx_pace.specs.Pacing.{holds_back, plan_of, spare};
+ghost use Rattle.spx_pace.specs.Pacing.{holds_back, is_over, plan_of, spare, tended};
+ghost use Rattle.spx_pace.specs.Pacing.{waits_till, with_outstanding};
 
 use crate::pacer::Pacer;
 use crate::plan::Plan;
@@ -15,6 +16,10 @@ impl Pacer {
     /// with it no new one goes. What the window allows is spread over the round trip.
     pub fn plan(&mut self, numbers: Numbers, now: u64) -> Plan
         ensures value { result ≡ plan_of self.new }
+        ensures tends { self.new ≡ record (tended (with_outstanding self.old numbers.out now) now) {
+          window = self.new.window;
+          credit = self.new.credit;
+        } }
         ensures counts { self.new.out ≡ numbers.out }
         ensures most { result.window ≤ 8192 }
         ensures place { IfSome result.again (λ place. place < numbers.out) }
@@ -29,21 +34,20 @@ impl Pacer {
         self.tend(now);
         let rate = self.window.rate(self.trip.smoothed());
         self.credit.grow(rate, now);
-        self.note_wait();
         self.choose()
     }
 
     /// Does what is due by itself.
     fn tend(&mut self, now: u64)
+        ensures value { self.new ≡ record (tended self.old now) { window = self.new.window } }
         ensures counts { self.new.out ≡ self.old.out }
-        ensures flying { self.new.flying ≤ self.old.flying }
     {
-        if self.waits_till().is_some_and(|at| at <= now) {
+        if is_over(self.waits_till(), now) {
             self.time_out(now);
-        } else if self.repair_due().is_some_and(|at| at <= now) {
+        } else if is_over(self.repair_due(), now) {
             self.repair.repeat(self.base);
         }
-        if self.rests_at().is_some_and(|at| at <= now) {
+        if is_over(self.rests_at(), now) {
             self.window.rest();
         }
     }
@@ -51,8 +55,8 @@ impl Pacer {
     /// The wait for an acknowledgement was over: the first outstanding unit goes again, and the
     /// others in order as it is acknowledged.
     fn time_out(&mut self, now: u64)
-        ensures counts { self.new.out ≡ self.old.out }
-        ensures flying { self.new.flying ≡ 0 }
+        ensures { IsTrue (is_over (waits_till self.old) now)
+            → self.new ≡ record (tended self.old now) { window = self.new.window } }
     {
         let next = self.next();
         self.window.collapse(self.trip.is_first_wait());
@@ -101,4 +105,11 @@ impl Pacer {
         let more = self.spare().min(self.credit.units());
         (u64::from(self.out).saturating_add(more)).min(u64::from(MOST_UNITS)) as u16
     }
+}
+
+/// Whether there is such a moment, and it came.
+fn is_over(at: Option<u64>, now: u64) -> bool
+    ensures { result ≡ is_over at now }
+{
+    at.is_some_and(|at| at <= now)
 }

@@ -1,6 +1,8 @@
 //! Units that go again: which are to, and which did.
 
-ghost use Rattle.std.specs.Prelude.{◌≡◌, max, nat_le};
+ghost use Rattle.std.specs.Prelude.{◌≡◌, ◌+◌, ◌-◌, ◌*◌, ◌^◌, ◌&&◌, Some, None, if◌then◌else◌, is_some, max, min, nat_le};
+ghost use Rattle.std.specs.Prelude.{◌⊎◌, false, not};
+ghost use Rattle.spx_pace.specs.Pacing.{behind};
 
 /// What stands of a repair. Positions count units from 0.
 ///
@@ -37,8 +39,11 @@ const MOST_RUN: u64 = 64;
 impl Repair {
     /// Nothing is being repaired.
     pub fn new() -> Repair
+        ensures off { result.recover ≡ None }
         ensures from { result.from ≡ 0 }
         ensures to { result.to ≡ 0 }
+        ensures fixed_at { result.fixed_at ≡ 0 }
+        ensures tries { result.tries ≡ 0 }
     {
         Repair {
             recover: None,
@@ -56,7 +61,14 @@ impl Repair {
     }
 
     /// One that begins with the unit at `base`, up to `next`.
-    pub fn begin(base: u64, next: u64, now: u64) -> Repair {
+    pub fn begin(base: u64, next: u64, now: u64) -> Repair
+        ensures on { result.recover ≡ Some next }
+        ensures from { result.from ≡ base }
+        ensures to { result.to ≡ behind base 1 }
+        ensures fixed_at { result.fixed_at ≡ now }
+        ensures tries { result.tries ≡ 0 }
+        ensures timed { result.timed ≡ false }
+    {
         Repair {
             recover: Some(next),
             run: 1,
@@ -73,7 +85,9 @@ impl Repair {
     }
 
     /// Whether something is being repaired.
-    pub fn is_on(&self) -> bool {
+    pub fn is_on(&self) -> bool
+        ensures { result ≡ is_some self.now.recover }
+    {
         self.recover.is_some()
     }
 
@@ -91,7 +105,12 @@ impl Repair {
 
     /// An acknowledgement came, and the unit at `base` is the next that is missing: `left` of
     /// those behind it came.
-    pub fn go_on(&mut self, base: u64, left: u64, recover: u64, now: u64) {
+    pub fn go_on(&mut self, base: u64, left: u64, recover: u64, now: u64)
+        ensures recover { self.new.recover ≡ self.old.recover }
+        ensures timed { self.new.timed ≡ self.old.timed }
+        ensures tries { self.new.tries ≡ 0 }
+        ensures fixed_at { (self.new.fixed_at ≡ now) ⊎ (self.new.fixed_at ≡ self.old.fixed_at) }
+    {
         self.tries = 0;
         let wanted = recover.saturating_sub(base);
         if self.timed {
@@ -104,11 +123,19 @@ impl Repair {
     }
 
     /// How many may go again, where so many of those wanted are missing: a sixth of them, where
-    /// many are.
-    fn choose_run(&mut self, wanted: u64, missing: u64) {
+    /// many are. Where a queue stood twice as many as are missing, if that is more: of what is too
+    /// much for a line every second one is lost.
+    fn choose_run(&mut self, wanted: u64, missing: u64)
+        ensures { self.new ≡ record self.old { run = self.new.run; messy = self.new.messy } }
+    {
         let many = self.crowded || missing.saturating_mul(6) > wanted;
         if missing > 6 && many {
-            self.run = wanted.div_ceil(6);
+            let twice = if self.crowded {
+                missing.saturating_mul(2)
+            } else {
+                0
+            };
+            self.run = wanted.div_ceil(6).max(twice);
             self.messy = true;
         } else {
             self.run = 1;
@@ -116,7 +143,12 @@ impl Repair {
     }
 
     /// Those of the run that were not to go again yet are.
-    fn ask(&mut self, base: u64, recover: u64, now: u64) {
+    fn ask(&mut self, base: u64, recover: u64, now: u64)
+        ensures recover { self.new.recover ≡ self.old.recover }
+        ensures timed { self.new.timed ≡ self.old.timed }
+        ensures tries { self.new.tries ≡ self.old.tries }
+        ensures fixed_at { (self.new.fixed_at ≡ now) ⊎ (self.new.fixed_at ≡ self.old.fixed_at) }
+    {
         let was_idle = self.is_idle(base);
         let first = self.fixed.max(base);
         let end = base.saturating_add(self.run).min(recover);
@@ -136,19 +168,26 @@ impl Repair {
 
     /// When the first outstanding unit is missing again, which went again a round trip and its
     /// slack ago. Each time doubles that. None where others are to go first.
-    pub fn missing_at(&self, base: u64, slack: u64) -> Option<u64> {
+    pub fn missing_at(&self, base: u64, slack: u64) -> Option<u64>
+        ensures { result ≡ (if is_some self.now.recover && not self.now.timed
+            && nat_le self.now.to (max self.now.from base)
+            then Some (behind self.now.fixed_at (slack * 2 ^ min self.now.tries 6)) else None) }
+    {
         if !self.is_on() || self.timed || !self.is_idle(base) {
             return None;
         }
-        let mut wait = slack;
-        for _ in 0..self.tries.min(6) {
-            wait = wait.saturating_mul(2);
-        }
-        Some(self.fixed_at.saturating_add(wait))
+        let times = 2_u64.saturating_pow(self.tries.min(6));
+        Some(self.fixed_at.saturating_add(slack.saturating_mul(times)))
     }
 
     /// The first outstanding unit goes again once more.
-    pub fn repeat(&mut self, base: u64) {
+    pub fn repeat(&mut self, base: u64)
+        ensures { self.new ≡ record self.old {
+          from = base;
+          to = behind base 1;
+          tries = min (self.old.tries + 1) (2 ^ 32 - 1);
+        } }
+    {
         self.from = base;
         self.to = base.saturating_add(1);
         self.tries = self.tries.saturating_add(1);

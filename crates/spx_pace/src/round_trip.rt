@@ -1,5 +1,8 @@
 //! The measured round trip, and how long an acknowledgement is waited for (RFC 6298).
 
+ghost use Rattle.std.specs.Prelude.{◌≡◌, ◌+◌, ◌-◌, ◌^◌, min};
+ghost use Rattle.spx_pace.specs.Measured.{doubled_wait, slack, trip_of};
+
 /// How long it is waited for before anything is measured, in milliseconds.
 const FIRST_WAIT: u64 = 500;
 
@@ -42,7 +45,9 @@ pub struct RoundTrip {
 
 impl RoundTrip {
     /// Nothing is measured yet.
-    pub fn new() -> RoundTrip {
+    pub fn new() -> RoundTrip
+        ensures { trip_of result ≡ record { wait = 500; doubled = 0; smoothed = 500 } }
+    {
         RoundTrip {
             smooth: None,
             variation: 0,
@@ -56,7 +61,9 @@ impl RoundTrip {
     }
 
     /// A request was answered at its first sending.
-    pub fn answer_request(&mut self, trip: u64) {
+    pub fn answer_request(&mut self, trip: u64)
+        ensures { self.new.doubled ≡ self.old.doubled }
+    {
         self.first = Some(trip);
         self.wait = trip.saturating_mul(3).max(LEAST_WAIT);
     }
@@ -102,7 +109,9 @@ impl RoundTrip {
 
     /// The smoothed round trip, at least 1. Before a sample that of the request, and where it was
     /// asked more than once the wait.
-    pub fn smoothed(&self) -> u64 {
+    pub fn smoothed(&self) -> u64
+        ensures { result ≡ (trip_of self.now).smoothed }
+    {
         match (self.smooth, self.first) {
             (Some(smooth), _) => (smooth / 8).max(1),
             (None, Some(first)) => first.max(1),
@@ -112,7 +121,9 @@ impl RoundTrip {
 
     /// A round trip and what it may vary by: what was sent again and did not come by then is
     /// missing again (RFC 8985, the reordering window).
-    pub fn with_slack(&self) -> u64 {
+    pub fn with_slack(&self) -> u64
+        ensures { result ≡ slack (trip_of self.now) }
+    {
         let trip = self.smoothed();
         trip.saturating_add((trip / 4).max(10))
     }
@@ -120,10 +131,21 @@ impl RoundTrip {
     /// Whether a queue stands on the line: the least of the last eight samples is over the least
     /// of all by an eighth, at least 4 and at most 16 (RFC 9406, its threshold).
     pub fn is_queued(&self) -> bool {
+        self.is_over(8, 16)
+    }
+
+    /// Whether one begins to stand: it is over by a 32nd, at least 4 and at most 8.
+    pub fn is_slowing(&self) -> bool {
+        self.is_over(32, 8)
+    }
+
+    /// Whether the last eight samples are over the least of all by that part of it, at least 4 and
+    /// at most so many.
+    fn is_over(&self, part: u64, most: u64) -> bool {
         let Some(least) = self.least else {
             return false;
         };
-        let over = (least / 8).max(4).min(16);
+        let over = (least / part.max(1)).max(4).min(most);
         self.recent
             .iter()
             .all(|trip| *trip >= least.saturating_add(over))
@@ -135,16 +157,20 @@ impl RoundTrip {
     }
 
     /// How long an acknowledgement is waited for.
-    pub fn wait(&self) -> u64 {
-        let mut wait = self.wait;
-        for _ in 0..self.doubled.min(16) {
-            wait = wait.saturating_mul(2);
-        }
-        wait.min(MOST_DOUBLED).max(self.wait)
+    pub fn wait(&self) -> u64
+        ensures { result ≡ doubled_wait (trip_of self.now) }
+    {
+        let times = 2_u64.saturating_pow(self.doubled);
+        self.wait
+            .saturating_mul(times)
+            .min(MOST_DOUBLED)
+            .max(self.wait)
     }
 
     /// How long that of the end of a connection is waited for, which alone is outstanding.
-    pub fn end_wait(&self) -> u64 {
+    pub fn end_wait(&self) -> u64
+        ensures { result ≡ Rattle.spx_pace.specs.Measured.end_wait (trip_of self.now) }
+    {
         self.wait.max(LEAST_END_WAIT).min(MOST_END_WAIT)
     }
 
@@ -154,12 +180,16 @@ impl RoundTrip {
     }
 
     /// The wait was over.
-    pub fn back_off(&mut self) {
+    pub fn back_off(&mut self)
+        ensures { self.new ≡ record self.old { doubled = min (self.old.doubled + 1) (2 ^ 32 - 1) } }
+    {
         self.doubled = self.doubled.saturating_add(1);
     }
 
     /// Something was acknowledged.
-    pub fn come_back(&mut self) {
+    pub fn come_back(&mut self)
+        ensures { self.new ≡ record self.old { doubled = 0 } }
+    {
         self.doubled = 0;
     }
 }

@@ -11,6 +11,9 @@ pub const UNIT: u64 = 256;
 /// The window at first: 14,418 bytes (RFC 6928: 14,600).
 const FIRST: u64 = 27 * UNIT;
 
+/// Under it little is lost where slow start ends too late.
+const SMALL: u64 = 256 * UNIT;
+
 /// The least window of a decrease, and the most of all.
 const LEAST: u64 = 4 * UNIT;
 
@@ -35,6 +38,8 @@ pub struct Window {
     epoch: Option<Epoch>,
     /// What three flows that grow by one unit a round trip would have.
     estimate: u64,
+    /// Whether a queue ended slow start, and nothing was missing since.
+    fresh: bool,
     ghost least: { 1024 ≤ size },
     ghost most: { size ≤ 2097152 },
 }
@@ -50,6 +55,7 @@ impl Window {
             top: 0,
             epoch: None,
             estimate: 0,
+            fresh: false,
         }
     }
 
@@ -65,16 +71,50 @@ impl Window {
         self.size < self.threshold
     }
 
+    /// Whether it was the limit, where so many units were on their way. In slow start half of it is
+    /// enough: what acknowledgements allow then waits for its credit.
+    pub fn is_limit(&self, flight: u64) -> bool {
+        let used = if self.is_starting() {
+            flight.saturating_mul(2)
+        } else {
+            flight
+        };
+        used.saturating_add(3).saturating_mul(UNIT) >= self.size
+    }
+
     /// So many units were acknowledged while the window was the limit.
     pub fn grow(&mut self, units: u64, now: u64, trip: &RoundTrip) {
+        if self.is_to_start_again(now, trip) {
+            self.threshold = MOST;
+            self.epoch = None;
+            self.fresh = false;
+        }
         if !self.is_starting() {
             self.climb(units, now, trip);
-        } else if trip.is_queued() {
+        } else if self.ends_start(trip) {
             self.threshold = self.size;
             self.top = self.size;
+            self.fresh = true;
         } else {
             self.widen(units.min(4).saturating_mul(UNIT));
         }
+    }
+
+    /// Whether the queue that ended slow start was none: within five round trips it is gone (RFC 9406,
+    /// its conservative slow start).
+    fn is_to_start_again(&self, now: u64, trip: &RoundTrip) -> bool {
+        let since = match self.epoch {
+            Some(epoch) => epoch.since,
+            None => now,
+        };
+        let soon = trip.smoothed().saturating_mul(5);
+        self.fresh && !trip.is_slowing() && now.saturating_sub(since) <= soon
+    }
+
+    /// Whether slow start ends: a queue stands on the line, or one begins to, and the window is not
+    /// small any more.
+    fn ends_start(&self, trip: &RoundTrip) -> bool {
+        trip.is_queued() || (self.size >= SMALL && trip.is_slowing())
     }
 
     /// Grows as RFC 9438 has it, of three flows.
@@ -130,18 +170,21 @@ impl Window {
         self.widen(self.share_of(3));
     }
 
-    /// A unit is missing: the window lessens, more where a queue stands on the line.
+    /// A unit is missing: the window lessens, more where a queue stands on the line, and where slow
+    /// start may have gone too far.
     pub fn lessen(&mut self, queued: bool) {
         self.top = self.size;
         self.epoch = None;
-        let (part, of) = match (self.is_starting(), queued) {
-            (true, true) => (1, 2),
-            (true, false) => (7, 10),
-            (false, true) => (4, 5),
-            (false, false) => (19, 20),
+        let (part, of) = match (self.is_starting(), self.fresh, queued) {
+            (true, _, true) => (1, 2),
+            (true, _, false) => (3, 5),
+            (false, true, _) => (7, 10),
+            (false, false, true) => (4, 5),
+            (false, false, false) => (19, 20),
         };
         self.size = fraction(self.size, part, of);
         self.threshold = self.size;
+        self.fresh = false;
     }
 
     /// The wait for an acknowledgement was over. `first` is whether it is so for the first time
@@ -151,6 +194,7 @@ impl Window {
             self.threshold = fraction(self.size, 7, 10);
             self.top = self.size;
             self.epoch = None;
+            self.fresh = false;
         }
         self.size = LEAST;
     }

@@ -12,7 +12,7 @@ fn with_ten_out(alloc: Global) -> Result<Paced, Fail> {
     Ok(paced)
 }
 
-/// Three duplicates say that it is missing: 27 x 7/10 = 18 units from then on, of which 8 are on
+/// Three duplicates say that it is missing: 27 x 3/5 = 16 units from then on, of which 8 are on
 /// their way: 10 - 3 that came + 1 that goes again. Credit is for ten, less that one.
 #[test]
 fn three_duplicates(rt: HostRuntime) -> Result<(), Fail> {
@@ -22,12 +22,12 @@ fn three_duplicates(rt: HostRuntime) -> Result<(), Fail> {
     paced.double(1, 200);
     assert_eq!(rt; paced.plan(200), again(0));
     paced.send_again(200);
-    assert_eq!(rt; paced.plan(200), window(19));
-    paced.send(9, 200);
-    assert_eq!(rt; paced.plan(200), window(19));
-    // A duplicate more: 1.5 / 18.9 of a unit, and one fewer is on its way: 16 of 18.
+    assert_eq!(rt; paced.plan(200), window(18));
+    paced.send(8, 200);
+    assert_eq!(rt; paced.plan(200), window(18));
+    // A duplicate more: 1.5 / 16.2 of a unit, and one fewer is on its way: 15 of 16.
     paced.double(1, 300);
-    assert_eq!(rt; paced.plan(300), window(21));
+    assert_eq!(rt; paced.plan(300), window(19));
     Ok(())
 }
 

@@ -2,7 +2,8 @@ use Rattle.std.proofs.Common.{◌≡◌, ◌≢◌, ◌∙◌, ℕ, Bool, List, 
 use Rattle.std.proofs.lemmas.Grind.{common_steps}
 use Rattle.std.proofs.lemmas.Result.{err_from_is_err_and}
 use Rattle.spx_link.specs.declared.state.State.TheVariants.{Live}
-use Rattle.ipx_transfer.specs.Feeding.{Feeds, Intake, LeavesIntake, intake}
+use Rattle.ipx_transfer.specs.Feeding.{Feeds, FeedState, LeavesIntake}
+use Rattle.ipx_transfer.specs.Midway.{feeding_at}
 use Rattle.ipx_transfer.specs.declared.end_core.EndCore.{EndCore}
 use Rattle.ipx_transfer.specs.Transfer.{ended_at, state_at}
 use Rattle.ipx_transfer.specs.declared.send_outcome.SendOutcome.{SendOutcome}
@@ -16,14 +17,18 @@ returns-then-turn-clause-steps g c =
     let seen = c.turn-turn.new.self.core in
     let look = c.look-state.new.self in
     let told = c.look-state.ensures in
+    let looked : look.station.core ≡ seen = ap (λ s. s.core) told.station in
+    let timed : look.station.clock ≡ c.turn-turn.new.self.clock = ap (λ s. s.clock) told.station in
     let dropped = c.drop_what_came.new.endpoint in
     let mid = c.if-eq.self in
     let shown = c.show.new.self in
     let same = c.show.ensures in
+    let stays : shown.station.core ≡ mid.station.core = ap (λ s. s.core) same.station in
+    let ticked : shown.station.clock ≡ mid.station.clock = ap (λ s. s.clock) same.station in
     let known = g.I.Read.remaining c.args.reader.now in
     let left = g.I.Read.remaining c.if-eq.reader in
-    let start = intake dropped look.read look.closed look.ledger known in
-    let fed : (bytes : List ℕ) × Feeds start (intake mid.station.core.endpoint mid.read mid.closed mid.ledger left) look.id bytes × (state_at seen.endpoint old.id ≢ Some Live → LeavesIntake start (intake mid.station.core.endpoint mid.read mid.closed mid.ledger left) bytes) =
+    let start = feeding_at look.intake dropped known in
+    let fed : (bytes : List ℕ) × Feeds start (feeding_at mid.intake mid.station.core.endpoint left) look.id bytes × (state_at seen.endpoint old.id ≢ Some Live → LeavesIntake start (feeding_at mid.intake mid.station.core.endpoint left) bytes) =
     elim c.if-eq.branch [
       | then-eq+in_ok-fed w ↦
           let is : c.look-state.result ≡ Some Live = first_of (search rules, grind (arith, common_steps)) in
@@ -32,23 +37,23 @@ returns-then-turn-clause-steps g c =
           let rests : LeavesIntake start start [] = record { same = refl {a = start}; none = refl } in
           rw (w.self-is, w.reader-is) ([], inr (inr rests), λ other. rests)
     ] in
-    let joined : mid.joined ≡ look.joined = elim c.if-eq.branch [ then-eq+in_ok-fed w ↦ rw w.self-is w.feed.ensures.joined | else-eq w ↦ rw w.self-is refl ] in
-    let gone : mid.left ≡ look.left = elim c.if-eq.branch [ then-eq+in_ok-fed w ↦ rw w.self-is w.feed.ensures.left | else-eq w ↦ rw w.self-is refl ] in
-    let ticks : mid.station.clock ≡ look.station.clock = elim c.if-eq.branch [ then-eq+in_ok-fed w ↦ rw w.self-is w.feed.ensures.clock | else-eq w ↦ rw w.self-is refl ] in
-    let goes : mid.station.core ≡ record look.station.core { endpoint = mid.station.core.endpoint } = elim c.if-eq.branch [ then-eq+in_ok-fed w ↦ rw w.self-is w.feed.ensures.core | else-eq w ↦ rw w.self-is refl ] in
-    let shows = same_intake mid.station.core.endpoint shown.station.core.endpoint mid.read shown.read mid.closed shown.closed mid.ledger shown.ledger left (ap (λ (k : EndCore). k.endpoint) same.core) same.read same.closed same.ledger in
-    let new = intake shown.station.core.endpoint shown.read shown.closed shown.ledger left in
-    let seeing = sees old.joined look.joined old.left look.left seen look.station.core old.id look.id old.closed look.closed c.is_whole-whole.result c.waits.result c.look-state.result None told.state told.core told.id told.closed told.joined told.left c.is_whole-whole.ensures c.waits.ensures c.in_default.ensures.verdict in
-    let fed' : Feeds start new look.id fed.0 = subst (λ (i : Intake). Feeds start i look.id fed.0) (sym shows) fed.1 in
-    let only : state_at seen.endpoint old.id ≢ Some Live → LeavesIntake start new fed.0 = λ other. subst (λ (i : Intake). LeavesIntake start i fed.0) (sym shows) (fed.2 other) in
+    let joined : mid.joined ≡ look.joined = elim c.if-eq.branch [ then-eq+in_ok-fed w ↦ rw w.self-is refl | else-eq w ↦ rw w.self-is refl ] in
+    let gone : mid.left ≡ look.left = elim c.if-eq.branch [ then-eq+in_ok-fed w ↦ rw w.self-is refl | else-eq w ↦ rw w.self-is refl ] in
+    let ticks : mid.station.clock ≡ look.station.clock = elim c.if-eq.branch [ then-eq+in_ok-fed w ↦ rw w.self-is refl | else-eq w ↦ rw w.self-is refl ] in
+    let goes : mid.station.core ≡ record look.station.core { endpoint = mid.station.core.endpoint } = elim c.if-eq.branch [ then-eq+in_ok-fed w ↦ rw w.self-is refl | else-eq w ↦ rw w.self-is refl ] in
+    let shows = same_intake mid.station.core.endpoint shown.station.core.endpoint mid.intake.read shown.intake.read mid.intake.closed shown.intake.closed mid.intake.ledger shown.intake.ledger left (ap (λ (k : EndCore). k.endpoint) stays) (ap (λ i. i.read) same.intake) (ap (λ i. i.closed) same.intake) (ap (λ i. i.ledger) same.intake) in
+    let new = feeding_at shown.intake shown.station.core.endpoint left in
+    let seeing = sees old.joined look.joined old.left look.left seen look.station.core old.id look.id old.intake.closed look.intake.closed c.is_whole-whole.result c.waits.result c.look-state.result None told.state looked told.id told.closed told.joined told.left c.is_whole-whole.ensures c.waits.ensures c.in_default.ensures.verdict in
+    let fed' : Feeds start new look.id fed.0 = subst (λ (i : FeedState). Feeds start i look.id fed.0) (sym shows) fed.1 in
+    let only : state_at seen.endpoint old.id ≢ Some Live → LeavesIntake start new fed.0 = λ other. subst (λ (i : FeedState). LeavesIntake start i fed.0) (sym shows) (fed.2 other) in
     record {
       seen = seen;
       turn = c.turn-turn.result;
-      turned = turned _ _ _ _ _ _ _ _ (same.clock ∙ ticks ∙ told.clock) c.turn-turn.ensures.core;
+      turned = turned _ _ _ _ _ _ _ _ (ticked ∙ ticks ∙ timed) c.turn-turn.ensures.core;
       verdict = None;
-      sees = sees_later look.joined shown.joined look.left shown.left (record { joined = old.joined; left = old.left }) seen.endpoint seen.moment old.id old.closed None (same.joined ∙ joined) (same.left ∙ gone) seeing;
-      goes = (tt, (fed.0, stepped old.id look.id seen look.station.core old.station.core.endpoint dropped old.read look.read old.closed look.closed old.ledger look.ledger known new fed.0 told.id told.core told.read told.closed told.ledger c.drop_what_came.ensures fed' only));
-      core = went_on seen look.station.core mid.station.core shown.station.core told.core goes same.core;
+      sees = sees_later look.joined shown.joined look.left shown.left (record { joined = old.joined; left = old.left }) seen.endpoint seen.moment old.id old.intake.closed None (same.joined ∙ joined) (same.left ∙ gone) seeing;
+      goes = (tt, (fed.0, stepped old.id look.id seen look.station.core old.station.core.endpoint dropped old.intake.read look.intake.read old.intake.closed look.intake.closed old.intake.ledger look.intake.ledger known new fed.0 told.id looked told.read told.closed told.ledger c.drop_what_came.ensures fed' only));
+      core = went_on seen look.station.core mid.station.core shown.station.core looked goes stays;
     }
 
 pub returns-else-turn-clause-steps : goal.returns-else-turn-clause-steps
@@ -57,14 +62,18 @@ returns-else-turn-clause-steps g c =
     let seen = c.turn-turn.new.self.core in
     let look = c.look-state.new.self in
     let told = c.look-state.ensures in
+    let looked : look.station.core ≡ seen = ap (λ s. s.core) told.station in
+    let timed : look.station.clock ≡ c.turn-turn.new.self.clock = ap (λ s. s.clock) told.station in
     let dropped = c.drop_what_came.new.endpoint in
     let mid = c.if-eq.self in
     let shown = c.show.new.self in
     let same = c.show.ensures in
+    let stays : shown.station.core ≡ mid.station.core = ap (λ s. s.core) same.station in
+    let ticked : shown.station.clock ≡ mid.station.clock = ap (λ s. s.clock) same.station in
     let known = g.I.Read.remaining c.args.reader.now in
     let left = g.I.Read.remaining c.if-eq.reader in
-    let start = intake dropped look.read look.closed look.ledger known in
-    let fed : (bytes : List ℕ) × Feeds start (intake mid.station.core.endpoint mid.read mid.closed mid.ledger left) look.id bytes × (state_at seen.endpoint old.id ≢ Some Live → LeavesIntake start (intake mid.station.core.endpoint mid.read mid.closed mid.ledger left) bytes) =
+    let start = feeding_at look.intake dropped known in
+    let fed : (bytes : List ℕ) × Feeds start (feeding_at mid.intake mid.station.core.endpoint left) look.id bytes × (state_at seen.endpoint old.id ≢ Some Live → LeavesIntake start (feeding_at mid.intake mid.station.core.endpoint left) bytes) =
     elim c.if-eq.branch [
       | then-eq+in_ok-fed w ↦
           let is : c.look-state.result ≡ Some Live = first_of (search rules, grind (arith, common_steps)) in
@@ -73,23 +82,23 @@ returns-else-turn-clause-steps g c =
           let rests : LeavesIntake start start [] = record { same = refl {a = start}; none = refl } in
           rw (w.self-is, w.reader-is) ([], inr (inr rests), λ other. rests)
     ] in
-    let joined : mid.joined ≡ look.joined = elim c.if-eq.branch [ then-eq+in_ok-fed w ↦ rw w.self-is w.feed.ensures.joined | else-eq w ↦ rw w.self-is refl ] in
-    let gone : mid.left ≡ look.left = elim c.if-eq.branch [ then-eq+in_ok-fed w ↦ rw w.self-is w.feed.ensures.left | else-eq w ↦ rw w.self-is refl ] in
-    let ticks : mid.station.clock ≡ look.station.clock = elim c.if-eq.branch [ then-eq+in_ok-fed w ↦ rw w.self-is w.feed.ensures.clock | else-eq w ↦ rw w.self-is refl ] in
-    let goes : mid.station.core ≡ record look.station.core { endpoint = mid.station.core.endpoint } = elim c.if-eq.branch [ then-eq+in_ok-fed w ↦ rw w.self-is w.feed.ensures.core | else-eq w ↦ rw w.self-is refl ] in
-    let shows = same_intake mid.station.core.endpoint shown.station.core.endpoint mid.read shown.read mid.closed shown.closed mid.ledger shown.ledger left (ap (λ (k : EndCore). k.endpoint) same.core) same.read same.closed same.ledger in
-    let new = intake shown.station.core.endpoint shown.read shown.closed shown.ledger left in
-    let seeing = sees old.joined look.joined old.left look.left seen look.station.core old.id look.id old.closed look.closed c.is_whole-whole.result c.waits.result c.look-state.result None told.state told.core told.id told.closed told.joined told.left c.is_whole-whole.ensures c.waits.ensures c.in_default.ensures.verdict in
-    let fed' : Feeds start new look.id fed.0 = subst (λ (i : Intake). Feeds start i look.id fed.0) (sym shows) fed.1 in
-    let only : state_at seen.endpoint old.id ≢ Some Live → LeavesIntake start new fed.0 = λ other. subst (λ (i : Intake). LeavesIntake start i fed.0) (sym shows) (fed.2 other) in
+    let joined : mid.joined ≡ look.joined = elim c.if-eq.branch [ then-eq+in_ok-fed w ↦ rw w.self-is refl | else-eq w ↦ rw w.self-is refl ] in
+    let gone : mid.left ≡ look.left = elim c.if-eq.branch [ then-eq+in_ok-fed w ↦ rw w.self-is refl | else-eq w ↦ rw w.self-is refl ] in
+    let ticks : mid.station.clock ≡ look.station.clock = elim c.if-eq.branch [ then-eq+in_ok-fed w ↦ rw w.self-is refl | else-eq w ↦ rw w.self-is refl ] in
+    let goes : mid.station.core ≡ record look.station.core { endpoint = mid.station.core.endpoint } = elim c.if-eq.branch [ then-eq+in_ok-fed w ↦ rw w.self-is refl | else-eq w ↦ rw w.self-is refl ] in
+    let shows = same_intake mid.station.core.endpoint shown.station.core.endpoint mid.intake.read shown.intake.read mid.intake.closed shown.intake.closed mid.intake.ledger shown.intake.ledger left (ap (λ (k : EndCore). k.endpoint) stays) (ap (λ i. i.read) same.intake) (ap (λ i. i.closed) same.intake) (ap (λ i. i.ledger) same.intake) in
+    let new = feeding_at shown.intake shown.station.core.endpoint left in
+    let seeing = sees old.joined look.joined old.left look.left seen look.station.core old.id look.id old.intake.closed look.intake.closed c.is_whole-whole.result c.waits.result c.look-state.result None told.state looked told.id told.closed told.joined told.left c.is_whole-whole.ensures c.waits.ensures c.in_default.ensures.verdict in
+    let fed' : Feeds start new look.id fed.0 = subst (λ (i : FeedState). Feeds start i look.id fed.0) (sym shows) fed.1 in
+    let only : state_at seen.endpoint old.id ≢ Some Live → LeavesIntake start new fed.0 = λ other. subst (λ (i : FeedState). LeavesIntake start i fed.0) (sym shows) (fed.2 other) in
     record {
       seen = seen;
       turn = c.turn-turn.result;
-      turned = turned _ _ _ _ _ _ _ _ (same.clock ∙ ticks ∙ told.clock) c.turn-turn.ensures.core;
+      turned = turned _ _ _ _ _ _ _ _ (ticked ∙ ticks ∙ timed) c.turn-turn.ensures.core;
       verdict = None;
-      sees = sees_later look.joined shown.joined look.left shown.left (record { joined = old.joined; left = old.left }) seen.endpoint seen.moment old.id old.closed None (same.joined ∙ joined) (same.left ∙ gone) seeing;
-      goes = (tt, (fed.0, stepped old.id look.id seen look.station.core old.station.core.endpoint dropped old.read look.read old.closed look.closed old.ledger look.ledger known new fed.0 told.id told.core told.read told.closed told.ledger c.drop_what_came.ensures fed' only));
-      core = went_on seen look.station.core mid.station.core shown.station.core told.core goes same.core;
+      sees = sees_later look.joined shown.joined look.left shown.left (record { joined = old.joined; left = old.left }) seen.endpoint seen.moment old.id old.intake.closed None (same.joined ∙ joined) (same.left ∙ gone) seeing;
+      goes = (tt, (fed.0, stepped old.id look.id seen look.station.core old.station.core.endpoint dropped old.intake.read look.intake.read old.intake.closed look.intake.closed old.intake.ledger look.intake.ledger known new fed.0 told.id looked told.read told.closed told.ledger c.drop_what_came.ensures fed' only));
+      core = went_on seen look.station.core mid.station.core shown.station.core looked goes stays;
     }
 
 pub returns-in-Some-clause-steps : goal.returns-in-Some-clause-steps
@@ -98,22 +107,24 @@ returns-in-Some-clause-steps g c =
     let seen = c.turn-turn.new.self.core in
     let look = c.look-state.new.self in
     let told = c.look-state.ensures in
+    let looked : look.station.core ≡ seen = ap (λ s. s.core) told.station in
+    let timed : look.station.clock ≡ c.turn-turn.new.self.clock = ap (λ s. s.clock) told.station in
     let verdict = c.in-Some.verdict in
     let known = g.I.Read.remaining c.args.reader.now in
     record {
       seen = seen;
       turn = c.turn-turn.result;
-      turned = turned _ _ _ _ _ _ _ _ told.clock c.turn-turn.ensures.core;
-      verdict = Some (ended_at old.closed verdict);
-      sees = sees old.joined look.joined old.left look.left seen look.station.core old.id look.id old.closed look.closed c.is_whole-whole.result c.waits.result c.look-state.result (Some verdict) told.state told.core told.id told.closed told.joined told.left c.is_whole-whole.ensures c.waits.ensures c.in-Some.ensures.verdict;
+      turned = turned _ _ _ _ _ _ _ _ timed c.turn-turn.ensures.core;
+      verdict = Some (ended_at old.intake.closed verdict);
+      sees = sees old.joined look.joined old.left look.left seen look.station.core old.id look.id old.intake.closed look.intake.closed c.is_whole-whole.result c.waits.result c.look-state.result (Some verdict) told.state looked told.id told.closed told.joined told.left c.is_whole-whole.ensures c.waits.ensures c.in-Some.ensures.verdict;
       goes = (
         ap (λ (v : SendOutcome). Err v) (c.ended_by.ensures ∙ ap (λ (b : Bool). ended_at b verdict) told.closed),
         record {
           follows = told.ledger;
-          is = same_intake seen.endpoint look.station.core.endpoint old.read look.read old.closed look.closed look.ledger look.ledger known (ap (λ (k : EndCore). k.endpoint) told.core) told.read told.closed refl;
+          is = same_intake seen.endpoint look.station.core.endpoint old.intake.read look.intake.read old.intake.closed look.intake.closed look.intake.ledger look.intake.ledger known (ap (λ (k : EndCore). k.endpoint) looked) told.read told.closed refl;
         },
       );
-      core = same_core seen look.station.core told.core;
+      core = same_core seen look.station.core looked;
     }
 
 pub returns-in_err-fed-clause-steps : goal.returns-in_err-fed-clause-steps
@@ -122,17 +133,18 @@ returns-in_err-fed-clause-steps g c =
     let seen = c.turn-turn.new.self.core in
     let look = c.look-state.new.self in
     let told = c.look-state.ensures in
-    let fed = c.feed.new.self in
-    let on = c.feed.ensures in
-    let seeing = sees old.joined look.joined old.left look.left seen look.station.core old.id look.id old.closed look.closed c.is_whole-whole.result c.waits.result c.look-state.result None told.state told.core told.id told.closed told.joined told.left c.is_whole-whole.ensures c.waits.ensures c.in_default.ensures.verdict in
+    let looked : look.station.core ≡ seen = ap (λ s. s.core) told.station in
+    let timed : look.station.clock ≡ c.turn-turn.new.self.clock = ap (λ s. s.clock) told.station in
+    let core : EndCore = record look.station.core { endpoint = c.feed.new.endpoint } in
+    let seeing = sees old.joined look.joined old.left look.left seen look.station.core old.id look.id old.intake.closed look.intake.closed c.is_whole-whole.result c.waits.result c.look-state.result None told.state looked told.id told.closed told.joined told.left c.is_whole-whole.ensures c.waits.ensures c.in_default.ensures.verdict in
     let is : c.look-state.result ≡ Some Live = first_of (search rules, grind (arith, common_steps)) in
     let p = err_from_is_err_and c.from_residual.result c.from_residual.ensures.1 in
     rw (p.1, p.2) (record {
       seen = seen;
       turn = c.turn-turn.result;
-      turned = turned _ _ _ _ _ _ _ _ (on.clock ∙ told.clock) c.turn-turn.ensures.core;
+      turned = turned _ _ _ _ _ _ _ _ timed c.turn-turn.ensures.core;
       verdict = None;
-      sees = sees_later look.joined fed.joined look.left fed.left (record { joined = old.joined; left = old.left }) seen.endpoint seen.moment old.id old.closed None on.joined on.left seeing;
+      sees = seeing;
       goes = ((sym told.state ∙ is, c.in_err-fed.ensures.fault), tt);
-      core = went_on seen look.station.core fed.station.core fed.station.core told.core on.core refl;
+      core = went_on seen look.station.core core core looked refl refl;
     })

@@ -1,14 +1,14 @@
 use Rattle.std.proofs.Common.{arith, rules}
 use Rattle.std.proofs.lemmas.Grind.{common_steps}
 use Rattle.ipx_transfer.proofs.Reading.{read_on, unread_on}
-use Rattle.ipx_transfer.proofs.sending.SendingHost.read_some.Goals as goal
+use Rattle.ipx_transfer.proofs.intake.Intake.read_some.Goals as goal
 
 pub returns-clause-reads : goal.returns-clause-reads
 returns-clause-reads g c = λ unread.
     let old = c.args.self.now in
     let new = c.take_read.new.self in
     let does = c.take_read.ensures in
-    read_on c.read-read.result c.take_read.result old.station.core new.station.core old.read new.read old.closed new.closed old.ledger new.ledger _ _ _ _ old.id unread does.closed c.read-read.ensures.bytes
+    read_on c.read-read.result c.take_read.result c.args.endpoint.now c.take_read.new.endpoint old.read new.read old.closed new.closed old.ledger new.ledger _ _ _ _ c.args.id unread does.closed c.read-read.ensures.bytes
     (first_of (search rules, grind (arith, common_steps))) does.came does.over does.more does.still
     (first_of (search rules, grind (arith, common_steps)))
 
@@ -17,4 +17,4 @@ returns-clause-unread g c =
     let old = c.args.self.now in
     let new = c.take_read.new.self in
     let does = c.take_read.ensures in
-    unread_on c.read-read.result c.take_read.result old.station.core new.station.core old.read new.read old.ledger new.ledger _ _ _ c.read-read.ensures.bytes does.memory does.still
+    unread_on c.read-read.result c.take_read.result c.args.endpoint.now c.take_read.new.endpoint old.read new.read old.ledger new.ledger _ _ _ c.read-read.ensures.bytes does.memory does.still

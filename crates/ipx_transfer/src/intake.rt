@@ -4,41 +4,76 @@ ghost use Rattle.std.specs.Prelude.{◌≡◌, ◌≢◌, ◌<◌, ◌≤◌, �
 ghost use Rattle.std.specs.Io.KnownBytes.{Keeps};
 ghost use Rattle.std.specs.IoError.{error_kind};
 ghost use Rattle.std.specs.declared.io.ErrorKind.TheVariants.{Interrupted, WouldBlock};
-ghost use Rattle.ipx_transfer.specs.Books.{EntersRead};
-ghost use Rattle.ipx_transfer.specs.Feeding.{Feeds, HandsOn, ReadsOn, intake};
+ghost use Rattle.ipx_transfer.specs.Books.{EntersRead, IsUnused};
+ghost use Rattle.ipx_transfer.specs.Feeding.{Feeds, HandsOn, ReadsOn};
 ghost use Rattle.ipx_transfer.specs.SendSteps.{IsReadFault};
 ghost use Rattle.ipx_transfer.specs.declared.send_outcome.SendOutcome.TheVariants as Verdicts;
 
+use crate::gate::Gate;
 use crate::handing::hand_in;
+use crate::ledger::Ledger;
 use crate::send_outcome::SendOutcome;
-use crate::sending::SendingHost;
-use log::Log;
-use std::alloc::Global;
+use mio::Interest;
+use spx_messages::{Endpoint, MOST_BYTES};
+use std::alloc::{AllocError, Global};
 use std::io::{self, ErrorKind, Read};
 use std::net::Net;
-use std::rt::Clock;
+use std::os::fd::RawFd;
 
 /// The most units that are handed in and not acknowledged before no more is read.
 const MOST_AHEAD: u64 = 16_384;
 
-impl<'a, R: Net + Log + Clock + Eprint> SendingHost<'a, R> {
+/// The descriptor of standard input.
+const STDIN: RawFd = 0;
+
+/// What is read and handed into a link, and what of it is acknowledged.
+#[derive(Drop)]
+pub struct Intake {
+    pub gate: Gate,
+    pub room: Vec<u8>,
+    pub ledger: Ledger,
+    /// Whether all of the input is read.
+    pub read: bool,
+    /// Whether the end is queued.
+    pub closed: bool,
+    /// The end is queued only where all is read.
+    ghost order: { closed ≡ true → read ≡ true },
+    /// A read always has room.
+    ghost roomy: { 0 < length room.items },
+}
+
+impl Intake {
+    ghost use Rattle.ipx_transfer.specs.Midway.{feeding_at};
+
+    /// Nothing was read.
+    pub fn new<R: Net>(rt: &R, alloc: Global) -> Result<Intake, AllocError>
+        ensures unread { IfOk result (λ i. i.read ≡ false) }
+        ensures unended { IfOk result (λ i. i.closed ≡ false) }
+        ensures unused { IfOk result (λ i. IsUnused i.ledger) }
+    {
+        Ok(Intake {
+            gate: Gate::new(rt, alloc, STDIN, Interest::READABLE),
+            room: vec![in alloc; 0; MOST_BYTES]?,
+            ledger: Ledger::new(alloc),
+            read: false,
+            closed: false,
+        })
+    }
+
     /// Does what is to be done with what one read gave: bytes are handed in as one message, and
     /// no byte is the end. It answers whether there may be more to read at once.
-    fn take_read(&mut self, alloc: Global, read: io::Result<usize>) -> Result<bool, SendOutcome>
+    fn take_read(
+        &mut self,
+        alloc: Global,
+        endpoint: &mut Endpoint,
+        id: u16,
+        read: io::Result<usize>,
+    ) -> Result<bool, SendOutcome>
         requires { IfOk read (λ n. n ≤ length self.old.room.items) }
-        ensures core { self.new.station.core
-            ≡ record self.old.station.core { endpoint = self.new.station.core.endpoint } }
-        ensures clock { self.new.station.clock ≡ self.old.station.clock }
-        ensures wire { self.new.station.wire ≡ self.old.station.wire }
-        ensures readiness { self.new.station.readiness ≡ self.old.station.readiness }
-        ensures id { self.new.id ≡ self.old.id }
-        ensures joined { self.new.joined ≡ self.old.joined }
-        ensures left { self.new.left ≡ self.old.left }
         ensures closed { self.new.closed ≡ self.old.closed }
         // What came is handed in whole, and counted. Only memory refuses that.
         ensures came { IfOk read (λ n. OnOk result (
-            HandsOn self.old.station.core.endpoint self.new.station.core.endpoint self.old.id
-            (take n self.old.room.items)
+            HandsOn endpoint.old endpoint.new id (take n self.old.room.items)
             × EntersRead self.old.ledger self.new.ledger (take n self.old.room.items))) }
         ensures memory { IfOk read (λ n. IfErr result (λ v. v ≡ Verdicts.OutOfMemory)) }
         // No byte is the end, and nothing else is.
@@ -52,7 +87,7 @@ impl<'a, R: Net + Log + Clock + Eprint> SendingHost<'a, R> {
             → result ≡ Ok false) }
         ensures unread { IfErr read (λ e. error_kind e ≢ Interrupted
             → error_kind e ≢ WouldBlock → result ≡ Err Verdicts.Unread) }
-        ensures still { OnErr read ((self.new.station.core ≡ self.old.station.core)
+        ensures still { OnErr read ((endpoint.new ≡ endpoint.old)
             × (self.new.read ≡ self.old.read) × (self.new.ledger ≡ self.old.ledger)) }
         ensures fault { IfErr result IsReadFault }
     {
@@ -70,8 +105,7 @@ impl<'a, R: Net + Log + Clock + Eprint> SendingHost<'a, R> {
             self.read = true;
             return Ok(true);
         }
-        let endpoint = &mut self.station.core.endpoint;
-        let handed = hand_in(alloc, endpoint, self.id, &self.room[..count]);
+        let handed = hand_in(alloc, endpoint, id, &self.room[..count]);
         if handed.is_err() || self.ledger.add(count as u64).is_err() {
             return Err(SendOutcome::OutOfMemory);
         }
@@ -80,48 +114,40 @@ impl<'a, R: Net + Log + Clock + Eprint> SendingHost<'a, R> {
 
     /// Reads once, and hands in what came as one message. It answers whether something came, or
     /// the end did.
-    fn read_some<I: Read>(&mut self, alloc: Global, reader: &mut I) -> Result<bool, SendOutcome>
-        ensures core { self.new.station.core
-            ≡ record self.old.station.core { endpoint = self.new.station.core.endpoint } }
-        ensures clock { self.new.station.clock ≡ self.old.station.clock }
-        ensures wire { self.new.station.wire ≡ self.old.station.wire }
-        ensures readiness { self.new.station.readiness ≡ self.old.station.readiness }
-        ensures id { self.new.id ≡ self.old.id }
-        ensures joined { self.new.joined ≡ self.old.joined }
-        ensures left { self.new.left ≡ self.old.left }
+    fn read_some<I: Read>(
+        &mut self,
+        alloc: Global,
+        endpoint: &mut Endpoint,
+        id: u16,
+        reader: &mut I,
+    ) -> Result<bool, SendOutcome>
         // What comes is handed in whole, and counted.
         ensures reads { self.old.read ≡ false → OnOk result ((bytes : List ℕ) × ReadsOn
-            (intake self.old.station.core.endpoint
-            self.old.read self.old.closed self.old.ledger (I.remaining reader.old))
-            (intake self.new.station.core.endpoint
-            self.new.read self.new.closed self.new.ledger (I.remaining reader.new))
-            self.old.id bytes) }
+            (feeding_at self.old endpoint.old (I.remaining reader.old))
+            (feeding_at self.new endpoint.new (I.remaining reader.new))
+            id bytes) }
         ensures unread { result ≡ Err Verdicts.Unread
             → Keeps (I.remaining reader.old) (I.remaining reader.new)
-            × (self.new.station.core ≡ self.old.station.core) }
+            × (endpoint.new ≡ endpoint.old) }
         ensures fault { IfErr result IsReadFault }
     {
         let read = reader.read(&mut self.room);
-        self.take_read(alloc, read)
+        self.take_read(alloc, endpoint, id, read)
     }
 
     /// Reads where there is something to read and not too much is on its way, and queues the end
-    /// behind it. It answers whether anything was queued.
-    pub fn feed<I: Read>(&mut self, alloc: Global, reader: &mut I) -> Result<bool, SendOutcome>
-        ensures core { self.new.station.core
-            ≡ record self.old.station.core { endpoint = self.new.station.core.endpoint } }
-        ensures clock { self.new.station.clock ≡ self.old.station.clock }
-        ensures wire { self.new.station.wire ≡ self.old.station.wire }
-        ensures readiness { self.new.station.readiness ≡ self.old.station.readiness }
-        ensures id { self.new.id ≡ self.old.id }
-        ensures joined { self.new.joined ≡ self.old.joined }
-        ensures left { self.new.left ≡ self.old.left }
+    /// behind it, for the link of an id. It answers whether anything was queued.
+    pub fn feed<I: Read>(
+        &mut self,
+        alloc: Global,
+        endpoint: &mut Endpoint,
+        id: u16,
+        reader: &mut I,
+    ) -> Result<bool, SendOutcome>
         ensures feeds { OnOk result ((bytes : List ℕ) × Feeds
-            (intake self.old.station.core.endpoint
-            self.old.read self.old.closed self.old.ledger (I.remaining reader.old))
-            (intake self.new.station.core.endpoint
-            self.new.read self.new.closed self.new.ledger (I.remaining reader.new))
-            self.old.id bytes) }
+            (feeding_at self.old endpoint.old (I.remaining reader.old))
+            (feeding_at self.new endpoint.new (I.remaining reader.new))
+            id bytes) }
         // Where all is read, the end is queued at once.
         ensures ends { self.old.read ≡ true → self.old.closed ≡ false
             → OnOk result (self.new.closed ≡ true) }
@@ -131,7 +157,7 @@ impl<'a, R: Net + Log + Clock + Eprint> SendingHost<'a, R> {
         ensures fault { IfErr result IsReadFault }
     {
         if self.read && !self.closed {
-            if self.station.core.endpoint.close(alloc, self.id).is_err() {
+            if endpoint.close(alloc, id).is_err() {
                 return Err(SendOutcome::OutOfMemory);
             }
             self.closed = true;
@@ -140,6 +166,6 @@ impl<'a, R: Net + Log + Clock + Eprint> SendingHost<'a, R> {
         if self.read || self.ledger.ahead() >= MOST_AHEAD || !self.gate.is_open() {
             return Ok(false);
         }
-        self.read_some(alloc, reader)
+        self.read_some(alloc, endpoint, id, reader)
     }
 }

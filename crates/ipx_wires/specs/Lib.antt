@@ -1,0 +1,4 @@
+pub mod EndTraffic
+pub mod OnWires
+pub mod WirePlaces
+pub mod MemoryTraffic

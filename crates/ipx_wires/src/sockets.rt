@@ -1,0 +1,202 @@
+//! Sockets of UDP as those of wires: each datagram is one Ethernet frame.
+
+ghost use Rattle.std.specs.Prelude.{◌≡◌, ◌<◌, ◌≤◌, ◌↔◌, ◌++◌, ◌∷◌, [], IfOk, IfSome, IsSome, OnErr, OnOk, length, slice_index};
+ghost use Rattle.ipx_carrier.specs.Counting.{raised};
+ghost use Rattle.ipx_wires.specs.EndTraffic.{failures_counted};
+ghost use Rattle.ipx_wires.specs.WirePlaces.{end_at_place, ends_behind, is_place};
+
+use crate::end_sockets::{EndSockets, FrameCame};
+use ipx_carrier::{DeviceFault, bound_socket, place_of, raise};
+use std::alloc::Global;
+use std::io;
+use std::io::ErrorKind;
+use std::net::{Net, SocketAddr, UdpSocket};
+use std::os::fd::{AsRawFd, RawFd};
+
+/// Where frames go and come from: an IP address, and a port of UDP there.
+#[derive(Clone, Copy, Debug, PartialEq, Eq)]
+pub struct Place {
+    pub ip: [u8; 4],
+    pub udp_port: u16,
+}
+
+/// The socket of a port, and where the ends of its wire are.
+#[derive(Drop)]
+pub struct WireSocket {
+    socket: UdpSocket,
+    ends: Vec<Place>,
+}
+
+/// Sockets that have one of UDP for each port. Frames go to the places of its ends, and come from these
+/// alone: what comes from elsewhere is kept back.
+///
+/// Which frames come and which arrive is the network's. What the system doesn't take is a failure of
+/// sending; receiving never fails.
+#[derive(Drop)]
+pub struct WireSockets {
+    wires: Vec<WireSocket>,
+    sent: u64,
+    failures: u64,
+    faults: u64,
+    strangers: u64,
+}
+
+/// How often a port is asked again for a frame where the system fails.
+const TRIES: u32 = 8;
+
+/// Whether a place is where a datagram came from.
+fn is_at(place: &Place, from: SocketAddr) -> bool
+    ensures { result ≡ is_place from place.now }
+{
+    match from {
+        SocketAddr::V4(from) => place.ip == from.ip().octets() && place.udp_port == from.port(),
+        SocketAddr::V6(_) => false,
+    }
+}
+
+/// The end from which a datagram came.
+fn end_at(ends: &[Place], from: SocketAddr) -> Option<usize>
+    ensures first { result ≡ end_at_place from ends.now }
+    ensures there { IfSome result (λ end. end < length ends.now) }
+{
+    ends.iter().position(|place| is_at(place, from))
+}
+
+impl WireSockets {
+    /// Sockets without a port.
+    pub fn new(alloc: Global) -> WireSockets
+        ensures none { ends_behind result.wires.items ≡ [] }
+        ensures fresh { (result.sent ≡ 0) × (result.failures ≡ 0) × (result.faults ≡ 0)
+            × (result.strangers ≡ 0) }
+    {
+        WireSockets {
+            wires: Vec::new(alloc),
+            sent: 0,
+            failures: 0,
+            faults: 0,
+            strangers: 0,
+        }
+    }
+
+    /// Binds one more port at a place, with its ends there. The error is the system's, or want of
+    /// memory, and then the ports are those before.
+    pub fn bind<R: Net>(&mut self, rt: &R, at: Place, ends: Vec<Place>) -> io::Result<()>
+        ensures bound { OnOk result (ends_behind self.new.wires.items
+            ≡ ends_behind self.old.wires.items ++ length ends.items ∷ []) }
+        ensures refused { OnErr result
+            (ends_behind self.new.wires.items ≡ ends_behind self.old.wires.items) }
+    {
+        let socket = bound_socket(rt, at.ip, at.udp_port)?;
+        let wire = WireSocket { socket, ends };
+        if self.wires.push(wire).is_err() {
+            return Err(io::Error::from(ErrorKind::OutOfMemory));
+        }
+        Ok(())
+    }
+
+    /// How many frames the system took to be sent. It stays at the greatest u64.
+    pub fn sent(&self) -> u64
+        ensures { result ≡ self.now.sent }
+    {
+        self.sent
+    }
+
+    /// How often the system failed as a port was asked. It stays at the greatest u64.
+    pub fn faults(&self) -> u64
+        ensures { result ≡ self.now.faults }
+    {
+        self.faults
+    }
+
+    /// The descriptor of the socket of a port, to wait for it. The first port is 0.
+    pub fn descriptor(&self, port: usize) -> Option<RawFd>
+        ensures { IsSome result ↔ port < length self.now.wires.items }
+    {
+        let wire = self.wires.get(port)?;
+        Some(wire.socket.as_raw_fd())
+    }
+}
+
+impl EndSockets for WireSockets {
+    ghost use Rattle.std.specs.Prelude.{None};
+
+    ghost ends_of = { λ s. ends_behind s.wires.items };
+
+    ghost failed = { λ s. s.failures };
+
+    // What passes is the system's.
+    ghost traffic = { λ s. None };
+
+    ghost kept_back = { λ s. s.strangers };
+
+    fn ports(&self) -> usize {
+        self.wires.len()
+    }
+
+    fn ends(&self, port: usize) -> usize {
+        self.wires[port].ends.len()
+    }
+
+    fn failures(&self) -> u64 {
+        self.failures
+    }
+
+    fn strangers(&self) -> u64 {
+        self.strangers
+    }
+
+    fn send(&mut self, port: usize, end: usize, bytes: &[u8]) -> Result<(), DeviceFault>
+        requires there { port < length (ends_behind self.old.wires.items) }
+        requires end { end < slice_index (ends_behind self.old.wires.items) port }
+        // The system took it or refused it, and that is counted.
+        ensures sent { OnOk result (self.new.sent ≡ raised self.old.sent) }
+        ensures refused { OnErr result (self.new.sent ≡ self.old.sent) }
+        ensures failures { self.new.failures ≡ failures_counted result self.old.failures }
+        ensures rest { (self.new.wires ≡ self.old.wires) × (self.new.faults ≡ self.old.faults)
+            × (self.new.strangers ≡ self.old.strangers) }
+    {
+        let wire = &self.wires[port];
+        let to = wire.ends[end];
+        match wire.socket.send_to(bytes, place_of(to.ip, to.udp_port)) {
+            Ok(count) if count == bytes.len() => {
+                raise(&mut self.sent);
+                Ok(())
+            }
+            _ => {
+                raise(&mut self.failures);
+                Err(DeviceFault)
+            }
+        }
+    }
+
+    fn receive(&mut self, port: usize, room: &mut [u8]) -> Result<Option<FrameCame>, DeviceFault>
+        requires { port < length (ends_behind self.old.wires.items) }
+        // What came from an end is answered, and what came from none is counted.
+        ensures end { IfOk result (λ came. IfSome came (λ c.
+            c.end < slice_index (ends_behind self.old.wires.items) port)) }
+        ensures within { IfOk result (λ came. IfSome came (λ c. c.size ≤ length room.old)) }
+        ensures answered { IfOk result (λ came. IsSome came
+            → self.new.strangers ≡ self.old.strangers) }
+        ensures kept_back { self.old.strangers ≤ self.new.strangers }
+        ensures goes_on { OnErr result ⊥ }
+        ensures faults { self.old.faults ≤ self.new.faults }
+        ensures rest { (self.new.wires ≡ self.old.wires) × (self.new.sent ≡ self.old.sent)
+            × (self.new.failures ≡ self.old.failures) }
+    {
+        for _try in 0..TRIES {
+            let wire = &self.wires[port];
+            match wire.socket.recv_from(room) {
+                Ok((size, from)) => {
+                    let Some(end) = end_at(&wire.ends, from) else {
+                        raise(&mut self.strangers);
+                        return Ok(None);
+                    };
+                    return Ok(Some(FrameCame { end, size }));
+                }
+                Err(error) if error.kind() == ErrorKind::WouldBlock => return Ok(None),
+                Err(_) => raise(&mut self.faults),
+            }
+        }
+        Ok(None)
+    }
+}

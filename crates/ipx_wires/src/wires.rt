@@ -1,0 +1,241 @@
+//! Ports on wires.
+
+ghost use Rattle.std.specs.Prelude.{◌≡◌, ◌<◌, ◌≤◌, ◌+◌, ◌^◌, [], Option, None, IfOk, IfSome, OnErr, length, map, min, slice_index};
+ghost use Rattle.ipx_carrier.specs.RunFaultNumbers.{device_failures};
+ghost use Rattle.ipx_carrier.specs.Segments.{copies_count, count_in};
+ghost use Rattle.ipx_wires.specs.EndTraffic.{EndFrame, frame_at};
+ghost use Rattle.ipx_wires.specs.OnWires.{HearsAnswerOf, HearsBehind, SendsPacket, by_frames, wires_view};
+
+use crate::end_sockets::EndSockets;
+use crate::reaching::send_to_ends;
+use crate::taking::take_packet;
+use ipx_carrier::{DeviceFault, PacketSent, Segments, raise};
+use ipx_frames::FRAME_MAX_SIZE;
+use ipx_hub::Hub;
+use ipx_wire::Node;
+
+/// The room that a frame is received into: more than any that goes on has.
+const FRAME_ROOM: usize = 1536;
+
+/// Ports on wires of several ends, each with a hub of its own: frames of an end go on to others, the
+/// core gets what is for it, and its packets go by frames. There are as many ports as both the sockets
+/// and the hubs are for.
+///
+/// A frame that can't be sent to one end is lost there, as one is on the way, and the sockets count
+/// it.
+#[derive(Drop)]
+pub struct Wires<D: EndSockets + Drop> {
+    sockets: D,
+    hubs: Vec<Hub>,
+    moment: u64,
+    kept: u64,
+    failures: u64,
+}
+
+impl<D: EndSockets + Drop> Wires<D> {
+    /// Ports on the wires of these sockets, with their hubs in order, at the moment 0.
+    pub fn new(sockets: D, hubs: Vec<Hub>) -> Wires<D>
+        ensures sockets { result.sockets ≡ sockets }
+        ensures hubs { result.hubs.items ≡ hubs.items }
+        ensures fresh { (result.moment ≡ 0) × (result.kept ≡ 0) × (result.failures ≡ 0) }
+    {
+        Wires {
+            sockets,
+            hubs,
+            moment: 0,
+            kept: 0,
+            failures: 0,
+        }
+    }
+
+    /// Sets the moment, in ms, at which what comes and goes from now on does so. One calls it before
+    /// each turn.
+    pub fn set_moment(&mut self, moment: u64)
+        ensures { self.new ≡ record self.old { moment = moment } }
+    {
+        self.moment = moment;
+    }
+
+    /// The sockets, to be asked between two runs.
+    pub fn sockets(&self) -> &D
+        ensures { result.now ≡ self.now.sockets }
+    {
+        &self.sockets
+    }
+
+    /// The hubs of the ports, in order: what they count, and which stations they know.
+    pub fn hubs(&self) -> &[Hub]
+        ensures { result.now ≡ self.now.hubs.items }
+    {
+        &self.hubs
+    }
+
+    /// How much that came was kept from the core: frames whose hub did, also those that went on, and
+    /// what came from no end.
+    pub fn kept_back(&self) -> u128
+        ensures { result ≡ self.now.kept + D.kept_back self.now.sockets }
+    {
+        u128::from(self.kept) + u128::from(self.sockets.strangers())
+    }
+
+    /// Sends a packet of the core to a node of a port's wire, by one frame.
+    fn send_frame(&mut self, port: usize, node: Node, packet: &[u8]) -> PacketSent
+        requires hub { port < length self.old.hubs.items }
+        requires there { port < length (D.ends_of self.old.sockets) }
+        ensures sent { SendsPacket (slice_index (D.ends_of self.old.sockets) port) self.old.moment
+            port node packet.now result
+            (wires_view self.old.hubs.items self.old.kept
+            (D.traffic self.old.sockets) (D.failed self.old.sockets))
+            (wires_view self.new.hubs.items self.new.kept
+            (D.traffic self.new.sockets) (D.failed self.new.sockets)) }
+        ensures rest { (self.new.moment ≡ self.old.moment) × (self.new.failures ≡ self.old.failures) }
+        ensures ends { D.ends_of self.new.sockets ≡ D.ends_of self.old.sockets }
+        ensures kept_back { D.kept_back self.new.sockets ≡ D.kept_back self.old.sockets }
+    {
+        let mut frame = [0; FRAME_MAX_SIZE];
+        let hub = &mut self.hubs[port];
+        match hub.frame_into(node, packet, self.moment, &mut frame) {
+            Ok((way, size)) => {
+                send_to_ends(&mut self.sockets, port, way, &frame[..size]);
+                PacketSent::Copies(1)
+            }
+            Err(_) => PacketSent::Unmapped,
+        }
+    }
+
+    /// Gives a frame on that came from an end of a port, and takes what is for the core into the room.
+    fn hear_frame(
+        &mut self,
+        port: usize,
+        end: usize,
+        bytes: &[u8],
+        room: &mut [u8],
+    ) -> Option<usize>
+        requires hub { port < length self.old.hubs.items }
+        requires there { port < length (D.ends_of self.old.sockets) }
+        ensures heard { HearsBehind (slice_index (D.ends_of self.old.sockets) port) self.old.moment
+            (length room.old) (frame_at port bytes.now end) [] room.new result
+            (wires_view self.old.hubs.items self.old.kept
+            (D.traffic self.old.sockets) (D.failed self.old.sockets))
+            (wires_view self.new.hubs.items self.new.kept
+            (D.traffic self.new.sockets) (D.failed self.new.sockets)) }
+        ensures within { IfSome result (λ n. n ≤ length room.old) }
+        ensures untouched { result ≡ None → room.new ≡ room.old }
+        ensures rest { (self.new.moment ≡ self.old.moment) × (self.new.failures ≡ self.old.failures) }
+        ensures grows { self.old.kept ≤ self.new.kept }
+        ensures ends { D.ends_of self.new.sockets ≡ D.ends_of self.old.sockets }
+        ensures kept_back { D.kept_back self.new.sockets ≡ D.kept_back self.old.sockets }
+    {
+        let hub = &mut self.hubs[port];
+        let (way, count) = take_packet(hub, end, bytes, self.moment, room);
+        send_to_ends(&mut self.sockets, port, way, bytes);
+        if count.is_none() {
+            raise(&mut self.kept);
+        }
+        count
+    }
+}
+
+impl<D: EndSockets + Drop> Segments for Wires<D> {
+    ghost use Rattle.std.specs.Prelude.{List, ℕ};
+    ghost use Rattle.ipx_wires.specs.OnWires.{WireFrame};
+
+    ghost Copy = { WireFrame };
+
+    // The same ports, with as many ends.
+    ghost Kept = { List ℕ };
+
+    ghost kept = { λ w. D.ends_of w.sockets };
+
+    ghost port_count = { λ w. min (length w.hubs.items) (length (D.ends_of w.sockets)) };
+
+    ghost failed = { λ w. w.failures };
+
+    ghost ways = { λ w. by_frames (map (λ h. h.port) w.hubs.items) };
+
+    // What goes over the wires is told by the sockets.
+    ghost traffic = { λ w. None };
+
+    // What is kept back or for another station isn't handed up, so they can't tell what will be.
+    ghost waiting = { λ w. None };
+
+    // Whoever is at an end of a wire may speak.
+    ghost access = { λ w. [] };
+
+    ghost kept_back = { λ w. w.kept + D.kept_back w.sockets };
+
+    fn ports(&self) -> usize {
+        self.hubs.len().min(self.sockets.ports())
+    }
+
+    fn failures(&self) -> u64 {
+        self.failures
+    }
+
+    fn send(&mut self, port: usize, node: Node, packet: &[u8]) -> Result<PacketSent, DeviceFault>
+        requires there { port < min (length self.old.hubs.items)
+            (length (D.ends_of self.old.sockets)) }
+        requires countable { self.old.failures + 1 < 2 ^ 64 }
+        // The frame of the packet goes to the ends of its node, or none can carry it.
+        ensures sent { IfOk result (λ sent. SendsPacket
+            (slice_index (D.ends_of self.old.sockets) port) self.old.moment port node packet.now sent
+            (wires_view self.old.hubs.items self.old.kept
+            (D.traffic self.old.sockets) (D.failed self.old.sockets))
+            (wires_view self.new.hubs.items self.new.kept
+            (D.traffic self.new.sockets) (D.failed self.new.sockets))) }
+        ensures goes_on { OnErr result ⊥ }
+        ensures count { IfOk result (λ sent. count_in sent
+            ≡ copies_count (by_frames (map (λ h. h.port) self.old.hubs.items))
+            (record { port = port; node = node; bytes = packet.now })) }
+        ensures moment { self.new.moment ≡ self.old.moment }
+        ensures failures { self.new.failures ≡ device_failures result self.old.failures }
+        ensures ports { length self.new.hubs.items ≡ length self.old.hubs.items }
+        ensures ways { map (λ h. h.port) self.new.hubs.items
+            ≡ map (λ h. h.port) self.old.hubs.items }
+        ensures kept { self.new.kept ≡ self.old.kept }
+        ensures kept_back { D.kept_back self.new.sockets ≡ D.kept_back self.old.sockets }
+        ensures ends { D.ends_of self.new.sockets ≡ D.ends_of self.old.sockets }
+    {
+        Ok(self.send_frame(port, node, packet))
+    }
+
+    fn receive(&mut self, port: usize, room: &mut [u8]) -> Result<Option<usize>, DeviceFault>
+        requires there { port < min (length self.old.hubs.items)
+            (length (D.ends_of self.old.sockets)) }
+        requires countable { self.old.failures + 1 < 2 ^ 64 }
+        // A frame came from an end and went on from there, or none came.
+        ensures received { IfOk result (λ up. (came : Option EndFrame)
+            × IfSome came (λ frame. frame.port ≡ port)
+            × HearsAnswerOf (slice_index (D.ends_of self.old.sockets) port) self.old.moment
+            (length room.old) came room.new up
+            (wires_view self.old.hubs.items self.old.kept
+            (D.traffic self.old.sockets) (D.failed self.old.sockets))
+            (wires_view self.new.hubs.items self.new.kept
+            (D.traffic self.new.sockets) (D.failed self.new.sockets))) }
+        ensures within { IfOk result (λ up. IfSome up (λ n. n ≤ length room.old)) }
+        // The room is as it was where nothing is for the core.
+        ensures untouched { IfOk result (λ up. up ≡ None → room.new ≡ room.old) }
+        ensures vain { OnErr result (room.new ≡ room.old) }
+        ensures refused { OnErr result ((self.new.hubs.items ≡ self.old.hubs.items)
+            × (self.new.kept ≡ self.old.kept)
+            × (D.traffic self.new.sockets ≡ D.traffic self.old.sockets)) }
+        ensures moment { self.new.moment ≡ self.old.moment }
+        ensures failures { self.new.failures ≡ device_failures result self.old.failures }
+        ensures ports { length self.new.hubs.items ≡ length self.old.hubs.items }
+        ensures ways { map (λ h. h.port) self.new.hubs.items
+            ≡ map (λ h. h.port) self.old.hubs.items }
+        ensures kept { self.old.kept ≤ self.new.kept }
+        ensures kept_back { D.kept_back self.old.sockets ≤ D.kept_back self.new.sockets }
+        ensures ends { D.ends_of self.new.sockets ≡ D.ends_of self.old.sockets }
+    {
+        let mut frame = [0; FRAME_ROOM];
+        let Ok(came) = self.sockets.receive(port, &mut frame) else {
+            self.failures += 1;
+            return Err(DeviceFault);
+        };
+        let Some(came) = came else {
+            return Ok(None);
+        };
+        Ok(self.hear_frame(port, came.end, &frame[..came.size], room))
+    }
+}

@@ -1,0 +1,40 @@
+//! Memory that is refused as a frame is put, and as one comes.
+
+use crate::fixture::{FIRST, PACKET, PORT, frame, hubs, three_ends};
+use ipx_carrier::{DeviceFault, Segments};
+use ipx_wires::{EndSockets, Wires};
+use std::test::Fail;
+
+/// Where a frame can't be put, those that wait are as they were. Where one that comes can't be kept, the
+/// sockets fail, and that is counted.
+#[test]
+fn refused_frames(rt: HostRuntime) -> Result<(), Fail> {
+    let alloc = rt.alloc();
+    let mut ends = match three_ends(alloc) {
+        Ok(ends) => ends,
+        Err(_) => three_ends(alloc)?,
+    };
+    if ends.put(0, 0, &frame(PORT.own, FIRST)).is_err() {
+        ends.put(0, 0, &frame(PORT.own, FIRST))?;
+    }
+    let all = match hubs(alloc) {
+        Ok(all) => all,
+        Err(_) => hubs(alloc)?,
+    };
+    let mut wires = Wires::new(ends, all);
+    let mut room = [0xaa; 1536];
+    match wires.receive(0, &mut room) {
+        Ok(count) => {
+            assert!(rt; count == Some(30));
+            assert_eq!(rt; &room[..30], PACKET.as_slice());
+            assert_eq!(rt; wires.failures(), 0);
+        }
+        Err(DeviceFault) => {
+            assert_eq!(rt; room, [0xaa; 1536]);
+            assert_eq!(rt; wires.failures(), 1);
+            assert_eq!(rt; wires.sockets().failures(), 1);
+        }
+    }
+    assert!(rt; matches!(wires.receive(0, &mut room), Ok(None)));
+    Ok(())
+}
