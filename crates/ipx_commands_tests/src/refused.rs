@@ -1,9 +1,7 @@
 //! Want of memory: each command answers as usual, or says that memory ran out, whichever request is
 //! refused. The writer has its room before.
 
-use crate::texts::{
-    CHECKED, FIELDS, FORWARD, FRAMES, HEARD, NO_MEMORY, PACKET, STATION, VECTOR,
-};
+use crate::texts::{CHECKED, FIELDS, FORWARD, FRAMES, HEARD, NO_MEMORY, PACKET, STATION, VECTOR};
 use ipx_commands::{do_check, do_hop, do_show};
 use ipx_shown_frames::do_show_frames;
 

@@ -55,7 +55,12 @@ fn largest_of_each_encapsulation(rt: HostRuntime) -> Result<(), Fail> {
 #[test]
 fn longer_than_the_largest(rt: HostRuntime) {
     let mut frame = [0; 1515];
-    for whole in [largest(&RAW), largest(&LLC), largest(&SNAP), largest(&ETHERNET_II)] {
+    for whole in [
+        largest(&RAW),
+        largest(&LLC),
+        largest(&SNAP),
+        largest(&ETHERNET_II),
+    ] {
         frame[..1514].copy_from_slice(&whole);
         assert_eq!(rt; fault_of(&frame), Some(FrameFault::FrameLong(1515)));
     }
