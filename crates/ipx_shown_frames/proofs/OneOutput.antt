@@ -9,11 +9,15 @@ use Rattle.ipx_frames.specs.declared.encapsulation.Encapsulation.{Encapsulation}
 use Rattle.ipx_frames.specs.declared.fault.FrameFault.{FrameFault}
 use Rattle.ipx_frames.specs.Frame.{FrameView, IsFrame}
 use Rattle.ipx_frames.specs.FrameFault.{frame_fault}
+use Rattle.ipx_commands.specs.Decoded.{DecodedView, IsDecoded}
 use Rattle.ipx_commands.specs.Show.{Shows}
 use Rattle.ipx_commands.specs.ShowLine.{reading_lines, reading_status}
-use Rattle.ipx_commands.proofs.Outputs.{OneReading}
 use Rattle.ipx_shown_frames.specs.FrameLine.{frame_line, no_frame_line}
 use Rattle.ipx_shown_frames.specs.ShownFrame.{IsShown, ShownFrame, ShowsFrame, ShowsFrames, ShowsTexts, bad_text_line, frame_texts, long_line, worst_of}
+
+-- bytes are read as one thing
+abbrev pub OneReading : Type 0
+OneReading = (bytes : List ℕ) (a b : DecodedView) → IsDecoded bytes a → IsDecoded bytes b → a ≡ b
 
 -- bytes are one frame
 abbrev pub OneFrame : Type 0

@@ -2,13 +2,13 @@
 use Rattle.std.proofs.Common.{◌≡◌, ℕ, List, ◌++◌, Option, Some, None, Result, Ok, Err, refl, sym, ap, ◌∙◌, subst, append_assoc, inl, inr}
 use Rattle.std.specs.Prelude.{IfOk, IsOkAnd, OnErr, ◌⊎◌}
 use Rattle.std.specs.Io.KnownBytes.{Appends}
+use Rattle.std.proofs.KnownBytes.{Appends-trans}
 use Rattle.std.specs.Result.{result_ok}
 use Rattle.hex.specs.Hex.{IsBytes, decode_of, encode_lower}
 use Rattle.hex.proofs.HexLemmas.{decode_of-encode_lower}
 use Rattle.ipx_wire.specs.declared.address.Node.{Node}
 use Rattle.ipx_commands.specs.Output.{AppendsFront, LeavesWritten, no_memory_line}
 use Rattle.ipx_commands.specs.Show.{Shows, ShowWrites}
-use Rattle.ipx_commands.proofs.Written.{appends_on}
 use Rattle.ipx_shown_frames.specs.ShownFrame.{IsShown, LeavesBehind, LeavesFrame, LeavesShown, ShownFrame, ShowsFrame, bad_text_line}
 
 pub on_err : {T E : Type 0} (r : Result T E) (P : Type 0) → P → OnErr r P
@@ -47,7 +47,7 @@ longer_front a b whole more (front, rest, is, wrote) = (front, rest ++ more, ap 
 
 front_behind : (a m b : Option (List ℕ)) (head whole : List ℕ) → Appends a m head → AppendsFront m b whole → AppendsFront a b (head ++ whole)
 front_behind a m b head whole first (front, rest, is, wrote) =
-    (head ++ front, rest, ap (λ (t : List ℕ). head ++ t) is ∙ sym (append_assoc head front rest), appends_on a m b head front first wrote)
+    (head ++ front, rest, ap (λ (t : List ℕ). head ++ t) is ∙ sym (append_assoc head front rest), Appends-trans a m b head front first wrote)
 
 pub head_left : {L E : Type 0} (lines : Result L E) (text : L → List ℕ) (a b : Option (List ℕ)) (head : List ℕ) (IsMore : List ℕ → Type 0) → IfOk lines (λ l. text l ≡ head)
     → AppendsFront a b no_memory_line ⊎ IsOkAnd lines (λ l. AppendsFront a b (text l)) → LeavesBehind a b head IsMore
@@ -60,7 +60,7 @@ head_left (Ok l) text a b head IsMore made left = elim left [
 pub heard_written : {F : Type 0} (result : Result ℕ F) (Writes : List ℕ → ℕ → Type 0) (a m b : Option (List ℕ)) (head : List ℕ) → Appends a m head
     → IfOk result (λ s. (l : List ℕ) × Writes l s × Appends m b l) → IfOk result (λ s. (l : List ℕ) × Writes l s × Appends a b (head ++ l))
 heard_written (Err e) Writes a m b head first wrote = tt
-heard_written (Ok s) Writes a m b head first wrote = (wrote.0, wrote.1, appends_on a m b head wrote.0 first wrote.2)
+heard_written (Ok s) Writes a m b head first wrote = (wrote.0, wrote.1, Appends-trans a m b head wrote.0 first wrote.2)
 
 pub heard_left : {F : Type 0} (result : Result ℕ F) (IsMore : List ℕ → Type 0) (a m b : Option (List ℕ)) (head : List ℕ) → Appends a m head
     → OnErr result (LeavesWritten m b IsMore) → OnErr result (LeavesBehind a b head IsMore)

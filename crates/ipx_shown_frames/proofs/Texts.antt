@@ -2,6 +2,7 @@
 use Rattle.std.proofs.Common.{◌≡◌, ◌<◌, ◌≤◌, ℕ, ◌+◌, zero, suc, List, ◌++◌, ◌∷◌, [], length, map, take, get_or, max, true, ltb, lt-ltb, Option, Some, None, Result, Ok, Err, inl, inr, false, arith, sym, ap, ◌∙◌, refl, subst}
 use Rattle.std.specs.Prelude.{◌==◌, IfOk, IfSome, OnErr, ◌⊎◌}
 use Rattle.std.specs.Io.KnownBytes.{Appends}
+use Rattle.std.proofs.KnownBytes.{Appends-nil}
 use Rattle.std.specs.List.{AllZip, enumerate_from, flat_map}
 use Rattle.std.proofs.lemmas.Bool.{cases_lt, le-ltb}
 use Rattle.std.proofs.lemmas.Grind.{flat_map-append}
@@ -13,7 +14,6 @@ use Rattle.ipx_wire.specs.declared.address.Node.{Node}
 use Rattle.ipx_commands.specs.CheckLine.{input_lines}
 use Rattle.ipx_commands.specs.Output.{AppendsFront, no_memory_line}
 use Rattle.ipx_commands.specs.Text.{IsInput}
-use Rattle.ipx_commands.proofs.Written.{appends_none}
 use Rattle.ipx_shown_frames.specs.ShownFrame.{IsShown, LeavesFrames, LeavesShown, LeavesTexts, ShownFrame, ShowsFrames, ShowsTexts, frame_texts}
 
 enumerate_from-push : {X : Type 0} (n : ℕ) (xs : List X) (x : X) → enumerate_from n (xs ++ x ∷ []) ≡ enumerate_from n xs ++ (n + length xs, x) ∷ []
@@ -88,7 +88,7 @@ input_left (Err e) own input texts a b short is left =
 pub none_left : (own : Node) (input : List ℕ) (a b : Option (List ℕ)) → length input ≤ 1000000 → AppendsFront a b no_memory_line → LeavesFrames own input a b
 none_left own input a b short front =
     let few : ltb 1000000 (length input) ≡ false = le-ltb _ _ short in
-    let leaves : LeavesTexts own (frame_texts input) a b = (0, [], 0, texts_none own (frame_texts input), a, appends_none a, inl front) in
+    let leaves : LeavesTexts own (frame_texts input) a b = (0, [], 0, texts_none own (frame_texts input), a, Appends-nil a, inl front) in
     rw few leaves
 
 -- an input has few lines
@@ -97,7 +97,7 @@ few_texts input text texts short within is =
     omega (arith, short, within, ap length is, length-slice_split (λ (b : ℕ). b == 10) text, count_by-le-length (λ (b : ℕ). b == 10) text)
 
 -- one byte past the longest input is enough to see that it is too long
-pub ShowsFrames-take : (own : Node) (input lines : List ℕ) (status : ℕ) → ShowsFrames own (take 1000001 input) lines status → ShowsFrames own input lines status
+ShowsFrames-take : (own : Node) (input lines : List ℕ) (status : ℕ) → ShowsFrames own (take 1000001 input) lines status → ShowsFrames own input lines status
 ShowsFrames-take own input lines status writes =
     elim (cases_lt 1000000 (length input)) [
       | inl long ↦
@@ -106,6 +106,14 @@ ShowsFrames-take own input lines status writes =
           rw a (rw b at writes)
       | inr short ↦ subst (λ (t : List ℕ). ShowsFrames own t lines status) (take_all 1000001 input (omega arith)) writes
     ]
+
+pub frames_written : {F : Type 0} (result : Result ℕ F) (own : Node) (known a b : Option (List ℕ)) (text : List ℕ) → IfSome known (λ input. text ≡ take 1000001 input)
+    → IfOk result (λ s. (l : List ℕ) × ShowsFrames own text l s × Appends a b l) → IfOk result (λ s. (input : List ℕ) × IsInput known input × (l : List ℕ) × ShowsFrames own input l s × Appends a b l)
+frames_written (Err e) own known a b text read wrote = tt
+frames_written (Ok s) own None a b text read wrote = (text, tt, wrote.0, wrote.1, wrote.2)
+frames_written (Ok s) own (Some input) a b text read wrote =
+    let shows = subst (λ (t : List ℕ). ShowsFrames own t wrote.0 s) read wrote.1 in
+    (input, refl, wrote.0, ShowsFrames-take own input wrote.0 s shows, wrote.2)
 
 LeavesFrames-take : (own : Node) (input : List ℕ) (before after : Option (List ℕ)) → LeavesFrames own (take 1000001 input) before after → LeavesFrames own input before after
 LeavesFrames-take own input before after leaves =

@@ -1,5 +1,5 @@
 use Rattle.std.proofs.Common.{◌≡◌, ℕ, ◌+◌, ◌++◌, map, max, take, ap, sym, ◌∙◌, subst}
-use Rattle.ipx_commands.proofs.Written.{appends_on}
+use Rattle.std.proofs.KnownBytes.{Appends-trans}
 use Rattle.ipx_shown_frames.specs.ShownFrame.{ShowsTexts}
 use Rattle.ipx_shown_frames.proofs.Shown.{on_err}
 use Rattle.ipx_shown_frames.proofs.Texts.{lent_left, lent_more}
@@ -30,6 +30,6 @@ loop-text-preserved g c =
       wrote = (
         lines,
         subst (ShowsTexts c.args.own (take (n + 1) (map (λ t. t.now) c.args.texts.now)) lines) status shows,
-        appends_on a m b inv.wrote.0 one.0.lines inv.wrote.2 one.3,
+        Appends-trans a m b inv.wrote.0 one.0.lines inv.wrote.2 one.3,
       );
     }
