@@ -6,9 +6,9 @@ use Rattle.toml.specs.Data.{Data, Items, item, Members, get_member}
 use Rattle.toml.specs.View.{items_view}
 use Rattle.toml.specs.declared.value.Value.{Value}
 use Rattle.ipx_site.specs.declared.fault.FileFault.{FileFault}
-use Rattle.ipx_site.specs.declared.fault.FileFault.TheVariants.{Missing, NotToml, OutOfMemory, Twin, Unknown, Wrong}
+use Rattle.ipx_site.specs.declared.fault.FileFault.TheVariants.{Missing, NotToml, OtherKind, OutOfMemory, Twin, Unknown, Wrong}
 use Rattle.ipx_site.specs.declared.key.Key.{Key}
-use Rattle.ipx_site.specs.declared.site.SitePort.{SitePort}
+use Rattle.ipx_site.specs.declared.site.PortOfKind.{PortOfKind}
 use Rattle.ipx_site.specs.declared.key.Key.TheVariants.{Status}
 use Rattle.ipx_site.specs.Keys.{key_text}
 use Rattle.ipx_site.specs.Values.{IsText}
@@ -33,19 +33,19 @@ right_if Means key ms (Some a) holds = inr (a, holds)
 
 -- Of the items that are left the first is at fault. The ports seen so far are those before it, and
 -- they are counted.
-pub item_fault : (earlier : List SitePort) (i n : ℕ) → n ≡ i → (ds : Items) (d : Data) (left : Items)
+pub item_fault : (earlier : List PortOfKind) (i n : ℕ) → n ≡ i → (ds : Items) (d : Data) (left : Items)
     → ds ≡ item d left → (f : FileFault) → IsPortItemFault (n + 1) d f → IsFirstFault earlier (i + 1) ds f
 item_fault earlier i n counted ds d left is f fault = rw (is, ← counted) (inl fault)
 
-pub twin_fault : (earlier seen : List SitePort) → seen ≡ earlier → (i n : ℕ) → n ≡ i
+pub twin_fault : (earlier seen : List PortOfKind) → seen ≡ earlier → (i n : ℕ) → n ≡ i
     → (ds : Items) (d : Data) (left : Items) → ds ≡ item d left
-    → (p : SitePort) → IsPortItem d p → (f : FileFault) → IsTwin seen (n + 1) p f
+    → (p : PortOfKind) → IsPortItem d p → (f : FileFault) → IsTwin seen (n + 1) p f
     → IsFirstFault earlier (i + 1) ds f
 twin_fault earlier seen same i n counted ds d left is p port f twin =
     rw (is, ← counted, ← same) (inr (p, port, inl twin))
 
 -- or one behind it is
-pub later_fault : (earlier seen new : List SitePort) → seen ≡ earlier → (p : SitePort) → new ≡ earlier ++ p ∷ []
+pub later_fault : (earlier seen new : List PortOfKind) → seen ≡ earlier → (p : PortOfKind) → new ≡ earlier ++ p ∷ []
     → (i : ℕ) (ds : Items) (d : Data) (left : Items) → ds ≡ item d left
     → IsPortItem d p → twin_place seen p ≡ None
     → (f : FileFault) → IsFirstFault new (i + 1 + 1) left f → IsFirstFault earlier (i + 1) ds f
@@ -55,10 +55,10 @@ later_fault earlier seen new same p more i ds d left is port alone f fault =
     rw is (inr (p, port, inr (first, behind)))
 
 -- a port, and those behind it
-pub one_more_port : (earlier seen new : List SitePort) → seen ≡ earlier → (p : SitePort) → new ≡ earlier ++ p ∷ []
+pub one_more_port : (earlier seen new : List PortOfKind) → seen ≡ earlier → (p : PortOfKind) → new ≡ earlier ++ p ∷ []
     → (ds : Items) (d : Data) (left : Items) → ds ≡ item d left
     → IsPortItem d p → twin_place seen p ≡ None
-    → (rest : List SitePort) → ArePorts new left rest → ArePorts earlier ds (p ∷ rest)
+    → (rest : List PortOfKind) → ArePorts new left rest → ArePorts earlier ds (p ∷ rest)
 one_more_port earlier seen new same p more ds d left is port alone rest are =
     let behind = rw more at are in
     let first = rw same at alone in
@@ -81,6 +81,7 @@ fault_is : (IsFault : FileFault → Type 0) (bytes : List ℕ) (f : FileFault) (
 fault_is IsFault bytes OutOfMemory status fault is = inl is
 fault_is IsFault bytes (NotToml line error) status fault is = inr (is, inr (NotToml line error, fault))
 fault_is IsFault bytes (Unknown table name) status fault is = inr (is, inr (Unknown table name, fault))
+fault_is IsFault bytes (OtherKind table key kind) status fault is = inr (is, inr (OtherKind table key kind, fault))
 fault_is IsFault bytes (Missing table key) status fault is = inr (is, inr (Missing table key, fault))
 fault_is IsFault bytes (Wrong table key) status fault is = inr (is, inr (Wrong table key, fault))
 fault_is IsFault bytes (Twin table network earlier) status fault is = inr (is, inr (Twin table network earlier, fault))

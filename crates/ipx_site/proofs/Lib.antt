@@ -14,3 +14,5 @@ pub mod Access
 pub mod Printed
 pub mod Taken
 pub mod Hearings
+pub mod WireEnds
+pub mod WrittenStations

@@ -1,16 +1,22 @@
 -- The networks of the ports of a file are those that a router's ports may have.
 use Rattle.std.proofs.Common.{List, [], ◌∷◌, ◌++◌, All, sym, subst}
 use Rattle.std.proofs.lemmas.List.Elements.{All-nil, All-cons}
-use Rattle.toml.specs.Data.{Items, no_items, item}
+use Rattle.toml.specs.Data.{Items, Members, no_items, item}
 use Rattle.ipx_router.specs.NewRouter.{IsOwnNetwork}
-use Rattle.ipx_site.specs.declared.site.SitePort.{SitePort}
+use Rattle.ipx_site.specs.declared.site.PortOfKind.{PortOfKind}
+use Rattle.ipx_site.specs.declared.site.PortOfKind.TheVariants.{Rfc1234, Frames}
+use Rattle.ipx_site.specs.FramesTable.{IsTableOfKind}
 use Rattle.ipx_site.specs.Site.{ArePorts}
-use Rattle.ipx_site.specs.SitePorts.{router_port_of, router_ports}
+use Rattle.ipx_site.specs.SitePorts.{router_port_of_kind, router_ports}
 
-pub own_of : (earlier : List SitePort) (ds : Items) (ps : List SitePort) → ArePorts earlier ds ps → All IsOwnNetwork (router_ports ps)
+own_one : (ms : Members) (p : PortOfKind) → IsTableOfKind ms p → IsOwnNetwork (router_port_of_kind p)
+own_one ms (Rfc1234 p) h = let network = h.network.2 in (network.2.1, network.2.2)
+own_one ms (Frames p) h = let network = h.network.2 in (network.2.1, network.2.2)
+
+pub own_of : (earlier : List PortOfKind) (ds : Items) (ps : List PortOfKind) → ArePorts earlier ds ps → All IsOwnNetwork (router_ports ps)
 own_of earlier no_items ps h =
-    subst (λ (xs : List SitePort). All IsOwnNetwork (router_ports xs)) (sym h) (All-nil IsOwnNetwork)
+    subst (λ (xs : List PortOfKind). All IsOwnNetwork (router_ports xs)) (sym h) (All-nil IsOwnNetwork)
 own_of earlier (item d ds) ps h =
-    let network = h.3.2.network.2 in
-    subst (λ (xs : List SitePort). All IsOwnNetwork (router_ports xs)) (sym h.2)
-    (All-cons IsOwnNetwork (router_port_of h.0) (router_ports h.1) (network.2.1, network.2.2) (own_of (earlier ++ h.0 ∷ []) ds h.1 h.5))
+    let (ms, is, (kind, table)) = h.3 in
+    subst (λ (xs : List PortOfKind). All IsOwnNetwork (router_ports xs)) (sym h.2)
+    (All-cons IsOwnNetwork (router_port_of_kind h.0) (router_ports h.1) (own_one ms h.0 table) (own_of (earlier ++ h.0 ∷ []) ds h.1 h.5))

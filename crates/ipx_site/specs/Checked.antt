@@ -4,14 +4,22 @@ use Rattle.std.specs.Global.{Global}
 use Rattle.std.specs.Cmp.Lexicographic.{pointwise}
 use Rattle.std.specs.Fmt.{decimal}
 use Rattle.std.specs.Int.{w32, to_be_bytes}
-use Rattle.std.specs.List.{before_first, flat_map}
+use Rattle.std.specs.List.{before_first, flat_map, list_any}
 use Rattle.hex.specs.Hex.{encode_lower}
 use Rattle.ipx_carrier.specs.Mapping.{node_at}
 use Rattle.ipx_site.specs.declared.site.Accept.{Accept}
 use Rattle.ipx_site.specs.declared.site.Accept.TheVariants.{Any, Peers}
+use Rattle.ipx_site.specs.declared.site.FramesPort.{FramesPort}
+use Rattle.ipx_site.specs.declared.site.PortOfKind.{PortOfKind}
+use Rattle.ipx_site.specs.declared.site.PortOfKind.TheVariants.{Rfc1234, Frames}
 use Rattle.ipx_site.specs.declared.site.SiteFile.{SiteFile}
 use Rattle.ipx_site.specs.declared.site.SitePort.{SitePort}
+use Rattle.ipx_site.specs.PortKinds.{place_of_kind}
 use Rattle.ipx_site.specs.SitePeers.{is_peer}
+use Rattle.ipx_site.specs.WireValues.{frame_word}
+use Rattle.ipx_wire.specs.declared.address.Network.{Network}
+use Rattle.ipx_wire.specs.declared.address.Node.{Node}
+use Rattle.ipx_wires.specs.declared.sockets.Place.{Place}
 
 -- a byte of a text from elsewhere: itself where it is printable ASCII, else a dot
 abbrev pub shown_byte : ℕ → List ℕ
@@ -28,10 +36,10 @@ dotted_text ip =
     ++ (codes "." ++ (decimal (slice_index ip 2) ++ (codes "." ++ decimal (slice_index ip 3))))))
 
 -- where a port is on its network: in 8 and 12 hex digits
-abbrev pub place_text : SitePort → List ℕ
-place_text p =
-    codes "network " ++ (encode_lower (to_be_bytes w32 p.network.0)
-    ++ (codes " node " ++ encode_lower (node_at p.address).0))
+abbrev pub place_text : Network → Node → List ℕ
+place_text network node =
+    codes "network " ++ (encode_lower (to_be_bytes w32 network.0)
+    ++ (codes " node " ++ encode_lower node.0))
 
 -- where it is reached by UDP
 abbrev pub reached_text : List ℕ → ℕ → List ℕ
@@ -53,14 +61,40 @@ dealings_text p =
     codes "cost " ++ (decimal p.cost ++ (codes " peers " ++ (decimal (length p.peers.items)
     ++ (routers_text p.routers ++ others_text p.accept))))
 
--- a port with its number, as a router says it when it starts
-abbrev pub port_text : ℕ → SitePort → List ℕ
-port_text number p =
-    codes "port " ++ (decimal number ++ (codes " " ++ (place_text p
+-- a port of RFC 1234 with its number
+abbrev pub rfc1234_text : ℕ → SitePort → List ℕ
+rfc1234_text number p =
+    codes "port " ++ (decimal number ++ (codes " " ++ (place_text p.network (node_at p.address)
     ++ (codes " udp " ++ (reached_text p.address p.udp_port ++ (codes " " ++ dealings_text p))))))
 
+-- where an end of a wire is
+abbrev pub wire_end_text : Place → List ℕ
+wire_end_text end = codes " " ++ reached_text end.ip end.udp_port
+
+-- that a port is no hub of its ends
+abbrev pub joined_text : Bool → List ℕ
+joined_text joined = if joined then [] else codes " apart"
+
+-- what it costs, where the ends of its wire are, and whether it is their hub
+abbrev pub wire_text : FramesPort → List ℕ
+wire_text p =
+    codes "cost " ++ (decimal p.cost ++ (codes " ends" ++ (flat_map wire_end_text p.ends.items
+    ++ joined_text p.joined)))
+
+-- a port on a wire with its number
+abbrev pub frames_text : ℕ → FramesPort → List ℕ
+frames_text number p =
+    codes "port " ++ (decimal number ++ (codes " " ++ (place_text p.network p.node
+    ++ (codes " frames " ++ (frame_word p.encapsulation ++ (codes " udp "
+    ++ (reached_text p.address p.udp_port ++ (codes " " ++ wire_text p))))))))
+
+-- a port with its number, as a router says it when it starts
+abbrev pub port_text : ℕ → PortOfKind → List ℕ
+port_text number (Rfc1234 p) = rfc1234_text number p
+port_text number (Frames p) = frames_text number p
+
 -- the lines of its ports, of which the first has this number
-abbrev pub port_texts : ℕ → List SitePort → List (List ℕ)
+abbrev pub port_texts : ℕ → List PortOfKind → List (List ℕ)
 port_texts number [] = []
 port_texts number (p ∷ ps) = port_text number p ∷ port_texts (number + 1) ps
 
@@ -83,17 +117,30 @@ peer_remark whose address earlier peer =
     then whose ++ (codes "peer " ++ (dotted_text peer ++ codes " stands twice\n"))
     else [])
 
--- two ports are reached at one place
-abbrev pub is_one_place : SitePort → SitePort → Bool
-is_one_place p other = pointwise nat_eq other.address p.address && (other.udp_port == p.udp_port)
+-- two places are one
+abbrev pub is_same_place : Place → Place → Bool
+is_same_place a b = pointwise nat_eq b.ip a.ip && (b.udp_port == a.udp_port)
 
--- no earlier port is reached where this one is
+-- the ends of a wire are elsewhere than its port, and none of them stands twice
+abbrev pub wire_end_remark : List ℕ → Place → List Place → Place → List ℕ
+wire_end_remark whose own earlier end =
+    if is_same_place own end
+    then whose ++ (codes "end" ++ (wire_end_text end ++ codes " is its own place\n"))
+    else (if list_any (is_same_place end) earlier
+    then whose ++ (codes "end" ++ (wire_end_text end ++ codes " stands twice\n"))
+    else [])
+
+-- two ports are bound at one place
+abbrev pub is_one_place : PortOfKind → PortOfKind → Bool
+is_one_place p other = is_same_place (place_of_kind p) (place_of_kind other)
+
+-- no earlier port is bound where this one is
 abbrev pub sharing_text : ℕ → Option ℕ → List ℕ
 sharing_text number None = []
 sharing_text number (Some k) =
     remark number (codes "address and udp_port are those of port " ++ decimal (k + 1))
 
-abbrev pub place_remark : ℕ → List SitePort → SitePort → List ℕ
+abbrev pub place_remark : ℕ → List PortOfKind → PortOfKind → List ℕ
 place_remark number earlier p = sharing_text number (position (is_one_place p) earlier)
 
 -- ---- all that is printed
@@ -104,12 +151,18 @@ each_behind printed earlier [] = []
 each_behind printed earlier (x ∷ xs) =
     printed earlier x ++ each_behind printed (earlier ++ x ∷ []) xs
 
+-- what is to be remarked on those whom a port sends to, behind the words that say whose they are
+abbrev pub reached_remarks : List ℕ → PortOfKind → List ℕ
+reached_remarks whose (Rfc1234 p) = each_behind (peer_remark whose p.address) [] p.peers.items
+reached_remarks whose (Frames p) =
+    each_behind (wire_end_remark whose (place_of_kind (Frames p))) [] p.ends.items
+
 -- the line of a port behind earlier ones, and what is to be remarked
-abbrev pub port_lines : List SitePort → SitePort → List ℕ
+abbrev pub port_lines : List PortOfKind → PortOfKind → List ℕ
 port_lines earlier p =
     let number = length earlier + 1 in
     port_text number p ++ (10 ∷ (place_remark number earlier p
-    ++ each_behind (peer_remark (port_words number) p.address) [] p.peers.items))
+    ++ reached_remarks (port_words number) p))
 
 abbrev pub count_text : ℕ → List ℕ
 count_text count = if count == 1 then codes "1 port" else (decimal count ++ codes " ports")

@@ -1,5 +1,5 @@
 -- What a key of a table gives, and what is wrong with it.
-use Rattle.std.specs.Prelude.{String, string_bytes, ◌≡◌, ◌⊎◌, ◌+◌, ◌==◌, ℕ, List, count_by, take, Option, Some, None, Result, MatchOption, MatchResult}
+use Rattle.std.specs.Prelude.{String, string_bytes, ◌≡◌, ◌⊎◌, ◌+◌, ◌==◌, ℕ, List, count_by, find, take, Option, Some, None, Result, MatchOption, MatchResult}
 use Rattle.std.specs.Global.{Global}
 use Rattle.toml.specs.Data.{Data, Members, get_member}
 use Rattle.toml.specs.Errors.{IsMemory, IsWithin, span_start}
@@ -7,8 +7,9 @@ use Rattle.toml.specs.Parse.{parse_document}
 use Rattle.toml.specs.declared.de.error.Error.{Error}
 use Rattle.ipx_site.specs.declared.key.Key.{Key}
 use Rattle.ipx_site.specs.declared.fault.FileFault.{FileFault}
-use Rattle.ipx_site.specs.declared.fault.FileFault.TheVariants.{Missing, NotToml, OutOfMemory, Unknown, Wrong}
-use Rattle.ipx_site.specs.Keys.{first_unknown, key_text}
+use Rattle.ipx_site.specs.declared.fault.FileFault.TheVariants.{Missing, NotToml, OtherKind, OutOfMemory, Unknown, Wrong}
+use Rattle.ipx_site.specs.declared.site.Kind.{Kind}
+use Rattle.ipx_site.specs.Keys.{first_unknown, is_text_of, key_text, keys_of_kind, keys_of_other_kind}
 
 -- the number of the line of a place in a text: one more than the line ends before it
 abbrev pub line_number : List ℕ → ℕ → ℕ
@@ -26,6 +27,18 @@ IsNoToml text f = (e : Error) × (f ≡ NotToml (line_number text (span_start e)
 abbrev pub IsUnknown : List Key → Members → ℕ → FileFault → Type 0
 IsUnknown keys ms table f = (name : String Global) × (f ≡ Unknown table name)
     × (first_unknown keys ms ≡ Some (string_bytes name))
+
+-- what is told of a name in the table of a port that is no key of its kind: it is one of the other kind,
+-- or none at all
+abbrev pub IsStrayName : Kind → List ℕ → ℕ → FileFault → Type 0
+IsStrayName kind name table f = MatchOption (find (is_text_of name) (keys_of_other_kind kind))
+    ((copy : String Global) × (f ≡ Unknown table copy) × (string_bytes copy ≡ name))
+    (λ key. f ≡ OtherKind table key kind)
+
+-- the table of a port has such a name: the first one is told
+abbrev pub IsStray : Kind → Members → ℕ → FileFault → Type 0
+IsStray kind ms table f =
+    (name : List ℕ) × (first_unknown (keys_of_kind kind) ms ≡ Some name) × IsStrayName kind name table f
 
 -- a key is not there
 abbrev pub IsMissing : Key → Members → ℕ → FileFault → Type 0

@@ -4,7 +4,9 @@ use Rattle.std.specs.List.{list_any}
 use Rattle.std.specs.Cmp.Lexicographic.{pointwise}
 use Rattle.toml.specs.Data.{Members, no_members, member}
 use Rattle.ipx_site.specs.declared.key.Key.{Key}
-use Rattle.ipx_site.specs.declared.key.Key.TheVariants.{Status, Port, Network, Address, UdpPort, Cost, Peers, Routers, Accept, Router, Socket, Buffers, From}
+use Rattle.ipx_site.specs.declared.key.Key.TheVariants.{Status, Port, Network, Address, UdpPort, Cost, Peers, Routers, Accept, Router, Socket, Buffers, From, Kind, Frame, Ends, Node, Hub}
+use Rattle.ipx_site.specs.declared.site.Kind.{Kind as PortKind}
+use Rattle.ipx_site.specs.declared.site.Kind.TheVariants as Of
 
 -- how a key is written
 abbrev pub key_text : Key → List ℕ
@@ -21,10 +23,19 @@ key_text Router = codes "router"
 key_text Socket = codes "socket"
 key_text Buffers = codes "buffers"
 key_text From = codes "from"
+key_text Kind = codes "kind"
+key_text Frame = codes "frame"
+key_text Ends = codes "ends"
+key_text Node = codes "node"
+key_text Hub = codes "hub"
+
+-- a text is a key as it is written
+abbrev pub is_text_of : List ℕ → Key → Bool
+is_text_of text k = pointwise nat_eq (key_text k) text
 
 -- a text is one of these keys
 abbrev pub is_key : List Key → List ℕ → Bool
-is_key keys text = list_any (λ k. pointwise nat_eq (key_text k) text) keys
+is_key keys text = list_any (is_text_of text) keys
 
 -- the first name in a table that is none of these keys
 abbrev pub first_unknown : List Key → Members → Option (List ℕ)
@@ -34,7 +45,20 @@ first_unknown keys (member name d ms) =
 
 -- the keys of the tables, in the order in which their faults are told
 abbrev pub port_keys : List Key
-port_keys = Network ∷ Address ∷ UdpPort ∷ Cost ∷ Peers ∷ Routers ∷ Accept ∷ []
+port_keys = Kind ∷ Network ∷ Address ∷ UdpPort ∷ Cost ∷ Peers ∷ Routers ∷ Accept ∷ []
+
+abbrev pub frames_keys : List Key
+frames_keys =
+    Kind ∷ Network ∷ Frame ∷ Address ∷ UdpPort ∷ Cost ∷ Ends ∷ Node ∷ Hub ∷ []
+
+-- those of a port of this kind, and those of a port of the other one
+abbrev pub keys_of_kind : PortKind → List Key
+keys_of_kind Of.Rfc1234 = port_keys
+keys_of_kind Of.Frames = frames_keys
+
+abbrev pub keys_of_other_kind : PortKind → List Key
+keys_of_other_kind Of.Rfc1234 = frames_keys
+keys_of_other_kind Of.Frames = port_keys
 
 abbrev pub site_keys : List Key
 site_keys = Status ∷ Port ∷ []

@@ -2,7 +2,10 @@ pub mod Keys
 pub mod Values
 pub mod Origins
 pub mod Fields
+pub mod WireValues
 pub mod Port
+pub mod PortKinds
+pub mod FramesTable
 pub mod Site
 pub mod SitePorts
 pub mod Host

@@ -1,4 +1,4 @@
--- A port of a router in its file: a table `[[port]]`. All of it is own.
+-- A port of RFC 1234 of a router in its file: a table `[[port]]`. All of it is own.
 use Rattle.std.specs.Prelude.{Vec, ◌≡◌, ◌⊎◌, ℕ, List, None}
 use Rattle.std.specs.Global.{Global}
 use Rattle.toml.specs.Data.{Members}
@@ -6,12 +6,13 @@ use Rattle.ipx_carrier.specs.Mapping.{usual_port}
 use Rattle.ipx_site.specs.declared.fault.FileFault.{FileFault}
 use Rattle.ipx_site.specs.declared.key.Key.TheVariants as Key
 use Rattle.ipx_site.specs.declared.site.Accept.TheVariants as Accept
+use Rattle.ipx_site.specs.declared.site.Kind.TheVariants as Kind
 use Rattle.ipx_site.specs.declared.site.SitePort.{SitePort}
 use Rattle.ipx_site.specs.Keys.{first_unknown, port_keys}
 use Rattle.ipx_site.specs.Values.{AreAddressesOf, AreRouterPeers, IsAccept, IsIpAddress, IsCount, IsNetwork}
-use Rattle.ipx_site.specs.Fields.{Holds, HoldsIf, HoldsOr, IsFault, IsRight, IsRightOr, IsUnknown, IsWrong}
+use Rattle.ipx_site.specs.Fields.{Holds, HoldsIf, HoldsOr, IsFault, IsRight, IsRightOr, IsStray, IsWrong}
 
--- a table is that of a port
+-- a table is that of such a port, if its kind is that
 pub record IsPortTable (ms : Members) (p : SitePort) : Type 0 where
   pub known : first_unknown port_keys ms ≡ None
   pub network : Holds IsNetwork Key.Network ms p.network
@@ -31,7 +32,7 @@ IsAccessFault ms table f = (peers : Vec (List ℕ) Global) × Holds AreAddresses
 -- the first fault of the table of a port: a name that is no key, and then the keys in order
 abbrev pub IsPortFault : ℕ → Members → FileFault → Type 0
 IsPortFault table ms f =
-    IsUnknown port_keys ms table f
+    IsStray Kind.Rfc1234 ms table f
     ⊎ ((first_unknown port_keys ms ≡ None) × (IsFault IsNetwork Key.Network ms table f
     ⊎ (IsRight IsNetwork Key.Network ms × (IsFault IsIpAddress Key.Address ms table f
     ⊎ (IsRight IsIpAddress Key.Address ms × (IsWrong (IsCount 65535) Key.UdpPort ms table f

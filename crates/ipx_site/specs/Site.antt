@@ -6,10 +6,11 @@ use Rattle.ipx_site.specs.declared.fault.FileFault.{FileFault}
 use Rattle.ipx_site.specs.declared.fault.FileFault.TheVariants.{Twin, Wrong}
 use Rattle.ipx_site.specs.declared.key.Key.TheVariants as Key
 use Rattle.ipx_site.specs.declared.site.SiteFile.{SiteFile}
-use Rattle.ipx_site.specs.declared.site.SitePort.{SitePort}
+use Rattle.ipx_site.specs.declared.site.PortOfKind.{PortOfKind}
 use Rattle.ipx_site.specs.Keys.{first_unknown, key_text, site_keys}
 use Rattle.ipx_site.specs.Values.{IsText}
-use Rattle.ipx_site.specs.Port.{IsPortTable, IsPortFault}
+use Rattle.ipx_site.specs.FramesTable.{IsKindFault, IsPortOfKind}
+use Rattle.ipx_site.specs.PortKinds.{network_of_kind}
 use Rattle.ipx_site.specs.Fields.{Holds, IsFault, IsNoToml, IsRightOr, IsUnknown, IsWrong}
 
 abbrev pub item_count : Items → ℕ
@@ -25,33 +26,33 @@ abbrev pub IsPortList : Data → Items → Type 0
 IsPortList d ds = (as_array d ≡ Some ds) × (is_few ds ≡ true)
 
 -- the place among earlier ports of the first one on the same network
-abbrev pub twin_place : List SitePort → SitePort → Option ℕ
-twin_place earlier p = position (λ q. q.network.0 == p.network.0) earlier
+abbrev pub twin_place : List PortOfKind → PortOfKind → Option ℕ
+twin_place earlier p = position (λ q. (network_of_kind q).0 == (network_of_kind p).0) earlier
 
 -- a port, by what stands in the array
-abbrev pub IsPortItem : Data → SitePort → Type 0
-IsPortItem d p = (ms : Members) × (as_table d ≡ Some ms) × IsPortTable ms p
+abbrev pub IsPortItem : Data → PortOfKind → Type 0
+IsPortItem d p = (ms : Members) × (as_table d ≡ Some ms) × IsPortOfKind ms p
 
 abbrev pub IsPortItemFault : ℕ → Data → FileFault → Type 0
 IsPortItemFault table d f = ((f ≡ Wrong table Key.Port) × (as_table d ≡ None))
-    ⊎ ((ms : Members) × (as_table d ≡ Some ms) × IsPortFault table ms f)
+    ⊎ ((ms : Members) × (as_table d ≡ Some ms) × IsKindFault table ms f)
 
 -- a port's network is that of an earlier one: the fault names the first such port
-abbrev pub IsTwin : List SitePort → ℕ → SitePort → FileFault → Type 0
+abbrev pub IsTwin : List PortOfKind → ℕ → PortOfKind → FileFault → Type 0
 IsTwin earlier table p f = (k : ℕ) × (twin_place earlier p ≡ Some k)
-    × (f ≡ Twin table p.network (k + 1))
+    × (f ≡ Twin table (network_of_kind p) (k + 1))
 
 -- item by item, these ports, none on the network of an earlier one
-abbrev pub ArePorts : List SitePort → Items → List SitePort → Type 0
+abbrev pub ArePorts : List PortOfKind → Items → List PortOfKind → Type 0
 ArePorts earlier no_items ps = ps ≡ []
-ArePorts earlier (item d ds) ps = (p : SitePort) × (rest : List SitePort) × (ps ≡ p ∷ rest)
+ArePorts earlier (item d ds) ps = (p : PortOfKind) × (rest : List PortOfKind) × (ps ≡ p ∷ rest)
     × IsPortItem d p × (twin_place earlier p ≡ None) × ArePorts (earlier ++ p ∷ []) ds rest
 
 -- the first fault of the items, which are numbered: each before it is a port
-abbrev pub IsFirstFault : List SitePort → ℕ → Items → FileFault → Type 0
+abbrev pub IsFirstFault : List PortOfKind → ℕ → Items → FileFault → Type 0
 IsFirstFault earlier table no_items f = ⊥
 IsFirstFault earlier table (item d ds) f = IsPortItemFault table d f
-    ⊎ ((p : SitePort) × IsPortItem d p × (IsTwin earlier table p f
+    ⊎ ((p : PortOfKind) × IsPortItem d p × (IsTwin earlier table p f
     ⊎ ((twin_place earlier p ≡ None) × IsFirstFault (earlier ++ p ∷ []) (table + 1) ds f)))
 
 -- a table is that of a router

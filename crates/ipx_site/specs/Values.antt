@@ -11,6 +11,8 @@ use Rattle.ipx_wire.specs.Assigned.{all_networks, local_network}
 use Rattle.ipx_site.specs.SitePeers.{is_peer}
 use Rattle.ipx_site.specs.declared.site.Accept.{Accept}
 use Rattle.ipx_site.specs.declared.site.Accept.TheVariants.{Any, Peers}
+use Rattle.ipx_site.specs.declared.site.Kind.{Kind}
+use Rattle.ipx_site.specs.declared.site.Kind.TheVariants.{Rfc1234, Frames}
 
 -- eight hex digits write a network other than 0, which is the one at hand, and FFFFFFFF, which is
 -- all of them
@@ -46,6 +48,14 @@ accept_text Any = codes "any"
 -- the string "peers" or the string "any"
 abbrev pub IsAccept : Data → Accept → Type 0
 IsAccept d a = as_str d ≡ Some (accept_text a)
+
+abbrev pub kind_text : Kind → List ℕ
+kind_text Rfc1234 = codes "rfc1234"
+kind_text Frames = codes "frames"
+
+-- the string "rfc1234" or the string "frames"
+abbrev pub IsKind : Data → Kind → Type 0
+IsKind d k = as_str d ≡ Some (kind_text k)
 
 -- item by item, what each of them means
 abbrev pub AreEach : {A : Type 0} → (Data → A → Type 0) → Items → List A → Type 0

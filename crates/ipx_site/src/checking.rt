@@ -2,15 +2,16 @@
 
 ghost use Rattle.std.specs.Prelude.{◌≡◌, ◌<◌, ◌≤◌, ℕ, List, [], IfOk, IfSome, IsOkAnd, length, position, string_bytes};
 ghost use Rattle.std.specs.Io.KnownBytes.{Appends};
-ghost use Rattle.ipx_site.specs.Checked.{count_text, each_behind, file_line, is_one_place, peer_remark, place_remark, port_lines, remark, site_lines, status_text};
+ghost use Rattle.ipx_site.specs.Checked.{count_text, each_behind, file_line, is_one_place, peer_remark, place_remark, port_lines, reached_remarks, remark, site_lines, status_text, wire_end_remark};
 ghost use Rattle.ipx_site.specs.Loading.{IsFileText};
 ghost use Rattle.ipx_site.specs.Site.{IsSiteText};
 ghost use Rattle.ipx_site.specs.declared.site.SiteFile.{SiteFile as ASiteFile};
 
 use crate::files::load_site;
 use crate::shown::Shown;
-use crate::site::{SiteFile, SitePort};
-use crate::start_lines::{dotted, port_to_text};
+use crate::site::{PortOfKind, SiteFile};
+use crate::start_lines::{dotted, end_to_text, port_to_text};
+use ipx_wires::Place;
 use std::alloc::{AllocError, Global};
 use std::io::Write;
 use std::rt::Files;
@@ -61,21 +62,71 @@ pub fn peers_to_remarks(
     Ok(remarks)
 }
 
-/// The place of the first of these ports that is reached where another one is.
-fn place_of_same(earlier: &[SitePort], port: &SitePort) -> Option<usize>
+/// What is remarked on an end of a wire, behind the earlier ones.
+fn end_to_remark(
+    alloc: Global,
+    whose: &str,
+    own: Place,
+    earlier: &[Place],
+    end: Place,
+) -> Result<String, AllocError>
+    ensures { IfOk result (λ t. string_bytes t ≡ wire_end_remark whose.now own earlier.now end) }
+{
+    let reached = end_to_text(alloc, end)?;
+    if end == own {
+        return format!(in alloc; "{whose}end{reached} is its own place\n");
+    }
+    if earlier.contains(&end) {
+        return format!(in alloc; "{whose}end{reached} stands twice\n");
+    }
+    Ok(String::new(alloc))
+}
+
+/// What is remarked on the ends of a wire: a line for each that is the place of the port itself, or
+/// stands twice.
+fn ends_to_remarks(
+    alloc: Global,
+    whose: &str,
+    own: Place,
+    ends: &[Place],
+) -> Result<String, AllocError>
+    ensures { IfOk result (λ t. string_bytes t
+        ≡ each_behind (wire_end_remark whose.now own) [] ends.now) }
+{
+    let mut remarks = String::new(alloc);
+    for (place, end) in ends.iter().enumerate() {
+        let line = end_to_remark(alloc, whose, own, &ends[..place], *end)?;
+        remarks.push_str(&line)?;
+    }
+    Ok(remarks)
+}
+
+/// What is remarked on those whom a port sends to.
+fn reached_to_remarks(alloc: Global, whose: &str, port: &PortOfKind) -> Result<String, AllocError>
+    ensures { IfOk result (λ t. string_bytes t ≡ reached_remarks whose.now port.now) }
+{
+    let own = port.place();
+    match port {
+        PortOfKind::Rfc1234(port) => peers_to_remarks(alloc, whose, port.address, &port.peers),
+        PortOfKind::Frames(port) => ends_to_remarks(alloc, whose, own, &port.ends),
+    }
+}
+
+/// The place of the first of these ports that is bound where another one is.
+fn place_of_same(earlier: &[PortOfKind], port: &PortOfKind) -> Option<usize>
     ensures place { result ≡ position (is_one_place port.now) earlier.now }
     ensures within { IfSome result (λ k. k < length earlier.now) }
 {
-    let (address, udp_port) = (port.address, port.udp_port);
-    earlier.iter().position(|other| other.address == address && other.udp_port == udp_port)
+    let place = port.place();
+    earlier.iter().position(|other| other.place() == place)
 }
 
 /// What is remarked on the place of a port, behind the earlier ones.
 fn place_to_remark(
     alloc: Global,
     number: usize,
-    earlier: &[SitePort],
-    port: &SitePort,
+    earlier: &[PortOfKind],
+    port: &PortOfKind,
 ) -> Result<String, AllocError>
     ensures { IfOk result (λ t. string_bytes t ≡ place_remark number earlier.now port.now) }
 {
@@ -90,18 +141,22 @@ fn place_to_remark(
 }
 
 /// The line of a port behind earlier ones, and what is remarked on it.
-fn port_to_lines(alloc: Global, earlier: &[SitePort], port: &SitePort) -> Result<String, AllocError>
+fn port_to_lines(
+    alloc: Global,
+    earlier: &[PortOfKind],
+    port: &PortOfKind,
+) -> Result<String, AllocError>
     ensures { IfOk result (λ t. string_bytes t ≡ port_lines earlier.now port.now) }
 {
     let number = earlier.len() + 1;
     let line = port_to_text(alloc, number, port)?;
     let place = place_to_remark(alloc, number, earlier, port)?;
     let whose = format!(in alloc; "port {number}: ")?;
-    let peers = peers_to_remarks(alloc, &whose, port.address, &port.peers)?;
-    format!(in alloc; "{line}\n{place}{peers}")
+    let reached = reached_to_remarks(alloc, &whose, port)?;
+    format!(in alloc; "{line}\n{place}{reached}")
 }
 
-fn ports_to_lines(alloc: Global, ports: &[SitePort]) -> Result<String, AllocError>
+fn ports_to_lines(alloc: Global, ports: &[PortOfKind]) -> Result<String, AllocError>
     ensures { IfOk result (λ t. string_bytes t ≡ each_behind port_lines [] ports.now) }
 {
     let mut lines = String::new(alloc);

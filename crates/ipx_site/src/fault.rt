@@ -1,6 +1,7 @@
 //! What can be wrong with a file.
 
 use crate::key::Key;
+use crate::site::Kind;
 use ipx_wire::{Network, OutOfMemory};
 use std::alloc::AllocFailed;
 
@@ -15,6 +16,8 @@ pub enum FileFault {
     NotToml(usize, toml::de::Error),
     /// A name that is no key of this table.
     Unknown(usize, String),
+    /// A key of the other kind of port: the key, and the kind that the port has.
+    OtherKind(usize, Key, Kind),
     /// A key that must be there is not.
     Missing(usize, Key),
     /// The value of a key means nothing.

@@ -1,23 +1,23 @@
 //! The keys of a table, each with its value.
 
-ghost use Rattle.std.specs.Prelude.{String, string_bytes, ◌≡◌, ◌⊎◌, [], Some, None, IfErr, IfOk, OnOk, MatchOption, MatchResult};
+ghost use Rattle.std.specs.Prelude.{String, option_map, string_bytes, ◌≡◌, ◌⊎◌, [], Some, None, IfErr, IfOk, OnOk, MatchOption, MatchResult};
 ghost use Rattle.std.specs.Global.{Global};
 ghost use Rattle.toml.specs.Data.{get_member};
 ghost use Rattle.toml.specs.View.{table_view, view};
-ghost use Rattle.ipx_site.specs.Keys.{first_unknown, key_text};
+ghost use Rattle.ipx_site.specs.Keys.{first_unknown, key_text, keys_of_kind};
 ghost use Rattle.ipx_site.specs.Neighbours.{AreAmong, AreNeighbours};
 ghost use Rattle.ipx_site.specs.Origins.{AreOrigins};
-ghost use Rattle.ipx_site.specs.Values.{AreAddressesOf, AreRouterPeers, IsAccept, IsIpAddress, IsCount, IsNetwork, IsSocket, IsText};
-ghost use Rattle.ipx_site.specs.Fields.{Gives, GivesIf, GivesOr, Holds, HoldsOr, IsMissing, IsUnknown, IsWrong};
+ghost use Rattle.ipx_site.specs.Values.{AreAddressesOf, AreRouterPeers, IsAccept, IsIpAddress, IsCount, IsKind, IsNetwork, IsSocket, IsText};
+ghost use Rattle.ipx_site.specs.Fields.{Gives, GivesIf, GivesOr, Holds, HoldsOr, IsMissing, IsStray, IsStrayName, IsUnknown, IsWrong};
 
 use crate::fault::FileFault;
-use crate::key::{Key, is_key};
+use crate::key::{Key, is_key, key_in, keys_of_kind, keys_of_other_kind};
 use crate::neighbours::{among, neighbours_of};
 use crate::origin::{Origin, origins_of};
-use crate::site::Accept;
+use crate::site::{Accept, Kind};
 use crate::values::{
-    accept_of, count_of, parse_address, parse_network, parse_peers, parse_socket, routers_of,
-    text_of,
+    accept_of, count_of, kind_of, parse_address, parse_network, parse_peers, parse_socket,
+    routers_of, text_of,
 };
 use ipx_wire::{Network, OutOfMemory, Socket};
 use std::alloc::Global;
@@ -31,6 +31,18 @@ fn unknown(alloc: Global, number: usize, name: &str) -> Result<FileFault, OutOfM
     Ok(FileFault::Unknown(number, String::from_str(alloc, name)?))
 }
 
+/// The first name in a table that is none of these keys.
+fn unknown_in<'a>(table: &'a Table, keys: &[Key]) -> Option<&'a str>
+    ensures { option_map (λ name. name.now) result ≡ first_unknown keys.now (table_view table.now) }
+{
+    for name in table.keys() {
+        if !is_key(keys, name.as_str()) {
+            return Some(name.as_str());
+        }
+    }
+    None
+}
+
 /// Refuses a table with a name that is none of these keys.
 pub fn refuse_unknown(
     alloc: Global,
@@ -42,12 +54,37 @@ pub fn refuse_unknown(
     ensures unknown { IfErr result (λ f. (f ≡ FileFault.OutOfMemory)
         ⊎ IsUnknown keys.now (table_view table.now) number f) }
 {
-    for name in table.keys() {
-        if !is_key(keys, name.as_str()) {
-            return Err(unknown(alloc, number, name.as_str())?);
-        }
+    match unknown_in(table, keys) {
+        Some(name) => Err(unknown(alloc, number, name)?),
+        None => Ok(()),
     }
-    Ok(())
+}
+
+/// What is wrong with a name that is no key of a port of this kind.
+fn stray(alloc: Global, number: usize, kind: Kind, name: &str) -> Result<FileFault, OutOfMemory>
+    ensures { IfOk result (IsStrayName kind name.now number) }
+{
+    match key_in(keys_of_other_kind(kind), name) {
+        Some(key) => Ok(FileFault::OtherKind(number, *key, kind)),
+        None => unknown(alloc, number, name),
+    }
+}
+
+/// Refuses the table of a port with a name that is no key of its kind.
+pub fn refuse_stray(
+    alloc: Global,
+    table: &Table,
+    number: usize,
+    kind: Kind,
+) -> Result<(), FileFault>
+    ensures known { OnOk result (first_unknown (keys_of_kind kind) (table_view table.now) ≡ None) }
+    ensures stray { IfErr result (λ f. (f ≡ FileFault.OutOfMemory)
+        ⊎ IsStray kind (table_view table.now) number f) }
+{
+    match unknown_in(table, keys_of_kind(kind)) {
+        Some(name) => Err(stray(alloc, number, kind, name)?),
+        None => Ok(()),
+    }
 }
 
 /// The value of a key, if it is there.
@@ -147,6 +184,19 @@ pub fn accept_in(table: &Table, number: usize) -> Result<Accept, FileFault>
     match accept_of(value) {
         Some(accept) => Ok(accept),
         None => Err(FileFault::Wrong(number, Key::Accept)),
+    }
+}
+
+/// The kind of a port.
+pub fn kind_in(table: &Table, number: usize) -> Result<Kind, FileFault>
+    ensures { GivesOr IsKind Key.Kind (table_view table.now) number Kind.Rfc1234 result }
+{
+    let Some(value) = held(table, Key::Kind) else {
+        return Ok(Kind::Rfc1234);
+    };
+    match kind_of(value) {
+        Some(kind) => Ok(kind),
+        None => Err(FileFault::Wrong(number, Key::Kind)),
     }
 }
 

@@ -1,7 +1,9 @@
 //! The keys of the files.
 
-ghost use Rattle.std.specs.Prelude.{◌≡◌};
-ghost use Rattle.ipx_site.specs.Keys.{is_key, key_text};
+ghost use Rattle.std.specs.Prelude.{◌≡◌, find, option_copied};
+ghost use Rattle.ipx_site.specs.Keys.{is_key, is_text_of, key_text, keys_of_kind, keys_of_other_kind};
+
+use crate::site::Kind;
 
 /// A key of the file of a router or a host.
 #[derive(Clone, Copy, Debug, PartialEq, Eq)]
@@ -19,6 +21,11 @@ pub enum Key {
     Socket,
     Buffers,
     From,
+    Kind,
+    Frame,
+    Ends,
+    Node,
+    Hub,
 }
 
 impl Key {
@@ -40,6 +47,11 @@ impl Key {
             Key::Socket => "socket",
             Key::Buffers => "buffers",
             Key::From => "from",
+            Key::Kind => "kind",
+            Key::Frame => "frame",
+            Key::Ends => "ends",
+            Key::Node => "node",
+            Key::Hub => "hub",
         }
     }
 
@@ -62,6 +74,11 @@ impl Key {
                 "a list of at most 256 networks, each alone or with a node behind it, as \
                  [\"00000022 00000a02001e\", \"00000033\"]"
             }
+            Key::Kind => "\"rfc1234\" or \"frames\"",
+            Key::Frame => "\"802.3\", \"802.2\", \"snap\" or \"ethernet-ii\"",
+            Key::Ends => "a list of 1 to 256 places, as [\"127.0.0.1:24001\"]",
+            Key::Node => "the address of one station, as \"02:00:00:00:00:22\"",
+            Key::Hub => "true or false",
         }
     }
 }
@@ -71,4 +88,56 @@ pub fn is_key(keys: &[Key], text: &str) -> bool
     ensures { result ≡ is_key keys.now text.now }
 {
     keys.iter().any(|key| key.text() == text)
+}
+
+/// The keys of a port of RFC 1234, in the order in which their faults are told.
+const PORT_KEYS: [Key; 8] = [
+    Key::Kind,
+    Key::Network,
+    Key::Address,
+    Key::UdpPort,
+    Key::Cost,
+    Key::Peers,
+    Key::Routers,
+    Key::Accept,
+];
+
+/// And those of a port on a wire.
+const FRAMES_KEYS: [Key; 9] = [
+    Key::Kind,
+    Key::Network,
+    Key::Frame,
+    Key::Address,
+    Key::UdpPort,
+    Key::Cost,
+    Key::Ends,
+    Key::Node,
+    Key::Hub,
+];
+
+/// The keys of a port of this kind.
+pub fn keys_of_kind(kind: Kind) -> &'static [Key]
+    ensures { result.now ≡ keys_of_kind kind }
+{
+    match kind {
+        Kind::Rfc1234 => &PORT_KEYS,
+        Kind::Frames => &FRAMES_KEYS,
+    }
+}
+
+/// The keys of a port of the other kind.
+pub fn keys_of_other_kind(kind: Kind) -> &'static [Key]
+    ensures { result.now ≡ keys_of_other_kind kind }
+{
+    match kind {
+        Kind::Rfc1234 => &FRAMES_KEYS,
+        Kind::Frames => &PORT_KEYS,
+    }
+}
+
+/// The one of these keys that a text is.
+pub fn key_in<'a>(keys: &'a [Key], text: &str) -> Option<&'a Key>
+    ensures { option_copied result ≡ find (is_text_of text.now) keys.now }
+{
+    keys.iter().find(|key| key.text() == text)
 }

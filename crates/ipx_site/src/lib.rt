@@ -45,6 +45,8 @@ mod toml_text;
 mod troubles;
 mod values;
 mod watch;
+mod wire_fields;
+mod wire_values;
 
 pub use asker::{Asker, asker_of};
 pub use askers::Askers;
@@ -66,7 +68,7 @@ pub use room::SOCKET_ROOM;
 pub use routing::do_route;
 pub use seldom::an_asker_is_heard_seldom;
 pub use senders::Senders;
-pub use site::{Accept, SiteFile, SitePort};
+pub use site::{Accept, FramesPort, Kind, PortOfKind, SiteFile, SitePort};
 pub use sockets::SiteSockets;
 pub use sparing::Sparing;
 pub use start_lines::{dotted, others, reached_to_text};

@@ -2,36 +2,29 @@
 
 ghost use Rattle.std.specs.Prelude.{◌≡◌, ◌⊎◌, IfErr, IfOk};
 ghost use Rattle.toml.specs.View.{table_view};
+ghost use Rattle.ipx_site.specs.FramesTable.{IsFramesFault, IsFramesTable, IsKindFault, IsPortOfKind};
 ghost use Rattle.ipx_site.specs.Port.{IsPortTable, IsPortFault};
 
 use crate::fault::FileFault;
 use crate::fields::{
-    accept_in, address_in, count_in, network_in, peers_in, port_routers_in, refuse_unknown,
+    accept_in, address_in, count_in, kind_in, network_in, peers_in, port_routers_in, refuse_stray,
 };
 use crate::key::Key;
-use crate::site::SitePort;
+use crate::site::{FramesPort, Kind, PortOfKind, SitePort};
+use crate::wire_fields::{encapsulation_in, ends_in, joined_in, required_count_in, station_in};
+use crate::wire_values::station_at;
 use ipx_carrier::UDP_PORT;
+use ipx_wires::Place;
 use std::alloc::Global;
 use toml::Table;
 
-/// The keys of a port, in the order in which their faults are told.
-const KEYS: [Key; 7] = [
-    Key::Network,
-    Key::Address,
-    Key::UdpPort,
-    Key::Cost,
-    Key::Peers,
-    Key::Routers,
-    Key::Accept,
-];
-
-/// The port of a table with this number.
-pub fn port_of(alloc: Global, table: &Table, number: usize) -> Result<SitePort, FileFault>
+/// The port of RFC 1234 of a table with this number.
+fn rfc1234_port(alloc: Global, table: &Table, number: usize) -> Result<SitePort, FileFault>
     ensures port { IfOk result (IsPortTable (table_view table.now)) }
     ensures fault { IfErr result (λ f.
         (f ≡ FileFault.OutOfMemory) ⊎ IsPortFault number (table_view table.now) f) }
 {
-    refuse_unknown(alloc, table, number, &KEYS)?;
+    refuse_stray(alloc, table, number, Kind::Rfc1234)?;
     let network = network_in(table, number)?;
     let address = address_in(table, number, Key::Address)?;
     let udp_port = count_in(table, number, Key::UdpPort, 65535, UDP_PORT)?;
@@ -48,4 +41,47 @@ pub fn port_of(alloc: Global, table: &Table, number: usize) -> Result<SitePort, 
         routers,
         accept,
     })
+}
+
+/// The port on a wire of a table with this number.
+fn frames_port(alloc: Global, table: &Table, number: usize) -> Result<FramesPort, FileFault>
+    ensures port { IfOk result (IsFramesTable (table_view table.now)) }
+    ensures fault { IfErr result (λ f.
+        (f ≡ FileFault.OutOfMemory) ⊎ IsFramesFault number (table_view table.now) f) }
+{
+    refuse_stray(alloc, table, number, Kind::Frames)?;
+    let network = network_in(table, number)?;
+    let encapsulation = encapsulation_in(table, number)?;
+    let address = address_in(table, number, Key::Address)?;
+    let udp_port = required_count_in(table, number, Key::UdpPort, 65535)?;
+    let cost = count_in(table, number, Key::Cost, 65535, 1)?;
+    let ends = ends_in(alloc, table, number)?;
+    let made = station_at(Place {
+        ip: address,
+        udp_port,
+    });
+    let node = station_in(table, number, made)?;
+    let joined = joined_in(table, number)?;
+    Ok(FramesPort {
+        network,
+        encapsulation,
+        address,
+        udp_port,
+        cost,
+        ends,
+        node,
+        joined,
+    })
+}
+
+/// The port of a table with this number.
+pub fn port_of(alloc: Global, table: &Table, number: usize) -> Result<PortOfKind, FileFault>
+    ensures port { IfOk result (IsPortOfKind (table_view table.now)) }
+    ensures fault { IfErr result (λ f.
+        (f ≡ FileFault.OutOfMemory) ⊎ IsKindFault number (table_view table.now) f) }
+{
+    match kind_in(table, number)? {
+        Kind::Rfc1234 => Ok(PortOfKind::Rfc1234(rfc1234_port(alloc, table, number)?)),
+        Kind::Frames => Ok(PortOfKind::Frames(frames_port(alloc, table, number)?)),
+    }
 }

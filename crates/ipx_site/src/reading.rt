@@ -12,7 +12,7 @@ use crate::fault::FileFault;
 use crate::fields::{refuse_unknown, required, text_in};
 use crate::key::Key;
 use crate::port::port_of;
-use crate::site::{SiteFile, SitePort};
+use crate::site::{PortOfKind, SiteFile};
 use crate::toml_text::table_of;
 use std::alloc::Global;
 use toml::{Table, Value};
@@ -21,7 +21,7 @@ use toml::{Table, Value};
 const KEYS: [Key; 2] = [Key::Status, Key::Port];
 
 /// The port that a value describes.
-fn item_of(alloc: Global, value: &Value, number: usize) -> Result<SitePort, FileFault>
+fn item_of(alloc: Global, value: &Value, number: usize) -> Result<PortOfKind, FileFault>
     ensures port { IfOk result (IsPortItem (view value.now)) }
     ensures fault { IfErr result (λ f.
         (f ≡ FileFault.OutOfMemory) ⊎ IsPortItemFault number (view value.now) f) }
@@ -33,27 +33,27 @@ fn item_of(alloc: Global, value: &Value, number: usize) -> Result<SitePort, File
 }
 
 /// The place of the first of these ports that is on the network of another.
-fn place_of_twin(earlier: &[SitePort], port: &SitePort) -> Option<usize>
+fn place_of_twin(earlier: &[PortOfKind], port: &PortOfKind) -> Option<usize>
     ensures { result ≡ twin_place earlier.now port.now }
 {
-    let network = port.network;
-    earlier.iter().position(|other| other.network == network)
+    let network = port.network();
+    earlier.iter().position(|other| other.network() == network)
 }
 
 /// Refuses a port on the network of an earlier one.
-fn refuse_twin(earlier: &[SitePort], port: &SitePort, number: usize) -> Result<(), FileFault>
+fn refuse_twin(earlier: &[PortOfKind], port: &PortOfKind, number: usize) -> Result<(), FileFault>
     requires { length earlier.now < 2 ^ 63 }
     ensures alone { OnOk result (twin_place earlier.now port.now ≡ None) }
     ensures twin { IfErr result (IsTwin earlier.now number port.now) }
 {
     match place_of_twin(earlier, port) {
-        Some(place) => Err(FileFault::Twin(number, port.network, place + 1)),
+        Some(place) => Err(FileFault::Twin(number, port.network(), place + 1)),
         None => Ok(()),
     }
 }
 
 /// The ports that values describe, in order.
-fn ports_of(alloc: Global, values: &[Value]) -> Result<Vec<SitePort>, FileFault>
+fn ports_of(alloc: Global, values: &[Value]) -> Result<Vec<PortOfKind>, FileFault>
     ensures ports { IfOk result (λ v. ArePorts [] (items_view values.now) v.items) }
     ensures fault { IfErr result (λ f.
         (f ≡ FileFault.OutOfMemory) ⊎ IsFirstFault [] 1 (items_view values.now) f) }

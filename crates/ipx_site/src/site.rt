@@ -1,6 +1,23 @@
 //! What the file of a router says.
 
-use ipx_wire::Network;
+ghost use Rattle.std.specs.Prelude.{◌≡◌};
+ghost use Rattle.ipx_site.specs.PortKinds.{kind_of_port, network_of_kind, place_of_kind};
+ghost use Rattle.ipx_site.specs.SitePorts.{router_port_of, router_port_of_kind};
+
+use ipx_carrier::node_of;
+use ipx_frames::Encapsulation;
+use ipx_router::Port;
+use ipx_wire::{Network, Node};
+use ipx_wires::Place;
+
+/// What a port of a router is.
+#[derive(Clone, Copy, Debug, PartialEq, Eq)]
+pub enum Kind {
+    /// IPX in datagrams of UDP.
+    Rfc1234,
+    /// A wire: an Ethernet frame in each datagram.
+    Frames,
+}
 
 /// Who is heard at a port.
 #[derive(Clone, Copy, Debug, PartialEq, Eq)]
@@ -11,7 +28,7 @@ pub enum Accept {
     Any,
 }
 
-/// A port of a router, as its file has it.
+/// A port of RFC 1234 of a router, as its file has it.
 #[derive(Drop)]
 pub struct SitePort {
     /// The network that it is on.
@@ -30,11 +47,96 @@ pub struct SitePort {
     pub accept: Accept,
 }
 
+/// A port of a router on a wire, as its file has it.
+#[derive(Drop)]
+pub struct FramesPort {
+    /// The network that it is on.
+    pub network: Network,
+    /// How a packet stands in a frame there.
+    pub encapsulation: Encapsulation,
+    /// The local IP address.
+    pub address: [u8; 4],
+    /// The port of UDP there, where frames come in.
+    pub udp_port: u16,
+    /// What it costs to send there, in ticks.
+    pub cost: u16,
+    /// Where the ends of its wire are, 1 to 256.
+    pub ends: Vec<Place>,
+    /// Its own address on the wire.
+    pub node: Node,
+    /// Whether it is the hub of its ends.
+    pub joined: bool,
+}
+
+/// A port of a router, by its kind.
+#[derive(Drop)]
+pub enum PortOfKind {
+    Rfc1234(SitePort),
+    Frames(FramesPort),
+}
+
+/// The router's port of a port of RFC 1234.
+fn router_port(port: &SitePort) -> Port
+    ensures { result ≡ router_port_of port.now }
+{
+    Port {
+        network: port.network,
+        node: node_of(port.address),
+        cost: port.cost,
+    }
+}
+
+impl PortOfKind {
+    /// The network that it is on.
+    pub fn network(&self) -> Network
+        ensures { result ≡ network_of_kind self.now }
+    {
+        match self {
+            PortOfKind::Rfc1234(port) => port.network,
+            PortOfKind::Frames(port) => port.network,
+        }
+    }
+
+    /// Where it is bound.
+    pub fn place(&self) -> Place
+        ensures { result ≡ place_of_kind self.now }
+    {
+        let (ip, udp_port) = match self {
+            PortOfKind::Rfc1234(port) => (port.address, port.udp_port),
+            PortOfKind::Frames(port) => (port.address, port.udp_port),
+        };
+        Place { ip, udp_port }
+    }
+
+    /// The router's port of it.
+    pub fn router_port(&self) -> Port
+        ensures { result ≡ router_port_of_kind self.now }
+    {
+        match self {
+            PortOfKind::Rfc1234(port) => router_port(port),
+            PortOfKind::Frames(port) => Port {
+                network: port.network,
+                node: port.node,
+                cost: port.cost,
+            },
+        }
+    }
+
+    pub fn kind(&self) -> Kind
+        ensures { result ≡ kind_of_port self.now }
+    {
+        match self {
+            PortOfKind::Rfc1234(_) => Kind::Rfc1234,
+            PortOfKind::Frames(_) => Kind::Frames,
+        }
+    }
+}
+
 /// The file of a router.
 #[derive(Drop)]
 pub struct SiteFile {
     /// Where its figures are written, if anywhere.
     pub status: Option<String>,
     /// Its ports, 1 to 16. The first is port 1.
-    pub ports: Vec<SitePort>,
+    pub ports: Vec<PortOfKind>,
 }

@@ -1,10 +1,14 @@
 //! What a router says of a port as it starts.
 
 ghost use Rattle.std.specs.Prelude.{◌≡◌, IfOk, map, string_bytes};
-ghost use Rattle.ipx_site.specs.Checked.{dealings_text, dotted_text, others_text, place_text, port_text, port_texts, reached_text, routers_text};
+ghost use Rattle.std.specs.List.{flat_map};
+ghost use Rattle.ipx_site.specs.Checked.{dealings_text, dotted_text, frames_text, joined_text, others_text, place_text, port_text, port_texts, reached_text, rfc1234_text, routers_text, wire_end_text, wire_text};
 
-use crate::site::{Accept, SitePort};
+use crate::site::{Accept, FramesPort, PortOfKind, SitePort};
+use crate::wire_values::word_of;
 use ipx_carrier::node_of;
+use ipx_wire::{Network, Node};
+use ipx_wires::Place;
 use std::alloc::{AllocError, Global};
 
 /// An IP address with dots between its four numbers.
@@ -15,11 +19,11 @@ pub fn dotted(alloc: Global, ip: [u8; 4]) -> Result<String, AllocError>
     format!(in alloc; "{a}.{b}.{c}.{d}")
 }
 
-fn place_to_text(alloc: Global, port: &SitePort) -> Result<String, AllocError>
-    ensures { IfOk result (λ t. string_bytes t ≡ place_text port.now) }
+fn place_to_text(alloc: Global, network: Network, node: Node) -> Result<String, AllocError>
+    ensures { IfOk result (λ t. string_bytes t ≡ place_text network node) }
 {
-    let network = hex::encode(alloc, port.network.0.to_be_bytes())?;
-    let node = hex::encode(alloc, node_of(port.address).0)?;
+    let network = hex::encode(alloc, network.0.to_be_bytes())?;
+    let node = hex::encode(alloc, node.0)?;
     format!(in alloc; "network {network} node {node}")
 }
 
@@ -64,18 +68,75 @@ fn dealings_to_text(alloc: Global, port: &SitePort) -> Result<String, AllocError
     format!(in alloc; "cost {cost} peers {peers}{routers}{others}")
 }
 
-/// A port with its number: `port 1 network .. node .. udp .. cost .. peers ..`.
-pub fn port_to_text(alloc: Global, number: usize, port: &SitePort) -> Result<String, AllocError>
-    ensures { IfOk result (λ t. string_bytes t ≡ port_text number port.now) }
+/// A port of RFC 1234 with its number: `port 1 network .. node .. udp .. cost .. peers ..`.
+fn rfc1234_to_text(alloc: Global, number: usize, port: &SitePort) -> Result<String, AllocError>
+    ensures { IfOk result (λ t. string_bytes t ≡ rfc1234_text number port.now) }
 {
-    let place = place_to_text(alloc, port)?;
+    let place = place_to_text(alloc, port.network, node_of(port.address))?;
     let reached = reached_to_text(alloc, port.address, port.udp_port)?;
     let dealings = dealings_to_text(alloc, port)?;
     format!(in alloc; "port {number} {place} udp {reached} {dealings}")
 }
 
+/// The place of an end of a wire, behind a space.
+pub fn end_to_text(alloc: Global, end: Place) -> Result<String, AllocError>
+    ensures { IfOk result (λ t. string_bytes t ≡ wire_end_text end) }
+{
+    let reached = reached_to_text(alloc, end.ip, end.udp_port)?;
+    format!(in alloc; " {reached}")
+}
+
+/// The places of the ends of a wire.
+fn ends_to_text(alloc: Global, ends: &[Place]) -> Result<String, AllocError>
+    ensures { IfOk result (λ t. string_bytes t ≡ flat_map wire_end_text ends.now) }
+{
+    let mut text = String::new(alloc);
+    for end in ends {
+        let place = end_to_text(alloc, *end)?;
+        text.push_str(&place)?;
+    }
+    Ok(text)
+}
+
+/// Whether a port is no hub of its ends.
+fn apart(joined: bool) -> &'static str
+    ensures { result.now ≡ joined_text joined }
+{
+    if joined { "" } else { " apart" }
+}
+
+fn wire_to_text(alloc: Global, port: &FramesPort) -> Result<String, AllocError>
+    ensures { IfOk result (λ t. string_bytes t ≡ wire_text port.now) }
+{
+    let cost = port.cost;
+    let ends = ends_to_text(alloc, &port.ends)?;
+    let apart = apart(port.joined);
+    format!(in alloc; "cost {cost} ends{ends}{apart}")
+}
+
+/// A port on a wire with its number: `port 2 network .. node .. frames .. udp .. cost .. ends ..`.
+fn frames_to_text(alloc: Global, number: usize, port: &FramesPort) -> Result<String, AllocError>
+    ensures { IfOk result (λ t. string_bytes t ≡ frames_text number port.now) }
+{
+    let place = place_to_text(alloc, port.network, port.node)?;
+    let word = word_of(port.encapsulation);
+    let reached = reached_to_text(alloc, port.address, port.udp_port)?;
+    let wire = wire_to_text(alloc, port)?;
+    format!(in alloc; "port {number} {place} frames {word} udp {reached} {wire}")
+}
+
+/// A port with its number, as its kind has it.
+pub fn port_to_text(alloc: Global, number: usize, port: &PortOfKind) -> Result<String, AllocError>
+    ensures { IfOk result (λ t. string_bytes t ≡ port_text number port.now) }
+{
+    match port {
+        PortOfKind::Rfc1234(port) => rfc1234_to_text(alloc, number, port),
+        PortOfKind::Frames(port) => frames_to_text(alloc, number, port),
+    }
+}
+
 /// What a router says of its ports as it starts, in their order, which their numbers follow from 1.
-pub fn ports_to_texts(alloc: Global, ports: &[SitePort]) -> Result<Vec<String>, AllocError>
+pub fn ports_to_texts(alloc: Global, ports: &[PortOfKind]) -> Result<Vec<String>, AllocError>
     ensures { IfOk result (λ texts. map string_bytes texts.items ≡ port_texts 1 ports.now) }
 {
     let mut texts = Vec::new(alloc);

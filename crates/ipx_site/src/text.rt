@@ -3,6 +3,7 @@
 use crate::fault::FileFault;
 use crate::key::Key;
 use crate::shown::Shown;
+use crate::site::Kind;
 use std::fmt;
 
 /// The keys of a table, by its number.
@@ -12,7 +13,24 @@ fn keys_of(table: usize) -> &'static str {
             a host network, address, router, udp_port, socket, buffers, peers, routers, from and \
             accept";
     }
-    "the keys are network, address, udp_port, cost, peers, routers, accept"
+    "the keys are kind, network, address, udp_port, cost, for kind = \"rfc1234\" also peers, \
+        routers and accept, for kind = \"frames\" frame, ends, node and hub"
+}
+
+/// The kind of a port as it stands in a file.
+fn word_of_kind(kind: Kind) -> &'static str {
+    match kind {
+        Kind::Rfc1234 => "rfc1234",
+        Kind::Frames => "frames",
+    }
+}
+
+/// The keys of a port of a kind.
+fn keys_of_port(kind: Kind) -> &'static str {
+    match kind {
+        Kind::Rfc1234 => "kind, network, address, udp_port, cost, peers, routers, accept",
+        Kind::Frames => "kind, network, frame, address, udp_port, cost, ends, node, hub",
+    }
 }
 
 /// What the value of a key of a table is to be: a host names 256 others at most.
@@ -50,6 +68,11 @@ impl fmt::Display for FileFault {
                 write_place(f, *table)?;
                 let name = Shown(name.as_bytes());
                 write!(f, "{name} is no key here: {}", keys_of(*table))
+            }
+            FileFault::OtherKind(table, key, kind) => {
+                write_place(f, *table)?;
+                let (word, keys) = (word_of_kind(*kind), keys_of_port(*kind));
+                write!(f, "{key} is no key of kind \"{word}\": its keys are {keys}")
             }
             FileFault::Missing(table, key) => {
                 write_place(f, *table)?;

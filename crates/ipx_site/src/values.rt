@@ -3,11 +3,11 @@
 ghost use Rattle.std.specs.Prelude.{◌≡◌, IfOk};
 ghost use Rattle.std.specs.List.{list_all};
 ghost use Rattle.toml.specs.View.{items_view, view};
-ghost use Rattle.ipx_site.specs.Values.{AreAddresses, AreAddressesOf, AreRouterPeers, IsAccept, IsIpAddress, IsCount, IsNetwork, IsSocket, IsText, ReadsAddresses, ReadsNetwork};
+ghost use Rattle.ipx_site.specs.Values.{AreAddresses, AreAddressesOf, AreRouterPeers, IsAccept, IsIpAddress, IsCount, IsKind, IsNetwork, IsSocket, IsText, ReadsAddresses, ReadsNetwork};
 ghost use Rattle.ipx_site.specs.Fields.{Reads};
 ghost use Rattle.ipx_site.specs.SitePeers.{is_peer};
 
-use crate::site::Accept;
+use crate::site::{Accept, Kind};
 use ipx_wire::{Network, OutOfMemory, Socket};
 use std::alloc::Global;
 use std::net::Ipv4Addr;
@@ -63,6 +63,17 @@ pub fn accept_of(value: &Value) -> Option<Accept>
     match value.as_str()? {
         "peers" => Some(Accept::Peers),
         "any" => Some(Accept::Any),
+        _ => None,
+    }
+}
+
+/// The kind of a port.
+pub fn kind_of(value: &Value) -> Option<Kind>
+    ensures { Reads IsKind (view value.now) result }
+{
+    match value.as_str()? {
+        "rfc1234" => Some(Kind::Rfc1234),
+        "frames" => Some(Kind::Frames),
         _ => None,
     }
 }

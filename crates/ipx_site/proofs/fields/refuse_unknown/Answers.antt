@@ -1,25 +1,6 @@
-use Rattle.std.proofs.Common.{◌≡◌, inr, refl, sym, ◌∙◌, false, string_bytes}
-use Rattle.ipx_site.specs.Keys.{is_key}
-use Rattle.ipx_site.proofs.Found.{first_is_unknown, unknown_left}
+use Rattle.std.proofs.Common.{Some, inr, sym, ap, ◌∙◌}
 use Rattle.ipx_site.proofs.fields.refuse_unknown.Goals as goal
 
-pub returns-then-not-is_key-clause-unknown : goal.returns-then-not-is_key-clause-unknown
-returns-then-not-is_key-clause-unknown c =
-    let keys = c.args.keys.now in
-    let (copy, is, same) = c.in_ok-unknown.ensures in
-    let none : is_key keys (string_bytes c.in-Some.name.now) ≡ false =
-    rw (← c.as_str.ensures.value) (sym c.is_key.ensures ∙ c.if-not-is_key.true) in
-    let first = first_is_unknown keys c.loop-name.name-iterator _ c.in-Some.name.now c.in-Some.ensures.steps none in
-    let all = c.into_iter-name-iterator.ensures.into_iter_gives ∙ c.keys-name-items.ensures.rest in
-    inr (
-      copy,
-      is,
-      unknown_left keys c.args.table.now.entries _ _ all c.loop-name.invariant.2
-          ∙ rw (same, c.as_str-then-not-is_key.ensures.value) first,
-    )
-
-pub returns-clause-known : goal.returns-clause-known
-returns-clause-known c =
-    let all = c.into_iter-name-iterator.ensures.into_iter_gives ∙ c.keys-name-items.ensures.rest in
-    unknown_left c.args.keys.now c.args.table.now.entries _ _ all c.loop-name.invariant.2
-    ∙ rw c.in-None.ensures.steps.0 refl
+pub returns-in_ok-unknown-in-Some-clause-unknown : goal.returns-in_ok-unknown-in-Some-clause-unknown
+returns-in_ok-unknown-in-Some-clause-unknown c =
+    let (copy, is, same) = c.in_ok-unknown-in-Some.ensures in inr (copy, is, sym c.in-Some.ensures ∙ ap Some (sym same))

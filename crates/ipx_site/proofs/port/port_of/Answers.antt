@@ -1,29 +1,14 @@
-use Rattle.std.proofs.Common.{inl, inr}
-use Rattle.std.proofs.lemmas.Result.{err_from_is_err_and}
+use Rattle.std.proofs.Common.{subst}
 use Rattle.toml.specs.View.{table_view}
+use Rattle.ipx_site.specs.Fields.{HoldsOr}
+use Rattle.ipx_site.specs.Values.{IsKind}
 use Rattle.ipx_site.specs.declared.key.Key.TheVariants as Key
-use Rattle.ipx_site.specs.Values.{IsCount}
-use Rattle.ipx_site.proofs.Access.{accept_fault, routers_fault}
-use Rattle.ipx_site.proofs.Faults.{or_memory, right_or}
+use Rattle.ipx_site.specs.declared.site.Kind.{Kind}
+use Rattle.ipx_site.specs.declared.site.Kind.TheVariants.{Rfc1234}
 use Rattle.ipx_site.proofs.port.port_of.Goals as goal
 
-pub returns-in_err-peers-clause-fault : goal.returns-in_err-peers-clause-fault
-returns-in_err-peers-clause-fault c =
-    let p = err_from_is_err_and c.from_residual-in_err-peers.result c.from_residual-in_err-peers.ensures.1 in
-    rw (p.1, p.2)
-    (or_memory _ (λ fault. inr (c.in_ok-refuse_unknown.ensures.known, inr ((c.in_ok-network.network, c.in_ok-network.ensures), inr ((c.in_ok-address.address, c.in_ok-address.ensures), inr (right_or (IsCount 65535) Key.UdpPort (table_view c.args.table.now) 213 c.in_ok-udp_port.udp_port c.in_ok-udp_port.ensures, inr (right_or (IsCount 65535) Key.Cost (table_view c.args.table.now) 1 c.in_ok-cost.cost c.in_ok-cost.ensures, inl fault))))))
-    c.in_err-peers.ensures)
-
-pub returns-in_err-routers-clause-fault : goal.returns-in_err-routers-clause-fault
-returns-in_err-routers-clause-fault c =
-    let p = err_from_is_err_and c.from_residual-in_err-routers.result c.from_residual-in_err-routers.ensures.1 in
-    rw (p.1, p.2)
-    (or_memory _ (λ fault. inr (c.in_ok-refuse_unknown.ensures.known, inr ((c.in_ok-network.network, c.in_ok-network.ensures), inr ((c.in_ok-address.address, c.in_ok-address.ensures), inr (right_or (IsCount 65535) Key.UdpPort (table_view c.args.table.now) 213 c.in_ok-udp_port.udp_port c.in_ok-udp_port.ensures, inr (right_or (IsCount 65535) Key.Cost (table_view c.args.table.now) 1 c.in_ok-cost.cost c.in_ok-cost.ensures, inr (routers_fault c.deref.result.now c.in_ok-peers.peers c.deref.ensures.value (table_view c.args.table.now) c.args.number _ c.in_ok-peers.ensures fault)))))))
-    c.in_err-routers.ensures)
-
-pub returns-in_err-accept-clause-fault : goal.returns-in_err-accept-clause-fault
-returns-in_err-accept-clause-fault c =
-    let p = err_from_is_err_and c.from_residual-in_err-accept.result c.from_residual-in_err-accept.ensures.1 in
-    rw (p.1, p.2)
-    (or_memory _ (λ fault. inr (c.in_ok-refuse_unknown.ensures.known, inr ((c.in_ok-network.network, c.in_ok-network.ensures), inr ((c.in_ok-address.address, c.in_ok-address.ensures), inr (right_or (IsCount 65535) Key.UdpPort (table_view c.args.table.now) 213 c.in_ok-udp_port.udp_port c.in_ok-udp_port.ensures, inr (right_or (IsCount 65535) Key.Cost (table_view c.args.table.now) 1 c.in_ok-cost.cost c.in_ok-cost.ensures, inr (accept_fault c.deref.result.now c.in_ok-peers.peers c.deref.ensures.value (table_view c.args.table.now) c.args.number _ c.in_ok-peers.ensures c.in_ok-routers.routers c.in_ok-routers.ensures fault)))))))
-    c.in_err-accept.ensures)
+pub returns-in_ok-frames_port-in-Frames-clause-port : goal.returns-in_ok-frames_port-in-Frames-clause-port
+returns-in_ok-frames_port-in-Frames-clause-port c = (
+  subst (λ (kind : Kind). HoldsOr IsKind Key.Kind (table_view c.args.table.now) Rfc1234 kind) c.in-Frames.is c.in_ok-kind_in.ensures,
+  c.in_ok-frames_port-in-Frames.ensures.port,
+)

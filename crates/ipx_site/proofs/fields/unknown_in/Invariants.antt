@@ -1,6 +1,6 @@
 use Rattle.std.proofs.Common.{◌≡◌}
 use Rattle.ipx_site.proofs.Found.{first_unknown_name}
-use Rattle.ipx_site.proofs.fields.refuse_unknown.Given as goal
+use Rattle.ipx_site.proofs.fields.unknown_in.Given as goal
 
 -- the first unknown name is among those that are left
 abbrev pub invariant-loop-name : goal.invariant-loop-name

@@ -1,0 +1,46 @@
+-- which ends of a wire a value lists
+use Rattle.std.proofs.Common.{Vec, ◌≡◌, ◌≤◌, Result, Ok, Err, ℕ, List, length, Option, Some, None, false, sym, ◌∙◌, ap, subst, arith}
+use Rattle.std.proofs.lemmas.Option.{same_Some}
+use Rattle.std.proofs.NetLemmas.Theorems.{IsSocketV4Text_unique}
+use Rattle.std.specs.Global.{Global}
+use Rattle.std.specs.Net.Grammar.{IsSocketV4Text}
+use Rattle.std.specs.Prelude.{IfOk}
+use Rattle.std.specs.declared.net.socket_addr.SocketAddrV4.{SocketAddrV4}
+use Rattle.toml.specs.Data.{Data, Items, as_array}
+use Rattle.toml.specs.View.{items_view}
+use Rattle.toml.specs.declared.value.Value.{Value}
+use Rattle.ipx_wires.specs.declared.sockets.Place.{Place}
+use Rattle.ipx_site.specs.Fields.{Reads}
+use Rattle.ipx_site.specs.Values.{AreEach}
+use Rattle.ipx_site.specs.WireValues.{AreWireEnds, IsWireEnd, ReadsWireEnds, WritesPlace, is_somewhere, socket_at}
+use Rattle.ipx_site.proofs.Each.{as_many}
+
+-- an array of none, or of more than 256, lists no ends
+pub not_so_many : (d : Data) (values : List Value) → as_array d ≡ Some (items_view values) → (1 ≤ length values → length values ≤ 256 → ⊥)
+    → (ends : Vec Place Global) → AreWireEnds d ends → ⊥
+not_so_many d values is none ends are =
+    let same : are.0 ≡ items_view values = same_Some are.0 (items_view values) (sym are.1 ∙ is) in
+    let all = as_many IsWireEnd values ends.items (subst (λ (ds : Items). AreEach IsWireEnd ds ends.items) same are.2) in
+    none (omega (arith, all, are.3)) (omega (arith, all, are.4))
+
+-- any other lists what each of its values means
+pub listed_ends : {E : Type 0} (d : Data) (values : List Value) → as_array d ≡ Some (items_view values) → 1 ≤ length values
+    → length values ≤ 256 → (r : Result (Option (Vec Place Global)) E) → IfOk r (ReadsWireEnds (items_view values))
+    → IfOk r (Reads AreWireEnds d)
+listed_ends d values is some few (Err e) reads = tt
+listed_ends d values is some few (Ok None) reads = λ ends are.
+    let same : are.0 ≡ items_view values = same_Some are.0 (items_view values) (sym are.1 ∙ is) in
+    reads ends.items (subst (λ (ds : Items). AreEach IsWireEnd ds ends.items) same are.2)
+listed_ends d values is some few (Ok (Some v)) reads =
+    let all = as_many IsWireEnd values v.items reads in
+    (items_view values, is, reads, omega (arith, all, some), omega (arith, all, few))
+
+-- a text writes one place: where that is none for an end, it writes none
+pub nowhere : (text : List ℕ) (a : SocketAddrV4) (place : Place) → IsSocketV4Text text a → socket_at place ≡ a
+    → is_somewhere place ≡ false → (p : Place) → WritesPlace text p → ⊥
+nowhere text a place is at none p (writes, some) =
+    let one : socket_at place ≡ socket_at p = at ∙ IsSocketV4Text_unique text a (socket_at p) is writes in
+    let back : SocketAddrV4 → Place = λ s. record { ip = s.ip.octets; udp_port = s.port } in
+    let same : place ≡ p = ap back one in
+    let no : is_somewhere p ≡ false = subst (λ (it : Place). is_somewhere it ≡ false) same none in
+    absurd (cc)
