@@ -12,6 +12,14 @@ udp_port = 20999
 peers = ["127.0.1.20"]
 """
 SECOND = PORT.replace("11", "22").replace("1.1", "1.2")
+WIRE = """[[port]]
+kind = "frames"
+network = "00000022"
+frame = "802.2"
+address = "127.0.1.1"
+udp_port = 20999
+ends = ["127.0.1.3:20998"]
+"""
 HOST = """network = "00000011"
 address = "127.0.1.20"
 router = "127.0.1.1"
@@ -20,7 +28,10 @@ socket = "4002"
 """
 KEYS = ("a router has status and port, a host network, address, router, udp_port, socket, buffers, peers, routers, from and "
         "accept")
-PORT_KEYS = "the keys are network, address, udp_port, cost, peers, routers, accept"
+PORT_KEYS = ('the keys are kind, network, address, udp_port, cost, for kind = "rfc1234" also peers, routers and accept, '
+             'for kind = "frames" frame, ends, node and hub')
+RFC1234_KEYS = "its keys are kind, network, address, udp_port, cost, peers, routers, accept"
+FRAMES_KEYS = "its keys are kind, network, frame, address, udp_port, cost, ends, node, hub"
 NETWORK = 'eight hex digits, neither all 0 nor all f, as "00000011"'
 ADDRESS = 'an IP address of this machine, as "192.0.2.10"'
 NUMBER = "a number from 1 to 65535, as 213"
@@ -35,6 +46,10 @@ FROM = ('a list of at most 256 networks, each alone or with a node behind it, as
 FEW_PEERS = 'a list of at most 256 IP addresses, as ["198.51.100.7", "203.0.113.9"]'
 ROUTERS = "a list of at most 256 IP addresses among peers"
 ACCEPT = '"peers" or "any"'
+KIND = '"rfc1234" or "frames"'
+FRAME = '"802.3", "802.2", "snap" or "ethernet-ii"'
+ENDS = 'a list of 1 to 256 places, as ["127.0.0.1:24001"]'
+STATION = 'the address of one station, as "02:00:00:00:00:22"'
 STATUS = 'the name of a file, as "/run/ipx/hq/hq.prom"'
 
 
@@ -98,6 +113,34 @@ ROUTER_FILES = [
     (PORT + "accept = true\n", 'port 1: accept is to be "peers" or "any"'),
     (PORT + "accept = \"all\"\n", 'port 1: accept is to be "peers" or "any"'),
     (PORT + SECOND.replace("00000022", "00000011"), "port 2: network 00000011 is already that of port 1"),
+    (PORT + WIRE.replace("00000022", "00000011"), "port 2: network 00000011 is already that of port 1"),
+    (PORT + "kind = \"ipxnet\"\npeer = []\n", f"port 1: kind is to be {KIND}"),
+    (PORT + "kind = 1\n", f"port 1: kind is to be {KIND}"),
+    (PORT + "hub = true\n", f'port 1: hub is no key of kind "rfc1234": {RFC1234_KEYS}'),
+    (PORT + "kind = \"rfc1234\"\nends = []\n", f'port 1: ends is no key of kind "rfc1234": {RFC1234_KEYS}'),
+    (WIRE + "accept = \"any\"\n", f'port 1: accept is no key of kind "frames": {FRAMES_KEYS}'),
+    (PORT + WIRE + "routers = []\n", f'port 2: routers is no key of kind "frames": {FRAMES_KEYS}'),
+    (WIRE + "end = []\n", f"port 1: end is no key here: {PORT_KEYS}"),
+    (without(WIRE, "network"), f"port 1: network is missing: it is to be {NETWORK}"),
+    (without(WIRE, "frame"), f"port 1: frame is missing: it is to be {FRAME}"),
+    (without(WIRE, "address"), f"port 1: address is missing: it is to be {ADDRESS}"),
+    (without(WIRE, "udp_port"), f"port 1: udp_port is missing: it is to be {NUMBER}"),
+    (without(WIRE, "ends"), f"port 1: ends is missing: it is to be {ENDS}"),
+    (changed(WIRE, "frame", '"raw"'), f"port 1: frame is to be {FRAME}"),
+    (changed(WIRE, "frame", "802.2"), f"port 1: frame is to be {FRAME}"),
+    (changed(WIRE, "udp_port", "0"), f"port 1: udp_port is to be {NUMBER}"),
+    (WIRE + "cost = 65536\n", f"port 1: cost is to be {COST}"),
+    (changed(WIRE, "ends", "[]"), f"port 1: ends is to be {ENDS}"),
+    (changed(WIRE, "ends", '"127.0.1.3:20998"'), f"port 1: ends is to be {ENDS}"),
+    (changed(WIRE, "ends", '["127.0.1.3"]'), f"port 1: ends is to be {ENDS}"),
+    (changed(WIRE, "ends", '["127.0.1.3:20998", "localhost:20998"]'), f"port 1: ends is to be {ENDS}"),
+    (changed(WIRE, "ends", '["0.0.0.0:20998"]'), f"port 1: ends is to be {ENDS}"),
+    (changed(WIRE, "ends", '["127.0.1.3:0"]'), f"port 1: ends is to be {ENDS}"),
+    (changed(WIRE, "ends", str(["127.0.1.3:20998"] * 257).replace("'", '"')), f"port 1: ends is to be {ENDS}"),
+    (WIRE + "node = \"020000000022\"\n", f"port 1: node is to be {STATION}"),
+    (WIRE + "node = \"03:00:00:00:00:22\"\n", f"port 1: node is to be {STATION}"),
+    (WIRE + "node = \"00:00:00:00:00:00\"\nhub = 1\n", f"port 1: node is to be {STATION}"),
+    (WIRE + "hub = \"true\"\n", "port 1: hub is to be true or false"),
 ]
 
 # The text of a host's file, and what is wrong with it.
@@ -208,7 +251,7 @@ def check_faults(sites):
 
 
 # Files without a fault, and what --check says of them: two ports with a status file; one port of which
-# all is to be remarked; two ports that are reached at one place; a host, and one that is its own router.
+# all is to be remarked; two ports that are reached at one place, and so on wires; a host, and one that is its own router.
 OWN = """status = "/run/ipx/h q\\u001b.prom"
 
 [[port]]
@@ -230,6 +273,25 @@ address = "10.1.0.1"
 peers = ["10.1.0.20", "10.1.0.1", "10.1.0.20", "10.1.0.21"]
 """
 SHARED = ODD + ODD.replace("00000011", "00000022").replace('"10.1.0.20", "10.1.0.1", ', "")
+WIRES = """[[port]]
+kind = "frames"
+network = "00000022"
+frame = "802.2"
+address = "127.0.0.1"
+udp_port = 24002
+ends = ["127.0.0.1:24001", "127.0.0.1:24002", "127.0.0.1:24001"]
+node = "02:00:00:00:00:22"
+
+[[port]]
+kind = "frames"
+network = "00000033"
+frame = "ethernet-ii"
+address = "127.0.0.1"
+udp_port = 24002
+cost = 6
+ends = ["192.0.2.10:258"]
+hub = false
+"""
 PORT_11 = "port 1 network 00000011 node 00000a010001 udp 10.1.0.1:213 cost 1 peers 4"
 REMARKS = ["port 1: peer 10.1.0.1 is its own address", "port 1: peer 10.1.0.20 stands twice"]
 CHECKED = [
@@ -239,6 +301,12 @@ CHECKED = [
     ("route", ODD, [PORT_11, *REMARKS, "it.toml: 1 port, no status file"]),
     ("route", SHARED, [PORT_11, *REMARKS, "port 2 network 00000022 node 00000a010001 udp 10.1.0.1:213 cost 1 peers 2",
                        "port 2: address and udp_port are those of port 1", "it.toml: 2 ports, no status file"]),
+    ("route", WIRES, ["port 1 network 00000022 node 020000000022 frames 802.2 udp 127.0.0.1:24002 cost 1"
+                      " ends 127.0.0.1:24001 127.0.0.1:24002 127.0.0.1:24001",
+                      "port 1: end 127.0.0.1:24002 is its own place", "port 1: end 127.0.0.1:24001 stands twice",
+                      "port 2 network 00000033 node 7e0000015dc2 frames ethernet-ii udp 127.0.0.1:24002 cost 6"
+                      " ends 192.0.2.10:258 apart",
+                      "port 2: address and udp_port are those of port 1", "it.toml: 2 ports, no status file"]),
     ("listen", HOST, ["socket 4002 network 00000011 node 00007f000114 udp 127.0.1.20:20999",
                       "it.toml: router 127.0.1.1, buffers 1024"]),
     ("listen", changed(HOST, "router", '"127.0.1.20"') + "buffers = 512\n",

@@ -1,7 +1,7 @@
 //! Files without a fault: what is read of them.
 
 use crate::fixture::{host, site};
-use ipx_site::{Accept, Origin, SitePort};
+use ipx_site::{Accept, Origin, PortOfKind, SiteFile, SitePort};
 use ipx_wire::{Address, Network, Node, Socket};
 
 const SITE: &str = "\
@@ -50,6 +50,14 @@ routers = [\"10.1.0.2\"]
 accept = \"any\"
 ";
 
+/// The port of RFC 1234 with this index.
+fn plain(site: &SiteFile, index: usize) -> Option<&SitePort> {
+    match site.ports.get(index)? {
+        PortOfKind::Rfc1234(port) => Some(port),
+        PortOfKind::Frames(_) => None,
+    }
+}
+
 fn is_first(port: &SitePort) -> bool {
     port.network == Network(1)
         && port.address == [192, 0, 2, 10]
@@ -72,8 +80,8 @@ fn reads_ports(rt: HostRuntime) {
         panic!(rt; "the file has a fault");
     };
     assert_eq!(rt; site.ports.len(), 2);
-    assert!(rt; is_first(&site.ports[0]));
-    assert!(rt; is_second(&site.ports[1]));
+    assert!(rt; plain(&site, 0).is_some_and(|port| is_first(port)));
+    assert!(rt; plain(&site, 1).is_some_and(|port| is_second(port)));
 }
 
 #[test]
@@ -81,9 +89,11 @@ fn reads_peers(rt: HostRuntime) {
     let Some(site) = site(rt.alloc(), SITE) else {
         panic!(rt; "the file has a fault");
     };
-    assert_eq!(rt; site.ports.len(), 2);
-    assert!(rt; site.ports[0].peers.as_slice() == [[198, 51, 100, 7], [203, 0, 113, 9]].as_slice());
-    assert!(rt; site.ports[1].peers.as_slice() == [[10, 1, 0, 20]].as_slice());
+    let (Some(first), Some(second)) = (plain(&site, 0), plain(&site, 1)) else {
+        panic!(rt; "a port is missing");
+    };
+    assert!(rt; first.peers.as_slice() == [[198, 51, 100, 7], [203, 0, 113, 9]].as_slice());
+    assert!(rt; second.peers.as_slice() == [[10, 1, 0, 20]].as_slice());
 }
 
 #[test]
@@ -91,12 +101,14 @@ fn reads_routers(rt: HostRuntime) {
     let Some(site) = site(rt.alloc(), SITE) else {
         panic!(rt; "the file has a fault");
     };
-    assert_eq!(rt; site.ports.len(), 2);
-    let Some(routers) = &site.ports[0].routers else {
+    let (Some(first), Some(second)) = (plain(&site, 0), plain(&site, 1)) else {
+        panic!(rt; "a port is missing");
+    };
+    let Some(routers) = &first.routers else {
         panic!(rt; "it names no routers");
     };
     assert!(rt; routers.as_slice() == [[203, 0, 113, 9]].as_slice());
-    assert!(rt; site.ports[1].routers.is_none());
+    assert!(rt; second.routers.is_none());
 }
 
 #[test]

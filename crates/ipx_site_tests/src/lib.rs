@@ -26,3 +26,5 @@ mod sockets;
 mod sparing;
 #[cfg(test)]
 mod waiting;
+#[cfg(test)]
+mod wires;

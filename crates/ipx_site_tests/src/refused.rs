@@ -1,9 +1,9 @@
 //! The files of a site where memory is refused: a file is read as it stands, or memory is wanted.
 //! Run these with each request refused.
 
-use ipx_site::{FileFault, read_host, read_site};
+use ipx_site::{FileFault, PortOfKind, read_host, read_site};
 
-/// A router with two ports.
+/// A router with two ports, and one on a wire.
 const SITE: &str = "\
 status = \"/run/ipx/hq.prom\"
 
@@ -19,6 +19,14 @@ accept = \"any\"
 network = \"00000022\"
 address = \"10.1.0.1\"
 peers = [\"10.1.0.20\"]
+
+[[port]]
+kind = \"frames\"
+network = \"00000033\"
+frame = \"802.3\"
+address = \"127.0.0.1\"
+udp_port = 24002
+ends = [\"127.0.0.1:24001\", \"127.0.0.1:24003\"]
 ";
 
 const HOST: &str = "\
@@ -37,12 +45,21 @@ const COST_OF_A_HOST: &str = "network = \"00000011\"\ncost = 1\n";
 /// Neither is TOML: a text that ends too soon.
 const CUT: &str = "network = ";
 
+/// To how many places a port sends.
+fn reached(port: &PortOfKind) -> usize {
+    match port {
+        PortOfKind::Rfc1234(port) => port.peers.len(),
+        PortOfKind::Frames(port) => port.ends.len(),
+    }
+}
+
 #[test]
 fn refused_site(rt: HostRuntime) {
     match read_site(rt.alloc(), SITE) {
         Ok(site) => {
-            assert!(rt; site.ports.len() == 2 && site.status.is_some());
-            assert!(rt; site.ports.first().is_some_and(|port| port.peers.len() == 2));
+            assert!(rt; site.ports.len() == 3 && site.status.is_some());
+            assert!(rt; site.ports.first().is_some_and(|port| reached(port) == 2));
+            assert!(rt; site.ports.last().is_some_and(|port| reached(port) == 2));
         }
         Err(fault) => assert!(rt; matches!(fault, FileFault::OutOfMemory)),
     }

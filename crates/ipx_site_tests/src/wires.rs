@@ -1,0 +1,267 @@
+//! Files with ports on wires: what is read of them, and each fault with its line.
+
+use crate::fixture::{site, site_line};
+use ipx_frames::Encapsulation;
+use ipx_site::{FramesPort, Kind, PortOfKind, SiteFile};
+use ipx_wire::{Network, Node};
+use ipx_wires::Place;
+use std::alloc::AllocError;
+
+/// A router with a port of RFC 1234 and two on wires.
+const SITE: &str = "\
+[[port]]
+network = \"00000011\"
+address = \"10.1.0.1\"
+peers = []
+
+[[port]]
+kind = \"frames\"
+network = \"00000022\"
+frame = \"802.2\"
+address = \"127.0.0.1\"
+udp_port = 24002
+ends = [\"127.0.0.1:24001\", \"127.0.0.1:24003\"]
+
+[[port]]
+kind = \"frames\"
+network = \"00000033\"
+frame = \"ethernet-ii\"
+address = \"192.0.2.10\"
+udp_port = 258
+cost = 6
+ends = [\"198.51.100.7:65535\"]
+node = \"02:00:00:00:0A:fe\"
+hub = false
+";
+
+/// The port on a wire with this index.
+fn wire(site: &SiteFile, index: usize) -> Option<&FramesPort> {
+    match site.ports.get(index)? {
+        PortOfKind::Frames(port) => Some(port),
+        PortOfKind::Rfc1234(_) => None,
+    }
+}
+
+fn is_first(port: &FramesPort) -> bool {
+    let near = [
+        Place {
+            ip: [127, 0, 0, 1],
+            udp_port: 24001,
+        },
+        Place {
+            ip: [127, 0, 0, 1],
+            udp_port: 24003,
+        },
+    ];
+    port.network == Network(0x22)
+        && port.encapsulation == Encapsulation::Llc
+        && port.address == [127, 0, 0, 1]
+        && port.udp_port == 24002
+        && port.cost == 1
+        && port.ends.as_slice() == near.as_slice()
+        && port.joined
+}
+
+fn is_second(port: &FramesPort) -> bool {
+    let far = [Place {
+        ip: [198, 51, 100, 7],
+        udp_port: 65535,
+    }];
+    port.network == Network(0x33)
+        && port.encapsulation == Encapsulation::EthernetII
+        && port.address == [192, 0, 2, 10]
+        && port.udp_port == 258
+        && port.cost == 6
+        && port.ends.as_slice() == far.as_slice()
+        && !port.joined
+}
+
+#[test]
+fn reads_wires(rt: HostRuntime) {
+    let Some(site) = site(rt.alloc(), SITE) else {
+        panic!(rt; "the file has a fault");
+    };
+    assert_eq!(rt; site.ports.len(), 3);
+    assert!(rt; site.ports[0].kind() == Kind::Rfc1234 && site.ports[1].kind() == Kind::Frames);
+    assert!(rt; wire(&site, 1).is_some_and(|port| is_first(port)));
+    assert!(rt; wire(&site, 2).is_some_and(|port| is_second(port)));
+}
+
+/// 127 is 0111_1111, whose two low bits become 10; 24002 is 0x5dc2.
+#[test]
+fn reads_addresses_on_wires(rt: HostRuntime) {
+    let Some(site) = site(rt.alloc(), SITE) else {
+        panic!(rt; "the file has a fault");
+    };
+    assert_eq!(rt; site.ports.len(), 3);
+    let nodes = [
+        Node([0, 0, 10, 1, 0, 1]),
+        Node([126, 0, 0, 1, 0x5d, 0xc2]),
+        Node([2, 0, 0, 0, 0x0a, 0xfe]),
+    ];
+    for (port, node) in site.ports.iter().zip(nodes) {
+        assert!(rt; port.router_port().node == node);
+        assert!(rt; port.router_port().network == port.network());
+    }
+    let place = site.ports[2].place();
+    assert!(rt; place.ip == [192, 0, 2, 10] && place.udp_port == 258);
+}
+
+/// A wire up to its ends, and what follows with what is printed of it.
+const START: &str = "\
+[[port]]
+kind = \"frames\"
+network = \"00000022\"
+frame = \"snap\"
+address = \"127.0.0.1\"
+udp_port = 24002
+";
+
+const WIRES: [(&str, &str); 17] = [
+    ("ends = [\"127.0.0.1:24001\"]", "none"),
+    (
+        "",
+        "port 1: ends is missing: it is to be a list of 1 to 256 places, as [\"127.0.0.1:24001\"]",
+    ),
+    (
+        "ends = []",
+        "port 1: ends is to be a list of 1 to 256 places, as [\"127.0.0.1:24001\"]",
+    ),
+    (
+        "ends = \"127.0.0.1:24001\"",
+        "port 1: ends is to be a list of 1 to 256 places, as [\"127.0.0.1:24001\"]",
+    ),
+    (
+        "ends = [\"127.0.0.1\"]",
+        "port 1: ends is to be a list of 1 to 256 places, as [\"127.0.0.1:24001\"]",
+    ),
+    (
+        "ends = [\"127.0.0.1:24001\", \"0.0.0.0:24001\"]",
+        "port 1: ends is to be a list of 1 to 256 places, as [\"127.0.0.1:24001\"]",
+    ),
+    (
+        "ends = [\"127.0.0.1:0\"]",
+        "port 1: ends is to be a list of 1 to 256 places, as [\"127.0.0.1:24001\"]",
+    ),
+    (
+        "ends = [\"127.0.0.1:65536\"]",
+        "port 1: ends is to be a list of 1 to 256 places, as [\"127.0.0.1:24001\"]",
+    ),
+    (
+        "ends = [\"127.0.0.1:24001\"]\nnode = \"020000000022\"",
+        "port 1: node is to be the address of one station, as \"02:00:00:00:00:22\"",
+    ),
+    (
+        "ends = [\"127.0.0.1:24001\"]\nnode = \"02-00-00-00-00-22\"",
+        "port 1: node is to be the address of one station, as \"02:00:00:00:00:22\"",
+    ),
+    (
+        "ends = [\"127.0.0.1:24001\"]\nnode = \"01:00:00:00:00:22\"",
+        "port 1: node is to be the address of one station, as \"02:00:00:00:00:22\"",
+    ),
+    (
+        "ends = [\"127.0.0.1:24001\"]\nnode = \"00:00:00:00:00:00\"",
+        "port 1: node is to be the address of one station, as \"02:00:00:00:00:22\"",
+    ),
+    (
+        "ends = [\"127.0.0.1:24001\"]\nhub = 1",
+        "port 1: hub is to be true or false",
+    ),
+    (
+        "hub = 1\nnode = 1\nends = [\"127.0.0.1:24001\"]",
+        "port 1: node is to be the address of one station, as \"02:00:00:00:00:22\"",
+    ),
+    (
+        "ends = 1\nwire = 1\npeers = []",
+        "port 1: peers is no key of kind \"frames\": its keys are kind, network, frame, address, udp_port, cost, ends, node, hub",
+    ),
+    (
+        "ends = 1\npeers = []\nend = []",
+        "port 1: end is no key here: the keys are kind, network, address, udp_port, cost, for kind = \"rfc1234\" also peers, routers and accept, for kind = \"frames\" frame, ends, node and hub",
+    ),
+    (
+        "ends = [\"127.0.0.1:24001\"]\nhub = true\nnode = \"02:00:00:00:00:22\"",
+        "none",
+    ),
+];
+
+#[test]
+fn lines_of_wires(rt: HostRuntime) -> Result<(), AllocError> {
+    for (rest, line) in WIRES {
+        let text = format!(in rt.alloc(); "{START}{rest}")?;
+        assert_eq!(rt; site_line(rt.alloc(), text.as_str())?.as_str(), line);
+    }
+    Ok(())
+}
+
+/// Ports, whose kind is told before all else, with what is printed of them.
+const KINDS: [(&str, &str); 7] = [
+    (
+        "peer = 1\nkind = \"ethernet\"",
+        "port 1: kind is to be \"rfc1234\" or \"frames\"",
+    ),
+    (
+        "kind = 1",
+        "port 1: kind is to be \"rfc1234\" or \"frames\"",
+    ),
+    (
+        "kind = \"rfc1234\"\nnode = 1",
+        "port 1: node is no key of kind \"rfc1234\": its keys are kind, network, address, udp_port, cost, peers, routers, accept",
+    ),
+    (
+        "frame = \"802.3\"",
+        "port 1: frame is no key of kind \"rfc1234\": its keys are kind, network, address, udp_port, cost, peers, routers, accept",
+    ),
+    (
+        "kind = \"frames\"\nnetwork = \"00000022\"",
+        "port 1: frame is missing: it is to be \"802.3\", \"802.2\", \"snap\" or \"ethernet-ii\"",
+    ),
+    (
+        "kind = \"frames\"\nnetwork = \"00000022\"\nframe = \"raw\"",
+        "port 1: frame is to be \"802.3\", \"802.2\", \"snap\" or \"ethernet-ii\"",
+    ),
+    (
+        "kind = \"frames\"\nnetwork = \"00000022\"\nframe = \"802.3\"\naddress = \"127.0.0.1\"",
+        "port 1: udp_port is missing: it is to be a number from 1 to 65535, as 213",
+    ),
+];
+
+#[test]
+fn lines_of_kinds(rt: HostRuntime) -> Result<(), AllocError> {
+    for (rest, line) in KINDS {
+        let text = format!(in rt.alloc(); "[[port]]\n{rest}")?;
+        assert_eq!(rt; site_line(rt.alloc(), text.as_str())?.as_str(), line);
+    }
+    Ok(())
+}
+
+/// A list of so many ends.
+fn ends(rt: &HostRuntime, count: usize) -> Result<String, AllocError> {
+    let mut text = format!(in rt.alloc(); "{START}ends = [")?;
+    for _ in 0..count {
+        text.push_str("\"127.0.0.1:24001\", ")?;
+    }
+    text.push_str("]\n")?;
+    Ok(text)
+}
+
+#[test]
+fn lines_of_many_ends(rt: HostRuntime) -> Result<(), AllocError> {
+    let most = ends(&rt, 256)?;
+    assert_eq!(rt; site_line(rt.alloc(), most.as_str())?.as_str(), "none");
+    let more = ends(&rt, 257)?;
+    assert_eq!(rt; site_line(rt.alloc(), more.as_str())?.as_str(), WIRES[2].1);
+    Ok(())
+}
+
+/// A network of a port of RFC 1234 is none for a wire.
+#[test]
+fn lines_of_twins_of_two_kinds(rt: HostRuntime) -> Result<(), AllocError> {
+    let first = "[[port]]\nnetwork = \"00000022\"\naddress = \"10.1.0.1\"\npeers = []\n";
+    let text = format!(in rt.alloc(); "{first}{START}ends = [\"127.0.0.1:24001\"]\n")?;
+    assert_eq!(rt;
+        site_line(rt.alloc(), text.as_str())?.as_str(),
+        "port 2: network 00000022 is already that of port 1"
+    );
+    Ok(())
+}
