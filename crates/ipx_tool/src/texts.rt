@@ -136,6 +136,14 @@ Reads the file SITE, in TOML: a table [[port]] for each network that it joins, w
   peers     a list of IP addresses: whom it sends to
   routers   those of them that may pass on and tell, each where it is left out
   accept    \"peers\", as where it is left out, or \"any\": who is heard
+or for a wire, which is an Ethernet frame in each datagram,
+  kind      \"frames\"
+  network, address and cost as above
+  frame     \"802.3\", \"802.2\", \"snap\" or \"ethernet-ii\"
+  udp_port  where frames come in
+  ends      a list of places, as [\"127.0.0.1:24001\"]: where they come from and go
+  node      its address, as \"02:00:00:00:00:22\"; made of its place where it is left out
+  hub       true, as where it is left out: each end hears the others; or false
 and before the first port, if figures are wanted,
   status    the name of a file, which it writes anew every ten seconds
 It tells each port, and what becomes known or is lost, on standard error.";
