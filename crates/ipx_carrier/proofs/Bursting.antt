@@ -5,16 +5,16 @@ use Rattle.std.proofs.lemmas.List.Sums.{sum_by_push}
 use Rattle.ipx_carrier.specs.declared.fault.RunFault.{RunFault}
 use Rattle.ipx_carrier.specs.declared.fault.RunFault.TheVariants.{Device}
 use Rattle.ipx_carrier.specs.declared.report.Report.{Report}
-use Rattle.ipx_carrier.specs.Turns.{Given, Peers}
-use Rattle.ipx_carrier.specs.Runs.{EndsEarly, Runs}
+use Rattle.ipx_carrier.specs.Turns.{Given, Ways}
+use Rattle.ipx_carrier.specs.Runs.{EndsEarlyBy, RunsBy}
 use Rattle.ipx_carrier.specs.declared.report.Burst.{Burst}
 use Rattle.ipx_carrier.specs.Counting.{counted}
-use Rattle.ipx_carrier.specs.Device.{Traffic}
-use Rattle.ipx_carrier.specs.Driving.{AreBusy, Bursts, CanBegin, Chain, CountsTurns, Ends, IsIdle, Stops, TakesTurn, TurnTaken, no_turns, refused}
+use Rattle.ipx_carrier.specs.Device.{TrafficOf}
+use Rattle.ipx_carrier.specs.Driving.{AreBusy, BurstsBy, CanBeginBy, ChainBy, CountsTurns, EndsBy, IsIdle, Stops, TakesTurnBy, TurnTaken, no_turns, refused}
 
 -- a turn can be begun over the same as before
-pub begins_again : {ports ports_now device device_now lists failed failed_now : ℕ} → ports_now ≡ ports
-    → device_now ≡ device → failed_now ≡ failed → CanBegin ports device lists failed → CanBegin ports_now device_now lists failed_now
+pub begins_again : {ports ports_now device device_now failed failed_now : ℕ} → ports_now ≡ ports
+    → device_now ≡ device → failed_now ≡ failed → CanBeginBy ports device failed → CanBeginBy ports_now device_now failed_now
 begins_again e f g can = rw (e, f, g) can
 
 -- where none can be begun, the first one ends the burst, and there is none where none is to be taken
@@ -55,21 +55,21 @@ refused_none count most x first all none = rw (← all, first, none) refl
 -- a turn that was taken, by what it answers
 module _ {C K : Type 0} (hears misses : C → ℕ → List ℕ → ℕ → C → Type 0)
     (gives : C → ℕ → Option Given → C → Type 0) (withholds : C → ℕ → C → Type 0)
-    (tells : K → ℕ → K → Type 0) (ports : ℕ) (peers : Peers) where
-  pub takes : (before after : Option Traffic) (l m : K) (b c : C) (ran : Result Report RunFault)
-      → IfOk ran (λ report. Runs hears gives tells ports peers 1 before after l m b c report)
-      → IfErr ran (λ f. EndsEarly hears misses gives withholds tells ports peers 1 before after l m f b c)
-      → TakesTurn hears misses gives withholds tells ports peers before after l m b c ran
+    (tells : K → ℕ → K → Type 0) (ports : ℕ) {A : Type 0} (ways : Ways A) where
+  pub takes : (before after : Option (TrafficOf A)) (l m : K) (b c : C) (ran : Result Report RunFault)
+      → IfOk ran (λ report. RunsBy hears gives tells ports ways 1 before after l m b c report)
+      → IfErr ran (λ f. EndsEarlyBy hears misses gives withholds tells ports ways 1 before after l m f b c)
+      → TakesTurnBy hears misses gives withholds tells ports ways before after l m b c ran
   takes before after l m b c (Ok report) well ill = well
   takes before after l m b c (Err f) well ill = ill
 
   -- what passed is not told any more
-  pub ran_untold : (before after : Option Traffic) (l m : K) (b c : C) (report : Report)
-      → Runs hears gives tells ports peers 1 before after l m b c report → Runs hears gives tells ports peers 1 None None l m b c report
+  pub ran_untold : (before after : Option (TrafficOf A)) (l m : K) (b c : C) (report : Report)
+      → RunsBy hears gives tells ports ways 1 before after l m b c report → RunsBy hears gives tells ports ways 1 None None l m b c report
   ran_untold before after l m b c report h = (h.0, h.1, h.2, tt, h.4, h.5)
 
-  pub ended_untold : (before after : Option Traffic) (l m : K) (f : RunFault) (b c : C)
-      → EndsEarly hears misses gives withholds tells ports peers 1 before after l m f b c → EndsEarly hears misses gives withholds tells ports peers 1 None None l m f b c
+  pub ended_untold : (before after : Option (TrafficOf A)) (l m : K) (f : RunFault) (b c : C)
+      → EndsEarlyBy hears misses gives withholds tells ports ways 1 before after l m f b c → EndsEarlyBy hears misses gives withholds tells ports ways 1 None None l m f b c
   ended_untold before after l m f b c h = (h.0, h.1, h.2, h.3, h.4, h.5, h.6, tt, h.8)
 
 -- what holds of a turn in any case
@@ -103,23 +103,30 @@ taken r before after = record { report = r; before = before; after = after }
 
 module _ {C K : Type 0} (hears : C → ℕ → List ℕ → ℕ → C → Type 0)
     (gives : C → ℕ → Option Given → C → Type 0) (tells : K → ℕ → K → Type 0)
-    (ports : ℕ) (peers : Peers) where
+    (ports : ℕ) {A : Type 0} (ways : Ways A) where
   -- so many whole turns, none of them idle, and their counts
   abbrev pub Goes : ℕ → Burst → ℕ → ℕ → K → K → C → C → Type 0
   Goes count b kept kept_after clock clock_after old new = (turns : List TurnTaken) × (length turns ≡ count)
-      × Chain hears gives tells ports peers turns kept kept_after clock clock_after old new
+      × ChainBy hears gives tells ports ways turns kept kept_after clock clock_after old new
       × CountsTurns turns b × AreBusy turns
 
-  chain_on : (ts : List TurnTaken) (t : TurnTaken) (i j : ℕ) (k l m : K) (a b c : C) → Chain hears gives tells ports peers ts i j k l a b
-      → t.before ≡ j → j ≤ t.after → Runs hears gives tells ports peers 1 None None l m b c t.report
-      → Chain hears gives tells ports peers (ts ++ t ∷ []) i t.after k m a c
+  -- a turn over the same ports and ways
+  ran_here : (here : ℕ) (there : Ways A) (l m : K) (b c : C) (report : Report) → here ≡ ports → there ≡ ways
+      → RunsBy hears gives tells here there 1 None None l m b c report → RunsBy hears gives tells ports ways 1 None None l m b c report
+  ran_here here there l m b c report e w ran =
+      subst (λ (it : Ways A). RunsBy hears gives tells ports it 1 None None l m b c report) w
+      (subst (λ n. RunsBy hears gives tells n there 1 None None l m b c report) e ran)
+
+  chain_on : (ts : List TurnTaken) (t : TurnTaken) (i j : ℕ) (k l m : K) (a b c : C) → ChainBy hears gives tells ports ways ts i j k l a b
+      → t.before ≡ j → j ≤ t.after → RunsBy hears gives tells ports ways 1 None None l m b c t.report
+      → ChainBy hears gives tells ports ways (ts ++ t ∷ []) i t.after k m a c
   chain_on [] t i j k l m a b c h e le ran =
-      let ran' = subst (λ l. Runs hears gives tells ports peers 1 None None l m b c t.report) h.1 ran in (
+      let ran' = subst (λ l. RunsBy hears gives tells ports ways 1 None None l m b c t.report) h.1 ran in (
         m,
         c,
         rw (← h.0) e,
         rw (← h.0) le,
-        subst (λ b. Runs hears gives tells ports peers 1 None None k m b c t.report) h.2 ran',
+        subst (λ b. RunsBy hears gives tells ports ways 1 None None k m b c t.report) h.2 ran',
         (refl, refl, refl),
       )
   chain_on (s ∷ ss) t i j k l m a b c h e le ran = (h.0, h.1, h.2, h.3, h.4, chain_on ss t s.after j h.0 l m h.1 b c h.5 e le ran)
@@ -128,35 +135,35 @@ module _ {C K : Type 0} (hears : C → ℕ → List ℕ → ℕ → C → Type 0
   goes_nowhere i k a burst counts = ([], refl, (refl, refl, refl), counts, All-nil (λ t. IsIdle t → ⊥))
 
   -- one more turn, idle or not
-  one_more : (here count : ℕ) (i j n : ℕ) (k l m : K) (a b c : C) (x : Burst) (report : Report) → here ≡ ports
-      → (h : Goes count x i j k l a b) → j ≤ n → Runs hears gives tells here peers 1 None None l m b c report
-      → Chain hears gives tells ports peers (h.0 ++ taken report j n ∷ []) i n k m a c
-  one_more here count i j n k l m a b c x report e h le ran =
-      chain_on h.0 (taken report j n) i j k l m a b c h.2 refl le (subst (λ n. Runs hears gives tells n peers 1 None None l m b c report) e ran)
+  one_more : (here count : ℕ) (there : Ways A) (i j n : ℕ) (k l m : K) (a b c : C) (x : Burst) (report : Report) → here ≡ ports
+      → there ≡ ways → (h : Goes count x i j k l a b) → j ≤ n → RunsBy hears gives tells here there 1 None None l m b c report
+      → ChainBy hears gives tells ports ways (h.0 ++ taken report j n ∷ []) i n k m a c
+  one_more here count there i j n k l m a b c x report e w h le ran =
+      chain_on h.0 (taken report j n) i j k l m a b c h.2 refl le (ran_here here there l m b c report e w ran)
 
-  pub goes_on : (here count : ℕ) (i j n : ℕ) (k l m : K) (a b c : C) (x y : Burst) (report : Report) → here ≡ ports
-      → Goes count x i j k l a b → j ≤ n → Runs hears gives tells here peers 1 None None l m b c report → CountsOne report x y
+  pub goes_on : (here count : ℕ) (there : Ways A) (i j n : ℕ) (k l m : K) (a b c : C) (x y : Burst) (report : Report) → here ≡ ports
+      → there ≡ ways → Goes count x i j k l a b → j ≤ n → RunsBy hears gives tells here there 1 None None l m b c report → CountsOne report x y
       → (IsIdle (taken report j n) → ⊥) → Goes (count + 1) y i n k m a c
-  goes_on here count i j n k l m a b c x y report e h le ran counts busy = (
+  goes_on here count there i j n k l m a b c x y report e w h le ran counts busy = (
     h.0 ++ taken report j n ∷ [],
     omega (arith, length-append h.0 (taken report j n ∷ []), h.1),
-    one_more here count i j n k l m a b c x report e h le ran,
+    one_more here count there i j n k l m a b c x report e w h le ran,
     more_counts h.0 (taken report j n) x y h.3 counts,
     All-push (λ t. IsIdle t → ⊥) h.0 (taken report j n) h.4 busy,
   )
 
 module _ {C K : Type 0} (hears misses : C → ℕ → List ℕ → ℕ → C → Type 0)
     (gives : C → ℕ → Option Given → C → Type 0) (withholds : C → ℕ → C → Type 0)
-    (tells : K → ℕ → K → Type 0) (ports : ℕ) (peers : Peers) where
+    (tells : K → ℕ → K → Type 0) (ports : ℕ) {A : Type 0} (ways : Ways A) where
   nothing_more : (fault : Option RunFault) (j : ℕ) (l : K) (b : C) → fault ≡ None
-      → Ends hears misses gives withholds tells ports peers fault j j l l b b
+      → EndsBy hears misses gives withholds tells ports ways fault j j l l b b
   nothing_more fault j l b e =
-      subst (λ (it : Option RunFault). Ends hears misses gives withholds tells ports peers it j j l l b b) (sym e) (refl, refl, refl)
+      subst (λ (it : Option RunFault). EndsBy hears misses gives withholds tells ports ways it j j l l b b) (sym e) (refl, refl, refl)
 
   -- no fault ended it, and it is not quiet: there were so many turns
   pub ends_at_most : (count most : ℕ) (i j : ℕ) (k l : K) (a b : C) (x : Burst) → count ≡ most → x.fault ≡ None → x.quiet ≡ false
-      → Goes hears gives tells ports peers count x i j k l a b
-      → Bursts hears misses gives withholds tells ports peers most x i j k l a b
+      → Goes hears gives tells ports ways count x i j k l a b
+      → BurstsBy hears misses gives withholds tells ports ways most x i j k l a b
   ends_at_most count most i j k l a b x all e f h = (
     h.0,
     j,
@@ -169,39 +176,43 @@ module _ {C K : Type 0} (hears misses : C → ℕ → List ℕ → ℕ → C →
         (subst (λ (it : Bool). Stops most h.0 None it) (sym f) (omega (arith, h.1, all), h.4)),
   )
 
-  pub ends_quietly : (here count most : ℕ) (i j n : ℕ) (k l m : K) (a b c : C) (x y z : Burst) (report : Report) → here ≡ ports
-      → count < most → Goes hears gives tells ports peers count x i j k l a b → n ≡ j
-      → Runs hears gives tells here peers 1 None None l m b c report → (report.heard ≡ 0) × (report.sent ≡ 0)
+  pub ends_quietly : (here count most : ℕ) (there : Ways A) (i j n : ℕ) (k l m : K) (a b c : C) (x y z : Burst) (report : Report) → here ≡ ports
+      → there ≡ ways → count < most → Goes hears gives tells ports ways count x i j k l a b → n ≡ j
+      → RunsBy hears gives tells here there 1 None None l m b c report → (report.heard ≡ 0) × (report.sent ≡ 0)
       → CountsOne report x y → y.fault ≡ None → z ≡ record y { quiet = true }
-      → Bursts hears misses gives withholds tells ports peers most z i n k m a c
+      → BurstsBy hears misses gives withholds tells ports ways most z i n k m a c
   unfolding one_more
-  ends_quietly here count most i j n k l m a b c x y z report e few h same ran idle counts f is =
+  ends_quietly here count most there i j n k l m a b c x y z report e w few h same ran idle counts f is =
       let last = taken report j n in
-      subst (λ (it : Burst). Bursts hears misses gives withholds tells ports peers most it i n k m a c) (sym is) (
+      subst (λ (it : Burst). BurstsBy hears misses gives withholds tells ports ways most it i n k m a c) (sym is) (
         h.0 ++ last ∷ [],
         n,
         m,
         c,
-        one_more hears gives tells ports peers here count i j n k l m a b c x report e h (omega (arith, same)) ran,
+        one_more hears gives tells ports ways here count there i j n k l m a b c x report e w h (omega (arith, same)) ran,
         nothing_more y.fault n m c f,
         more_counts h.0 last x y h.3 counts,
         subst (λ (it : Option RunFault). Stops most (h.0 ++ last ∷ []) it true) (sym f)
             (omega (arith, length-append h.0 (last ∷ []), h.1, few), (h.0, last, refl, h.4, (idle.0, idle.1, same))),
       )
 
-  pub ends_badly : (here count most : ℕ) (i j n : ℕ) (k l m : K) (a b c : C) (x y : Burst) (f : RunFault) → here ≡ ports
-      → count < most → x.quiet ≡ false → y ≡ record x { fault = Some f }
-      → Goes hears gives tells ports peers count x i j k l a b → j ≤ n
-      → EndsEarly hears misses gives withholds tells here peers 1 None None l m f b c
-      → Bursts hears misses gives withholds tells ports peers most y i n k m a c
-  ends_badly here count most i j n k l m a b c x y f e few loud is h le how =
-      subst (λ (it : Burst). Bursts hears misses gives withholds tells ports peers most it i n k m a c) (sym is) (
+  pub ends_badly : (here count most : ℕ) (there : Ways A) (i j n : ℕ) (k l m : K) (a b c : C) (x y : Burst) (f : RunFault) → here ≡ ports
+      → there ≡ ways → count < most → x.quiet ≡ false → y ≡ record x { fault = Some f }
+      → Goes hears gives tells ports ways count x i j k l a b → j ≤ n
+      → EndsEarlyBy hears misses gives withholds tells here there 1 None None l m f b c
+      → BurstsBy hears misses gives withholds tells ports ways most y i n k m a c
+  ends_badly here count most there i j n k l m a b c x y f e w few loud is h le how =
+      subst (λ (it : Burst). BurstsBy hears misses gives withholds tells ports ways most it i n k m a c) (sym is) (
         h.0,
         j,
         l,
         b,
         h.2,
-        (le, subst (λ n. EndsEarly hears misses gives withholds tells n peers 1 None None l m f b c) e how),
+        (
+          le,
+          subst (λ (it : Ways A). EndsEarlyBy hears misses gives withholds tells ports it 1 None None l m f b c) w
+              (subst (λ n. EndsEarlyBy hears misses gives withholds tells n there 1 None None l m f b c) e how),
+        ),
         h.3,
         (omega (arith, h.1, few), h.4, loud),
       )

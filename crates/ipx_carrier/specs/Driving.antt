@@ -1,15 +1,19 @@
 -- What a turn of a core over a device leaves, and what turns one after another do, as long as there is
--- something to do. The entry points are `TakesTurn` and `Bursts`, and `CanBegin` for when. All of it is
--- own.
+-- something to do. The entry points are `TakesTurn` and `Bursts`, and `CanBegin` for when; over whatever
+-- packets are sent by `TakesTurnBy` and `BurstsBy`, and `CanBeginBy`. All of it is own.
 use Rattle.std.specs.Prelude.{◌≡◌, ◌<◌, ◌≤◌, ℕ, zero, suc, ◌+◌, ◌^◌, List, [], ◌∷◌, ◌++◌, length, sum_by, All, Bool, true, false, Option, Some, None, Result, Ok, Err}
 use Rattle.ipx_carrier.specs.declared.fault.RunFault.{RunFault}
 use Rattle.ipx_carrier.specs.declared.fault.RunFault.TheVariants.{Device, OutOfMemory}
 use Rattle.ipx_carrier.specs.declared.report.Burst.{Burst}
 use Rattle.ipx_carrier.specs.declared.report.Report.{Report}
 use Rattle.ipx_carrier.specs.Counting.{counted}
-use Rattle.ipx_carrier.specs.Device.{Traffic}
-use Rattle.ipx_carrier.specs.Turns.{Given, Peers}
-use Rattle.ipx_carrier.specs.Runs.{EndsEarly, Runs}
+use Rattle.ipx_carrier.specs.Device.{Traffic, TrafficOf}
+use Rattle.ipx_carrier.specs.Turns.{Given, Peers, Ways, by_ip}
+use Rattle.ipx_carrier.specs.Runs.{EndsEarlyBy, RunsBy}
+
+-- a turn can be begun over segments: they have as many ports as the core, and can count one more failure
+abbrev pub CanBeginBy : ℕ → ℕ → ℕ → Type 0
+CanBeginBy ports segment_ports failed = (segment_ports ≡ ports) × (failed + 1 < 2 ^ 64)
 
 -- a turn can be begun: the device has as many ports as the core, so many have lists of peers, and the
 -- device can count one more failure
@@ -19,13 +23,18 @@ CanBegin ports device_ports peer_lists failed =
 
 module _ {C : Type 0} (hears misses : C → ℕ → List ℕ → ℕ → C → Type 0)
     (gives : C → ℕ → Option Given → C → Type 0) (withholds : C → ℕ → C → Type 0)
-    {K : Type 0} (tells : K → ℕ → K → Type 0) (ports : ℕ) (peers : Peers) where
+    {K : Type 0} (tells : K → ℕ → K → Type 0) (ports : ℕ) where
   -- one turn, as `run` takes it; or a part of one, which a fault ends
-  abbrev pub TakesTurn : Option Traffic → Option Traffic → K → K → C → C → Result Report RunFault → Type 0
-  TakesTurn before after clock clock_after old new (Ok report) =
-      Runs hears gives tells ports peers 1 before after clock clock_after old new report
-  TakesTurn before after clock clock_after old new (Err fault) =
-      EndsEarly hears misses gives withholds tells ports peers 1 before after clock clock_after fault old new
+  abbrev pub TakesTurnBy : {A : Type 0} → Ways A → Option (TrafficOf A) → Option (TrafficOf A) → K → K
+      → C → C → Result Report RunFault → Type 0
+  TakesTurnBy ways before after clock clock_after old new (Ok report) =
+      RunsBy hears gives tells ports ways 1 before after clock clock_after old new report
+  TakesTurnBy ways before after clock clock_after old new (Err fault) =
+      EndsEarlyBy hears misses gives withholds tells ports ways 1 before after clock clock_after fault old new
+
+  abbrev pub TakesTurn : Peers → Option Traffic → Option Traffic → K → K → C → C → Result Report RunFault
+      → Type 0
+  TakesTurn peers = TakesTurnBy (by_ip peers)
 
 -- a burst of no turns
 abbrev pub no_turns : Burst
@@ -76,31 +85,40 @@ Stops most turns None false = (length turns ≡ most) × AreBusy turns
 
 module _ {C : Type 0} (hears : C → ℕ → List ℕ → ℕ → C → Type 0)
     (gives : C → ℕ → Option Given → C → Type 0) {K : Type 0} (tells : K → ℕ → K → Type 0)
-    (ports : ℕ) (peers : Peers) where
+    (ports : ℕ) where
   -- runs of one turn each, one after another, with what the device keeps back from the one count to
   -- the other, which never falls. What passed at its sockets is not told
-  abbrev pub Chain : List TurnTaken → ℕ → ℕ → K → K → C → C → Type 0
-  Chain [] kept kept_after clock clock_after old new =
+  abbrev pub ChainBy : {A : Type 0} → Ways A → List TurnTaken → ℕ → ℕ → K → K → C → C → Type 0
+  ChainBy ways [] kept kept_after clock clock_after old new =
       (kept_after ≡ kept) × (clock_after ≡ clock) × (new ≡ old)
-  Chain (t ∷ ts) kept kept_after clock clock_after old new = (tick : K) × (mid : C)
+  ChainBy ways (t ∷ ts) kept kept_after clock clock_after old new = (tick : K) × (mid : C)
       × (t.before ≡ kept) × (kept ≤ t.after)
-      × Runs hears gives tells ports peers 1 None None clock tick old mid t.report
-      × Chain ts t.after kept_after tick clock_after mid new
+      × RunsBy hears gives tells ports ways 1 None None clock tick old mid t.report
+      × ChainBy ways ts t.after kept_after tick clock_after mid new
+
+  abbrev pub Chain : Peers → List TurnTaken → ℕ → ℕ → K → K → C → C → Type 0
+  Chain peers = ChainBy (by_ip peers)
 
 module _ {C : Type 0} (hears misses : C → ℕ → List ℕ → ℕ → C → Type 0)
     (gives : C → ℕ → Option Given → C → Type 0) (withholds : C → ℕ → C → Type 0)
-    {K : Type 0} (tells : K → ℕ → K → Type 0) (ports : ℕ) (peers : Peers) where
+    {K : Type 0} (tells : K → ℕ → K → Type 0) (ports : ℕ) where
   -- no fault, and nothing more happens; or a fault ends a turn that was begun
-  abbrev pub Ends : Option RunFault → ℕ → ℕ → K → K → C → C → Type 0
-  Ends None kept kept_after clock clock_after old new =
+  abbrev pub EndsBy : {A : Type 0} → Ways A → Option RunFault → ℕ → ℕ → K → K → C → C → Type 0
+  EndsBy ways None kept kept_after clock clock_after old new =
       (kept_after ≡ kept) × (clock_after ≡ clock) × (new ≡ old)
-  Ends (Some f) kept kept_after clock clock_after old new = (kept ≤ kept_after)
-      × EndsEarly hears misses gives withholds tells ports peers 1 None None clock clock_after f old new
+  EndsBy ways (Some f) kept kept_after clock clock_after old new = (kept ≤ kept_after)
+      × EndsEarlyBy hears misses gives withholds tells ports ways 1 None None clock clock_after f old new
+
+  abbrev pub Ends : Peers → Option RunFault → ℕ → ℕ → K → K → C → C → Type 0
+  Ends peers = EndsBy (by_ip peers)
 
   -- at most so many whole turns, which are counted, and then that
-  abbrev pub Bursts : ℕ → Burst → ℕ → ℕ → K → K → C → C → Type 0
-  Bursts most b kept kept_after clock clock_after old new = (turns : List TurnTaken)
+  abbrev pub BurstsBy : {A : Type 0} → Ways A → ℕ → Burst → ℕ → ℕ → K → K → C → C → Type 0
+  BurstsBy ways most b kept kept_after clock clock_after old new = (turns : List TurnTaken)
       × (kept_then : ℕ) × (tick : K) × (mid : C)
-      × Chain hears gives tells ports peers turns kept kept_then clock tick old mid
-      × Ends b.fault kept_then kept_after tick clock_after mid new
+      × ChainBy hears gives tells ports ways turns kept kept_then clock tick old mid
+      × EndsBy ways b.fault kept_then kept_after tick clock_after mid new
       × CountsTurns turns b × Stops most turns b.fault b.quiet
+
+  abbrev pub Bursts : Peers → ℕ → Burst → ℕ → ℕ → K → K → C → C → Type 0
+  Bursts peers = BurstsBy (by_ip peers)

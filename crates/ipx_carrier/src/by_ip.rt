@@ -6,10 +6,10 @@ ghost use Rattle.ipx_carrier.specs.RunFaultNumbers.{device_failures};
 ghost use Rattle.ipx_carrier.specs.Segments.{SendsFrontOf};
 ghost use Rattle.ipx_carrier.specs.Turns.{by_ip, peers_of};
 
-use crate::datagrams::Datagrams;
+use crate::datagrams::{Datagrams, KeepsBack};
 use crate::fault::DeviceFault;
 use crate::mapping::ip_of;
-use crate::segments::{PacketSent, Segments};
+use crate::segments::{PacketSent, Segments, SegmentsKeepBack};
 use ipx_wire::Node;
 
 /// Segments of a device of datagrams: a broadcast goes to each peer of its port, in order, another
@@ -107,5 +107,11 @@ impl<'a, D: Datagrams> Segments for ByIp<'a, D> {
 
     fn receive(&mut self, port: usize, room: &mut [u8]) -> Result<Option<usize>, DeviceFault> {
         self.datagrams.receive(port, room)
+    }
+}
+
+impl<'a, D: KeepsBack> SegmentsKeepBack for ByIp<'a, D> {
+    fn kept_back(&self) -> u128 {
+        self.datagrams.kept_back()
     }
 }

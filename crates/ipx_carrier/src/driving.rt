@@ -1,17 +1,19 @@
 //! Turns of a core over a device: one, and one after another as long as there is something to do.
 
 ghost use Rattle.std.specs.Prelude.{◌≡◌, ◌⊎◌, ◌≤◌, ◌↔◌, ◌+◌, ◌<◌, ◌^◌, IfOk, IfErr, IsTrue, OnOk, Err, length};
-ghost use Rattle.ipx_carrier.specs.Driving.{Bursts, CanBegin, TakesTurn, failed_after, refused};
+ghost use Rattle.ipx_carrier.specs.Driving.{Bursts, BurstsBy, CanBegin, CanBeginBy, TakesTurn, TakesTurnBy, failed_after, refused};
 ghost use Rattle.ipx_carrier.specs.RunFaultNumbers.{failures_after};
-ghost use Rattle.ipx_carrier.specs.Runs.{EndsEarly, Runs};
+ghost use Rattle.ipx_carrier.specs.Runs.{EndsEarly, EndsEarlyBy, Runs, RunsBy};
 ghost use Rattle.ipx_carrier.specs.Turns.{peers_of};
 
+use crate::by_ip::ByIp;
 use crate::clock::Clock;
 use crate::cores::Core;
 use crate::datagrams::{Datagrams, KeepsBack};
 use crate::fault::RunFault;
 use crate::report::{Burst, Report};
-use crate::running::run;
+use crate::running::{run, run_segments};
+use crate::segments::{Segments, SegmentsKeepBack};
 use std::alloc::Global;
 
 /// Whether what a report tells of neither heard nor sent.
@@ -28,6 +30,109 @@ fn can_begin<C: Core, D: Datagrams>(core: &C, device: &D, peers: &[Vec<[u8; 4]>]
 {
     let ports = core.ports();
     device.ports() == ports && peers.len() == ports && device.failures() < u64::MAX
+}
+
+/// Whether a turn can be begun over segments.
+fn can_begin_over<C: Core, S: Segments>(core: &C, segments: &S) -> bool
+    ensures { IsTrue result ↔ CanBeginBy (C.port_count core.now) (S.port_count segments.now)
+        (S.failed segments.now) }
+{
+    segments.ports() == core.ports() && segments.failures() < u64::MAX
+}
+
+/// Takes one turn, as `run_segments` does. Segments with other ports than the core, or that failed
+/// too often to count once more, fail: the error is `Device`, and nothing else happens.
+pub fn turn_segments<C: Core, S: Segments, K: Clock>(
+    alloc: Global,
+    core: &mut C,
+    segments: &mut S,
+    clock: &mut K,
+) -> Result<Report, RunFault>
+    ensures turn { IfOk result (λ report.
+        RunsBy C.hears C.gives K.tells (C.port_count core.old) (S.ways segments.old) 1
+        (S.traffic segments.old) (S.traffic segments.new) clock.old clock.new
+        core.old core.new report) }
+    ensures fault { IfErr result (λ f.
+        ((core.new ≡ core.old) × ((f ≡ RunFault.Device) × ((segments.new ≡ segments.old)
+        × (CanBeginBy (C.port_count core.old) (S.port_count segments.old) (S.failed segments.old)
+        → ⊥)) × (clock.new ≡ clock.old)))
+        ⊎ EndsEarlyBy C.hears C.misses C.gives C.withholds K.tells
+        (C.port_count core.old) (S.ways segments.old) 1
+        (S.traffic segments.old) (S.traffic segments.new) clock.old clock.new
+        f core.old core.new) }
+    // Where a turn can be begun one is, and else nothing happens.
+    ensures begins { CanBeginBy (C.port_count core.old) (S.port_count segments.old)
+        (S.failed segments.old) → TakesTurnBy C.hears C.misses C.gives C.withholds K.tells
+        (C.port_count core.old) (S.ways segments.old)
+        (S.traffic segments.old) (S.traffic segments.new) clock.old clock.new
+        core.old core.new result }
+    ensures refused { (CanBeginBy (C.port_count core.old) (S.port_count segments.old)
+        (S.failed segments.old) → ⊥) → (result ≡ Err RunFault.Device)
+        × (core.new ≡ core.old) × (segments.new ≡ segments.old) × (clock.new ≡ clock.old) }
+    ensures begun { OnOk result (CanBeginBy (C.port_count core.old) (S.port_count segments.old)
+        (S.failed segments.old)) }
+    ensures failures { CanBeginBy (C.port_count core.old) (S.port_count segments.old)
+        (S.failed segments.old)
+        → S.failed segments.new ≡ failures_after result (S.failed segments.old) }
+    ensures ports { C.port_count core.new ≡ C.port_count core.old }
+    ensures segment_ports { S.port_count segments.new ≡ S.port_count segments.old }
+    ensures ways { S.ways segments.new ≡ S.ways segments.old }
+    ensures access { S.access segments.new ≡ S.access segments.old }
+    ensures kept_back { S.kept_back segments.old ≤ S.kept_back segments.new }
+    ensures kept { S.kept segments.new ≡ S.kept segments.old }
+{
+    if !can_begin_over(core, segments) {
+        return Err(RunFault::Device);
+    }
+    run_segments(alloc, core, segments, clock, 1)
+}
+
+/// Takes turns until one neither hears nor sends and keeps nothing back, until a fault ends one, or
+/// until there were so many.
+///
+/// After a quiet burst nothing was left to read, so one waits; after another one takes the next.
+/// Where no turn can be begun, as `turn_segments` says, the fault is `Device`, and nothing happens.
+pub fn burst_segments<C: Core, S: SegmentsKeepBack, K: Clock>(
+    alloc: Global,
+    core: &mut C,
+    segments: &mut S,
+    clock: &mut K,
+    most: u32,
+) -> Burst
+    // Where turns can be begun, what the core and the clock are then comes of whole turns, each as
+    // `run_segments` takes it, which are counted, and of a part of one where a fault ended it.
+    ensures turns { CanBeginBy (C.port_count core.old) (S.port_count segments.old)
+        (S.failed segments.old)
+        → BurstsBy C.hears C.misses C.gives C.withholds K.tells (C.port_count core.old)
+        (S.ways segments.old) most result (S.kept_back segments.old) (S.kept_back segments.new)
+        clock.old clock.new core.old core.new }
+    // Where none can, nothing happens.
+    ensures refused { (CanBeginBy (C.port_count core.old) (S.port_count segments.old)
+        (S.failed segments.old) → ⊥) → (result ≡ refused most)
+        × (core.new ≡ core.old) × (segments.new ≡ segments.old) × (clock.new ≡ clock.old) }
+    ensures failures { CanBeginBy (C.port_count core.old) (S.port_count segments.old)
+        (S.failed segments.old)
+        → S.failed segments.new ≡ failed_after result.fault (S.failed segments.old) }
+    ensures ports { C.port_count core.new ≡ C.port_count core.old }
+    ensures segment_ports { S.port_count segments.new ≡ S.port_count segments.old }
+    // By what packets are sent, who may speak, and what no call changes stays.
+    ensures ways { S.ways segments.new ≡ S.ways segments.old }
+    ensures access { S.access segments.new ≡ S.access segments.old }
+    ensures kept { S.kept segments.new ≡ S.kept segments.old }
+{
+    let mut burst = Burst::none();
+    for _turn in 0..most {
+        let kept = segments.kept_back();
+        let report = match turn_segments(alloc, core, segments, clock) {
+            Ok(report) => report,
+            Err(fault) => return burst.ended_by(fault),
+        };
+        burst = burst.with(report);
+        if is_idle(report) && segments.kept_back() == kept {
+            return burst.quieted();
+        }
+    }
+    burst
 }
 
 /// Takes one turn, as `run` does. A device with other ports than the core, lists of peers for other
@@ -110,17 +215,12 @@ pub fn burst<C: Core, D: KeepsBack, K: Clock>(
     // Who may speak stays.
     ensures access { D.access device.new ≡ D.access device.old }
 {
-    let mut burst = Burst::none();
-    for _turn in 0..most {
-        let kept = device.kept_back();
-        let report = match turn(alloc, core, device, peers, clock) {
-            Ok(report) => report,
-            Err(fault) => return burst.ended_by(fault),
-        };
-        burst = burst.with(report);
-        if is_idle(report) && device.kept_back() == kept {
-            return burst.quieted();
-        }
+    if peers.len() != core.ports() {
+        return Burst::refused(most);
     }
-    burst
+    let mut segments = ByIp {
+        datagrams: device,
+        peers,
+    };
+    burst_segments(alloc, core, &mut segments, clock, most)
 }

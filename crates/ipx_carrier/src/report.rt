@@ -1,7 +1,7 @@
 //! What a run tells of itself.
 
 ghost use Rattle.std.specs.Prelude.{◌≡◌, ◌+◌, Some, true};
-ghost use Rattle.ipx_carrier.specs.Driving.{no_turns};
+ghost use Rattle.ipx_carrier.specs.Driving.{no_turns, refused};
 ghost use Rattle.ipx_carrier.specs.Counting.{counted};
 
 use crate::fault::RunFault;
@@ -61,6 +61,16 @@ impl Burst {
             fault: None,
             quiet: false,
         }
+    }
+
+    /// A burst of at most so many turns, of which none can be begun.
+    pub(crate) fn refused(most: u32) -> Burst
+        ensures { result ≡ refused most }
+    {
+        if most == 0 {
+            return Burst::none();
+        }
+        Burst::none().ended_by(RunFault::Device)
     }
 
     /// With one turn more, which ended well.

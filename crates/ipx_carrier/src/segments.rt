@@ -108,3 +108,10 @@ pub trait Segments {
         ensures kept_back { kept_back self.old ≤ kept_back self.new }
         ensures kept { Self.kept self.new ≡ Self.kept self.old };
 }
+
+/// Segments that tell how much they kept from the core.
+pub trait SegmentsKeepBack: Segments {
+    /// How much it was so far, as they count it.
+    fn kept_back(&self) -> u128
+        ensures { result ≡ Self.kept_back self.now };
+}
