@@ -1,0 +1,81 @@
+//! Segments of datagrams to IP addresses that own their device.
+
+ghost use Rattle.std.specs.Prelude.{◌≡◌};
+
+use crate::by_ip::ByIp;
+use crate::datagrams::{Datagrams, KeepsBack};
+use crate::fault::DeviceFault;
+use crate::segments::{PacketSent, Segments, SegmentsKeepBack};
+use ipx_wire::Node;
+
+/// The same segments as [`ByIp`], with a device and peers of their own.
+#[derive(Drop)]
+pub struct OnPeers<D: Datagrams + Drop> {
+    /// The device.
+    pub device: D,
+    /// The IP addresses of the other nodes, for each port. A port without a list has none.
+    pub peers: Vec<Vec<[u8; 4]>>,
+}
+
+impl<D: Datagrams + Drop> OnPeers<D> {
+    /// Segments of a device, with the peers of its ports.
+    pub fn new(device: D, peers: Vec<Vec<[u8; 4]>>) -> OnPeers<D>
+        ensures device { result.device ≡ device }
+        ensures peers { result.peers ≡ peers }
+    {
+        OnPeers { device, peers }
+    }
+}
+
+impl<D: Datagrams + Drop> Segments for OnPeers<D> {
+    ghost use Rattle.std.specs.Prelude.{List};
+    ghost use Rattle.ipx_carrier.specs.Device.{Access, Datagram};
+    ghost use Rattle.ipx_carrier.specs.Turns.{Peers, by_ip, peers_of};
+
+    ghost Copy = { Datagram };
+
+    // The peers, and who may speak at each port of the device.
+    ghost Kept = { Peers × List Access };
+
+    ghost kept = { λ s. (peers_of s.peers.items, D.access s.device) };
+
+    ghost port_count = { λ s. D.port_count s.device };
+
+    ghost failed = { λ s. D.failed s.device };
+
+    ghost ways = { λ s. by_ip (peers_of s.peers.items) };
+
+    ghost traffic = { λ s. D.traffic s.device };
+
+    ghost waiting = { λ s. D.waiting s.device };
+
+    ghost access = { λ s. D.access s.device };
+
+    ghost kept_back = { λ s. D.kept_back s.device };
+
+    fn ports(&self) -> usize {
+        self.device.ports()
+    }
+
+    fn failures(&self) -> u64 {
+        self.device.failures()
+    }
+
+    fn send(&mut self, port: usize, node: Node, packet: &[u8]) -> Result<PacketSent, DeviceFault> {
+        let mut segments = ByIp {
+            datagrams: &mut self.device,
+            peers: &self.peers,
+        };
+        segments.send(port, node, packet)
+    }
+
+    fn receive(&mut self, port: usize, room: &mut [u8]) -> Result<Option<usize>, DeviceFault> {
+        self.device.receive(port, room)
+    }
+}
+
+impl<D: KeepsBack + Drop> SegmentsKeepBack for OnPeers<D> {
+    fn kept_back(&self) -> u128 {
+        self.device.kept_back()
+    }
+}
