@@ -9,7 +9,7 @@ ghost use Rattle.ipx_wires.specs.OnWires.{HearsAnswerOf, HearsBehind, SendsPacke
 use crate::end_sockets::EndSockets;
 use crate::reaching::send_to_ends;
 use crate::taking::take_packet;
-use ipx_carrier::{DeviceFault, PacketSent, Segments, raise};
+use ipx_carrier::{DeviceFault, PacketSent, Segments, SegmentsKeepBack, raise};
 use ipx_frames::FRAME_MAX_SIZE;
 use ipx_hub::Hub;
 use ipx_wire::Node;
@@ -49,7 +49,7 @@ impl<D: EndSockets + Drop> Wires<D> {
     }
 
     /// Sets the moment, in ms, at which what comes and goes from now on does so. One calls it before
-    /// each turn.
+    /// each turn, or before each burst of them.
     pub fn set_moment(&mut self, moment: u64)
         ensures { self.new ≡ record self.old { moment = moment } }
     {
@@ -68,14 +68,6 @@ impl<D: EndSockets + Drop> Wires<D> {
         ensures { result.now ≡ self.now.hubs.items }
     {
         &self.hubs
-    }
-
-    /// How much that came was kept from the core: frames whose hub did, also those that went on, and
-    /// what came from no end.
-    pub fn kept_back(&self) -> u128
-        ensures { result ≡ self.now.kept + D.kept_back self.now.sockets }
-    {
-        u128::from(self.kept) + u128::from(self.sockets.strangers())
     }
 
     /// Sends a packet of the core to a node of a port's wire, by one frame.
@@ -237,5 +229,13 @@ impl<D: EndSockets + Drop> Segments for Wires<D> {
             return Ok(None);
         };
         Ok(self.hear_frame(port, came.end, &frame[..came.size], room))
+    }
+}
+
+impl<D: EndSockets + Drop> SegmentsKeepBack for Wires<D> {
+    /// How much that came was kept from the core: frames whose hub did, also those that went on, and
+    /// what came from no end.
+    fn kept_back(&self) -> u128 {
+        u128::from(self.kept) + u128::from(self.sockets.strangers())
     }
 }

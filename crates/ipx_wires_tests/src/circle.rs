@@ -1,7 +1,7 @@
 //! What comes from one of three ends: it goes on to the others, and the core gets what is for it.
 
 use crate::fixture::{FIRST, PACKET, PORT, SECOND, frame, three_ends, took, wires};
-use ipx_carrier::Segments;
+use ipx_carrier::{Segments, SegmentsKeepBack};
 use ipx_wire::Node;
 use ipx_wires::EndSockets;
 use std::test::Fail;

@@ -1,7 +1,7 @@
 //! A router whose one port is on a wire with three ends.
 
 use crate::fixture::{FIRST, PORT, frame, three_ends, wires};
-use ipx_carrier::{RouterCore, SteppedClock, run_segments};
+use ipx_carrier::{RouterCore, SegmentsKeepBack, SteppedClock, run_segments};
 use ipx_router::{Port, Router};
 use ipx_wire::Node;
 use std::test::Fail;

@@ -1,7 +1,7 @@
 //! Sockets of this machine: a port, two ends of its wire, and one that is at no end.
 
 use crate::fixture::{FIRST, PACKET, PORT, SECOND, frame, wires};
-use ipx_carrier::{DeviceFault, PacketSent, Segments};
+use ipx_carrier::{DeviceFault, PacketSent, Segments, SegmentsKeepBack};
 use ipx_wire::Node;
 use ipx_wires::{EndSockets, FrameCame, Place, WireSockets, Wires};
 use std::alloc::Global;
