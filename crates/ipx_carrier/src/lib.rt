@@ -6,8 +6,9 @@
 //! where one can be begun, and [`burst`] takes turns as long as there is something to do.
 //!
 //! [`Segments`] say how a packet for a node leaves a port, and what comes in there, whatever it is
-//! sent by. [`run_segments`] takes turns over them, and [`ByIp`] is how `run` has it: datagrams to
-//! the IP addresses that nodes stand for.
+//! sent by. [`run_segments`] takes turns over them, as [`turn_segments`] and [`burst_segments`] do,
+//! and [`ByIp`] is how `run` has it: datagrams to the IP addresses that nodes stand for. [`OnPeers`]
+//! has a device of its own.
 #![tactic(auto)]
 
 mod by_ip;

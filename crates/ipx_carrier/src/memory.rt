@@ -5,7 +5,7 @@ ghost use Rattle.ipx_carrier.specs.Device.{received_in};
 ghost use Rattle.ipx_carrier.specs.Memory.{KeepsAllButWaiting, WaitsLast, datagram_bytes, fails_next, memory_received, memory_sent, named_after, traffic_of, waiting_of};
 
 use crate::counting::raise;
-use crate::datagrams::Datagrams;
+use crate::datagrams::{Datagrams, KeepsBack};
 use crate::fault::DeviceFault;
 use ipx_wire::OutOfMemory;
 use std::alloc::Global;
@@ -236,5 +236,12 @@ impl Datagrams for MemoryDatagrams {
             return Err(DeviceFault);
         };
         Ok(count)
+    }
+}
+
+impl KeepsBack for MemoryDatagrams {
+    fn kept_back(&self) -> u128 {
+        // All that comes goes to its core.
+        0
     }
 }

@@ -5,6 +5,8 @@
 #[cfg(test)]
 mod again;
 #[cfg(test)]
+mod bursts;
+#[cfg(test)]
 mod fixture;
 #[cfg(test)]
 mod flood;
@@ -19,8 +21,8 @@ mod refused_calls;
 #[cfg(test)]
 mod refused_turns;
 #[cfg(test)]
-mod segments;
-#[cfg(test)]
 mod turns;
+#[cfg(test)]
+mod segments;
 #[cfg(test)]
 mod udp;

@@ -1,0 +1,78 @@
+//! Bursts of a router over segments that own their device, with literal values.
+
+use crate::fixture::{text_of, two_ports};
+use ipx_carrier::{
+    Burst, MemoryDatagrams, OnPeers, RunFault, Segments, SegmentsKeepBack, SteppedClock,
+    burst_segments, turn_segments,
+};
+use std::alloc::Global;
+use std::test::Fail;
+
+/// A packet from network 11 to node 00007f000005 of network 22, in hex.
+const ONWARD: &[u8] = b"ffff001e00000000002200007f00000540000000001100007f0000034001";
+
+/// So many ports, of which the first two have a peer each.
+fn segments(alloc: Global, ports: usize) -> Result<OnPeers<MemoryDatagrams>, Fail> {
+    let nine = vec![in alloc; [127, 0, 0, 9]]?;
+    let eight = vec![in alloc; [127, 0, 0, 8]]?;
+    let device = MemoryDatagrams::new(alloc, ports)?;
+    Ok(OnPeers::new(device, vec![in alloc; nine, eight]?))
+}
+
+/// What comes at one port goes on at the other; the packets by which the router starts go to the peer
+/// of each; and the burst is quiet then.
+#[test]
+fn a_burst_over_segments(rt: HostRuntime) -> Result<(), Fail> {
+    let alloc = rt.alloc();
+    let mut segments = segments(alloc, 2)?;
+    segments
+        .device
+        .put(alloc, 0, &hex::decode(alloc, ONWARD)?)?;
+    let mut core = two_ports(alloc)?;
+    let mut clock = SteppedClock::new(0, 10);
+    let burst = burst_segments(alloc, &mut core, &mut segments, &mut clock, 8);
+    assert!(rt;
+        burst
+            == Burst {
+                heard: 1,
+                sent: 7,
+                unmapped: 0,
+                fault: None,
+                quiet: true,
+            }
+    );
+    let sent = segments.device.sent();
+    assert_eq!(rt;
+        text_of(alloc, &sent[0])?.as_str(),
+        "1 5 ffff001e01000000002200007f00000540000000001100007f0000034001"
+    );
+    assert_eq!(rt;
+        text_of(alloc, &sent[1])?.as_str(),
+        "0 9 ffff0028000100000011ffffffffffff04530000001100007f00000104530001ffffffffffffffff"
+    );
+    assert_eq!(rt; segments.kept_back(), 0);
+    Ok(())
+}
+
+/// No turn is begun over segments with a port too many. Where the device fails that ends one, and is
+/// counted.
+#[test]
+fn bursts_that_fail(rt: HostRuntime) -> Result<(), Fail> {
+    let alloc = rt.alloc();
+    let mut core = two_ports(alloc)?;
+    let mut clock = SteppedClock::new(0, 10);
+    let mut three = segments(alloc, 3)?;
+    let refused = burst_segments(alloc, &mut core, &mut three, &mut clock, 8);
+    assert!(rt; refused.fault == Some(RunFault::Device));
+    assert_eq!(rt; three.failures(), 0);
+    let none = burst_segments(alloc, &mut core, &mut three, &mut clock, 0);
+    assert!(rt; none.fault.is_none());
+    let mut two = segments(alloc, 2)?;
+    two.device.fail_at(1);
+    let failed = turn_segments(alloc, &mut core, &mut two, &mut clock);
+    assert!(rt; failed == Err(RunFault::Device));
+    assert_eq!(rt; two.failures(), 1);
+    let well = turn_segments(alloc, &mut core, &mut two, &mut clock)?;
+    assert!(rt; well.sent == 6);
+    Ok(())
+}
