@@ -16,3 +16,5 @@ pub mod Taken
 pub mod Hearings
 pub mod WireEnds
 pub mod WrittenStations
+pub mod Spots
+pub mod KindLists

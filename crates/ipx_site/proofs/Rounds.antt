@@ -2,9 +2,9 @@
 use Rattle.std.proofs.Common.{◌≡◌, ℕ, length, Bool, true, false, Option, Some, None, is_some, sym, ap, subst, inl, inr}
 use Rattle.ipx_carrier.specs.declared.fault.RunFault.{RunFault}
 use Rattle.ipx_carrier.specs.RouterCore.{CoreView, RouterGives, RouterHears, Misses, Withholds}
-use Rattle.ipx_carrier.specs.Turns.{Peers}
+use Rattle.ipx_carrier.specs.Turns.{Ways}
 use Rattle.ipx_carrier.specs.declared.report.Burst.{Burst}
-use Rattle.ipx_carrier.specs.Driving.{Bursts}
+use Rattle.ipx_carrier.specs.Driving.{BurstsBy}
 use Rattle.ipx_site.specs.Leisure.{IsLeisure}
 use Rattle.ipx_site.specs.Sparing.{GivesBelow, HearsSparingly, MissesBelow, SparingView, WithholdsBelow}
 use Rattle.ipx_site.specs.RouterRounds.{AsksAgain, IsRound, SleepsBehind}
@@ -15,16 +15,16 @@ pub same_ports : (now times times_after : ℕ) (old mid : SparingView CoreView) 
 same_ports now times times_after old mid (inl h) = ap (λ (v : SparingView CoreView). length v.core.router.ports) h.2
 same_ports now times times_after old mid (inr h) = ap (λ (v : SparingView CoreView). length v.core.router.ports) h.2
 
-pub is_round : {K : Type 0} (tells : K → ℕ → K → Type 0) (clock told tick clock_after : K) (peers here : Peers)
+pub is_round : {K A : Type 0} (tells : K → ℕ → K → Type 0) (clock told tick clock_after : K) (ways here : Ways A)
     (i j n : ℕ) (now times times_after : ℕ) (old mid new : SparingView CoreView) (b : Burst) → tells clock now told → tick ≡ told
-    → AsksAgain now times times_after old mid → here ≡ peers → j ≡ i
-    → Bursts (HearsSparingly RouterHears) (MissesBelow Misses) (GivesBelow RouterGives) (WithholdsBelow Withholds) tells (length mid.core.router.ports) here 256 b j n tick clock_after mid new
-    → IsRound clock clock_after tells peers i n times times_after old new b
-is_round tells clock told tick clock_after peers here i j n now times times_after old mid new b h e asks f g bursts =
-    let at = subst (λ ports. Bursts (HearsSparingly RouterHears) (MissesBelow Misses) (GivesBelow RouterGives) (WithholdsBelow Withholds) tells ports here 256 b j n tick clock_after mid new)
+    → AsksAgain now times times_after old mid → here ≡ ways → j ≡ i
+    → BurstsBy (HearsSparingly RouterHears) (MissesBelow Misses) (GivesBelow RouterGives) (WithholdsBelow Withholds) tells (length mid.core.router.ports) here 256 b j n tick clock_after mid new
+    → IsRound clock clock_after tells ways i n times times_after old new b
+is_round {A = A} tells clock told tick clock_after ways here i j n now times times_after old mid new b h e asks f g bursts =
+    let at = subst (λ ports. BurstsBy (HearsSparingly RouterHears) (MissesBelow Misses) (GivesBelow RouterGives) (WithholdsBelow Withholds) tells ports here 256 b j n tick clock_after mid new)
     (same_ports now times times_after old mid asks) bursts in
-    let by = subst (λ (it : Peers). Bursts (HearsSparingly RouterHears) (MissesBelow Misses) (GivesBelow RouterGives) (WithholdsBelow Withholds) tells (length old.core.router.ports) it 256 b j n tick clock_after mid new) f at in
-    let kept = subst (λ it. Bursts (HearsSparingly RouterHears) (MissesBelow Misses) (GivesBelow RouterGives) (WithholdsBelow Withholds) tells (length old.core.router.ports) peers 256 b it n tick clock_after mid new) g by in
+    let by = subst (λ (it : Ways A). BurstsBy (HearsSparingly RouterHears) (MissesBelow Misses) (GivesBelow RouterGives) (WithholdsBelow Withholds) tells (length old.core.router.ports) it 256 b j n tick clock_after mid new) f at in
+    let kept = subst (λ it. BurstsBy (HearsSparingly RouterHears) (MissesBelow Misses) (GivesBelow RouterGives) (WithholdsBelow Withholds) tells (length old.core.router.ports) ways 256 b it n tick clock_after mid new) g by in
     (now, tick, mid, subst (λ it. tells clock now it) (sym e) h, asks, kept)
 
 -- how long a router waits, by how its burst ended

@@ -3,13 +3,14 @@ use Rattle.std.specs.Prelude.{◌≡◌, ◌≤◌, ◌<◌, ◌⊎◌, ◌==◌
 use Rattle.ipx_carrier.specs.RouterCore.{CoreView}
 use Rattle.ipx_router.specs.Telling.{is_due}
 use Rattle.ipx_site.specs.declared.figures.Figures.{Figures}
-use Rattle.ipx_site.specs.declared.peers.KeptBack.{KeptBack}
 use Rattle.ipx_site.specs.declared.router_counts.RouterCounts.{RouterCounts}
+use Rattle.ipx_site.specs.declared.router_ports.RouterPorts.{RouterPorts}
 use Rattle.ipx_site.specs.declared.troubles.Trouble.{Trouble}
 use Rattle.ipx_site.specs.declared.troubles.Troubles.{Troubles}
 use Rattle.ipx_carrier.specs.Counting.{counted}
 use Rattle.ipx_site.specs.Moments.{HasPassed, IsOneDue, IsToAskAgain}
 use Rattle.ipx_site.specs.Sparing.{SparingView}
+use Rattle.ipx_site.specs.WireTotals.{encapsulated_otherwise_in, unframed_in}
 
 -- how often each cause happened of which a line is told
 pub record Happened : Type 0 where
@@ -23,6 +24,9 @@ pub record Happened : Type 0 where
   pub device : ℕ
   pub memory : ℕ
   pub file : ℕ
+  pub frame_strangers : ℕ
+  pub unframed : ℕ
+  pub other_encapsulation : ℕ
 
 -- by its figures
 abbrev pub happened_in : Figures → Happened
@@ -37,29 +41,40 @@ happened_in f = record {
   device = f.device_faults;
   memory = f.memory_faults;
   file = f.file_faults;
+  frame_strangers = f.frame_strangers;
+  unframed = f.unframed;
+  other_encapsulation = f.other_encapsulation;
 }
 
--- by what it tallies, what its core counts, and what its device kept back, did not send and lost
-abbrev pub happened : RouterCounts → SparingView CoreView → KeptBack → ℕ → ℕ → Happened
-happened tally core kept refused lost = record {
-  strangers = kept.strangers.count;
-  forged = kept.forged.count;
-  no_router = kept.no_router.count;
+-- how many datagrams and frames the system refused
+abbrev pub lost_in : RouterPorts → ℕ
+lost_in r = r.datagrams.device.device.faults + (r.wires.sockets.failures + r.wires.sockets.faults)
+
+-- by what it tallies, what its core counts, and what its ports kept back, did not send and lost
+abbrev pub happened : RouterCounts → SparingView CoreView → RouterPorts → Happened
+happened tally core ports = record {
+  strangers = ports.datagrams.device.kept.strangers.count;
+  forged = ports.datagrams.device.kept.forged.count;
+  no_router = ports.datagrams.device.kept.no_router.count;
   too_often = core.kept.count;
-  refused = refused;
+  refused = ports.datagrams.device.refused;
   table_full = core.core.fates.table_full;
   queue_full = core.core.dropped;
-  device = counted (tally.device_faults + lost);
+  device = counted (tally.device_faults + lost_in ports);
   memory = tally.memory_faults;
   file = tally.file_faults;
+  frame_strangers = ports.wires.sockets.strangers;
+  unframed = unframed_in ports.wires.hubs.items;
+  other_encapsulation = encapsulated_otherwise_in ports.wires.hubs.items;
 }
 
 -- in the order in which they are told
 abbrev pub counts_told : Happened → List ℕ
 counts_told n = n.strangers ∷ n.forged ∷ n.no_router ∷ n.too_often ∷ n.refused ∷ n.table_full
-    ∷ n.queue_full ∷ n.device ∷ n.memory ∷ n.file ∷ []
+    ∷ n.queue_full ∷ n.device ∷ n.memory ∷ n.file ∷ n.frame_strangers ∷ n.unframed
+    ∷ n.other_encapsulation ∷ []
 
--- a line of one of a router's ten causes is to be told
+-- a line of one of a router's causes is to be told
 abbrev pub IsLineDue : Troubles → Happened → ℕ → Type 0
 IsLineDue t n now = IsOneDue t.causes (counts_told n) now
 

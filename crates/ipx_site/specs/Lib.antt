@@ -22,3 +22,7 @@ pub mod RouterRounds
 pub mod Checked
 pub mod Senders
 pub mod RouterFigures
+pub mod KindPorts
+pub mod RouterPorts
+pub mod WireTotals
+pub mod PortsView

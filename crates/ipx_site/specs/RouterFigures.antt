@@ -7,8 +7,8 @@ use Rattle.ipx_carrier.specs.declared.fault.RunFault.{RunFault}
 use Rattle.ipx_carrier.specs.declared.fault.RunFault.TheVariants.{Device, OutOfMemory}
 use Rattle.ipx_site.specs.Sparing.{SparingView}
 use Rattle.ipx_site.specs.declared.figures.Figures.{Figures}
-use Rattle.ipx_site.specs.declared.peers.KeptBack.{KeptBack}
 use Rattle.ipx_site.specs.declared.router_counts.RouterCounts.{RouterCounts}
+use Rattle.ipx_site.specs.declared.router_ports.RouterPorts.{RouterPorts}
 use Rattle.ipx_carrier.specs.declared.report.Burst.{Burst}
 use Rattle.ipx_site.specs.declared.watch.Known.{Known}
 
@@ -32,14 +32,14 @@ with_burst b t = with_fault b.fault (record t { unmapped = counted (t.unmapped +
 
 -- the figures of a router at a moment, in milliseconds since its start, besides how often it happened of
 -- which a line is told: by what it counts itself, what its core counts, what its device kept back, how many
--- datagrams the system took, and what it knew as it looked last
-pub record AreFigures (tally : RouterCounts) (core : SparingView CoreView) (kept : KeptBack) (sent : ℕ) (known : Known) (now : ℕ) (f : Figures) : Type 0 where
+-- datagrams the system took of it, and what it knew as it looked last
+pub record AreFigures (tally : RouterCounts) (core : SparingView CoreView) (ports : RouterPorts) (known : Known) (now : ℕ) (f : Figures) : Type 0 where
   -- each datagram that was heard became something. A query that came too often is none of them
   pub heard : f.heard ≡ counted (outcomes_in core.core.fates)
   pub fates : f.fates ≡ core.core.fates
   pub too_often : f.too_often ≡ core.kept
-  pub kept_back : f.kept ≡ kept
-  pub sent_out : f.sent ≡ sent
+  pub kept_back : f.kept ≡ ports.datagrams.device.kept
+  pub sent_out : f.sent ≡ ports.datagrams.device.device.sent
   pub unmapped : f.unmapped ≡ tally.unmapped
   pub routes : f.routes ≡ length known.networks.items
   pub services : f.services ≡ length known.services.items

@@ -3,9 +3,9 @@
 use Rattle.std.specs.Prelude.{◌≡◌, ◌⊎◌, ℕ, ◌+◌, length, Bool, false, true, Option, Some, None}
 use Rattle.ipx_carrier.specs.declared.fault.RunFault.{RunFault}
 use Rattle.ipx_carrier.specs.RouterCore.{CoreView, RouterGives, RouterHears, Misses, Withholds}
-use Rattle.ipx_carrier.specs.Turns.{Peers}
+use Rattle.ipx_carrier.specs.Turns.{Ways}
 use Rattle.ipx_carrier.specs.declared.report.Burst.{Burst}
-use Rattle.ipx_carrier.specs.Driving.{Bursts}
+use Rattle.ipx_carrier.specs.Driving.{BurstsBy}
 use Rattle.ipx_site.specs.Leisure.{IsLeisure}
 use Rattle.ipx_site.specs.Moments.{IsToAskAgain}
 use Rattle.ipx_site.specs.Sparing.{GivesBelow, HearsSparingly, MissesBelow, SparingView, WithholdsBelow}
@@ -18,14 +18,14 @@ AsksAgain now times times_after old new =
     ⊎ ((IsToAskAgain times now → ⊥) × (times_after ≡ times) × (new ≡ old))
 
 -- one round, at the moment that the clock tells: it asks again where it is time, and takes a burst of
--- at most 256 turns, this one, in which its device keeps back from the one count to the other. Its core
+-- at most 256 turns, this one, in which packets are sent these ways, and its ports keep back from the one count to the other. Its core
 -- lets those who ask for all that it knows do so in turn
-abbrev pub IsRound : {K : Type 0} → K → K → (K → ℕ → K → Type 0) → Peers → ℕ → ℕ → ℕ → ℕ → SparingView CoreView → SparingView CoreView → Burst → Type 0
-IsRound {K} clock clock_after tells peers kept kept_after times times_after old new b = (now : ℕ) × (tick : K)
+abbrev pub IsRound : {K A : Type 0} → K → K → (K → ℕ → K → Type 0) → Ways A → ℕ → ℕ → ℕ → ℕ → SparingView CoreView → SparingView CoreView → Burst → Type 0
+IsRound {K} clock clock_after tells ways kept kept_after times times_after old new b = (now : ℕ) × (tick : K)
     × (mid : SparingView CoreView) × tells clock now tick
     × AsksAgain now times times_after old mid
-    × Bursts (HearsSparingly RouterHears) (MissesBelow Misses) (GivesBelow RouterGives) (WithholdsBelow Withholds) tells
-    (length old.core.router.ports) peers 256 b kept kept_after tick clock_after mid new
+    × BurstsBy (HearsSparingly RouterHears) (MissesBelow Misses) (GivesBelow RouterGives) (WithholdsBelow Withholds) tells
+    (length old.core.router.ports) ways 256 b kept kept_after tick clock_after mid new
 
 -- how long it waits then, and when: 100 ms behind a fault; not at all behind a burst that was not quiet;
 -- and behind a quiet one, at the moment that the clock tells, as long as there is nothing to do. What it

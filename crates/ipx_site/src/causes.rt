@@ -24,7 +24,7 @@ impl Cause {
 
     /// Whether it is time to tell a cause that happened so often: it happened since it was told,
     /// and that was a minute ago or never.
-    fn is_due(&self, count: u64, now: u64) -> bool
+    pub(crate) fn is_due(&self, count: u64, now: u64) -> bool
         ensures { IsTrue result ↔ IsDue self.now count now }
     {
         if count <= self.told {

@@ -21,6 +21,11 @@ pub struct Figures {
     /// The queries that came too often, and were not heard.
     pub too_often: Kept,
     pub refused: u64,
+    /// The datagrams that came from no end of a wire, the packets that no frame could carry, and the
+    /// frames with a packet in another encapsulation than that of their port.
+    pub frame_strangers: u64,
+    pub unframed: u64,
+    pub other_encapsulation: u64,
     /// How often the system refused a datagram, memory, and the file of these figures.
     pub device_faults: u64,
     pub memory_faults: u64,

@@ -82,7 +82,8 @@ impl Kept {
 impl KeptBack {
     /// How many there were for all causes.
     pub fn total(&self) -> u128
-        ensures { result ≡ kept_in self.now }
+        ensures total { result ≡ kept_in self.now }
+        ensures few { result < 2 ^ 66 }
     {
         let strangers = u128::from(self.strangers.count);
         let forged = u128::from(self.forged.count);
@@ -300,7 +301,10 @@ impl<D: Senders + Drop> Datagrams for PeersOnly<D> {
 }
 
 impl<D: Senders + Drop> KeepsBack for PeersOnly<D> {
-    fn kept_back(&self) -> u128 {
+    fn kept_back(&self) -> u128
+        ensures total { result ≡ kept_in self.now.kept }
+        ensures few { result < 2 ^ 66 }
+    {
         let kept = self.kept();
         kept.total()
     }

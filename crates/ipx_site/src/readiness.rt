@@ -5,6 +5,7 @@ ghost use Rattle.ipx_carrier.specs.Counting.{counted, raised};
 
 use crate::sockets::SiteSockets;
 use ipx_carrier::Datagrams;
+use ipx_wires::{EndSockets, WireSockets};
 use mio::unix::SourceFd;
 use mio::{Events, Interest, Poll, Token};
 use std::alloc::Global;
@@ -62,6 +63,22 @@ impl Readiness {
     fn watch_sockets(&mut self, sockets: &SiteSockets) -> Result<(), WaitFault>
         ensures watched { OnOk result (self.new.watched
             ≡ counted (self.old.watched + length sockets.now.sockets.items)) }
+        ensures asked { self.new.asked ≡ self.old.asked }
+    {
+        for port in 0..sockets.ports() {
+            if let Some(descriptor) = sockets.descriptor(port) {
+                if !self.watch_reading(descriptor) {
+                    return Err(WaitFault::System);
+                }
+            }
+        }
+        Ok(())
+    }
+
+    /// Waits for the sockets of wires too.
+    pub fn watch_wires(&mut self, sockets: &WireSockets) -> Result<(), WaitFault>
+        ensures watched { OnOk result (self.new.watched
+            ≡ counted (self.old.watched + length sockets.now.wires.items)) }
         ensures asked { self.new.asked ≡ self.old.asked }
     {
         for port in 0..sockets.ports() {

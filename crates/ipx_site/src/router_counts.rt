@@ -3,15 +3,16 @@
 ghost use Rattle.std.specs.Prelude.{◌≡◌};
 ghost use Rattle.ipx_carrier.specs.Counting.{counted, raised};
 ghost use Rattle.ipx_carrier.specs.OutcomeCounts.{outcomes_in};
-ghost use Rattle.ipx_site.specs.Leisure.{happened, happened_in};
+ghost use Rattle.ipx_site.specs.Leisure.{happened, happened_in, lost_in};
 ghost use Rattle.ipx_site.specs.RouterFigures.{AreFigures, no_counts, with_burst, with_memory_fault};
 
 use crate::figures::Figures;
-use crate::peers::PeersOnly;
-use crate::sockets::SiteSockets;
+use crate::router_ports::RouterPorts;
 use crate::sparing::Sparing;
 use crate::watch::Known;
+use crate::wire_totals::{in_other_encapsulations, unframed};
 use ipx_carrier::{Burst, OutcomeCounts, RouterCore, RunFault, raise};
+use ipx_wires::EndSockets;
 
 /// What a router that runs counts itself. Each count stays at the greatest u64.
 #[derive(Clone, Copy, Debug, PartialEq, Eq)]
@@ -27,6 +28,18 @@ fn heard_in(fates: &OutcomeCounts) -> u64
     ensures { result ≡ counted (outcomes_in fates.now) }
 {
     u64::try_from(fates.total()).unwrap_or(u64::MAX)
+}
+
+/// How often the system refused a datagram or a frame.
+fn faults_of(ports: &RouterPorts) -> u64
+    ensures { result ≡ counted (lost_in ports.now) }
+{
+    let sockets = ports.wires().sockets();
+    let device = ports.device().device();
+    device
+        .faults()
+        .saturating_add(sockets.failures())
+        .saturating_add(sockets.faults())
 }
 
 impl RouterCounts {
@@ -69,16 +82,16 @@ impl RouterCounts {
     pub fn figures(
         &self,
         core: &Sparing<RouterCore>,
-        device: &PeersOnly<SiteSockets>,
+        ports: &RouterPorts,
         known: &Known,
         now: u64,
     ) -> Figures
-        ensures happened { happened_in result ≡ happened self.now core.now
-            device.now.kept device.now.refused device.now.device.faults }
-        ensures figures { AreFigures self.now core.now device.now.kept device.now.device.sent
-            known.now now result }
+        ensures happened { happened_in result ≡ happened self.now core.now ports.now }
+        ensures figures { AreFigures self.now core.now ports.now known.now now result }
     {
         let fates = core.core().fates();
+        let device = ports.device();
+        let hubs = ports.wires().hubs();
         Figures {
             heard: heard_in(&fates),
             sent: device.device().sent(),
@@ -88,7 +101,10 @@ impl RouterCounts {
             kept: device.kept(),
             too_often: core.kept(),
             refused: device.refused(),
-            device_faults: self.device_faults.saturating_add(device.device().faults()),
+            frame_strangers: ports.wires().sockets().strangers(),
+            unframed: unframed(hubs),
+            other_encapsulation: in_other_encapsulations(hubs),
+            device_faults: self.device_faults.saturating_add(faults_of(ports)),
             memory_faults: self.memory_faults,
             file_faults: self.file_faults,
             routes: known.networks() as u64,

@@ -1,22 +1,26 @@
 //! The command `route`.
 
-ghost use Rattle.std.specs.Prelude.{◌≡◌, ◌≤◌, ◌⊎◌, [], All, IfErr, IfOk, OnOk, is_ok, if◌then◌else◌, map};
+ghost use Rattle.std.specs.Prelude.{◌≡◌, ◌≤◌, ◌+◌, [], All, IfErr, IfOk, OnOk, is_ok, if◌then◌else◌, length, map};
 ghost use Rattle.ipx_router.specs.NewRouter.{IsOwnNetwork};
 ghost use Rattle.ipx_carrier.specs.Turns.{peers_of};
-ghost use Rattle.ipx_site.specs.SitePorts.{GuardPorts, access_by, access_of, heard_at_port, named, router_port_of, router_ports, site_peers, udp_ports};
+ghost use Rattle.ipx_carrier.specs.Counting.{counted};
+ghost use Rattle.ipx_site.specs.KindPorts.{ArePortsBound, datagram_ports, spots_of};
+ghost use Rattle.ipx_site.specs.SitePorts.{GuardPorts, access_by, access_of, heard_at_port, named, router_ports, site_peers, udp_ports};
 
 use crate::bind_fault::BindFault;
 use crate::clock::SteadyClock;
 use crate::files::load_site;
 use crate::peers::{Guard, PeersOnly};
 use crate::readiness::{Readiness, WaitFault};
-use crate::room::SOCKET_ROOM;
+use crate::room::{SOCKET_ROOM, ask_room};
+use crate::router_ports::{RouterPorts, Spot};
 use crate::running_router::{Parts, RunningRouter};
-use crate::site::{Accept, SiteFile, SitePort};
+use crate::site::{Accept, PortOfKind, SiteFile, SitePort};
 use crate::sockets::SiteSockets;
 use crate::sparing::Sparing;
 use crate::start_lines::ports_to_texts;
-use ipx_carrier::{RouterCore, node_of};
+use crate::wire_ports::wires_of;
+use ipx_carrier::{OnPeers, RouterCore};
 use ipx_router::{NewFault, Port, Router};
 use log::{Log, info, warn};
 use std::alloc::{AllocError, Global};
@@ -37,24 +41,13 @@ enum RouteFault {
     New(#[from] NewFault),
 }
 
-/// The router's port of a port of the file.
-fn router_port(port: &SitePort) -> Port
-    ensures { result ≡ router_port_of port.now }
-{
-    Port {
-        network: port.network,
-        node: node_of(port.address),
-        cost: port.cost,
-    }
-}
-
-fn own_ports(alloc: Global, ports: &[SitePort]) -> Result<Vec<Port>, AllocError>
+fn own_ports(alloc: Global, ports: &[PortOfKind]) -> Result<Vec<Port>, AllocError>
     ensures { IfOk result (λ v. v.items ≡ router_ports ports.now) }
 {
-    ports.iter().map(router_port).collect(alloc)
+    ports.iter().map(PortOfKind::router_port).collect(alloc)
 }
 
-fn router_of(alloc: Global, ports: &[SitePort]) -> Result<Router, RouteFault>
+fn router_of(alloc: Global, ports: &[PortOfKind]) -> Result<Router, RouteFault>
     requires { All IsOwnNetwork (router_ports ports.now) }
     ensures { IfOk result (λ r. r.ports ≡ router_ports ports.now) }
 {
@@ -64,7 +57,7 @@ fn router_of(alloc: Global, ports: &[SitePort]) -> Result<Router, RouteFault>
 }
 
 /// The core of a router, which answers in turn who asks for all that it knows.
-fn core_of(alloc: Global, ports: &[SitePort]) -> Result<Sparing<RouterCore>, RouteFault>
+fn core_of(alloc: Global, ports: &[PortOfKind]) -> Result<Sparing<RouterCore>, RouteFault>
     requires { All IsOwnNetwork (router_ports ports.now) }
     ensures router { IfOk result (λ c. c.core.router.ports ≡ router_ports ports.now) }
     ensures ports { IfOk result (λ c. c.ports ≡ router_ports ports.now) }
@@ -83,14 +76,16 @@ fn port_peers(alloc: Global, port: &SitePort) -> Result<Vec<[u8; 4]>, AllocError
     Vec::from_slice(alloc, &port.peers)
 }
 
-/// The peers of each port.
-fn peers_by_port(alloc: Global, ports: &[SitePort]) -> Result<Vec<Vec<[u8; 4]>>, AllocError>
-    ensures { IfOk result (λ v. peers_of v.items ≡ site_peers ports.now) }
+/// The peers of each port of RFC 1234.
+fn peers_by_port(alloc: Global, ports: &[PortOfKind]) -> Result<Vec<Vec<[u8; 4]>>, AllocError>
+    ensures { IfOk result (λ v. peers_of v.items ≡ site_peers (datagram_ports ports.now)) }
 {
     let mut lists = Vec::new(alloc);
     for port in ports {
-        let peers = port_peers(alloc, port)?;
-        lists.push(peers)?;
+        if let PortOfKind::Rfc1234(port) = port {
+            let peers = port_peers(alloc, port)?;
+            lists.push(peers)?;
+        }
     }
     Ok(lists)
 }
@@ -130,16 +125,40 @@ fn guard_of(alloc: Global, port: &SitePort) -> Result<Guard, AllocError>
     })
 }
 
-/// The guard of each port.
-fn guards_of(alloc: Global, ports: &[SitePort]) -> Result<Vec<Guard>, AllocError>
-    ensures { IfOk result (λ v. GuardPorts ports.now v.items) }
+/// The guard of each port of RFC 1234.
+fn guards_of(alloc: Global, ports: &[PortOfKind]) -> Result<Vec<Guard>, AllocError>
+    ensures { IfOk result (λ v. GuardPorts (datagram_ports ports.now) v.items) }
 {
     let mut guards = Vec::new(alloc);
     for port in ports {
-        let guard = guard_of(alloc, port)?;
-        guards.push(guard)?;
+        if let PortOfKind::Rfc1234(port) = port {
+            let guard = guard_of(alloc, port)?;
+            guards.push(guard)?;
+        }
     }
     Ok(guards)
+}
+
+/// Where each port is among those of its kind.
+fn spots_of(alloc: Global, ports: &[PortOfKind]) -> Result<Vec<Spot>, AllocError>
+    ensures { IfOk result (λ v. v.items ≡ spots_of ports.now) }
+{
+    let mut spots = Vec::new(alloc);
+    let mut datagrams = 0;
+    let mut wires = 0;
+    for port in ports {
+        match port {
+            PortOfKind::Rfc1234(_) => {
+                spots.push(Spot::Datagrams(datagrams))?;
+                datagrams += 1;
+            }
+            PortOfKind::Frames(_) => {
+                spots.push(Spot::Wire(wires))?;
+                wires += 1;
+            }
+        }
+    }
+    Ok(spots)
 }
 
 /// Tells the line of a port, as the router starts, and the room of its socket.
@@ -152,32 +171,67 @@ fn tell_port<R: Log>(rt: &R, number: usize, line: &str, room: u32) {
     }
 }
 
-fn tell_ports<R: Log>(rt: &R, lines: &[String], sockets: &SiteSockets) {
-    for (place, line) in lines.iter().enumerate() {
-        let room = sockets.room(place).unwrap_or(0);
-        tell_port(rt, place + 1, line, room);
+/// How many bytes the socket of a port holds, as the system said; 0 where it did not say.
+fn room_at(ports: &RouterPorts, spot: Spot) -> u32 {
+    match spot {
+        Spot::Datagrams(place) => ports.device().device().room(place).unwrap_or(0),
+        Spot::Wire(place) => match ports.wires().sockets().descriptor(place) {
+            Some(descriptor) => ask_room(descriptor),
+            None => 0,
+        },
     }
 }
 
-/// The device of the ports, with its sockets bound and its guards, and what waits for it. Each port
-/// is told.
-fn guarded_device<R: Net + Log>(
+fn tell_ports<R: Log>(rt: &R, lines: &[String], ports: &RouterPorts) {
+    for (place, line) in lines.iter().enumerate() {
+        if let Some(spot) = ports.spots().get(place) {
+            tell_port(rt, place + 1, line, room_at(ports, *spot));
+        }
+    }
+}
+
+/// The ports of RFC 1234 among these, with their sockets bound and their guards.
+fn datagrams_of<R: Net>(
     rt: &R,
     alloc: Global,
-    ports: &[SitePort],
-) -> Result<(PeersOnly<SiteSockets>, Readiness), RouteFault>
-    ensures guards { IfOk result (λ r. GuardPorts ports.now r.0.guards.items) }
-    // Each port has a socket, with the port of UDP of its peers.
-    ensures sockets { IfOk result (λ r. map (λ p. p.udp_port) r.0.device.sockets.items
-        ≡ udp_ports ports.now) }
+    ports: &[PortOfKind],
+) -> Result<OnPeers<PeersOnly<SiteSockets>>, RouteFault>
+    ensures guards { IfOk result (λ d. GuardPorts (datagram_ports ports.now) d.device.guards.items) }
+    ensures peers { IfOk result (λ d.
+        peers_of d.peers.items ≡ site_peers (datagram_ports ports.now)) }
+    // Each has a socket, with the port of UDP of its peers.
+    ensures sockets { IfOk result (λ d. map (λ p. p.udp_port) d.device.device.sockets.items
+        ≡ udp_ports (datagram_ports ports.now)) }
 {
     let guards = guards_of(alloc, ports)?;
-    // All lines are made before the first is told: where memory is refused, nothing else is.
-    let lines = ports_to_texts(alloc, ports)?;
+    let peers = peers_by_port(alloc, ports)?;
     let sockets = SiteSockets::bind(rt, alloc, ports)?;
-    let ready = Readiness::new(rt, alloc, &sockets)?;
-    tell_ports(rt, &lines, &sockets);
-    Ok((PeersOnly::new(sockets, guards), ready))
+    Ok(OnPeers::new(PeersOnly::new(sockets, guards), peers))
+}
+
+/// The ports of a file, with their sockets bound.
+fn bound_ports<R: Net>(
+    rt: &R,
+    alloc: Global,
+    ports: &[PortOfKind],
+) -> Result<RouterPorts, RouteFault>
+    ensures { IfOk result (ArePortsBound ports.now) }
+{
+    let spots = spots_of(alloc, ports)?;
+    let datagrams = datagrams_of(rt, alloc, ports)?;
+    let wires = wires_of(rt, alloc, ports)?;
+    Ok(RouterPorts::new(datagrams, wires, spots))
+}
+
+/// What waits for the sockets of ports.
+fn ready_for<R: Net>(rt: &R, alloc: Global, ports: &RouterPorts) -> Result<Readiness, RouteFault>
+    ensures { IfOk result (λ r. r.watched
+        ≡ counted (length ports.now.datagrams.device.device.sockets.items
+        + length ports.now.wires.sockets.wires.items)) }
+{
+    let mut ready = Readiness::new(rt, alloc, ports.device().device())?;
+    ready.watch_wires(ports.wires().sockets())?;
+    Ok(ready)
 }
 
 /// A router of a file, with its sockets bound.
@@ -187,26 +241,25 @@ fn start<'a, R: Net + Log + SystemClock>(
     site: SiteFile,
 ) -> Result<RunningRouter<'a, R>, RouteFault>
     requires { All IsOwnNetwork (router_ports site.ports.items) }
-    // The router has the ports of the file, and each of them its peers and its guard.
+    // The router has the ports of the file.
     ensures ports { IfOk result (λ s. s.core.core.router.ports ≡ router_ports site.ports.items) }
     // So those who ask at these have their turns, and nobody has asked yet.
     ensures askers { IfOk result (λ s. (s.core.ports ≡ router_ports site.ports.items)
         × (s.core.askers.askers ≡ []) × (s.core.askers.back ≡ 0)) }
-    ensures peers { IfOk result (λ s. peers_of s.peers.items ≡ site_peers site.ports.items) }
-    ensures guards { IfOk result (λ s. GuardPorts site.ports.items s.device.guards.items) }
-    // Each has a socket, with the port of UDP of its peers.
-    ensures sockets { IfOk result (λ s. map (λ p. p.udp_port) s.device.device.sockets.items
-        ≡ udp_ports site.ports.items) }
+    // Each of them has its socket: one of RFC 1234 its peers and its guard, one on a wire its hub.
+    ensures bound { IfOk result (λ s. ArePortsBound site.ports.items s.ports) }
     ensures clock { IfOk result (λ s. s.clock.last ≡ 0) }
     ensures asked { IfOk result (λ s. s.asked ≡ 0) }
 {
     let core = core_of(alloc, &site.ports)?;
-    let peers = peers_by_port(alloc, &site.ports)?;
-    let (device, ready) = guarded_device(rt, alloc, &site.ports)?;
+    // All lines are made before the first is told: where memory is refused, nothing else is.
+    let lines = ports_to_texts(alloc, &site.ports)?;
+    let ports = bound_ports(rt, alloc, &site.ports)?;
+    let ready = ready_for(rt, alloc, &ports)?;
+    tell_ports(rt, &lines, &ports);
     let parts = Parts {
         core,
-        device,
-        peers,
+        ports,
         clock: SteadyClock::new(rt),
         ready,
         status: site.status,

@@ -1,29 +1,28 @@
 //! A router with its sockets, and what is to be done besides its turns.
 
 ghost use Rattle.std.specs.Prelude.{◌≡◌, length, map};
-ghost use Rattle.ipx_carrier.specs.Turns.{peers_of};
 ghost use Rattle.ipx_site.specs.Leisure.{IsLeisure, IsToDo, agenda, counts_told, happened, happened_in, look_after};
 ghost use Rattle.ipx_site.specs.Moments.{AreToldIfDue};
-ghost use Rattle.ipx_site.specs.SitePeers.{kept_in};
 ghost use Rattle.ipx_site.specs.SitePorts.{access_by};
+ghost use Rattle.ipx_site.specs.PortsView.{kept_in_ports, ways_in};
 ghost use Rattle.ipx_site.specs.RouterRounds.{AsksAgain, IsRound, SleepsBehind};
 ghost use Rattle.ipx_site.specs.Steady.{NeverGoesBack};
 
 use crate::asking::asking_moment;
 use crate::clock::SteadyClock;
 use crate::figures::Figures;
+use crate::frame_figures::{put_frame_figures, tell_encapsulations};
 use crate::moments::{LONGEST, end_of, is_over, sooner, time_to};
-use crate::peers::PeersOnly;
 use crate::readiness::{Readiness, WaitFault};
 use crate::router_counts::RouterCounts;
-use crate::sockets::SiteSockets;
+use crate::router_ports::RouterPorts;
 use crate::sparing::Sparing;
 use crate::status::write_whole;
 use crate::troubles::Troubles;
 use crate::watch::Known;
-use ipx_carrier::{Burst, Clock, RouterCore, burst};
+use ipx_carrier::{Burst, Clock, RouterCore, burst_segments};
 use log::Log;
-use std::alloc::Global;
+use std::alloc::{AllocError, Global};
 use std::rt::{Clock as SystemClock, Files};
 
 /// How often the figures are written, and one looks for what grew old, in milliseconds.
@@ -42,8 +41,7 @@ const TURNS: u32 = 256;
 #[derive(Drop)]
 pub struct RunningRouter<'a, R: SystemClock> {
     core: Sparing<RouterCore>,
-    device: PeersOnly<SiteSockets>,
-    peers: Vec<Vec<[u8; 4]>>,
+    ports: RouterPorts,
     clock: SteadyClock<'a, R>,
     ready: Readiness,
     status: Option<String>,
@@ -58,37 +56,31 @@ pub struct RunningRouter<'a, R: SystemClock> {
     /// When the figures were written last.
     written: Option<u64>,
     // So a turn can always be begun.
-    ghost sockets: { length device.device.sockets.items ≡ length core.core.router.ports },
-    ghost lists: { length peers.items ≡ length core.core.router.ports },
+    ghost spots: { length ports.spots.items ≡ length core.core.router.ports },
 }
 
 /// The parts of a router that runs.
 #[derive(Drop)]
 pub struct Parts<'a, R: SystemClock> {
     pub core: Sparing<RouterCore>,
-    pub device: PeersOnly<SiteSockets>,
-    pub peers: Vec<Vec<[u8; 4]>>,
+    pub ports: RouterPorts,
     pub clock: SteadyClock<'a, R>,
     pub ready: Readiness,
     pub status: Option<String>,
 }
 
 impl<'a, R: SystemClock> RunningRouter<'a, R> {
-    /// A router that begins to run. The caller owes a socket and a list of peers for each port.
+    /// A router that begins to run. The caller owes a spot for each port.
     pub fn new(alloc: Global, parts: Parts<'a, R>) -> RunningRouter<'a, R>
-        requires sockets { length parts.device.device.sockets.items
-            ≡ length parts.core.core.router.ports }
-        requires lists { length parts.peers.items ≡ length parts.core.core.router.ports }
+        requires { length parts.ports.spots.items ≡ length parts.core.core.router.ports }
         ensures core { result.core ≡ parts.entry.core }
-        ensures device { result.device ≡ parts.entry.device }
-        ensures peers { result.peers ≡ parts.entry.peers }
+        ensures ports { result.ports ≡ parts.entry.ports }
         ensures clock { result.clock ≡ parts.entry.clock }
         ensures asked { result.asked ≡ 0 }
     {
         RunningRouter {
             core: parts.core,
-            device: parts.device,
-            peers: parts.peers,
+            ports: parts.ports,
             clock: parts.clock,
             ready: parts.ready,
             status: parts.status,
@@ -103,11 +95,17 @@ impl<'a, R: SystemClock> RunningRouter<'a, R> {
     }
 
     fn figures(&self, now: u64) -> Figures
-        ensures { happened_in result ≡ happened self.now.tally self.now.core
-            self.now.device.kept self.now.device.refused self.now.device.device.faults }
+        ensures { happened_in result ≡ happened self.now.tally self.now.core self.now.ports }
     {
         self.tally
-            .figures(&self.core, &self.device, &self.known, now)
+            .figures(&self.core, &self.ports, &self.known, now)
+    }
+
+    /// What its status file says.
+    fn status_text(&self, alloc: Global, now: u64) -> Result<String, AllocError> {
+        let mut text = self.figures(now).text(alloc)?;
+        put_frame_figures(&mut text, &self.ports)?;
+        Ok(text)
     }
 
     /// How long to wait for the next look: shortly, where a response was heard since.
@@ -124,8 +122,7 @@ impl<'a, R: SystemClock> RunningRouter<'a, R> {
     /// Asks the neighbours again, if it is time.
     fn ask(&mut self, now: u64)
         ensures core { AsksAgain now self.old.asked self.new.asked self.old.core self.new.core }
-        ensures device { self.new.device ≡ self.old.device }
-        ensures peers { self.new.peers ≡ self.old.peers }
+        ensures ports { self.new.ports ≡ self.old.ports }
         ensures clock { self.new.clock ≡ self.old.clock }
         ensures ready { self.new.ready ≡ self.old.ready }
         ensures troubles { self.new.troubles ≡ self.old.troubles }
@@ -141,8 +138,7 @@ impl<'a, R: SystemClock> RunningRouter<'a, R> {
     /// Tells what is newly known and what is lost, if it is time.
     fn look<L: Log>(&mut self, rt: &L, alloc: Global, now: u64)
         ensures core { self.new.core ≡ self.old.core }
-        ensures device { self.new.device ≡ self.old.device }
-        ensures peers { self.new.peers ≡ self.old.peers }
+        ensures ports { self.new.ports ≡ self.old.ports }
         ensures clock { self.new.clock ≡ self.old.clock }
         ensures ready { self.new.ready ≡ self.old.ready }
         ensures troubles { self.new.troubles ≡ self.old.troubles }
@@ -165,8 +161,7 @@ impl<'a, R: SystemClock> RunningRouter<'a, R> {
     /// Writes the figures, if it is time and there is a file for them.
     fn write_figures<F: Files>(&mut self, rt: &F, alloc: Global, now: u64)
         ensures core { self.new.core ≡ self.old.core }
-        ensures device { self.new.device ≡ self.old.device }
-        ensures peers { self.new.peers ≡ self.old.peers }
+        ensures ports { self.new.ports ≡ self.old.ports }
         ensures clock { self.new.clock ≡ self.old.clock }
         ensures ready { self.new.ready ≡ self.old.ready }
         ensures troubles { self.new.troubles ≡ self.old.troubles }
@@ -176,11 +171,10 @@ impl<'a, R: SystemClock> RunningRouter<'a, R> {
             return;
         }
         self.written = Some(now);
-        let figures = self.figures(now);
         let Some(path) = &self.status else {
             return;
         };
-        let Ok(text) = figures.text(alloc) else {
+        let Ok(text) = self.status_text(alloc, now) else {
             self.tally.want_memory();
             return;
         };
@@ -192,28 +186,29 @@ impl<'a, R: SystemClock> RunningRouter<'a, R> {
     /// Does what is to be done besides the turns.
     fn keep<S: Log + Files>(&mut self, rt: &S, alloc: Global, now: u64)
         ensures core { AsksAgain now self.old.asked self.new.asked self.old.core self.new.core }
-        ensures device { self.new.device ≡ self.old.device }
-        ensures peers { self.new.peers ≡ self.old.peers }
+        ensures ports { self.new.ports ≡ self.old.ports }
         ensures clock { self.new.clock ≡ self.old.clock }
         ensures ready { self.new.ready ≡ self.old.ready }
         // Each trouble that is due is told, and no other.
         ensures told { AreToldIfDue (counts_told (happened self.new.tally self.new.core
-            self.new.device.kept self.new.device.refused self.new.device.device.faults)) now
+            self.new.ports)) now
             self.old.troubles.causes self.new.troubles.causes }
     {
         self.ask(now);
         self.look(rt, alloc, now);
         self.write_figures(rt, alloc, now);
         let figures = self.figures(now);
+        if self.troubles.are_encapsulations_due(&figures, now) {
+            tell_encapsulations(rt, &self.ports);
+        }
         self.troubles.tell(rt, &figures, now);
     }
 
     /// How long there is nothing to do, unless something comes, in milliseconds.
     fn leisure(&self, now: u64) -> u64
         ensures { IsLeisure (IsToDo (agenda self.now.asked self.now.looked self.now.responses
-            self.now.written self.now.core self.now.troubles (happened self.now.tally self.now.core
-            self.now.device.kept self.now.device.refused self.now.device.device.faults)))
-            now result }
+            self.now.written self.now.core self.now.troubles
+            (happened self.now.tally self.now.core self.now.ports))) now result }
     {
         let telling = self.core.core().router().next_telling();
         let packets = sooner(asking_moment(self.asked), telling);
@@ -228,21 +223,22 @@ impl<'a, R: SystemClock> RunningRouter<'a, R> {
     /// Does what is to be done now, and takes turns as long as there is something to hear or to send.
     fn round<S: Log + Files>(&mut self, rt: &S, alloc: Global) -> Burst
         ensures core { IsRound self.old.clock self.new.clock
-            NeverGoesBack (peers_of self.old.peers.items)
-            (kept_in self.old.device.kept) (kept_in self.new.device.kept)
+            NeverGoesBack (ways_in self.old.ports)
+            (kept_in_ports self.old.ports) (kept_in_ports self.new.ports)
             self.old.asked self.new.asked self.old.core self.new.core result }
         ensures ready { self.new.ready ≡ self.old.ready }
-        ensures peers { self.new.peers ≡ self.old.peers }
-        ensures access { map access_by self.new.device.guards.items
-            ≡ map access_by self.old.device.guards.items }
+        // By what packets are sent, and who may speak, stays.
+        ensures ways { ways_in self.new.ports ≡ ways_in self.old.ports }
+        ensures access { map access_by self.new.ports.datagrams.device.guards.items
+            ≡ map access_by self.old.ports.datagrams.device.guards.items }
     {
         let now = self.clock.now();
         self.keep(rt, alloc, now);
-        let burst = burst(
+        self.ports.set_moment(now);
+        let burst = burst_segments(
             alloc,
             &mut self.core,
-            &mut self.device,
-            &self.peers,
+            &mut self.ports,
             &mut self.clock,
             TURNS,
         );
@@ -255,17 +251,17 @@ impl<'a, R: SystemClock> RunningRouter<'a, R> {
     pub fn step<S: Log + Files>(&mut self, rt: &S, alloc: Global) -> Result<(), WaitFault>
         // A round, and behind it a wait, as long as there is nothing to do.
         ensures core { (between : SteadyClock R) × (burst : Burst)
-            × IsRound self.old.clock between NeverGoesBack (peers_of self.old.peers.items)
-            (kept_in self.old.device.kept) (kept_in self.new.device.kept)
+            × IsRound self.old.clock between NeverGoesBack (ways_in self.old.ports)
+            (kept_in_ports self.old.ports) (kept_in_ports self.new.ports)
             self.old.asked self.new.asked self.old.core self.new.core burst
             × SleepsBehind (IsToDo (agenda self.new.asked self.new.looked self.new.responses
-            self.new.written self.new.core self.new.troubles (happened self.new.tally self.new.core
-            self.new.device.kept self.new.device.refused self.new.device.device.faults)))
+            self.new.written self.new.core self.new.troubles
+            (happened self.new.tally self.new.core self.new.ports)))
             between self.new.clock NeverGoesBack
             self.old.ready.asked self.new.ready.asked burst.fault burst.quiet }
-        ensures peers { self.new.peers ≡ self.old.peers }
-        ensures access { map access_by self.new.device.guards.items
-            ≡ map access_by self.old.device.guards.items }
+        ensures ways { ways_in self.new.ports ≡ ways_in self.old.ports }
+        ensures access { map access_by self.new.ports.datagrams.device.guards.items
+            ≡ map access_by self.old.ports.datagrams.device.guards.items }
     {
         let burst = self.round(rt, alloc);
         if burst.fault.is_some() {

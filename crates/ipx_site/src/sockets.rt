@@ -1,14 +1,15 @@
-//! Sockets of UDP, one for each port of a site.
+//! Sockets of UDP, one for each port of RFC 1234 of a site.
 
 ghost use Rattle.std.specs.Prelude.{◌≡◌, ◌⊎◌, ◌<◌, ◌≤◌, ◌↔◌, ◌∷◌, [], IfOk, IfSome, IsSome, None, Ok, OnErr, Some, length, map, slice_get};
 ghost use Rattle.ipx_carrier.specs.Counting.{raised};
 ghost use Rattle.ipx_site.specs.Senders.{ipv4_of_place};
+ghost use Rattle.ipx_site.specs.KindPorts.{datagram_ports};
 ghost use Rattle.ipx_site.specs.SitePorts.{udp_ports};
 
 use crate::bind_fault::{BindFault, obstacle_of};
 use crate::room::ask_room;
 use crate::senders::Senders;
-use crate::site::SitePort;
+use crate::site::PortOfKind;
 use ipx_carrier::{Datagrams, DeviceFault, bound_socket, place_of, raise};
 use std::alloc::Global;
 use std::io;
@@ -67,6 +68,21 @@ fn port_socket<R: Net>(rt: &R, ip: [u8; 4], udp_port: u16) -> io::Result<PortSoc
     })
 }
 
+/// The socket of the port with this number, or why it can't be had.
+fn bound_port<R: Net>(
+    rt: &R,
+    number: usize,
+    ip: [u8; 4],
+    udp_port: u16,
+) -> Result<PortSocket, BindFault>
+    ensures { IfOk result (λ s. s.udp_port ≡ udp_port) }
+{
+    match port_socket(rt, ip, udp_port) {
+        Ok(socket) => Ok(socket),
+        Err(error) => Err(BindFault::Port(number, obstacle_of(error.kind()))),
+    }
+}
+
 /// A device with these sockets.
 fn device_of(sockets: Vec<PortSocket>) -> SiteSockets
     ensures ports { result.sockets.items ≡ sockets.items }
@@ -81,20 +97,23 @@ fn device_of(sockets: Vec<PortSocket>) -> SiteSockets
 }
 
 impl SiteSockets {
-    /// A device with these ports in their order. At the first socket that can't be had it answers
-    /// that port, and nothing stays bound.
-    pub fn bind<R: Net>(rt: &R, alloc: Global, ports: &[SitePort]) -> Result<SiteSockets, BindFault>
-        ensures { IfOk result (λ d. map (λ s. s.udp_port) d.sockets.items ≡ udp_ports ports.now) }
+    /// A device with those of these ports that are of RFC 1234, in their order. At the first socket
+    /// that can't be had it answers that port, and nothing stays bound.
+    pub fn bind<R: Net>(
+        rt: &R,
+        alloc: Global,
+        ports: &[PortOfKind],
+    ) -> Result<SiteSockets, BindFault>
+        ensures { IfOk result (λ d. map (λ s. s.udp_port) d.sockets.items
+            ≡ udp_ports (datagram_ports ports.now)) }
     {
         let mut sockets = Vec::new(alloc);
         for (place, port) in ports.iter().enumerate() {
-            match port_socket(rt, port.address, port.udp_port) {
-                Ok(socket) => {
-                    if sockets.push(socket).is_err() {
-                        return Err(BindFault::OutOfMemory);
-                    }
+            if let PortOfKind::Rfc1234(port) = port {
+                let socket = bound_port(rt, place + 1, port.address, port.udp_port)?;
+                if sockets.push(socket).is_err() {
+                    return Err(BindFault::OutOfMemory);
                 }
-                Err(error) => return Err(BindFault::Port(place + 1, obstacle_of(error.kind()))),
             }
         }
         Ok(device_of(sockets))
@@ -109,12 +128,10 @@ impl SiteSockets {
     ) -> Result<SiteSockets, BindFault>
         ensures { IfOk result (λ d. map (λ s. s.udp_port) d.sockets.items ≡ udp_port ∷ []) }
     {
-        match port_socket(rt, address, udp_port) {
-            Ok(socket) => match vec![in alloc; socket] {
-                Ok(sockets) => Ok(device_of(sockets)),
-                Err(_) => Err(BindFault::OutOfMemory),
-            },
-            Err(error) => Err(BindFault::Port(1, obstacle_of(error.kind()))),
+        let socket = bound_port(rt, 1, address, udp_port)?;
+        match vec![in alloc; socket] {
+            Ok(sockets) => Ok(device_of(sockets)),
+            Err(_) => Err(BindFault::OutOfMemory),
         }
     }
 

@@ -1,8 +1,8 @@
 //! The troubles that a person is told of, each at most once a minute.
 
-ghost use Rattle.std.specs.Prelude.{◌≡◌, ◌↔◌, ◌<◌, ◌^◌, ℕ, None, get_or, replicate};
+ghost use Rattle.std.specs.Prelude.{◌≡◌, ◌↔◌, ◌<◌, ◌^◌, ℕ, IsTrue, None, get_or, replicate};
 ghost use Rattle.ipx_site.specs.Leisure.{IsLineDue, counts_of, counts_told, happened_in};
-ghost use Rattle.ipx_site.specs.Moments.{AreToldIfDue, IsOneDue, IsReached, IsToldIfDue, untold};
+ghost use Rattle.ipx_site.specs.Moments.{AreToldIfDue, IsDue, IsOneDue, IsReached, IsToldIfDue, untold};
 
 use crate::causes::Cause;
 use crate::figures::Figures;
@@ -37,7 +37,10 @@ impl Trouble {
 }
 
 /// How many causes a router has.
-const CAUSES: usize = 10;
+const CAUSES: usize = 13;
+
+/// The place of that of other encapsulations.
+const ENCAPSULATIONS: usize = 12;
 
 /// When a router told its troubles, in the order of their lines.
 #[derive(Clone, Copy, Debug, PartialEq, Eq)]
@@ -118,13 +121,16 @@ fn troubles_in(f: &Figures) -> [Trouble; CAUSES]
         Trouble::of_nobody(f.device_faults, "datagrams the system refused"),
         Trouble::of_nobody(f.memory_faults, "times memory was refused"),
         Trouble::of_nobody(f.file_faults, "times the status file could not be written"),
+        Trouble::of_nobody(f.frame_strangers, "datagrams came from no end of a wire"),
+        Trouble::of_nobody(f.unframed, "packets no frame could carry"),
+        Trouble::of_nobody(f.other_encapsulation, "frames of another encapsulation"),
     ]
 }
 
 impl Troubles {
     /// None was told yet.
     pub fn new() -> Troubles
-        ensures { result.causes ≡ replicate 10 untold }
+        ensures { result.causes ≡ replicate 13 untold }
     {
         Troubles {
             causes: [Cause::new(); CAUSES],
@@ -137,6 +143,14 @@ impl Troubles {
             self.new.causes }
     {
         tell_each(rt, &mut self.causes, &troubles_in(figures), now);
+    }
+
+    /// Whether it is time to tell of frames of another encapsulation.
+    pub fn are_encapsulations_due(&self, figures: &Figures, now: u64) -> bool
+        ensures { IsTrue result ↔ IsDue (get_or self.now.causes 12 untold)
+            figures.now.other_encapsulation now }
+    {
+        self.causes[ENCAPSULATIONS].is_due(figures.other_encapsulation, now)
     }
 
     /// The moment from which on it is time to tell one; none where no clock can show that moment.

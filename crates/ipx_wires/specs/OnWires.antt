@@ -1,5 +1,5 @@
 -- What ports on wires do with the frames there, and with the packets of their core. All of it is own.
-use Rattle.std.specs.Prelude.{◌≡◌, ℕ, List, [], ◌∷◌, Bool, false, not, ◌&&◌, Option, Some, None, filter, length, map, slice_get, slice_set, take}
+use Rattle.std.specs.Prelude.{◌≡◌, ◌⊎◌, ℕ, List, [], ◌∷◌, Bool, false, not, ◌&&◌, Option, Some, None, filter, length, map, slice_get, slice_set, take}
 use Rattle.std.specs.List.{range_with_len}
 use Rattle.ipx_wire.specs.declared.address.Node.{Node}
 use Rattle.ipx_frames.specs.declared.encapsulation.Encapsulation.{Encapsulation}
@@ -96,10 +96,12 @@ pub record HearsBehind (n now most : ℕ) (frame : EndFrame) (came : List EndFra
   pub hubs : new.hubs ≡ slice_set old.hubs frame.port after
   pub counted : new.kept ≡ kept_by up old.kept
 
--- the same of an answer of the sockets, which may be that nothing came
+-- the same of an answer of the sockets, which may be that nothing came, or that they failed, which they
+-- count
 abbrev pub HearsAnswerOf : ℕ → ℕ → ℕ → Option EndFrame → List ℕ → Option ℕ → WiresView → WiresView → Type 0
 HearsAnswerOf n now most None room up old new = (up ≡ None) × (new.hubs ≡ old.hubs)
-    × (new.kept ≡ old.kept) × EndsPass old.traffic new.traffic [] [] × (new.failed ≡ old.failed)
+    × (new.kept ≡ old.kept) × EndsPass old.traffic new.traffic [] []
+    × ((new.failed ≡ old.failed) ⊎ (new.failed ≡ raised old.failed))
 HearsAnswerOf n now most (Some frame) room up old new =
     HearsBehind n now most frame (frame ∷ []) room up old new
 

@@ -1,7 +1,6 @@
 //! Ports on wires.
 
 ghost use Rattle.std.specs.Prelude.{◌≡◌, ◌<◌, ◌≤◌, ◌+◌, ◌^◌, [], Option, None, IfOk, IfSome, OnErr, length, map, min, slice_index};
-ghost use Rattle.ipx_carrier.specs.RunFaultNumbers.{device_failures};
 ghost use Rattle.ipx_carrier.specs.Segments.{copies_count, count_in};
 ghost use Rattle.ipx_wires.specs.EndTraffic.{EndFrame, frame_at};
 ghost use Rattle.ipx_wires.specs.OnWires.{HearsAnswerOf, HearsBehind, SendsPacket, by_frames, wires_view};
@@ -22,14 +21,13 @@ const FRAME_ROOM: usize = 1536;
 /// and the hubs are for.
 ///
 /// A frame that can't be sent to one end is lost there, as one is on the way, and the sockets count
-/// it.
+/// it, as they do where they can't receive: nothing of it keeps other ports from their turns.
 #[derive(Drop)]
 pub struct Wires<D: EndSockets + Drop> {
     sockets: D,
     hubs: Vec<Hub>,
     moment: u64,
     kept: u64,
-    failures: u64,
 }
 
 impl<D: EndSockets + Drop> Wires<D> {
@@ -37,14 +35,13 @@ impl<D: EndSockets + Drop> Wires<D> {
     pub fn new(sockets: D, hubs: Vec<Hub>) -> Wires<D>
         ensures sockets { result.sockets ≡ sockets }
         ensures hubs { result.hubs.items ≡ hubs.items }
-        ensures fresh { (result.moment ≡ 0) × (result.kept ≡ 0) × (result.failures ≡ 0) }
+        ensures fresh { (result.moment ≡ 0) × (result.kept ≡ 0) }
     {
         Wires {
             sockets,
             hubs,
             moment: 0,
             kept: 0,
-            failures: 0,
         }
     }
 
@@ -80,7 +77,7 @@ impl<D: EndSockets + Drop> Wires<D> {
             (D.traffic self.old.sockets) (D.failed self.old.sockets))
             (wires_view self.new.hubs.items self.new.kept
             (D.traffic self.new.sockets) (D.failed self.new.sockets)) }
-        ensures rest { (self.new.moment ≡ self.old.moment) × (self.new.failures ≡ self.old.failures) }
+        ensures rest { self.new.moment ≡ self.old.moment }
         ensures ends { D.ends_of self.new.sockets ≡ D.ends_of self.old.sockets }
         ensures kept_back { D.kept_back self.new.sockets ≡ D.kept_back self.old.sockets }
     {
@@ -113,7 +110,7 @@ impl<D: EndSockets + Drop> Wires<D> {
             (D.traffic self.new.sockets) (D.failed self.new.sockets)) }
         ensures within { IfSome result (λ n. n ≤ length room.old) }
         ensures untouched { result ≡ None → room.new ≡ room.old }
-        ensures rest { (self.new.moment ≡ self.old.moment) × (self.new.failures ≡ self.old.failures) }
+        ensures rest { self.new.moment ≡ self.old.moment }
         ensures grows { self.old.kept ≤ self.new.kept }
         ensures ends { D.ends_of self.new.sockets ≡ D.ends_of self.old.sockets }
         ensures kept_back { D.kept_back self.new.sockets ≡ D.kept_back self.old.sockets }
@@ -141,7 +138,8 @@ impl<D: EndSockets + Drop> Segments for Wires<D> {
 
     ghost port_count = { λ w. min (length w.hubs.items) (length (D.ends_of w.sockets)) };
 
-    ghost failed = { λ w. w.failures };
+    // What can't be sent or received on a wire fails there alone, and the sockets count it.
+    ghost failed = { λ w. 0 };
 
     ghost ways = { λ w. by_frames (map (λ h. h.port) w.hubs.items) };
 
@@ -161,13 +159,12 @@ impl<D: EndSockets + Drop> Segments for Wires<D> {
     }
 
     fn failures(&self) -> u64 {
-        self.failures
+        0
     }
 
     fn send(&mut self, port: usize, node: Node, packet: &[u8]) -> Result<PacketSent, DeviceFault>
         requires there { port < min (length self.old.hubs.items)
             (length (D.ends_of self.old.sockets)) }
-        requires countable { self.old.failures + 1 < 2 ^ 64 }
         // The frame of the packet goes to the ends of its node, or none can carry it.
         ensures sent { IfOk result (λ sent. SendsPacket
             (slice_index (D.ends_of self.old.sockets) port) self.old.moment port node packet.now sent
@@ -180,7 +177,6 @@ impl<D: EndSockets + Drop> Segments for Wires<D> {
             ≡ copies_count (by_frames (map (λ h. h.port) self.old.hubs.items))
             (record { port = port; node = node; bytes = packet.now })) }
         ensures moment { self.new.moment ≡ self.old.moment }
-        ensures failures { self.new.failures ≡ device_failures result self.old.failures }
         ensures ports { length self.new.hubs.items ≡ length self.old.hubs.items }
         ensures ways { map (λ h. h.port) self.new.hubs.items
             ≡ map (λ h. h.port) self.old.hubs.items }
@@ -194,8 +190,7 @@ impl<D: EndSockets + Drop> Segments for Wires<D> {
     fn receive(&mut self, port: usize, room: &mut [u8]) -> Result<Option<usize>, DeviceFault>
         requires there { port < min (length self.old.hubs.items)
             (length (D.ends_of self.old.sockets)) }
-        requires countable { self.old.failures + 1 < 2 ^ 64 }
-        // A frame came from an end and went on from there, or none came.
+        // A frame came from an end and went on from there, or none came, or the sockets failed.
         ensures received { IfOk result (λ up. (came : Option EndFrame)
             × IfSome came (λ frame. frame.port ≡ port)
             × HearsAnswerOf (slice_index (D.ends_of self.old.sockets) port) self.old.moment
@@ -207,12 +202,8 @@ impl<D: EndSockets + Drop> Segments for Wires<D> {
         ensures within { IfOk result (λ up. IfSome up (λ n. n ≤ length room.old)) }
         // The room is as it was where nothing is for the core.
         ensures untouched { IfOk result (λ up. up ≡ None → room.new ≡ room.old) }
-        ensures vain { OnErr result (room.new ≡ room.old) }
-        ensures refused { OnErr result ((self.new.hubs.items ≡ self.old.hubs.items)
-            × (self.new.kept ≡ self.old.kept)
-            × (D.traffic self.new.sockets ≡ D.traffic self.old.sockets)) }
+        ensures goes_on { OnErr result ⊥ }
         ensures moment { self.new.moment ≡ self.old.moment }
-        ensures failures { self.new.failures ≡ device_failures result self.old.failures }
         ensures ports { length self.new.hubs.items ≡ length self.old.hubs.items }
         ensures ways { map (λ h. h.port) self.new.hubs.items
             ≡ map (λ h. h.port) self.old.hubs.items }
@@ -222,8 +213,7 @@ impl<D: EndSockets + Drop> Segments for Wires<D> {
     {
         let mut frame = [0; FRAME_ROOM];
         let Ok(came) = self.sockets.receive(port, &mut frame) else {
-            self.failures += 1;
-            return Err(DeviceFault);
+            return Ok(None);
         };
         let Some(came) = came else {
             return Ok(None);
@@ -235,7 +225,10 @@ impl<D: EndSockets + Drop> Segments for Wires<D> {
 impl<D: EndSockets + Drop> SegmentsKeepBack for Wires<D> {
     /// How much that came was kept from the core: frames whose hub did, also those that went on, and
     /// what came from no end.
-    fn kept_back(&self) -> u128 {
+    fn kept_back(&self) -> u128
+        ensures total { result ≡ self.now.kept + D.kept_back self.now.sockets }
+        ensures few { result < 2 ^ 65 }
+    {
         u128::from(self.kept) + u128::from(self.sockets.strangers())
     }
 }

@@ -8,7 +8,7 @@ use Rattle.ipx_site.proofs.running_router.RunningRouter.leisure.Goals as goal
 pub returns : goal.returns
 returns g c =
     let self = c.args.self.now in
-    let count = happened self.tally self.core self.device.kept self.device.refused self.device.device.faults in
+    let count = happened self.tally self.core self.ports in
     let asks = λ (t : ℕ). subst (λ o. IsReached c.asking_moment.result t ↔ ((moment : ℕ) × (o ≡ Some moment) × (moment ≤ t)))
     {y = slice_get askings self.asked} c.asking_moment.ensures.moment (reached c.asking_moment.result t) in
     let told = subst (λ (l : Option ℕ). IsNextTelling l c.next_telling-telling.result) (ap (λ r. r.told) (c.router.ensures ∙ ap (λ k. k.router) c.core.ensures)) c.next_telling-telling.ensures in

@@ -8,7 +8,7 @@ pub returns-in_err-wait-clause-core : goal.returns-in_err-wait-clause-core
 returns-in_err-wait-clause-core g c =
     let s = c.round-burst.new.self in
     let todo : ℕ → Type 0 = IsToDo (agenda s.asked s.looked s.responses s.written s.core s.troubles
-    (happened s.tally s.core s.device.kept s.device.refused s.device.device.faults)) in (
+    (happened s.tally s.core s.ports)) in (
       s.clock,
       c.round-burst.result,
       c.round-burst.ensures.core,
@@ -19,7 +19,7 @@ pub returns-in_err-wait-2-clause-core : goal.returns-in_err-wait-2-clause-core
 returns-in_err-wait-2-clause-core g c =
     let s = c.round-burst.new.self in
     let todo : ℕ → Type 0 = IsToDo (agenda s.asked s.looked s.responses s.written s.core s.troubles
-    (happened s.tally s.core s.device.kept s.device.refused s.device.device.faults)) in (
+    (happened s.tally s.core s.ports)) in (
       s.clock,
       c.round-burst.result,
       c.round-burst.ensures.core,
@@ -30,7 +30,7 @@ pub returns-in_ok-wait-clause-core : goal.returns-in_ok-wait-clause-core
 returns-in_ok-wait-clause-core g c =
     let s = c.round-burst.new.self in
     let todo : ℕ → Type 0 = IsToDo (agenda s.asked s.looked s.responses s.written s.core s.troubles
-    (happened s.tally s.core s.device.kept s.device.refused s.device.device.faults)) in (
+    (happened s.tally s.core s.ports)) in (
       s.clock,
       c.round-burst.result,
       c.round-burst.ensures.core,
@@ -41,7 +41,7 @@ pub returns-in_ok-wait-2-clause-core : goal.returns-in_ok-wait-2-clause-core
 returns-in_ok-wait-2-clause-core g c =
     let s = c.round-burst.new.self in
     let todo : ℕ → Type 0 = IsToDo (agenda s.asked s.looked s.responses s.written s.core s.troubles
-    (happened s.tally s.core s.device.kept s.device.refused s.device.device.faults)) in (
+    (happened s.tally s.core s.ports)) in (
       s.clock,
       c.round-burst.result,
       c.round-burst.ensures.core,
@@ -52,7 +52,7 @@ pub returns-else-burst-clause-core : goal.returns-else-burst-clause-core
 returns-else-burst-clause-core g c =
     let s = c.round-burst.new.self in
     let todo : ℕ → Type 0 = IsToDo (agenda s.asked s.looked s.responses s.written s.core s.troubles
-    (happened s.tally s.core s.device.kept s.device.refused s.device.device.faults)) in (
+    (happened s.tally s.core s.ports)) in (
       s.clock,
       c.round-burst.result,
       c.round-burst.ensures.core,

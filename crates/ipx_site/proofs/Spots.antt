@@ -1,0 +1,37 @@
+-- Ports of both kinds, by where each is among those of its kind.
+use Rattle.std.proofs.Common.{◌≡◌, ◌∙◌, ◌<◌, ℕ, List, Option, Some, None, Result, Ok, Err, length, map, get_or, refl, sym, ap}
+use Rattle.std.specs.Prelude.{IfOk, option_map, slice_get}
+use Rattle.std.proofs.lemmas.List.{length-map}
+use Rattle.std.proofs.lemmas.Option.{slice_get_read}
+use Rattle.ipx_carrier.specs.declared.segments.PacketSent.{PacketSent}
+use Rattle.ipx_carrier.specs.Segments.{copies_count, count_in}
+use Rattle.ipx_carrier.specs.Turns.{Given, Peers, Ways, by_ip}
+use Rattle.ipx_frames.specs.declared.wire.WirePort.{WirePort}
+use Rattle.ipx_wires.specs.OnWires.{by_frames}
+use Rattle.ipx_site.specs.declared.router_ports.Spot.{Spot}
+use Rattle.ipx_site.specs.declared.router_ports.Spot.TheVariants.{Datagrams, Wire}
+use Rattle.ipx_site.specs.RouterPorts.{ByDatagram, ByFrame, by_kind, given_at, way_at}
+
+-- each copy is one of either kind
+as_many_copies : {A B : Type 0} (f : A → B) (o : Option (List A)) → option_map length (option_map (map f) o) ≡ option_map length o
+as_many_copies f None = refl
+as_many_copies f (Some xs) = ap Some (length-map xs f)
+
+module _ (peers : Peers) (wires : List WirePort) (spots : List Spot) (p : Given) (k : ℕ) (spot : Spot)
+    (there : p.port < length spots) (is : spot ≡ get_or spots p.port spot) where
+  at_spot : (s : Spot) → spot ≡ s → copies_count (by_kind peers wires spots) p ≡ option_map length (way_at (by_ip peers) (by_frames wires) (Some s) p)
+  at_spot s at =
+      ap (λ (o : Option Spot). option_map length (way_at (by_ip peers) (by_frames wires) o p))
+      (slice_get_read spots (length spots) p.port spot refl there is ∙ ap Some at)
+
+  pub counts_datagrams : {E : Type 0} (sent : Result PacketSent E) → spot ≡ Datagrams k
+      → IfOk sent (λ s. count_in s ≡ copies_count (by_ip peers) (given_at k p)) → IfOk sent (λ s. count_in s ≡ copies_count (by_kind peers wires spots) p)
+  counts_datagrams (Ok s) at h =
+      h ∙ sym (at_spot (Datagrams k) at ∙ as_many_copies ByDatagram (by_ip peers (given_at k p)))
+  counts_datagrams (Err e) at h = tt
+
+  pub counts_frames : {E : Type 0} (sent : Result PacketSent E) → spot ≡ Wire k
+      → IfOk sent (λ s. count_in s ≡ copies_count (by_frames wires) (given_at k p)) → IfOk sent (λ s. count_in s ≡ copies_count (by_kind peers wires spots) p)
+  counts_frames (Ok s) at h =
+      h ∙ sym (at_spot (Wire k) at ∙ as_many_copies ByFrame (by_frames wires (given_at k p)))
+  counts_frames (Err e) at h = tt

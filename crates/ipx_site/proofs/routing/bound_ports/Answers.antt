@@ -1,0 +1,17 @@
+use Rattle.std.proofs.Common.{◌≡◌, ◌∙◌, ap, arith, length, min}
+use Rattle.std.proofs.lemmas.List.{length-map}
+use Rattle.ipx_wires.specs.WirePlaces.{ends_behind}
+use Rattle.ipx_site.specs.KindPorts.{datagram_ports, hub_of, wire_ports}
+use Rattle.ipx_site.proofs.KindLists.{all_fit}
+use Rattle.ipx_site.proofs.Ports.{same_length}
+use Rattle.ipx_site.proofs.routing.bound_ports.Goals as goal
+
+pub new-requires : goal.new-requires
+new-requires g c =
+    let ports = c.args.ports.now in
+    let wires = c.in_ok-wires.wires in
+    let sockets = same_length (λ s. s.udp_port) (λ p. p.udp_port) c.in_ok-datagrams.datagrams.device.device.sockets.items (datagram_ports ports) c.in_ok-datagrams.ensures.sockets in
+    let hubs : length wires.hubs.items ≡ length (wire_ports ports) = ap length c.in_ok-wires.ensures.hubs ∙ length-map (wire_ports ports) hub_of in
+    let ends : length (ends_behind wires.sockets.wires.items) ≡ length (wire_ports ports) = ap length c.in_ok-wires.ensures.ends ∙ length-map (wire_ports ports) (λ p. length p.ends.items) in
+    all_fit ports c.in_ok-spots.spots.items (length c.in_ok-datagrams.datagrams.device.device.sockets.items) (min (length wires.hubs.items) (length (ends_behind wires.sockets.wires.items)))
+    c.in_ok-spots.ensures sockets (omega (arith, hubs, ends))

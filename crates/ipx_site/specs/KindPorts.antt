@@ -1,0 +1,66 @@
+-- The ports of a router's file by their kinds: which of them are of RFC 1234 and which on wires, and where
+-- each is among those. All of it is own.
+use Rattle.std.specs.Prelude.{◌≡◌, ℕ, List, [], ◌∷◌, ◌++◌, length, map}
+use Rattle.std.specs.List.{flat_map}
+use Rattle.ipx_frames.specs.declared.wire.WirePort.{WirePort}
+use Rattle.ipx_hub.specs.Heard.{HubView, new_hub}
+use Rattle.ipx_carrier.specs.Turns.{peers_of}
+use Rattle.ipx_wires.specs.WirePlaces.{ends_behind}
+use Rattle.ipx_site.specs.declared.router_ports.RouterPorts.{RouterPorts}
+use Rattle.ipx_site.specs.declared.router_ports.Spot.{Spot}
+use Rattle.ipx_site.specs.declared.router_ports.Spot.TheVariants.{Datagrams, Wire}
+use Rattle.ipx_site.specs.declared.site.FramesPort.{FramesPort}
+use Rattle.ipx_site.specs.declared.site.PortOfKind.{PortOfKind}
+use Rattle.ipx_site.specs.declared.site.PortOfKind.TheVariants.{Rfc1234, Frames}
+use Rattle.ipx_site.specs.declared.site.SitePort.{SitePort}
+use Rattle.ipx_site.specs.SitePorts.{GuardPorts, site_peers, udp_ports}
+
+-- a port, where it is of that kind
+abbrev pub datagrams_in : PortOfKind → List SitePort
+datagrams_in (Rfc1234 p) = p ∷ []
+datagrams_in (Frames p) = []
+
+abbrev pub wires_in : PortOfKind → List FramesPort
+wires_in (Rfc1234 p) = []
+wires_in (Frames p) = p ∷ []
+
+-- those of each kind, in order
+abbrev pub datagram_ports : List PortOfKind → List SitePort
+datagram_ports ports = flat_map datagrams_in ports
+
+abbrev pub wire_ports : List PortOfKind → List FramesPort
+wire_ports ports = flat_map wires_in ports
+
+-- where a port is among those of its kind, the first of which is 0, behind earlier ports
+abbrev pub spot_behind : List PortOfKind → PortOfKind → Spot
+spot_behind earlier (Rfc1234 p) = Datagrams (length (datagram_ports earlier))
+spot_behind earlier (Frames p) = Wire (length (wire_ports earlier))
+
+abbrev pub spots_behind : List PortOfKind → List PortOfKind → List Spot
+spots_behind earlier [] = []
+spots_behind earlier (p ∷ ps) = spot_behind earlier p ∷ spots_behind (earlier ++ p ∷ []) ps
+
+-- where each port is
+abbrev pub spots_of : List PortOfKind → List Spot
+spots_of ports = spots_behind [] ports
+
+-- a port of a file as one on a wire, and its hub before anything came
+abbrev pub wire_port_of : FramesPort → WirePort
+wire_port_of p = record { own = p.node; network = p.network; encapsulation = p.encapsulation }
+
+abbrev pub hub_of : FramesPort → HubView
+hub_of p = new_hub (wire_port_of p) p.joined
+
+-- how many ends the wire of each has
+abbrev pub end_counts : List FramesPort → List ℕ
+end_counts ports = map (λ p. length p.ends.items) ports
+
+-- the ports of a file as those of a router: each of RFC 1234 has its peers, its guard, and a socket with the
+-- port of UDP of its peers; each on a wire has its hub, and a socket with the places of its ends
+pub record ArePortsBound (ports : List PortOfKind) (r : RouterPorts) : Type 0 where
+  pub spots : r.spots.items ≡ spots_of ports
+  pub peers : peers_of r.datagrams.peers.items ≡ site_peers (datagram_ports ports)
+  pub guards : GuardPorts (datagram_ports ports) r.datagrams.device.guards.items
+  pub sockets : map (λ s. s.udp_port) r.datagrams.device.device.sockets.items ≡ udp_ports (datagram_ports ports)
+  pub hubs : r.wires.hubs.items ≡ map hub_of (wire_ports ports)
+  pub ends : ends_behind r.wires.sockets.wires.items ≡ end_counts (wire_ports ports)

@@ -1,0 +1,17 @@
+-- What the hubs of a router's ports on wires counted together. All of it is own.
+use Rattle.std.specs.Prelude.{ℕ, ◌+◌, List, sum_by}
+use Rattle.ipx_carrier.specs.Counting.{counted}
+use Rattle.ipx_frames.specs.declared.wire_counts.WireCounts.{WireCounts}
+use Rattle.ipx_hub.specs.Heard.{HubView}
+
+-- the frames with a packet in another encapsulation than the port's
+abbrev pub encapsulated_otherwise : WireCounts → ℕ
+encapsulated_otherwise c = c.in_raw + c.in_llc + c.in_snap + c.in_ethernet_ii
+
+-- at all ports
+abbrev pub encapsulated_otherwise_in : List HubView → ℕ
+encapsulated_otherwise_in hubs = counted (sum_by (λ h. encapsulated_otherwise h.counts) hubs)
+
+-- the packets that no frame could carry
+abbrev pub unframed_in : List HubView → ℕ
+unframed_in hubs = counted (sum_by (λ h. h.refused) hubs)

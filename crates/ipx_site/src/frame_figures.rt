@@ -1,0 +1,142 @@
+//! What a router counts of frames on its wires, as a text for Prometheus.
+
+use crate::router_ports::{RouterPorts, Spot};
+use crate::wire_totals::came_in;
+use ipx_frames::{Encapsulation, WireCounts};
+use ipx_hub::Hub;
+use ipx_wires::EndSockets;
+use log::{Log, warn};
+use std::alloc::AllocError;
+
+/// The encapsulations, in the order in which they are told.
+const ALL: [Encapsulation; 4] = [
+    Encapsulation::Raw,
+    Encapsulation::Llc,
+    Encapsulation::Snap,
+    Encapsulation::EthernetII,
+];
+
+/// The hub of a port that is on a wire.
+fn hub_at(ports: &RouterPorts, spot: Spot) -> Option<&Hub> {
+    match spot {
+        Spot::Datagrams(_) => None,
+        Spot::Wire(place) => ports.wires().hubs().get(place),
+    }
+}
+
+fn put_fates(text: &mut String, number: usize, counts: WireCounts) -> Result<(), AllocError> {
+    let figures = [
+        ("handed_on", counts.handed_on),
+        ("broken", counts.broken),
+        ("own", counts.own),
+        ("not_ours", counts.not_ours),
+        ("tagged", counts.tagged),
+        ("other_type", counts.other_type),
+        ("other_llc", counts.other_llc),
+        ("no_packet", counts.no_packet),
+        ("other_network", counts.other_network),
+    ];
+    for (fate, count) in figures {
+        write!(text, "ipx_frames_total{{port=\"{number}\",fate=\"{fate}\"}} {count}\n")?;
+    }
+    Ok(())
+}
+
+fn put_encapsulations(
+    text: &mut String,
+    number: usize,
+    counts: WireCounts,
+) -> Result<(), AllocError> {
+    for encapsulation in ALL {
+        let count = came_in(counts, encapsulation);
+        write!(text, "ipx_frames_total{{port=\"{number}\",fate=\"in_{encapsulation}\"}} {count}\n")?;
+    }
+    Ok(())
+}
+
+/// Writes what became of the frames that came to each port.
+fn put_frames(text: &mut String, ports: &RouterPorts) -> Result<(), AllocError> {
+    write!(text, "# HELP ipx_frames_total Frames that came on a wire, by what became of them at the port.\n")?;
+    write!(text, "# TYPE ipx_frames_total counter\n")?;
+    for (place, spot) in ports.spots().iter().enumerate() {
+        if let Some(hub) = hub_at(ports, *spot) {
+            put_fates(text, place + 1, hub.counts())?;
+            put_encapsulations(text, place + 1, hub.counts())?;
+        }
+    }
+    Ok(())
+}
+
+/// Writes how many frames went on from one end of a wire to others.
+fn put_passed(text: &mut String, ports: &RouterPorts) -> Result<(), AllocError> {
+    write!(text, "# HELP ipx_frames_passed_total Frames that were to go on from one end to others.\n")?;
+    write!(text, "# TYPE ipx_frames_passed_total counter\n")?;
+    for (place, spot) in ports.spots().iter().enumerate() {
+        if let Some(hub) = hub_at(ports, *spot) {
+            let number = place + 1;
+            let count = hub.passed();
+            write!(text, "ipx_frames_passed_total{{port=\"{number}\"}} {count}\n")?;
+        }
+    }
+    Ok(())
+}
+
+/// Writes how many packets of the router no frame could carry.
+fn put_refused(text: &mut String, ports: &RouterPorts) -> Result<(), AllocError> {
+    write!(text, "# HELP ipx_frames_refused_total Packets that no frame could carry.\n")?;
+    write!(text, "# TYPE ipx_frames_refused_total counter\n")?;
+    for (place, spot) in ports.spots().iter().enumerate() {
+        if let Some(hub) = hub_at(ports, *spot) {
+            let number = place + 1;
+            let count = hub.refused();
+            write!(text, "ipx_frames_refused_total{{port=\"{number}\"}} {count}\n")?;
+        }
+    }
+    Ok(())
+}
+
+/// Writes what the sockets of all wires counted.
+fn put_wire_sockets(text: &mut String, ports: &RouterPorts) -> Result<(), AllocError> {
+    let sockets = ports.wires().sockets();
+    let strangers = sockets.strangers();
+    let sent = sockets.sent();
+    write!(text, "# HELP ipx_frames_strangers_total Datagrams that came from no end of a wire.\n")?;
+    write!(text, "# TYPE ipx_frames_strangers_total counter\n")?;
+    write!(text, "ipx_frames_strangers_total {strangers}\n")?;
+    write!(text, "# HELP ipx_frames_sent_total Frames that the system took to be sent.\n")?;
+    write!(text, "# TYPE ipx_frames_sent_total counter\n")?;
+    write!(text, "ipx_frames_sent_total {sent}\n")
+}
+
+/// Writes what a router counts of frames behind its other figures; nothing where it is on no wire.
+pub fn put_frame_figures(text: &mut String, ports: &RouterPorts) -> Result<(), AllocError> {
+    if ports.wires().hubs().is_empty() {
+        return Ok(());
+    }
+    put_frames(text, ports)?;
+    put_passed(text, ports)?;
+    put_refused(text, ports)?;
+    put_wire_sockets(text, ports)
+}
+
+/// Tells which other encapsulations came to a port.
+fn tell_encapsulations_at<R: Log>(rt: &R, number: usize, hub: &Hub) {
+    let own = hub.port().encapsulation;
+    for encapsulation in ALL {
+        let count = came_in(hub.counts(), encapsulation);
+        if count > 0 {
+            warn!(rt; target: "ipx",
+                "port {number}: frames of another encapsulation: {encapsulation}, this port has \
+                 {own} ({count} since the start)");
+        }
+    }
+}
+
+/// Tells which other encapsulations came to each port.
+pub fn tell_encapsulations<R: Log>(rt: &R, ports: &RouterPorts) {
+    for (place, spot) in ports.spots().iter().enumerate() {
+        if let Some(hub) = hub_at(ports, *spot) {
+            tell_encapsulations_at(rt, place + 1, hub);
+        }
+    }
+}
