@@ -25,9 +25,7 @@ fn segments(alloc: Global, ports: usize) -> Result<OnPeers<MemoryDatagrams>, Fai
 fn a_burst_over_segments(rt: HostRuntime) -> Result<(), Fail> {
     let alloc = rt.alloc();
     let mut segments = segments(alloc, 2)?;
-    segments
-        .device
-        .put(alloc, 0, &hex::decode(alloc, ONWARD)?)?;
+    segments.device.put(alloc, 0, &hex::decode(alloc, ONWARD)?)?;
     let mut core = two_ports(alloc)?;
     let mut clock = SteppedClock::new(0, 10);
     let burst = burst_segments(alloc, &mut core, &mut segments, &mut clock, 8);

@@ -21,8 +21,8 @@ mod refused_calls;
 #[cfg(test)]
 mod refused_turns;
 #[cfg(test)]
-mod turns;
-#[cfg(test)]
 mod segments;
+#[cfg(test)]
+mod turns;
 #[cfg(test)]
 mod udp;

@@ -37,7 +37,10 @@ fn put_fates(text: &mut String, number: usize, counts: WireCounts) -> Result<(),
         ("other_network", counts.other_network),
     ];
     for (fate, count) in figures {
-        write!(text, "ipx_frames_total{{port=\"{number}\",fate=\"{fate}\"}} {count}\n")?;
+        write!(
+            text,
+            "ipx_frames_total{{port=\"{number}\",fate=\"{fate}\"}} {count}\n"
+        )?;
     }
     Ok(())
 }
@@ -49,14 +52,20 @@ fn put_encapsulations(
 ) -> Result<(), AllocError> {
     for encapsulation in ALL {
         let count = came_in(counts, encapsulation);
-        write!(text, "ipx_frames_total{{port=\"{number}\",fate=\"in_{encapsulation}\"}} {count}\n")?;
+        write!(
+            text,
+            "ipx_frames_total{{port=\"{number}\",fate=\"in_{encapsulation}\"}} {count}\n"
+        )?;
     }
     Ok(())
 }
 
 /// Writes what became of the frames that came to each port.
 fn put_frames(text: &mut String, ports: &RouterPorts) -> Result<(), AllocError> {
-    write!(text, "# HELP ipx_frames_total Frames that came on a wire, by what became of them at the port.\n")?;
+    write!(
+        text,
+        "# HELP ipx_frames_total Frames that came on a wire, by what became of them at the port.\n"
+    )?;
     write!(text, "# TYPE ipx_frames_total counter\n")?;
     for (place, spot) in ports.spots().iter().enumerate() {
         if let Some(hub) = hub_at(ports, *spot) {
@@ -69,13 +78,19 @@ fn put_frames(text: &mut String, ports: &RouterPorts) -> Result<(), AllocError> 
 
 /// Writes how many frames went on from one end of a wire to others.
 fn put_passed(text: &mut String, ports: &RouterPorts) -> Result<(), AllocError> {
-    write!(text, "# HELP ipx_frames_passed_total Frames that were to go on from one end to others.\n")?;
+    write!(
+        text,
+        "# HELP ipx_frames_passed_total Frames that were to go on from one end to others.\n"
+    )?;
     write!(text, "# TYPE ipx_frames_passed_total counter\n")?;
     for (place, spot) in ports.spots().iter().enumerate() {
         if let Some(hub) = hub_at(ports, *spot) {
             let number = place + 1;
             let count = hub.passed();
-            write!(text, "ipx_frames_passed_total{{port=\"{number}\"}} {count}\n")?;
+            write!(
+                text,
+                "ipx_frames_passed_total{{port=\"{number}\"}} {count}\n"
+            )?;
         }
     }
     Ok(())
@@ -83,13 +98,19 @@ fn put_passed(text: &mut String, ports: &RouterPorts) -> Result<(), AllocError> 
 
 /// Writes how many packets of the router no frame could carry.
 fn put_refused(text: &mut String, ports: &RouterPorts) -> Result<(), AllocError> {
-    write!(text, "# HELP ipx_frames_refused_total Packets that no frame could carry.\n")?;
+    write!(
+        text,
+        "# HELP ipx_frames_refused_total Packets that no frame could carry.\n"
+    )?;
     write!(text, "# TYPE ipx_frames_refused_total counter\n")?;
     for (place, spot) in ports.spots().iter().enumerate() {
         if let Some(hub) = hub_at(ports, *spot) {
             let number = place + 1;
             let count = hub.refused();
-            write!(text, "ipx_frames_refused_total{{port=\"{number}\"}} {count}\n")?;
+            write!(
+                text,
+                "ipx_frames_refused_total{{port=\"{number}\"}} {count}\n"
+            )?;
         }
     }
     Ok(())
@@ -100,10 +121,16 @@ fn put_wire_sockets(text: &mut String, ports: &RouterPorts) -> Result<(), AllocE
     let sockets = ports.wires().sockets();
     let strangers = sockets.strangers();
     let sent = sockets.sent();
-    write!(text, "# HELP ipx_frames_strangers_total Datagrams that came from no end of a wire.\n")?;
+    write!(
+        text,
+        "# HELP ipx_frames_strangers_total Datagrams that came from no end of a wire.\n"
+    )?;
     write!(text, "# TYPE ipx_frames_strangers_total counter\n")?;
     write!(text, "ipx_frames_strangers_total {strangers}\n")?;
-    write!(text, "# HELP ipx_frames_sent_total Frames that the system took to be sent.\n")?;
+    write!(
+        text,
+        "# HELP ipx_frames_sent_total Frames that the system took to be sent.\n"
+    )?;
     write!(text, "# TYPE ipx_frames_sent_total counter\n")?;
     write!(text, "ipx_frames_sent_total {sent}\n")
 }

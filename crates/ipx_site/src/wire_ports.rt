@@ -63,11 +63,7 @@ fn bind_wire<R: Net>(
 
 /// The sockets of the ports on wires. At the first that can't be had it answers that port, and nothing
 /// stays bound.
-fn bind_wires<R: Net>(
-    rt: &R,
-    alloc: Global,
-    ports: &[PortOfKind],
-) -> Result<WireSockets, BindFault>
+fn bind_wires<R: Net>(rt: &R, alloc: Global, ports: &[PortOfKind]) -> Result<WireSockets, BindFault>
     ensures { IfOk result (λ s.
         ends_behind s.wires.items ≡ end_counts (wire_ports ports.now)) }
 {

@@ -9,7 +9,7 @@ loop-port-preserved c =
     let m = c.match-port in
     elim m.branch [
       | in-Rfc1234+in_ok-push-in-Rfc1234 w ↦ seen_datagrams c.args.ports.now l.port-index c.port-item.result c.loop-port-test.true c.port-item.is l.spots.items m.spots.items l.datagrams m.datagrams l.wires m.wires l.invariant
-      w.in-Rfc1234.field-0 w.in-Rfc1234.is (ap (λ s. s.items) w.spots-is ∙ w.in_ok-push-in-Rfc1234.ensures.items) w.datagrams-is w.wires-is
+          w.in-Rfc1234.field-0 w.in-Rfc1234.is (ap (λ s. s.items) w.spots-is ∙ w.in_ok-push-in-Rfc1234.ensures.items) w.datagrams-is w.wires-is
       | in-Frames+in_ok-push-in-Frames w ↦ seen_wire c.args.ports.now l.port-index c.port-item.result c.loop-port-test.true c.port-item.is l.spots.items m.spots.items l.datagrams m.datagrams l.wires m.wires l.invariant
-      w.in-Frames.field-0 w.in-Frames.is (ap (λ s. s.items) w.spots-is ∙ w.in_ok-push-in-Frames.ensures.items) w.datagrams-is w.wires-is
+          w.in-Frames.field-0 w.in-Frames.is (ap (λ s. s.items) w.spots-is ∙ w.in_ok-push-in-Frames.ensures.items) w.datagrams-is w.wires-is
     ]

@@ -11,5 +11,5 @@ invariant_of-self c =
     let self = c.args.self.now in
     record {
       fit = subst (λ (w : Wires WireSockets). All (fits (length self.datagrams.device.device.sockets.items)
-      (min (length w.hubs.items) (length (ends_behind w.sockets.wires.items)))) self.spots.items) (sym c.set_moment.ensures) self.fit;
+          (min (length w.hubs.items) (length (ends_behind w.sockets.wires.items)))) self.spots.items) (sym c.set_moment.ensures) self.fit;
     }

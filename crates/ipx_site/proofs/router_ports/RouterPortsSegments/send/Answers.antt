@@ -26,6 +26,6 @@ invariant_of-self-in-Wire c =
     let wires = c.send-in-Wire.new.self in
     record {
       fit = subst (λ (n : ℕ). All (fits (length self.datagrams.device.device.sockets.items) n) self.spots.items)
-      (sym (ap (λ (n : ℕ). min n (length (ends_behind wires.sockets.wires.items))) c.send-in-Wire.ensures.ports ∙ ap (λ (es : List ℕ). min (length self.wires.hubs.items) (length es)) c.send-in-Wire.ensures.ends))
-      self.fit;
+          (sym (ap (λ (n : ℕ). min n (length (ends_behind wires.sockets.wires.items))) c.send-in-Wire.ensures.ports ∙ ap (λ (es : List ℕ). min (length self.wires.hubs.items) (length es)) c.send-in-Wire.ensures.ends))
+          self.fit;
     }
