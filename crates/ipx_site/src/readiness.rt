@@ -81,8 +81,8 @@ impl Readiness {
             ≡ counted (self.old.watched + length sockets.now.wires.items)) }
         ensures asked { self.new.asked ≡ self.old.asked }
     {
-        for port in 0..sockets.ports() {
-            if let Some(descriptor) = sockets.descriptor(port) {
+        for wire in 0..sockets.ports() {
+            if let Some(descriptor) = sockets.descriptor(wire) {
                 if !self.watch_reading(descriptor) {
                     return Err(WaitFault::System);
                 }

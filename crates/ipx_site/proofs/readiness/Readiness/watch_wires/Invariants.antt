@@ -2,6 +2,6 @@ use Rattle.std.proofs.Common.{◌≡◌, ◌+◌}
 use Rattle.ipx_carrier.specs.Counting.{counted}
 use Rattle.ipx_site.proofs.readiness.Readiness.watch_wires.Given as goal
 
-abbrev pub invariant-loop-port : goal.invariant-loop-port
-invariant-loop-port l = (l.self.watched ≡ counted (l.fn.self.watched + l.port))
+abbrev pub invariant-loop-wire : goal.invariant-loop-wire
+invariant-loop-wire l = (l.self.watched ≡ counted (l.fn.self.watched + l.wire))
     × (l.self.asked ≡ l.fn.self.asked)
