@@ -30,9 +30,9 @@ abbrev pub by_kind : Peers → List WirePort → List Spot → Ways PortCopy
 by_kind peers ports spots p = way_at (by_ip peers) (by_frames ports) (slice_get spots p.port) p
 
 -- a port's place among those of its kind, and how many of these there are
-abbrev pub place_in : Spot → ℕ
-place_in (Datagrams k) = k
-place_in (Wire k) = k
+abbrev pub spot_place : Spot → ℕ
+spot_place (Datagrams k) = k
+spot_place (Wire k) = k
 
 abbrev pub count_at : ℕ → ℕ → Spot → ℕ
 count_at datagrams wires (Datagrams k) = datagrams
@@ -40,7 +40,7 @@ count_at datagrams wires (Wire k) = wires
 
 -- it is among them
 abbrev pub fits : ℕ → ℕ → Spot → Type 0
-fits datagrams wires spot = place_in spot < count_at datagrams wires spot
+fits datagrams wires spot = spot_place spot < count_at datagrams wires spot
 
 -- how much was kept from the core: what the guards did, frames that a hub did, and what came from no end
 abbrev pub kept_by_kind : KeptBack → ℕ → ℕ → ℕ
