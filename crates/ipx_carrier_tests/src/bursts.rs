@@ -1,6 +1,7 @@
 //! Bursts of a router over segments that own their device, with literal values.
 
 use crate::fixture::{text_of, two_ports};
+use crate::refused::core_at_last;
 use ipx_carrier::{
     Burst, MemoryDatagrams, OnPeers, RunFault, Segments, SegmentsKeepBack, SteppedClock,
     burst_segments, turn_segments,
@@ -72,5 +73,24 @@ fn bursts_that_fail(rt: HostRuntime) -> Result<(), Fail> {
     assert_eq!(rt; two.failures(), 1);
     let well = turn_segments(alloc, &mut core, &mut two, &mut clock)?;
     assert!(rt; well.sent == 6);
+    Ok(())
+}
+
+/// Where memory is refused the turn or the burst ends with that, and another one goes on. Run it with each
+/// request refused.
+#[test]
+fn refused_turns_over_segments(rt: HostRuntime) -> Result<(), Fail> {
+    let alloc = rt.alloc();
+    let mut core = core_at_last(alloc)?;
+    let mut two = match segments(alloc, 2) {
+        Ok(two) => two,
+        Err(_) => segments(alloc, 2)?,
+    };
+    let mut clock = SteppedClock::new(0, 10);
+    let first = turn_segments(alloc, &mut core, &mut two, &mut clock);
+    let second = burst_segments(alloc, &mut core, &mut two, &mut clock, 8);
+    assert!(rt; first.is_ok() || second.fault.is_none());
+    assert!(rt; two.device.sent().len() <= 6);
+    assert_eq!(rt; two.device.refusals(), two.device.failures());
     Ok(())
 }
