@@ -3,9 +3,10 @@
 use crate::fixture::{text_of, two_ports};
 use crate::refused::core_at_last;
 use ipx_carrier::{
-    Burst, MemoryDatagrams, OnPeers, RunFault, Segments, SegmentsKeepBack, SteppedClock,
+    Burst, Datagrams, MemoryDatagrams, OnPeers, RunFault, Segments, SegmentsKeepBack, SteppedClock,
     burst_segments, turn_segments,
 };
+use ipx_wire::OutOfMemory;
 use std::alloc::Global;
 use std::test::Fail;
 
@@ -13,7 +14,7 @@ use std::test::Fail;
 const ONWARD: &[u8] = b"ffff001e00000000002200007f00000540000000001100007f0000034001";
 
 /// So many ports, of which the first two have a peer each.
-fn segments(alloc: Global, ports: usize) -> Result<OnPeers<MemoryDatagrams>, Fail> {
+fn segments(alloc: Global, ports: usize) -> Result<OnPeers<MemoryDatagrams>, OutOfMemory> {
     let nine = vec![in alloc; [127, 0, 0, 9]]?;
     let eight = vec![in alloc; [127, 0, 0, 8]]?;
     let device = MemoryDatagrams::new(alloc, ports)?;
