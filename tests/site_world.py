@@ -61,7 +61,7 @@ class Process:
     """A process, what it wrote, and its end. Only the main thread starts one, since the system ends
     it with the thread that did."""
 
-    def __init__(self, world, name, words, stdin=False, stdout=subprocess.PIPE, stderr=None, environment=None):
+    def __init__(self, world, name, words, stdin=False, stdout=subprocess.PIPE, stderr=None, environment=None, program=None):
         self.name = name
         self.log = world.path(f"{name}.{len(world.processes)}.log")
         self.out = bytearray()
@@ -71,7 +71,7 @@ class Process:
         with open(self.log, "wb") as log:
             self.started = time.monotonic()
             self.popen = subprocess.Popen(
-                [world.program, *words], stdin=subprocess.PIPE if stdin else subprocess.DEVNULL,
+                [program or world.program, *words], stdin=subprocess.PIPE if stdin else subprocess.DEVNULL,
                 stdout=stdout, stderr=stderr or log, bufsize=0, preexec_fn=die_with_the_parent,
                 env={**os.environ, **(environment or {})})
         world.processes.append(self)

@@ -1,0 +1,151 @@
+"""10,000 random frames a second from an end of a wire, while packets of others go on, for tests/wires."""
+import os
+import random
+import select
+import struct
+import subprocess
+import sys
+import time
+
+from site_packets import ipx, some_datagram
+from site_world import bound, die_with_the_parent, free_port, until
+from wire_frames import EVERYBODY, KINDS, frame, header, passed_on
+from wire_world import End, Router, WirePort
+
+ROUTER, FLOODER, OTHERS = "127.0.3.1", "127.0.3.9", ["127.0.3.10", "127.0.3.11"]
+FLOODED, NETWORKS = "00000001", ["00000031", "00000032"]
+FLOODER_STATION, STATIONS = "02000000f100", ["02000000f101", "02000000f102"]
+PER_SECOND, SECONDS, BEFORE = 10_000, 10, 4
+# How many packets are on their way at once, and how many tries a machine that is loaded gets.
+WINDOW, TRIES = 16, 3
+SHARE = 0.9
+# How much memory it may take more as its tables fill, and how much more in the second half, when they are full.
+PAGES = os.sysconf("SC_PAGESIZE") // 1024
+MEMORY_KB, LEVEL_KB = 8192, 1024
+
+
+def random_frame(rng, own):
+    """Bytes that are anything; addresses and what is anything; or a packet that is in order, or nearly, in a frame."""
+    way = rng.random()
+    if way < 0.3:
+        return rng.randbytes(rng.randrange(1600))
+    to = rng.choice([own, EVERYBODY, rng.randbytes(6).hex()])
+    source = FLOODER_STATION if rng.random() < 0.5 else (b"\x02" + rng.randbytes(5)).hex()
+    if way < 0.5:
+        says = rng.choice([0x8137, 0x0800, 0x86dd, 0x8100, 46, 1500, rng.randrange(65536)])
+        return header(to, source, says) + rng.choice([b"\xff\xff", b"\xe0\xe0\x03", b"\xaa\xaa\x03\0\0\0\x81\x37", b""]) + rng.randbytes(rng.randrange(1500))
+    bytes_ = bytearray(frame(rng.choice(KINDS), to, source, some_datagram(rng, source, STATIONS)[:1490]))
+    if rng.random() < 0.2:
+        bytes_[rng.randrange(len(bytes_))] = rng.randrange(256)
+    return bytes(bytes_)
+
+
+def flood(port, seed, own):
+    """Sends them to the router, so many a second, and says how many those were."""
+    rng, one = random.Random(seed), bound(FLOODER, port)
+    frames = [random_frame(rng, own) for _ in range(PER_SECOND)]
+    print("ready", flush=True)
+    sys.stdin.readline()
+    start, sent = time.monotonic(), 0
+    while sent < PER_SECOND * SECONDS:
+        due = min(int((time.monotonic() - start) * PER_SECOND) + 1, PER_SECOND * SECONDS)
+        for number in range(sent, due):
+            try:
+                one.sendto(frames[number % PER_SECOND], (ROUTER, port))
+            except BlockingIOError:
+                pass
+        sent = due
+        time.sleep(0.002)
+    print(time.monotonic() - start, flush=True)
+
+
+class Flood:
+    """A router with a wire that is flooded, and two others between which packets go."""
+
+    def __init__(self, wires):
+        self.wires = wires
+        self.udp_port = free_port([ROUTER, FLOODER, *OTHERS])
+        ends = [(address, self.udp_port) for address in OTHERS]
+        ports = [WirePort(FLOODED, "802.2", (ROUTER, self.udp_port), [(FLOODER, self.udp_port), (FLOODER, self.udp_port + 1)], "0200000000f0")]
+        ports += [WirePort(network, "ethernet-ii", (ROUTER, self.udp_port + number), [end])
+                  for number, (network, end) in enumerate(zip(NETWORKS, ends), 1)]
+        self.router = Router(wires, "flooded", ports)
+        self.giver, self.taker = (End(port, end, station) for port, end, station in zip(ports[1:], ends, STATIONS))
+        packet = ipx(0, (NETWORKS[1], STATIONS[1], "4002"), (NETWORKS[0], STATIONS[0], "4001"), bytes(500))
+        self.given = frame(ports[1].kind, ports[1].node, STATIONS[0], packet)
+        self.taken = ports[2].sends(STATIONS[1], passed_on(packet, NETWORKS[0]))
+
+    def words(self):
+        return [sys.executable, os.path.join(os.path.dirname(os.path.abspath(__file__)), "wires"), "--flood",
+                str(self.udp_port), str(self.wires.seed), self.router.ports[0].node]
+
+    def took(self):
+        """How many packets came to the other end by now."""
+        count, one = 0, self.taker.socket
+        while True:
+            try:
+                count += one.recv(2000) == self.taken
+            except BlockingIOError:
+                return count
+
+    def rate(self, seconds):
+        """How many packets a second go through, so many on their way at once. One that is lost is no more on its way
+        after 100 ms."""
+        start, came, out, last = time.monotonic(), 0, 0, time.monotonic()
+        while time.monotonic() < start + seconds:
+            while out < WINDOW:
+                self.giver.socket.sendto(self.given, self.giver.port.place)
+                out += 1
+            select.select([self.taker.socket], [], [], 0.1)
+            count, now = self.took(), time.monotonic()
+            if count:
+                came, out, last = came + count, max(0, out - count), now
+            elif now > last + 0.1:
+                out, last = 0, now
+        return came / (time.monotonic() - start)
+
+    def memory(self):
+        """The router's memory in kB."""
+        with open(f"/proc/{self.router.process.popen.pid}/statm", encoding="ascii") as file:
+            return int(file.read().split()[1]) * PAGES
+
+    def flooded(self):
+        """The rates before and while it is flooded, the memory before, in the middle and at the end, and how many frames
+        a second were sent."""
+        flooder = subprocess.Popen(self.words(), stdin=subprocess.PIPE, stdout=subprocess.PIPE, text=True, preexec_fn=die_with_the_parent)
+        flooder.stdout.readline()
+        before, memory = self.rate(BEFORE), [self.memory()]
+        flooder.stdin.write("go\n")
+        flooder.stdin.flush()
+        rates = []
+        for _ in range(2):
+            rates.append(self.rate(SECONDS / 2 - 0.2))
+            memory.append(self.memory())
+        took = float(flooder.communicate(timeout=60)[0])
+        return before, sum(rates) / 2, memory, PER_SECOND * SECONDS / took
+
+
+def check_flood(wires):
+    """The rate of the others, in one of three tries; the memory; and that the frames came."""
+    it = Flood(wires)
+    it.router.start()
+    until(lambda: it.taker.take() is not None and it.taker.heard, 10)
+    it.rate(1)
+    for attempt in range(1, TRIES + 1):
+        before, during, memory, sent = it.flooded()
+        if before and during >= SHARE * before:
+            break
+    name = f"others' packets, while {PER_SECOND} random frames a second come from an end for {SECONDS} seconds"
+    wires.check(f"{name}: at least nine tenths of their rate", before and during >= SHARE * before,
+                f"{during:.0f} of {before:.0f} a second, {sent:.0f} frames a second, try {attempt}")
+    wires.check("the router's memory stays level meanwhile", memory[2] - memory[0] < MEMORY_KB and memory[2] - memory[1] < LEVEL_KB,
+                f"{memory} kB")
+    fates = 'ipx_frames_total{port="1"'
+    found = it.router.figures(lambda found: sum(value for name, value in found.items() if name.startswith(fates)) >= PER_SECOND * SECONDS * attempt)
+    counts = {name[len(fates) + 7:-2]: value for name, value in found.items() if name.startswith(fates)}
+    total = sum(counts.values())
+    none = {fate for fate, count in counts.items() if not count}
+    wires.check("the frames came, and all that can become of them did", total >= SHARE * PER_SECOND * SECONDS * attempt and none <= {"own", "in_802.2"},
+                f"{total} of {PER_SECOND * SECONDS * attempt}: {counts}")
+    wires.check("the router goes on behind them", not it.router.process.is_over() and it.rate(0.5) > 0)
+    it.router.process.end()
