@@ -212,15 +212,15 @@ def broken_pipe():
     return write
 
 
-def free_port(addresses):
-    """A high port of UDP that is free at all of these addresses."""
+def free_port(addresses, count=1):
+    """A high port of UDP that is free at all of these addresses; the first of so many."""
     rng = random.Random()
     for _ in range(200):
         port = rng.randrange(20000, 32000)
         sockets = []
         try:
             for address in addresses:
-                sockets.append(bound(address, port))
+                sockets += [bound(address, port + more) for more in range(count)]
             return port
         except OSError:
             continue

@@ -9,8 +9,8 @@ import time
 
 from site_packets import ipx, some_datagram
 from site_world import bound, die_with_the_parent, free_port, until
-from wire_frames import EVERYBODY, KINDS, frame, header, passed_on
-from wire_world import End, Router, WirePort
+from wire_frames import EVERYBODY, KINDS, LINKS, frame, header, passed_on
+from wire_world import FATES, End, Router, WirePort
 
 ROUTER, FLOODER, OTHERS = "127.0.3.1", "127.0.3.9", ["127.0.3.10", "127.0.3.11"]
 FLOODED, NETWORKS = "00000001", ["00000031", "00000032"]
@@ -33,7 +33,8 @@ def random_frame(rng, own):
     source = FLOODER_STATION if rng.random() < 0.5 else (b"\x02" + rng.randbytes(5)).hex()
     if way < 0.5:
         says = rng.choice([0x8137, 0x0800, 0x86dd, 0x8100, 46, 1500, rng.randrange(65536)])
-        return header(to, source, says) + rng.choice([b"\xff\xff", b"\xe0\xe0\x03", b"\xaa\xaa\x03\0\0\0\x81\x37", b""]) + rng.randbytes(rng.randrange(1500))
+        begins = rng.choice([b"\xff\xff", *LINKS.values()])
+        return header(to, source, says) + begins + rng.randbytes(rng.randrange(1500))
     bytes_ = bytearray(frame(rng.choice(KINDS), to, source, some_datagram(rng, source, STATIONS)[:1490]))
     if rng.random() < 0.2:
         bytes_[rng.randrange(len(bytes_))] = rng.randrange(256)
@@ -64,9 +65,10 @@ class Flood:
 
     def __init__(self, wires):
         self.wires = wires
-        self.udp_port = free_port([ROUTER, FLOODER, *OTHERS])
+        self.udp_port = free_port([ROUTER, FLOODER, *OTHERS], 3)
         ends = [(address, self.udp_port) for address in OTHERS]
-        ports = [WirePort(FLOODED, "802.2", (ROUTER, self.udp_port), [(FLOODER, self.udp_port), (FLOODER, self.udp_port + 1)], "0200000000f0")]
+        flooders = [(FLOODER, self.udp_port), (FLOODER, self.udp_port + 1)]
+        ports = [WirePort(FLOODED, "802.2", (ROUTER, self.udp_port), flooders, "0200000000f0")]
         ports += [WirePort(network, "ethernet-ii", (ROUTER, self.udp_port + number), [end])
                   for number, (network, end) in enumerate(zip(NETWORKS, ends), 1)]
         self.router = Router(wires, "flooded", ports)
@@ -104,6 +106,11 @@ class Flood:
                 out, last = 0, now
         return came / (time.monotonic() - start)
 
+    @staticmethod
+    def counts(found):
+        """What became of frames at the port that is flooded, by the figures."""
+        return {fate: found.get(f'ipx_frames_total{{port="1",fate="{fate}"}}', 0) for fate in FATES}
+
     def memory(self):
         """The router's memory in kB."""
         with open(f"/proc/{self.router.process.popen.pid}/statm", encoding="ascii") as file:
@@ -112,7 +119,8 @@ class Flood:
     def flooded(self):
         """The rates before and while it is flooded, the memory before, in the middle and at the end, and how many frames
         a second were sent."""
-        flooder = subprocess.Popen(self.words(), stdin=subprocess.PIPE, stdout=subprocess.PIPE, text=True, preexec_fn=die_with_the_parent)
+        flooder = subprocess.Popen(self.words(), stdin=subprocess.PIPE, stdout=subprocess.PIPE, text=True,
+                                   preexec_fn=die_with_the_parent)
         flooder.stdout.readline()
         before, memory = self.rate(BEFORE), [self.memory()]
         flooder.stdin.write("go\n")
@@ -138,14 +146,14 @@ def check_flood(wires):
     name = f"others' packets, while {PER_SECOND} random frames a second come from an end for {SECONDS} seconds"
     wires.check(f"{name}: at least nine tenths of their rate", before and during >= SHARE * before,
                 f"{during:.0f} of {before:.0f} a second, {sent:.0f} frames a second, try {attempt}")
-    wires.check("the router's memory stays level meanwhile", memory[2] - memory[0] < MEMORY_KB and memory[2] - memory[1] < LEVEL_KB,
-                f"{memory} kB")
-    fates = 'ipx_frames_total{port="1"'
-    found = it.router.figures(lambda found: sum(value for name, value in found.items() if name.startswith(fates)) >= PER_SECOND * SECONDS * attempt)
-    counts = {name[len(fates) + 7:-2]: value for name, value in found.items() if name.startswith(fates)}
-    total = sum(counts.values())
+    level = memory[2] - memory[0] < MEMORY_KB and memory[2] - memory[1] < LEVEL_KB
+    wires.check("the router's memory stays level meanwhile", level, f"{memory} kB")
+    all_sent = PER_SECOND * SECONDS * attempt
+    found = it.router.figures(lambda found: sum(it.counts(found).values()) >= all_sent)
+    counts = it.counts(found)
     none = {fate for fate, count in counts.items() if not count}
-    wires.check("the frames came, and all that can become of them did", total >= SHARE * PER_SECOND * SECONDS * attempt and none <= {"own", "in_802.2"},
-                f"{total} of {PER_SECOND * SECONDS * attempt}: {counts}")
+    wires.check("the frames came, and all that can become of them did",
+                sum(counts.values()) >= SHARE * all_sent and none <= {"own", "in_802.2"},
+                f"{sum(counts.values())} of {all_sent}: {counts}")
     wires.check("the router goes on behind them", not it.router.process.is_over() and it.rate(0.5) > 0)
     it.router.process.end()

@@ -1,10 +1,11 @@
-"""Cards of QEMU at wires, for tests/wires: five machines, each with another card, start iPXE, by the lines of docs/DEPLOY.md."""
+"""Cards of QEMU at wires, for tests/wires: five machines, each with another card, start iPXE, by the lines of
+docs/DEPLOY.md."""
 import random
 
 from site_packets import ipx
 from site_world import free_port, node, until
 from wire_deploy import blocks, with_ports, words_of
-from wire_frames import KINDS
+from wire_frames import KINDS, passed_on
 from wire_taps import frames_of
 from wire_world import End, Router, UdpPort, WirePort, with_colons
 
@@ -14,6 +15,8 @@ WIRES = [0, 0, 1, 2, 3]
 STATIONS = [f"52540000000{number}" for number in range(1, 6)]
 ROUTER, HOST = "127.0.0.1", "127.0.5.20"
 NETWORKS, OUTER = [f"0000007{number}" for number in range(4)], "00000011"
+# What a machine wants that has a card and nothing else.
+ALONE = "-nodefaults -display none -machine pc -accel tcg -m 32 -boot n".split()
 # An emulator that is slow, or a machine that is loaded, gets so long.
 SECONDS = 40
 
@@ -32,8 +35,8 @@ class Machine:
         self.path = wires.world.path(f"{CARDS[number]}.pcap")
         ports = {"24001": end[1], "24002": port.place[1]}
         self.process = wires.world.start(
-            f"qemu-{CARDS[number]}", "-nodefaults", "-display", "none", "-machine", "pc", "-accel", "tcg", "-m", "32", "-boot", "n",
-            *with_ports(netdev, ports), "-device", card, "-object", f"filter-dump,id=dump,netdev=ipx,file={self.path}", program=words[0])
+            f"qemu-{CARDS[number]}", *ALONE, *with_ports(netdev, ports), "-device", card,
+            "-object", f"filter-dump,id=dump,netdev=ipx,file={self.path}", program=words[0])
 
     def is_up(self):
         """Whether it has its port of UDP."""
@@ -50,10 +53,10 @@ class Machines:
 
     def __init__(self, wires):
         self.wires, self.rng = wires, random.Random(wires.seed)
-        first = free_port([ROUTER, HOST])
-        places = [(ROUTER, first + 20 + number) for number in range(5)]
-        ports = [WirePort(NETWORKS[at], KINDS[at], (ROUTER, first + 1 + at), [place for place, wire in zip(places, WIRES) if wire == at])
-                 for at in range(4)]
+        first = free_port([ROUTER, HOST], 10)
+        places = [(ROUTER, first + 5 + number) for number in range(5)]
+        ends = [[place for place, wire in zip(places, WIRES) if wire == at] for at in range(4)]
+        ports = [WirePort(NETWORKS[at], KINDS[at], (ROUTER, first + 1 + at), ends[at]) for at in range(4)]
         outer = UdpPort(OUTER, ROUTER, first, [HOST])
         self.host = End(outer, (HOST, first), node(HOST))
         self.router = Router(wires, "machines", [*ports, outer])
@@ -63,36 +66,36 @@ class Machines:
     def send(self):
         """A packet of the host to each card."""
         for machine in self.machines:
-            packet = ipx(0, (machine.port.network, machine.station, "4002"), (OUTER, self.host.station, "4001"), self.rng.randbytes(self.rng.randrange(500)))
+            body = self.rng.randbytes(self.rng.randrange(500))
+            packet = ipx(0, (machine.port.network, machine.station, "4002"), (OUTER, self.host.station, "4001"), body)
             self.host.packet(packet)
-            self.given[machine.station].append(machine.port.sends(machine.station, packet[:4] + b"\1" + packet[5:]))
+            self.given[machine.station].append(machine.port.sends(machine.station, passed_on(packet, OUTER)))
 
     def took(self, machine):
         """Whether a card was given all that the router said and handed on for it, byte by byte."""
-        came = machine.frames(machine.port.node)
-        return machine.port.said <= set(came) and [bytes_ for bytes_ in came if bytes_ not in machine.port.said and bytes_[:6].hex() == machine.station] \
-            == self.given[machine.station]
+        came, said = machine.frames(machine.port.node), machine.port.said
+        own = [bytes_ for bytes_ in came if bytes_ not in said and bytes_[:6].hex() == machine.station]
+        return said <= set(came) and own == self.given[machine.station]
 
 
 def check_frames(it):
     """The figures of the router, and the frames at the cards."""
     wires = it.wires
-    figures = {f'ipx_frames_total{{port="{at}",fate="other_type"}}' for at in range(1, 5)}
-    found = {}
-    until(lambda: found.update(it.router.figures(lambda found: all(found.get(name) for name in figures)))
-          or all(found.get(name) for name in figures), SECONDS)
-    counts = {name: found.get(name) for name in sorted(figures)}
-    wires.check("frames of iPXE are counted as of other types", all(counts.values()), str(list(counts.values())))
+    figures = [f'ipx_frames_total{{port="{at}",fate="other_type"}}' for at in range(1, 5)]
+    found = it.router.figures(lambda found: all(map(found.get, figures)), SECONDS)
+    wires.check("frames of iPXE are counted as of other types", all(map(found.get, figures)),
+                str(list(map(found.get, figures))))
     it.send()
     for number, machine in enumerate(it.machines):
         good = until(lambda: it.took(machine), 5)  # pylint: disable=cell-var-from-loop
-        wires.check(f"{CARDS[number]} is given what the router says and hands on, in {machine.port.kind}, byte by byte", good,
-                    f"{len(machine.frames(machine.port.node))} frames of the router, {len(machine.frames(machine.station))} of the card")
+        counts = [len(machine.frames(source)) for source in (machine.port.node, machine.station)]
+        wires.check(f"{CARDS[number]} is given what the router says and hands on, in {machine.port.kind}, byte by byte",
+                    good, f"{counts[0]} frames of the router, {counts[1]} of the card")
     one, other = it.machines[:2]
     for source, taker in ((one, other), (other, one)):
         heard = taker.frames(source.station)
-        wires.check("a card hears another one at the same port, each frame as it came", heard and set(heard) <= set(source.frames(source.station)),
-                    f"{len(heard)} frames")
+        wires.check("a card hears another one at the same port, each frame as it came",
+                    heard and set(heard) <= set(source.frames(source.station)), f"{len(heard)} frames")
 
 
 def check_machines(wires):

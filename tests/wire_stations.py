@@ -1,5 +1,5 @@
-"""Stations at the ends of wires, for tests/wires: what a router answers and hands on, byte by byte in each encapsulation, what
-it keeps back and counts, and what goes on from one end of a wire to others."""
+"""Stations at the ends of wires, for tests/wires: what a router answers and hands on, byte by byte in each encapsulation,
+what it keeps back and counts, and what goes on from one end of a wire to others."""
 import random
 import struct
 
@@ -15,6 +15,8 @@ NETWORKS, COUNTS = dict(zip(KINDS, ["00000021", "00000022", "00000023", "0000002
 OUTER = "00000011"
 BODIES = [0, 1, 2, 15, 16, 17, 18, 29, 30, 31, 533, 534, 1461, 1462]
 UNKNOWN = "02000000ffff"
+OTHER_TYPES = [0x0800, 0x0806, 0x86dd, 0x8138, 0x0600, 0x05dd, 0x05ff]
+OTHER_LINKS = ["424203", "f0f003", "e00403", "e0e0af", "aaaa030000f88137", "aaaa030000000800"]
 
 
 def station(number, end):
@@ -26,7 +28,7 @@ class Stations:
 
     def __init__(self, wires):
         self.wires, self.rng = wires, random.Random(wires.seed)
-        udp_port = free_port([ROUTER, HOST, STRANGER, *(ENDS.format(end) for end in range(3))])
+        udp_port = free_port([ROUTER, HOST, STRANGER, *(ENDS.format(end) for end in range(3))], 5)
         ports, self.ends = [], {}
         for number, kind in enumerate(KINDS, 1):
             places = [(ENDS.format(end), udp_port + number) for end in range(COUNTS[kind])]
@@ -83,10 +85,11 @@ def check_start(it):
     checked = it.wires.world.start("check", "route", "--check", it.router.file)
     status = checked.status(10)
     lines = bytes(checked.out).decode().splitlines()
-    it.wires.check("the same of its file by --check", status == 0 and lines[:-1] == it.router.lines(), f"status {status}, {lines}")
-    quiet = [end for end in it.all if not until(lambda: end.take() is not None and end.heard == end.port.said, 5)]  # pylint: disable=cell-var-from-loop
-    it.wires.check("each end gets its requests and its tellings, byte by byte", not quiet,
-                   str([(end.port.network, end.station, len(end.heard)) for end in quiet]))
+    good = status == 0 and lines[:-1] == it.router.lines()
+    it.wires.check("the same of its file by --check", good, "" if good else f"status {status}, {lines}")
+    until(lambda: all([end.is_told() for end in it.all]), 5)
+    quiet = [(end.port.network, end.station, len(end.heard)) for end in it.all if not end.is_told()]
+    it.wires.check("each end gets its requests and its tellings, byte by byte", not quiet, str(quiet or ""))
 
 
 def check_requests(it):
@@ -94,9 +97,11 @@ def check_requests(it):
     for port in it.wires_of:
         for end in port.ends:
             others = sorted(other.network for other in it.router.ports if other is not port)
-            for network, to, body, told in ((None, EVERYBODY, ALL_ROUTES, others), ("00000000", EVERYBODY, ALL_ROUTES, others),
-                                            (None, port.node, struct.pack(">HIHH", 1, int(OUTER, 16), 0xffff, 0xffff), [OUTER])):
-                packet = it.packet(end, (network or port.network, to), body, 1, network, RIP)
+            one_route = struct.pack(">HIHH", 1, int(OUTER, 16), 0xffff, 0xffff)
+            for network, to, body, told in ((port.network, EVERYBODY, ALL_ROUTES, others),
+                                            ("00000000", EVERYBODY, ALL_ROUTES, others),
+                                            (port.network, port.node, one_route, [OUTER])):
+                packet = it.packet(end, (network, to), body, 1, network, RIP)
                 end.send(frame(port.kind, to, end.station, packet), "handed_on")
                 answer = ipx(1, (port.network, end.station, "4001"), (port.network, port.node, RIP),
                              routes([(other, 1, port.cost) for other in told]))
@@ -114,7 +119,7 @@ def check_forwarding(it):
                 packet = it.packet(giver, it.to_end(taker), it.rng.randbytes(size), source_network=source)
                 for bytes_ in forms(kind, giver.port.node, giver.station, packet, it.rng):
                     it.hand_on(giver, packet, bytes_)
-        it.settle(f"from a wire of {kind} to the others and to a host: hops, stations, padding and raw evenness as they are to be")
+        it.settle(f"from a wire of {kind} to the others and to a host: hops, stations, padding and evenness")
 
 
 def check_other_ways(it):
@@ -142,21 +147,22 @@ def kept_back(it, port, end):
     own, source = port.node, end.station
     packet = it.packet(end, it.to_end(it.host), b"kept back")
     good, held = frame(port.kind, own, source, packet), b"\0" * 46
-    yield from ((b"", "broken"), (good[:13], "broken"), (good[:12], "broken"), (good.ljust(1515, b"\0"), "broken"), (bytes(9000), "broken"))
+    yield from ((broken, "broken") for broken in (b"", good[:12], good[:13], good.ljust(1515, b"\0"), bytes(9000)))
     yield from ((frame(port.kind, own, other, packet), "broken") for other in ("010000000001", EVERYBODY, "0" * 12))
     yield header(own, source, 0x05dc) + held, "broken"
     yield frame(port.kind, own, own, packet), "own"
     yield from ((frame(port.kind, other, source, packet), "not_ours") for other in (UNKNOWN, "09001bffffff", "0" * 12))
     yield from ((header(own, source, says) + held, "tagged") for says in (0x8100, 0x88a8, 0x9100))
-    yield from ((header(own, source, says) + held, "other_type") for says in (0x0800, 0x0806, 0x86dd, 0x8138, 0x0600, 0x05dd, 0x05ff))
-    for link in (b"\x42\x42\x03", b"\xf0\xf0\x03", b"\xe0\x04\x03", b"\xe0\xe0\xaf", b"\xaa\xaa\x03\0\0\xf8\x81\x37", b"\xaa\xaa\x03\0\0\0\x08\0"):
-        yield header(own, source, 46) + (link + packet)[:46].ljust(46, b"\0"), "other_llc"
+    yield from ((header(own, source, says) + held, "other_type") for says in OTHER_TYPES)
+    for link in OTHER_LINKS:
+        yield header(own, source, 46) + (bytes.fromhex(link) + packet)[:46].ljust(46, b"\0"), "other_llc"
     yield frame(port.kind, own, source, packet[:2] + b"\0\x1d" + packet[4:]), "no_packet"
     yield frame(port.kind, own, source, packet[:2] + b"\x05\0" + packet[4:]), "no_packet"
     for other in KINDS:
         if other != port.kind:
             yield frame(other, own, source, packet), f"in_{other}"
-            yield frame(other, EVERYBODY, source, it.packet(end, (port.network, EVERYBODY), ALL_ROUTES, 1, socket=RIP)), f"in_{other}"
+            asks = it.packet(end, (port.network, EVERYBODY), ALL_ROUTES, 1, socket=RIP)
+            yield frame(other, EVERYBODY, source, asks), f"in_{other}"
     for to in (it.to_end(it.host), ("00000099", UNKNOWN), (OUTER, EVERYBODY)):
         yield frame(port.kind, EVERYBODY, source, it.packet(end, to, b"kept back")), "other_network"
 
@@ -213,7 +219,8 @@ def check_told(it, strangers):
         wanted.update(port.figures(number))
     found = it.router.figures(lambda found: all(found.get(name) == value for name, value in wanted.items()))
     wrong = {name: (found.get(name), value) for name, value in wanted.items() if found.get(name) != value}
-    it.wires.check("all that came is counted, each by what became of it", not wrong, f"(found, wanted): {wrong}" if wrong else f"{len(wanted)} figures")
+    it.wires.check("all that came is counted, each by what became of it", not wrong,
+                   f"(found, wanted): {wrong}" if wrong else f"{len(wanted)} figures")
     for number, port in enumerate(it.wires_of, 1):
         said = [line for line in it.router.process.said() if f"port {number}: " in line and "another encapsulation" in line]
         it.wires.check(f"frames of another encapsulation are told, {port.kind}", len(said) == 1, str(said))
@@ -223,7 +230,8 @@ def check_stations(wires):
     """All of them, at one router."""
     it = Stations(wires)
     it.router.start()
-    if not wires.check("a router of four wires starts", until(lambda: len(it.router.process.said()) >= 5, 10), str(it.router.process.said()[:1])):
+    until(lambda: len(it.router.process.said()) >= len(it.router.ports) or it.router.process.is_over(), 10)
+    if not wires.check("a router of four wires starts", not it.router.process.is_over(), str(it.router.process.said()[:1])):
         return
     check_start(it)
     check_requests(it)

@@ -14,7 +14,7 @@ from site_packets import ipx
 from site_world import LIBC, node, port_table, until
 from wire_deploy import blocks, line_of_unit, port_of, with_ports, words_of
 from wire_frames import ALL_ROUTES, EVERYBODY, KINDS, MOST, RIP, frame, routes
-from wire_world import End, Router, UdpPort, WirePort, difference, text_of
+from wire_world import End, Router, UdpPort, WirePort, difference, text_of, with_colons
 
 NEW_NETWORK = 0x40000000
 EVERY_TYPE = 3
@@ -88,8 +88,9 @@ class Dump:
 
     def __init__(self, world, device, *words):
         self.path = world.path(f"{device}.pcap")
-        self.process = world.start(f"tcpdump-{device}", "-i", device, "-U", "-w", self.path, "--immediate-mode", *words,
-                                   program="tcpdump")
+        # (as root: who changes its user outlives this process)
+        self.process = world.start(f"tcpdump-{device}", "-i", device, "-U", "-Z", "root", "--immediate-mode",
+                                   "-w", self.path, *words, program="tcpdump")
         until(lambda: any("listening on" in line for line in self.process.said()), 5)
 
     def frames(self):
@@ -103,7 +104,8 @@ def start_tap(wires, name, port):
     ports = {"24002": port.place[1], "24001": port.places[0][1]}
     words = [word.replace("ipx0", name) for word in with_ports(words_of(line), ports)]
     tap = wires.world.start(f"socat-{name}", *words[1:], program=words[0])
-    wires.check(f"a TAP by socat, {name}", until(lambda: name in [other for _, other in socket.if_nameindex()], 5), str(tap.said()[:1] or ""))
+    made = until(lambda: name in [other for _, other in socket.if_nameindex()], 5)
+    wires.check(f"a TAP by socat, {name}", made, str(tap.said()[:1] or ""))
     time.sleep(0.2)
     return tap
 
@@ -114,24 +116,27 @@ def ask(port, device):
     device.packet(packet, EVERYBODY)
 
 
+def send_some(router, source, to, bodies):
+    """Sends packets with these bodies, which are to arrive."""
+    for body in bodies:
+        packet = ipx(0, (to.port.network, to.station, "4002"), (source.port.network, source.station, "4001"), body)
+        source.packet(packet)
+        router.wants(packet, source.port)
+
+
 def exchange(router, devices, host, rng):
     """Requests from each device, packets from each to each other, to the host, and from the host."""
     for one in devices:
         port = one.port
         ask(port, one)
         others = [other.network for other in router.ports if other is not port]
-        answer = ipx(1, (port.network, one.station, "4001"), (port.network, port.node, RIP), routes([(other, 1, port.cost) for other in sorted(others)]))
+        told = routes([(other, 1, port.cost) for other in sorted(others)])
+        answer = ipx(1, (port.network, one.station, "4001"), (port.network, port.node, RIP), told)
         one.wanted.append(port.sends(one.station, answer))
         for other in [*devices, host]:
-            for size in (0, 1, 17, 534, 1462):
-                if other is not one:
-                    packet = ipx(0, (other.port.network, other.station, "4002"), (port.network, one.station, "4001"), rng.randbytes(size))
-                    one.packet(packet)
-                    router.wants(packet, port)
-        for size in (30, 31, MOST[port.kind]):
-            packet = ipx(0, (port.network, one.station, "4002"), (OUTER, host.station, "4001"), rng.randbytes(size - 30))
-            host.packet(packet)
-            router.wants(packet, host.port)
+            if other is not one:
+                send_some(router, one, other, [rng.randbytes(size) for size in (0, 1, 17, 534, 1462)])
+        send_some(router, host, one, [rng.randbytes(size - 30) for size in (30, 31, MOST[port.kind])])
 
 
 def knock(address):
@@ -157,10 +162,10 @@ def check_dumps(wires, router, devices, dumps, wire):
         wires.check(f"tcpdump, Linux and what the router sent agree at a TAP of {one.port.kind}, byte by byte",
                     here[:least] == one.all[:least] == given[:least] and least >= len(one.heard) + len(one.wanted),
                     f"{len(here)}, {len(one.all)} and {len(given)} frames")
-        ran = subprocess.run(["tcpdump", "-e", "-n", "-r", dump.path, "ether", "src", one.port.node], capture_output=True, text=True, check=False)
-        lines = ran.stdout.splitlines()
-        wires.check(f"tcpdump prints each of them as IPX in {one.port.kind}",
-                    len([line for line in lines if re.search(PRINTED[one.port.kind], line)]) == len(here), f"{len(here)}, as {lines[:1]}")
+        words = ["tcpdump", "-e", "-n", "-r", dump.path, "ether", "src", with_colons(one.port.node)]
+        lines = subprocess.run(words, capture_output=True, text=True, check=False).stdout.splitlines()
+        printed = [line for line in lines if re.search(PRINTED[one.port.kind], line)]
+        wires.check(f"tcpdump prints each of them as IPX in {one.port.kind}", len(printed) == len(here), f"{len(printed)}")
     wires.check("the router of TAPs goes on", not router.process.is_over())
 
 
@@ -174,21 +179,25 @@ def check_four(wires):
     devices = [Device(port, f"ipx{at}", f"0200000c000{at}") for at, port in enumerate(ports)]
     for one in devices:
         subprocess.run(f"ip address add 10.99.{one.name[3:]}.1/24 dev {one.name}", shell=True, check=True)
-    dumps, wire = [Dump(wires.world, one.name) for one in devices], Dump(wires.world, "lo", "udp and src port " + " or ".join(str(port.place[1]) for port in ports))
+    dumps = [Dump(wires.world, one.name) for one in devices]
+    wire = Dump(wires.world, "lo", "udp and src port " + " or ".join(str(port.place[1]) for port in ports))
     router.start()
-    told = until(lambda: all(one.take() is not None and one.heard == one.port.said for one in devices), 10)
-    wires.check("requests and tellings come to TAPs of all four encapsulations", told, str([len(one.heard) for one in devices]))
+    told = until(lambda: all([one.is_told() for one in devices]), 10)
+    wires.check("requests and tellings come to TAPs of all four encapsulations", told,
+                str([len(one.heard) for one in devices]))
     exchange(router, devices, host, random.Random(wires.seed))
     are_all_there([*devices, host])
     wrong = difference([*devices, host])
-    wires.check("answers, and packets handed on, at TAPs of all four encapsulations, byte by byte", not wrong, wrong or f"{sum(len(one.got) for one in [*devices, host])}")
+    wires.check("answers, and packets handed on, at TAPs of all four encapsulations, byte by byte", not wrong,
+                wrong or f"{sum(len(one.got) for one in [*devices, host])} frames and datagrams")
     for one in devices:
         knock(f"10.99.{one.name[3:]}.2")
     time.sleep(0.3)
     check_dumps(wires, router, devices, dumps, wire)
     figures = [f'ipx_frames_total{{port="{at}",fate="other_type"}}' for at in range(1, 5)]
-    found = router.figures(lambda found: all(found.get(name) for name in figures))
-    wires.check("ARP of Linux at a TAP is counted as of another type", all(found.get(name) for name in figures), str([found.get(name) for name in figures]))
+    found = router.figures(lambda found: all(map(found.get, figures)))
+    wires.check("ARP of Linux at a TAP is counted as of another type", all(map(found.get, figures)),
+                str(list(map(found.get, figures))))
     end_all(router.process, *taps, *devices, host)
 
 
@@ -199,21 +208,23 @@ def end_all(*some):
 
 
 def check_bridge(wires):
-    """The port, the TAP and the bridge of docs/DEPLOY.md. A pair of devices stands for the card and what is plugged in there."""
+    """The port, the TAP and the bridge of docs/DEPLOY.md. A pair of devices stands for the card and what is plugged in
+    there."""
     text, = blocks("12. Wires", "toml")
     port, outer = port_of(text), UdpPort(OUTER, ROUTER, UDP_PORT + 50, [HOST])
     router = Router(wires, "bridged", [port, outer])
     wires.world.write("bridged.toml", text + port_table(OUTER, ROUTER, UDP_PORT + 50, [HOST]))
     line, bridge = blocks(HEADING, "sh")[:2]
-    unit = line_of_unit("ipx0", text_of(port.place), text_of(port.places[0]))
-    wires.check("the unit for a TAP runs the line of docs/DEPLOY.md", unit == ["/usr/bin/" + words_of(line)[0], *words_of(line)[1:]], str(unit))
+    unit, words = line_of_unit("ipx0", text_of(port.place), text_of(port.places[0])), words_of(line)
+    good = unit == [f"/usr/bin/{words[0]}", *words[1:]]
+    wires.check("the unit for a TAP runs the line of docs/DEPLOY.md", good, "" if good else str(unit))
     tap = start_tap(wires, "ipx0", port)
     subprocess.run("ip link add eth1 type veth peer name far && ip link set dev far up", shell=True, check=True)
     ran = subprocess.run(bridge, shell=True, capture_output=True, text=True, check=False)
     wires.check("the lines of docs/DEPLOY.md for a bridge", ran.returncode == 0 and not ran.stderr, ran.stderr)
     host, far = End(outer, (HOST, UDP_PORT + 50), node(HOST)), Device(port, "far", "0200000d0001")
     router.start()
-    told = until(lambda: far.take() is not None and far.heard == port.said, 10)
+    told = until(far.is_told, 10)
     exchange(router, [far], host, random.Random(wires.seed))
     are_all_there([far, host])
     wrong = difference([far, host])

@@ -1,4 +1,5 @@
-"""Files over four wires of four encapsulations at one router, each with a router of a site at its other end, for tests/wires."""
+"""Files over four wires of four encapsulations at one router, with a router of a site at the other end of each, for
+tests/wires."""
 from site_world import free_port, listed, node, some_bytes, until
 from wire_frames import KINDS
 from wire_world import Router, UdpPort, WirePort
@@ -17,7 +18,7 @@ class Transfers:
 
     def __init__(self, wires):
         self.wires = wires
-        self.udp_port = free_port([MIDDLE, *(address for site in SITES for address in site)])
+        self.udp_port = free_port([MIDDLE, *(address for site in SITES for address in site)], 4)
         middle = [(MIDDLE, self.udp_port + number) for number in range(4)]
         outer = [(site[0], self.udp_port) for site in SITES]
         self.routers = [Router(wires, "middle", [WirePort(OUTER[at], KINDS[at], middle[at], [outer[at]]) for at in range(4)])]
@@ -40,7 +41,8 @@ class Transfers:
             data = some_bytes(self.wires.seed + 4 * source + to, SIZE)
             listener = world.start(f"listener{to}", "listen", world.path(f"listener{to}.toml"), "--once")
             until(listener.said, 10)
-            sender = world.start(f"sender{source}", "send", world.path(f"sender{source}.toml"), INNER[to], node(SITES[to][2]), "4002", stdin=True)
+            sender = world.start(f"sender{source}", "send", world.path(f"sender{source}.toml"),
+                                 INNER[to], node(SITES[to][2]), "4002", stdin=True)
             sender.feed([data])
             started.append((source, to, data, listener, sender))
         for source, to, data, listener, sender in started:
@@ -60,7 +62,8 @@ def check_transfers(wires):
     for router in it.routers:
         router.start()
     known = until(lambda: all(it.knows(at) for at in range(4)), 15)
-    wires.check("routers at the ends of four wires know all networks", known, "" if known else str([router.process.said() for router in it.routers]))
+    wires.check("routers at the ends of four wires know all networks", known,
+                "" if known else str([router.process.said() for router in it.routers]))
     if known:
         for pairs in ROUNDS:
             it.carry(pairs)

@@ -133,6 +133,11 @@ class End:
         else:
             self.send(frame(self.port.kind, to or self.port.node, self.station, packet), "handed_on")
 
+    def is_told(self):
+        """Whether all came that the router says by itself."""
+        self.take()
+        return self.heard == self.port.said
+
     def end(self):
         self.socket.close()
 
@@ -174,7 +179,7 @@ class Router:
         port = next(port for port in self.ports if port.network == network)
         port.wants(to, passed_on(packet, heard_by.network))
 
-    def figures(self, good):
+    def figures(self, good, seconds=STATUS_SECONDS):
         """The figures of its status file, once they are so, or as they are some time later."""
         found = {}
 
@@ -183,7 +188,7 @@ class Router:
             time.sleep(0.1)
             return good(found)
 
-        until(is_good, STATUS_SECONDS)
+        until(is_good, seconds)
         return found
 
 
@@ -207,7 +212,7 @@ class Wires:
         """Whether one of these is not installed, which it says then."""
         missing = [it for it in programs if not shutil.which(it)]
         if missing:
-            self.leave_out(what, f"{' and '.join(missing)} is not installed")
+            self.leave_out(what, f"not installed: {' '.join(missing)}")
         return bool(missing)
 
 
@@ -218,5 +223,6 @@ def difference(ends):
         for what, some in (("came", got - wanted), ("is missing", wanted - got)):
             if some:
                 one = next(iter(some))
-                return f"at network {end.port.network}, station {end.station}, {sum(some.values())} {what}, as {one[:64].hex()}"
+                where = f"at network {end.port.network}, station {end.station}"
+                return f"{where}, {sum(some.values())} {what}, as {one[:64].hex()}"
     return ""
