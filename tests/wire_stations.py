@@ -1,6 +1,7 @@
 """Stations at the ends of wires, for tests/wires: what a router answers and hands on, byte by byte in each encapsulation,
 what it keeps back and counts, and what goes on from one end of a wire to others."""
 import random
+import signal
 import struct
 
 from site_packets import ipx
@@ -175,6 +176,28 @@ def check_kept_back(it):
         it.settle(f"nothing of what a port of {port.kind} keeps back is handed on or answered")
 
 
+def check_encapsulations(it):
+    """Packets in another encapsulation than that of the port are told, with its number and the name of each. The router
+    is stopped meanwhile, so that they come at once: what is told is told again after a minute alone."""
+    process = it.router.process
+    process.popen.send_signal(signal.SIGSTOP)
+    for port in it.wires_of:
+        end = port.ends[0]
+        for other in [other for other in KINDS if other != port.kind]:
+            packet = it.packet(end, (port.network, EVERYBODY), ALL_ROUTES, 1, socket=RIP)
+            end.send(frame(other, EVERYBODY, end.station, packet), f"in_{other}")
+    process.popen.send_signal(signal.SIGCONT)
+    it.settle("packets in another encapsulation are not answered")
+    for number, port in enumerate(it.wires_of, 1):
+        def named(number=number, port=port):
+            said = [line for line in process.said() if f"port {number}: " in line and "another encapsulation" in line]
+            return all(any(other in line for line in said) for other in KINDS if other != port.kind)
+
+        good = until(named, 15)
+        it.wires.check(f"frames of another encapsulation than {port.kind} are told, each by its name", good,
+                       "" if good else str(process.said()[len(it.router.ports):]))
+
+
 def check_strangers(it):
     """Frames from another port of UDP, or another address, than that of an end."""
     count = 0
@@ -221,9 +244,6 @@ def check_told(it, strangers):
     wrong = {name: (found.get(name), value) for name, value in wanted.items() if found.get(name) != value}
     it.wires.check("all that came is counted, each by what became of it", not wrong,
                    f"(found, wanted): {wrong}" if wrong else f"{len(wanted)} figures")
-    for number, port in enumerate(it.wires_of, 1):
-        said = [line for line in it.router.process.said() if f"port {number}: " in line and "another encapsulation" in line]
-        it.wires.check(f"frames of another encapsulation are told, {port.kind}", len(said) == 1, str(said))
 
 
 def check_stations(wires):
@@ -237,6 +257,7 @@ def check_stations(wires):
     check_requests(it)
     check_forwarding(it)
     check_other_ways(it)
+    check_encapsulations(it)
     check_kept_back(it)
     strangers = check_strangers(it)
     check_hub(it, "802.3", True)
