@@ -1,4 +1,4 @@
-use Rattle.std.proofs.Common.{◌∙◌, ap, arith, refl}
+use Rattle.std.proofs.Common.{◌∙◌, ap, arith, length}
 use Rattle.ipx_site.specs.PortsView.{kept_in_ports, ways_in}
 use Rattle.ipx_site.proofs.Rounds.{is_round}
 use Rattle.ipx_site.proofs.running_router.RunningRouter.round.Goals as goal
