@@ -24,4 +24,4 @@ sending_at s known =
 -- one that listens, and whose writer took this, where that is known
 abbrev pub listening_at : {R : Type 0} → ListeningHost R → Option (List ℕ) → Host (SteadyClock R)
 listening_at l written =
-    host l.station.clock l.station.core l.callers.items (left_of l.outlet) written
+    host l.station.clock l.station.core l.callers.held.items (left_of l.callers.outlet) written

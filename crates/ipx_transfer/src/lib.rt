@@ -19,7 +19,6 @@ mod leaving;
 mod ledger;
 mod listen;
 mod listening;
-mod noting;
 mod outlet;
 mod pacing;
 mod resting;

@@ -1,6 +1,6 @@
 //! A host that listens: its steps, and how it comes to stop.
 
-ghost use Rattle.std.specs.Prelude.{◌≡◌, ◌≢◌, ◌<◌, ◌≤◌, ◌↔◌, ◌∷◌, ◌++◌, [], ℕ, List, false, IfOk, IsTrue, None, OnErr, OnOk, Some, Err, Ok, map, vec_capacity};
+ghost use Rattle.std.specs.Prelude.{◌≡◌, ◌≢◌, ◌<◌, ◌≤◌, ◌∷◌, ◌++◌, [], ℕ, List, IfOk, IsTrue, None, Some, Err, Ok, map};
 ghost use Rattle.ipx_carrier.specs.Mapping.{node_at};
 ghost use Rattle.ipx_carrier.specs.Turns.{peers_of};
 ghost use Rattle.ipx_site.specs.Origins.{named_in};
@@ -9,25 +9,21 @@ ghost use Rattle.ipx_site.specs.SitePorts.{access_by};
 ghost use Rattle.ipx_site.specs.Steady.{NeverGoesBack};
 ghost use Rattle.ipx_wire.specs.declared.address.Socket.{Socket};
 ghost use Rattle.spx_messages.specs.EndpointView.{buffers_at, held_at};
-ghost use Rattle.ipx_transfer.specs.Callers.{KeepsOne, keeps_one_prop};
 ghost use Rattle.ipx_transfer.specs.Company.{guarded_host};
-ghost use Rattle.ipx_transfer.specs.Hosting.{HearsAndNotesAll, WritesAndPasses, MovesSome, Serves, StepsTo};
+ghost use Rattle.ipx_transfer.specs.Hosting.{HearsAndNotesAll, Serves, StepsTo};
 ghost use Rattle.ipx_transfer.specs.Outlet.{Writes, left_of};
-ghost use Rattle.ipx_transfer.specs.Passing.{PassesEach, PassesSome};
 ghost use Rattle.ipx_transfer.specs.Sleeping.{MayRest};
 ghost use Rattle.ipx_transfer.specs.ListenOutcomes.{stop_in, stop_status};
-ghost use Rattle.ipx_transfer.specs.declared.callers.Caller.{Caller};
 ghost use Rattle.ipx_transfer.specs.declared.listening.ListenOutcome.{ListenOutcome as AStop};
 ghost use Rattle.ipx_transfer.specs.declared.listening.ListenOutcome.TheVariants as Stops;
 
-use crate::callers::Caller;
 use crate::gate::Gate;
-use crate::leaving::MOST_CALLERS;
-use crate::outlet::{Outlet, WriteFault};
+use crate::outlet::WriteFault;
+use crate::resting::rest_of;
 use crate::running_host::{Activity, RunningHost};
 use crate::start::StartFault;
-use crate::taking::take_each;
-use ipx_site::{Cause, HostFile, WaitFault};
+use crate::tending::Callers;
+use ipx_site::{HostFile, WaitFault};
 use log::Log;
 use mio::Interest;
 use std::alloc::Global;
@@ -78,14 +74,7 @@ impl From<WaitFault> for ListenOutcome {
 #[derive(Drop)]
 pub struct ListeningHost<'a, R: Clock> {
     pub station: RunningHost<'a, R>,
-    pub callers: Vec<Caller>,
-    pub outlet: Outlet,
-    pub once: bool,
-    /// How many connections went by their silence, of which nothing was ever heard.
-    pub never_spoke: u64,
-    pub of_never_spoke: Cause,
-    ghost room: { 16 ≤ vec_capacity callers },
-    ghost one: { KeepsOne once callers.items (left_of outlet) } by { keeps_one_prop once callers.items (left_of outlet) },
+    pub callers: Callers,
 }
 
 impl<'a, R: Net + Log + Clock> ListeningHost<'a, R> {
@@ -98,9 +87,9 @@ impl<'a, R: Net + Log + Clock> ListeningHost<'a, R> {
         file: &HostFile,
         once: bool,
     ) -> Result<ListeningHost<'a, R>, StartFault>
-        ensures nobody { IfOk result (λ l. l.callers.items ≡ []) }
-        ensures nothing { IfOk result (λ l. left_of l.outlet ≡ []) }
-        ensures once { IfOk result (λ l. l.once ≡ once) }
+        ensures nobody { IfOk result (λ l. l.callers.held.items ≡ []) }
+        ensures nothing { IfOk result (λ l. left_of l.callers.outlet ≡ []) }
+        ensures once { IfOk result (λ l. l.callers.once ≡ once) }
         // It listens at the socket of its file, with the buffers of it, and nowhere else.
         ensures listens { IfOk result (λ l.
             buffers_at l.station.core.endpoint file.now.socket ≡ Some file.now.buffers) }
@@ -134,63 +123,8 @@ impl<'a, R: Net + Log + Clock> ListeningHost<'a, R> {
         station.watch(gate.fd());
         Ok(ListeningHost {
             station,
-            callers: Vec::with_capacity(alloc, MOST_CALLERS)?,
-            outlet: Outlet::new(alloc, gate),
-            once,
-            never_spoke: 0,
-            of_never_spoke: Cause::new(),
+            callers: Callers::new(alloc, gate, once)?,
         })
-    }
-
-    /// Takes from each connection. It answers whether there was anything.
-    fn take_all<W: Write>(&mut self, alloc: Global, writer: &mut W) -> Result<bool, WriteFault>
-        ensures all { OnOk result (PassesEach
-            self.old.station.core.endpoint self.new.station.core.endpoint
-            (left_of self.old.outlet) (left_of self.new.outlet)
-            (W.contents writer.old) (W.contents writer.new)
-            self.old.callers.items self.new.callers.items) }
-        ensures some { OnErr result (PassesSome
-            self.old.station.core.endpoint self.new.station.core.endpoint
-            (left_of self.old.outlet) (left_of self.new.outlet)
-            (W.contents writer.old) (W.contents writer.new)
-            self.old.callers.items self.new.callers.items) }
-        ensures still { result ≡ Ok false → (id : ℕ) →
-            held_at self.new.station.core.endpoint id
-            ≡ held_at self.old.station.core.endpoint id }
-        ensures core { self.new.station.core ≡ record self.old.station.core {
-          endpoint = self.new.station.core.endpoint;
-        } }
-        ensures clock { self.new.station.clock ≡ self.old.station.clock }
-        ensures wire { self.new.station.wire ≡ self.old.station.wire }
-        ensures readiness { self.new.station.readiness ≡ self.old.station.readiness }
-        ensures once { self.new.once ≡ self.old.once }
-    {
-        let endpoint = &mut self.station.core.endpoint;
-        take_each(alloc, endpoint, &mut self.outlet, &mut self.callers, writer)
-    }
-
-    /// Writes what is left to write, and then takes from each connection. It answers whether it
-    /// wrote or took anything.
-    fn pass<W: Write>(&mut self, alloc: Global, writer: &mut W) -> Result<bool, WriteFault>
-        ensures all { OnOk result ((bytes : List ℕ) × WritesAndPasses
-            self.old.station.core self.new.station.core
-            self.old.callers.items self.new.callers.items
-            (left_of self.old.outlet) (left_of self.new.outlet)
-            (W.contents writer.old) (W.contents writer.new) bytes) }
-        // Where the writer fails, so it is of the first ones, and the others are as they were.
-        ensures some { OnErr result ((bytes : List ℕ) × MovesSome
-            self.old.station.core self.new.station.core
-            self.old.callers.items self.new.callers.items
-            (left_of self.old.outlet) (left_of self.new.outlet)
-            (W.contents writer.old) (W.contents writer.new) bytes) }
-        ensures clock { self.new.station.clock ≡ self.old.station.clock }
-        ensures wire { self.new.station.wire ≡ self.old.station.wire }
-        ensures readiness { self.new.station.readiness ≡ self.old.station.readiness }
-        ensures once { self.new.once ≡ self.old.once }
-    {
-        let wrote = self.outlet.write(writer)?;
-        let took = self.take_all(alloc, writer)?;
-        Ok(wrote || took)
     }
 
     /// Takes a turn, and notes the datagram that it heard.
@@ -200,19 +134,19 @@ impl<'a, R: Net + Log + Clock> ListeningHost<'a, R> {
             < kept_in self.new.station.wire.device.kept → IsTrue result.active }
         ensures hears { HearsAndNotesAll self.old.station.clock self.new.station.clock
             self.old.station.core self.new.station.core
-            self.old.callers.items self.new.callers.items self.old.once
+            self.old.callers.held.items self.new.callers.held.items self.old.callers.once
             NeverGoesBack (peers_of self.old.station.wire.peers.items) }
         ensures peers { self.new.station.wire.peers ≡ self.old.station.wire.peers }
         ensures access { map access_by self.new.station.wire.device.guards.items
             ≡ map access_by self.old.station.wire.device.guards.items }
         ensures readiness { self.new.station.readiness ≡ self.old.station.readiness }
-        ensures outlet { self.new.outlet ≡ self.old.outlet }
-        ensures once { self.new.once ≡ self.old.once }
+        ensures outlet { self.new.callers.outlet ≡ self.old.callers.outlet }
+        ensures once { self.new.callers.once ≡ self.old.callers.once }
     {
         let turn = self.station.turn(rt, alloc);
-        self.tell_silent(rt);
+        self.callers.tell_silent(rt, self.station.moment());
         if turn.heard {
-            self.note();
+            self.callers.note(&mut self.station.core);
         }
         turn
     }
@@ -229,19 +163,19 @@ impl<'a, R: Net + Log + Clock> ListeningHost<'a, R> {
             < kept_in self.new.station.wire.device.kept → IfOk result IsTrue }
         ensures steps { (bytes : List ℕ) × StepsTo (listening_at self.old (W.contents writer.old))
             (listening_at self.new (W.contents writer.new))
-            self.old.once (stop_in result)
+            self.old.callers.once (stop_in result)
             NeverGoesBack (peers_of self.old.station.wire.peers.items) bytes }
         ensures peers { self.new.station.wire.peers ≡ self.old.station.wire.peers }
         ensures access { map access_by self.new.station.wire.device.guards.items
             ≡ map access_by self.old.station.wire.device.guards.items }
         ensures readiness { self.new.station.readiness ≡ self.old.station.readiness }
         ensures written { result ≡ Err Stops.Ended
-            → IsTrue self.new.once × (left_of self.new.outlet ≡ []) }
-        ensures once { self.new.once ≡ self.old.once }
+            → IsTrue self.new.callers.once × (left_of self.new.callers.outlet ≡ []) }
+        ensures once { self.new.callers.once ≡ self.old.callers.once }
     {
         let turn = self.hear(rt, alloc);
-        let moved = self.pass(alloc, writer)?;
-        self.tidy(rt, alloc)?;
+        let moved = self.callers.pass(alloc, &mut self.station.core, writer)?;
+        self.callers.tidy(rt, alloc, &mut self.station)?;
         Ok(turn.active || moved)
     }
 
@@ -258,20 +192,20 @@ impl<'a, R: Net + Log + Clock> ListeningHost<'a, R> {
             self.new.station.readiness.asked ≡ self.old.station.readiness.asked }
         ensures steps { (bytes : List ℕ) × StepsTo (listening_at self.old (W.contents writer.old))
             (listening_at self.new (W.contents writer.new))
-            self.old.once (stop_in result)
+            self.old.callers.once (stop_in result)
             NeverGoesBack (peers_of self.old.station.wire.peers.items) bytes }
         ensures peers { self.new.station.wire.peers ≡ self.old.station.wire.peers }
         ensures access { map access_by self.new.station.wire.device.guards.items
             ≡ map access_by self.old.station.wire.device.guards.items }
         // It waits only as long as no link has anything to do and each connection just stays.
-        ensures rests { MayRest self.new.station.core self.new.callers.items
+        ensures rests { MayRest self.new.station.core self.new.callers.held.items
             self.old.station.readiness.asked self.new.station.readiness.asked }
         ensures written { result ≡ Err Stops.Ended
-            → IsTrue self.new.once × (left_of self.new.outlet ≡ []) }
-        ensures once { self.new.once ≡ self.old.once }
+            → IsTrue self.new.callers.once × (left_of self.new.callers.outlet ≡ []) }
+        ensures once { self.new.callers.once ≡ self.old.callers.once }
     {
         if !self.step(rt, alloc, writer)? {
-            let rest = self.rest();
+            let rest = rest_of(&self.station.core, &self.callers.held);
             self.station.wait(rest)?;
         }
         Ok(())
@@ -283,12 +217,12 @@ impl<'a, R: Net + Log + Clock> ListeningHost<'a, R> {
         // took, and then what is left to write: also from one step to the next.
         ensures serves { (bytes : List ℕ) × Serves (listening_at self.old (W.contents writer.old))
             (listening_at self.new (W.contents writer.new))
-            self.old.once result NeverGoesBack (peers_of self.old.station.wire.peers.items) bytes
-            × Writes (left_of self.old.outlet ++ bytes) (left_of self.new.outlet)
+            self.old.callers.once result NeverGoesBack (peers_of self.old.station.wire.peers.items) bytes
+            × Writes (left_of self.old.callers.outlet ++ bytes) (left_of self.new.callers.outlet)
             (W.contents writer.old) (W.contents writer.new) }
         ensures written { result ≡ Stops.Ended
-            → IsTrue self.new.once × (left_of self.new.outlet ≡ []) }
-        ensures once { self.new.once ≡ self.old.once }
+            → IsTrue self.new.callers.once × (left_of self.new.callers.outlet ≡ []) }
+        ensures once { self.new.callers.once ≡ self.old.callers.once }
     {
         for _step in 0..u64::MAX {
             if let Err(stop) = self.step_or_wait(rt, alloc, writer) {
@@ -308,12 +242,12 @@ impl<'a, R: Net + Log + Clock + Eprint> ListeningHost<'a, R> {
         ensures serves { (stop : AStop) × (result ≡ stop_status stop) × (bytes : List ℕ) × Serves
             (listening_at self.old (W.contents writer.old))
             (listening_at self.new (W.contents writer.new))
-            self.old.once stop NeverGoesBack (peers_of self.old.station.wire.peers.items) bytes
-            × Writes (left_of self.old.outlet ++ bytes) (left_of self.new.outlet)
+            self.old.callers.once stop NeverGoesBack (peers_of self.old.station.wire.peers.items) bytes
+            × Writes (left_of self.old.callers.outlet ++ bytes) (left_of self.new.callers.outlet)
             (W.contents writer.old) (W.contents writer.new) }
-        ensures written { result ≡ 0 → IsTrue self.new.once × (left_of self.new.outlet ≡ []) }
+        ensures written { result ≡ 0 → IsTrue self.new.callers.once × (left_of self.new.callers.outlet ≡ []) }
         ensures few { result ≤ 1 }
-        ensures once { self.new.once ≡ self.old.once }
+        ensures once { self.new.callers.once ≡ self.old.callers.once }
     {
         let stopped = self.serve(rt, alloc, writer);
         tell_stop(rt, stopped)

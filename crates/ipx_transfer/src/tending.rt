@@ -1,21 +1,33 @@
-//! What a host that listens does with its connections: it asks them, and lets them go.
+//! The connections of a host that listens: they come, pass what they hold, are asked, and go.
 
-ghost use Rattle.std.specs.Prelude.{◌≡◌, ◌<◌, [], length, remove, slice_get, slice_set, take, false, All, IfSome, IsTrue, MatchOption, None, OnErr, Some, Err, Ok};
-ghost use Rattle.ipx_transfer.specs.Callers.{Asks, AsksOrCounts, EndedAlone, LetsLinkGo, raised_if};
+ghost use Rattle.std.specs.Prelude.{◌≡◌, ◌<◌, ◌≤◌, [], ℕ, List, false, is_some, length, map, position, remove, slice_get, slice_set, vec_capacity, IfOk, IfSome, IsTrue, OnErr, OnOk, Err, Ok};
+ghost use Rattle.spx_messages.specs.EndpointView.{held_at};
+ghost use Rattle.ipx_transfer.specs.Callers.{Admits, Asks, AsksOrCounts, EndedAlone, KeepsHeard, KeepsOne, LetsLinkGo, MakesRoom, NotesHeard, caller_of, heard_by, is_overdue, keeps_one_prop, raised_if};
 ghost use Rattle.ipx_transfer.specs.CallerActions.{is_unheard};
-ghost use Rattle.ipx_transfer.specs.Outlet.{left_of};
+ghost use Rattle.ipx_transfer.specs.Hosting.{MovesSome, WritesAndPasses};
 ghost use Rattle.ipx_transfer.specs.ListenOutcomes.{parted, stop_in};
-ghost use Rattle.ipx_transfer.specs.Tending.{IsFateOf, JustStays, Tends, Tidies};
+ghost use Rattle.ipx_transfer.specs.Outlet.{left_of};
+ghost use Rattle.ipx_transfer.specs.Passing.{PassesEach, PassesSome};
+ghost use Rattle.ipx_transfer.specs.Tending.{IsFateOf, Tends, Tidies};
 ghost use Rattle.ipx_transfer.specs.declared.callers.Caller.{Caller};
 ghost use Rattle.ipx_transfer.specs.declared.callers.CallerAction.TheVariants as Fates;
 ghost use Rattle.ipx_transfer.specs.declared.callers.Standing.TheVariants as Standings;
 ghost use Rattle.ipx_transfer.specs.declared.listening.ListenOutcome.TheVariants as Stops;
 
-use crate::callers::{Caller, CallerAction, Standing, fate_of};
-use crate::leaving::{MOST_CALLERS, ask, count_if, let_link_go};
-use crate::listening::{ListenOutcome, ListeningHost};
+use crate::callers::{Caller, CallerAction, Standing};
+use crate::end_core::{Accepted, Came, EndCore};
+use crate::gate::Gate;
+use crate::leaving::{MOST_CALLERS, ask, count_if, hear_caller, hold, let_link_go, make_room};
+use crate::listening::ListenOutcome;
+use crate::outlet::{Outlet, WriteFault};
+use crate::resting::{fate_in, first_to_tend};
+use crate::running_host::RunningHost;
+use crate::taking::take_each;
+use ipx_site::Cause;
 use log::{Log, warn};
-use std::alloc::Global;
+use spx_messages::Endpoint;
+use std::alloc::{AllocError, Global};
+use std::io::Write;
 use std::net::Net;
 use std::rt::Clock;
 
@@ -43,158 +55,275 @@ fn stop_of(once: bool, fate: CallerAction, standing: Standing) -> Result<(), Lis
     }
 }
 
-impl<'a, R: Net + Log + Clock> ListeningHost<'a, R> {
-    /// What becomes of a connection.
-    pub fn fate_of(&self, caller: &Caller) -> CallerAction
-        ensures fate { IsFateOf self.now.station.core caller.now result }
-        ensures asks { IsFateOf self.now.station.core caller.now Fates.Asks
-            → result ≡ Fates.Asks }
+/// The connections that a host that listens holds, and what was taken of them and is left to write.
+#[derive(Drop)]
+pub struct Callers {
+    pub held: Vec<Caller>,
+    pub outlet: Outlet,
+    /// Whether the first connection that is heard is the only one, and all is over with it.
+    pub once: bool,
+    /// How many connections went by their silence, of which nothing was ever heard.
+    never_spoke: u64,
+    of_never_spoke: Cause,
+    ghost room: { 16 ≤ vec_capacity held },
+    ghost one: { KeepsOne once held.items (left_of outlet) } by { keeps_one_prop once held.items (left_of outlet) },
+}
+
+impl Callers {
+    /// None is held yet, and nothing is left to write for the writer behind this gate.
+    pub fn new(alloc: Global, gate: Gate, once: bool) -> Result<Callers, AllocError>
+        ensures nobody { IfOk result (λ c. c.held.items ≡ []) }
+        ensures nothing { IfOk result (λ c. left_of c.outlet ≡ []) }
+        ensures once { IfOk result (λ c. c.once ≡ once) }
     {
-        let state = self.station.core.endpoint.state(caller.id).ok();
-        let silent = self.station.moment().saturating_sub(caller.heard);
-        fate_of(caller.standing, state, silent)
+        Ok(Callers {
+            held: Vec::with_capacity(alloc, MOST_CALLERS)?,
+            outlet: Outlet::new(alloc, gate),
+            once,
+            never_spoke: 0,
+            of_never_spoke: Cause::new(),
+        })
     }
 
-    /// The place of the first connection that does not just stay.
-    fn first_to_tend(&self) -> Option<usize>
-        ensures there { IfSome result (λ place. place < length self.now.callers.items) }
-        ensures first { let core = self.now.station.core in
-            MatchOption result (All (JustStays core) self.now.callers.items)
-            (λ place. All (JustStays core) (take place self.now.callers.items)
-            × IfSome (slice_get self.now.callers.items place) (λ c. JustStays core c → ⊥)) }
+    /// Takes from each connection. It answers whether there was anything.
+    fn take_all<W: Write>(
+        &mut self,
+        alloc: Global,
+        endpoint: &mut Endpoint,
+        writer: &mut W,
+    ) -> Result<bool, WriteFault>
+        ensures all { OnOk result (PassesEach endpoint.old endpoint.new
+            (left_of self.old.outlet) (left_of self.new.outlet)
+            (W.contents writer.old) (W.contents writer.new)
+            self.old.held.items self.new.held.items) }
+        ensures some { OnErr result (PassesSome endpoint.old endpoint.new
+            (left_of self.old.outlet) (left_of self.new.outlet)
+            (W.contents writer.old) (W.contents writer.new)
+            self.old.held.items self.new.held.items) }
+        ensures still { result ≡ Ok false
+            → (id : ℕ) → held_at endpoint.new id ≡ held_at endpoint.old id }
+        ensures once { self.new.once ≡ self.old.once }
     {
-        for (place, caller) in self.callers.iter().enumerate() {
-            if self.fate_of(caller) != CallerAction::Stays {
-                return Some(place);
-            }
+        take_each(alloc, endpoint, &mut self.outlet, &mut self.held, writer)
+    }
+
+    /// Writes what is left to write, and then takes from each connection. It answers whether it
+    /// wrote or took anything.
+    pub fn pass<W: Write>(
+        &mut self,
+        alloc: Global,
+        core: &mut EndCore,
+        writer: &mut W,
+    ) -> Result<bool, WriteFault>
+        ensures all { OnOk result ((bytes : List ℕ) × WritesAndPasses core.old core.new
+            self.old.held.items self.new.held.items
+            (left_of self.old.outlet) (left_of self.new.outlet)
+            (W.contents writer.old) (W.contents writer.new) bytes) }
+        // Where the writer fails, so it is of the first ones, and the others are as they were.
+        ensures some { OnErr result ((bytes : List ℕ) × MovesSome core.old core.new
+            self.old.held.items self.new.held.items
+            (left_of self.old.outlet) (left_of self.new.outlet)
+            (W.contents writer.old) (W.contents writer.new) bytes) }
+        ensures once { self.new.once ≡ self.old.once }
+    {
+        let wrote = self.outlet.write(writer)?;
+        let took = self.take_all(alloc, &mut core.endpoint, writer)?;
+        Ok(wrote || took)
+    }
+
+    /// Holds a connection that was accepted at a moment, where there is a place for it.
+    fn admit(&mut self, endpoint: &mut Endpoint, accepted: Accepted, moment: u64)
+        ensures admits { Admits self.old.once (caller_of accepted moment)
+            endpoint.old endpoint.new self.old.held.items self.new.held.items }
+        ensures outlet { self.new.outlet ≡ self.old.outlet }
+        ensures once { self.new.once ≡ self.old.once }
+    {
+        let caller = Caller {
+            id: accepted.id,
+            from: accepted.from,
+            heard: moment,
+            standing: Standing::Called,
+        };
+        hold(self.once, endpoint, &mut self.held, caller);
+    }
+
+    /// Notes that a connection was heard. With `once` it stays alone.
+    fn hear_caller(&mut self, endpoint: &mut Endpoint, id: u16, moment: u64)
+        ensures heard { KeepsHeard self.old.once endpoint.old endpoint.new
+            (map (heard_by id moment) self.old.held.items) self.new.held.items }
+        ensures outlet { self.new.outlet ≡ self.old.outlet }
+        ensures once { self.new.once ≡ self.old.once }
+    {
+        hear_caller(self.once, endpoint, &mut self.held, id, moment);
+    }
+
+    /// Lets a connection go of which nothing was heard for long, since there was no link for
+    /// another.
+    fn make_room(&mut self, endpoint: &mut Endpoint, moment: u64)
+        ensures room { MakesRoom moment endpoint.old endpoint.new
+            self.old.held.items self.new.held.items }
+        ensures counts { self.new.never_spoke
+            ≡ raised_if (is_some (position (is_overdue moment) self.old.held.items))
+            self.old.never_spoke }
+        ensures outlet { self.new.outlet ≡ self.old.outlet }
+        ensures once { self.new.once ≡ self.old.once }
+    {
+        let went = make_room(endpoint, &mut self.held, moment);
+        self.never_spoke = count_if(went, self.never_spoke);
+    }
+
+    /// Notes which connection the last datagram was of, or made, or did not find room for.
+    pub fn note(&mut self, core: &mut EndCore)
+        ensures notes { NotesHeard self.old.once core.old core.new
+            self.old.held.items self.new.held.items }
+        ensures outlet { self.new.outlet ≡ self.old.outlet }
+        ensures once { self.new.once ≡ self.old.once }
+    {
+        let moment = core.moment();
+        match core.take_came() {
+            Some(Came::Heard(id)) => self.hear_caller(&mut core.endpoint, id, moment),
+            Some(Came::Accepted(accepted)) => self.admit(&mut core.endpoint, accepted, moment),
+            Some(Came::NoRoom) => self.make_room(&mut core.endpoint, moment),
+            None => {}
         }
-        None
     }
 
     /// Asks whether the connection at a place is still there. Where memory is refused, that is
     /// counted.
-    fn ask(&mut self, alloc: Global, place: usize)
-        requires { place < length self.old.callers.items }
-        ensures asks { IfSome (slice_get self.old.callers.items place) (λ c. (c' : Caller)
-            × Asks self.old.station.core.moment
-            self.old.station.core.endpoint self.new.station.core.endpoint c c'
-            × (self.new.callers.items ≡ slice_set self.old.callers.items place c')) }
-        ensures asked { IfSome (slice_get self.old.callers.items place) (λ c. AsksOrCounts
-            self.old.station.core.endpoint self.new.station.core.endpoint c place
-            self.old.callers.items self.new.callers.items
-            self.old.station.refused self.new.station.refused) }
-        ensures core { self.new.station.core ≡ record self.old.station.core {
-          endpoint = self.new.station.core.endpoint;
+    fn ask<R: Net + Log + Clock>(
+        &mut self,
+        alloc: Global,
+        station: &mut RunningHost<'_, R>,
+        place: usize,
+    )
+        requires { place < length self.old.held.items }
+        ensures asks { IfSome (slice_get self.old.held.items place) (λ c. (c' : Caller)
+            × Asks station.old.core.moment station.old.core.endpoint station.new.core.endpoint c c'
+            × (self.new.held.items ≡ slice_set self.old.held.items place c')) }
+        ensures asked { IfSome (slice_get self.old.held.items place) (λ c. AsksOrCounts
+            station.old.core.endpoint station.new.core.endpoint c place
+            self.old.held.items self.new.held.items station.old.refused station.new.refused) }
+        ensures core { station.new.core ≡ record station.old.core {
+          endpoint = station.new.core.endpoint;
         } }
-        ensures clock { self.new.station.clock ≡ self.old.station.clock }
-        ensures wire { self.new.station.wire ≡ self.old.station.wire }
-        ensures readiness { self.new.station.readiness ≡ self.old.station.readiness }
+        ensures clock { station.new.clock ≡ station.old.clock }
+        ensures wire { station.new.wire ≡ station.old.wire }
+        ensures readiness { station.new.readiness ≡ station.old.readiness }
         ensures outlet { self.new.outlet ≡ self.old.outlet }
         ensures once { self.new.once ≡ self.old.once }
     {
-        let moment = self.station.moment();
-        let endpoint = &mut self.station.core.endpoint;
-        let is_refused = ask(alloc, endpoint, &mut self.callers[place], moment);
-        self.station.count_refusal(is_refused);
+        let moment = station.moment();
+        let caller = &mut self.held[place];
+        let is_refused = ask(alloc, &mut station.core.endpoint, caller, moment);
+        station.count_refusal(is_refused);
     }
 
     /// Tells how many connections went before anything was heard of them, once a minute at most.
-    pub fn tell_silent(&mut self, rt: &R)
-        ensures station { self.new.station ≡ self.old.station }
-        ensures callers { self.new.callers ≡ self.old.callers }
+    pub fn tell_silent<R: Log>(&mut self, rt: &R, moment: u64)
+        ensures held { self.new.held ≡ self.old.held }
         ensures outlet { self.new.outlet ≡ self.old.outlet }
         ensures once { self.new.once ≡ self.old.once }
     {
         let count = self.never_spoke;
-        if let Some(more) = self.of_never_spoke.tell(count, self.station.moment()) {
+        if let Some(more) = self.of_never_spoke.tell(count, moment) {
             warn!(rt; target: "ipx", "{more} callers never spoke ({count} since the start)");
         }
     }
 
     /// Lets a connection go. With `once` all is over then, where it was heard.
-    fn let_go(&mut self, rt: &R, place: usize, fate: CallerAction) -> Result<(), ListenOutcome>
-        requires { place < length self.old.callers.items }
-        ensures goes { self.new.callers.items ≡ remove self.old.callers.items place }
-        ensures released { IfSome (slice_get self.old.callers.items place) (λ c. LetsLinkGo
-            self.old.station.core.endpoint self.new.station.core.endpoint c.id) }
-        ensures stops { IfSome (slice_get self.old.callers.items place) (λ c.
+    fn let_go<R: Log>(
+        &mut self,
+        rt: &R,
+        endpoint: &mut Endpoint,
+        place: usize,
+        fate: CallerAction,
+    ) -> Result<(), ListenOutcome>
+        requires { place < length self.old.held.items }
+        ensures goes { self.new.held.items ≡ remove self.old.held.items place }
+        ensures released { IfSome (slice_get self.old.held.items place) (λ c.
+            LetsLinkGo endpoint.old endpoint.new c.id) }
+        ensures stops { IfSome (slice_get self.old.held.items place) (λ c.
             stop_in result ≡ parted self.old.once fate c.standing) }
-        ensures counts { IfSome (slice_get self.old.callers.items place) (λ c.
+        ensures counts { IfSome (slice_get self.old.held.items place) (λ c.
             self.new.never_spoke ≡ raised_if (is_unheard c.standing) self.old.never_spoke) }
         ensures only { OnErr result (IsTrue self.old.once) }
         // With `once` the only connection that was heard goes, and what was taken of it is written.
         ensures written { result ≡ Err Stops.Ended → left_of self.new.outlet ≡ [] }
-        ensures core { self.new.station.core ≡ record self.old.station.core {
-          endpoint = self.new.station.core.endpoint;
-        } }
-        ensures clock { self.new.station.clock ≡ self.old.station.clock }
-        ensures wire { self.new.station.wire ≡ self.old.station.wire }
-        ensures readiness { self.new.station.readiness ≡ self.old.station.readiness }
         ensures outlet { self.new.outlet ≡ self.old.outlet }
         ensures once { self.new.once ≡ self.old.once }
     {
-        let caller = self.callers.remove(place);
-        let_link_go(&mut self.station.core.endpoint, caller.id);
+        let caller = self.held.remove(place);
+        let_link_go(endpoint, caller.id);
         self.never_spoke = count_if(caller.standing.is_unheard(), self.never_spoke);
         tell_parted(rt, &caller, fate);
         stop_of(self.once, fate, caller.standing)
     }
 
     /// Does what is to be done with the connection at a place.
-    fn tend(&mut self, rt: &R, alloc: Global, place: usize) -> Result<(), ListenOutcome>
-        requires { place < length self.old.callers.items }
-        ensures tends { IfSome (slice_get self.old.callers.items place) (λ c. Tends
-            self.old.once self.old.station.core c place self.new.station.core.endpoint
-            self.old.callers.items self.new.callers.items (stop_in result)) }
+    fn tend<R: Net + Log + Clock>(
+        &mut self,
+        rt: &R,
+        alloc: Global,
+        station: &mut RunningHost<'_, R>,
+        place: usize,
+    ) -> Result<(), ListenOutcome>
+        requires { place < length self.old.held.items }
+        ensures tends { IfSome (slice_get self.old.held.items place) (λ c. Tends
+            self.old.once station.old.core c place station.new.core.endpoint
+            self.old.held.items self.new.held.items (stop_in result)) }
         // One that is to be asked is asked, where its link is open; or memory was refused, which is
         // counted.
-        ensures asked { IfSome (slice_get self.old.callers.items place) (λ c.
-            IsFateOf self.old.station.core c Fates.Asks → AsksOrCounts
-            self.old.station.core.endpoint self.new.station.core.endpoint c place
-            self.old.callers.items self.new.callers.items
-            self.old.station.refused self.new.station.refused) }
+        ensures asked { IfSome (slice_get self.old.held.items place) (λ c.
+            IsFateOf station.old.core c Fates.Asks → AsksOrCounts
+            station.old.core.endpoint station.new.core.endpoint c place
+            self.old.held.items self.new.held.items station.old.refused station.new.refused) }
         ensures only { OnErr result (IsTrue self.old.once) }
         ensures written { result ≡ Err Stops.Ended → left_of self.new.outlet ≡ [] }
-        ensures core { self.new.station.core ≡ record self.old.station.core {
-          endpoint = self.new.station.core.endpoint;
+        ensures core { station.new.core ≡ record station.old.core {
+          endpoint = station.new.core.endpoint;
         } }
-        ensures clock { self.new.station.clock ≡ self.old.station.clock }
-        ensures wire { self.new.station.wire ≡ self.old.station.wire }
-        ensures readiness { self.new.station.readiness ≡ self.old.station.readiness }
+        ensures clock { station.new.clock ≡ station.old.clock }
+        ensures wire { station.new.wire ≡ station.old.wire }
+        ensures readiness { station.new.readiness ≡ station.old.readiness }
         ensures outlet { self.new.outlet ≡ self.old.outlet }
         ensures once { self.new.once ≡ self.old.once }
     {
-        match self.fate_of(&self.callers[place]) {
+        match fate_in(&station.core, &self.held[place]) {
             CallerAction::Stays => Ok(()),
             CallerAction::Asks => {
-                self.ask(alloc, place);
+                self.ask(alloc, station, place);
                 Ok(())
             }
-            fate => self.let_go(rt, place, fate),
+            fate => self.let_go(rt, &mut station.core.endpoint, place, fate),
         }
     }
 
     /// Lets go the connections that are over or given up, and asks those that are silent.
-    pub fn tidy(&mut self, rt: &R, alloc: Global) -> Result<(), ListenOutcome>
-        ensures tidies { Tidies self.old.once self.old.station.core self.new.station.core
-            self.old.callers.items self.new.callers.items (stop_in result) }
-        ensures ended { result ≡ Err Stops.Ended → EndedAlone self.old.callers.items }
+    pub fn tidy<R: Net + Log + Clock>(
+        &mut self,
+        rt: &R,
+        alloc: Global,
+        station: &mut RunningHost<'_, R>,
+    ) -> Result<(), ListenOutcome>
+        ensures tidies { Tidies self.old.once station.old.core station.new.core
+            self.old.held.items self.new.held.items (stop_in result) }
+        ensures ended { result ≡ Err Stops.Ended → EndedAlone self.old.held.items }
         ensures written { result ≡ Err Stops.Ended → left_of self.new.outlet ≡ [] }
         ensures only { OnErr result (IsTrue self.old.once) }
-        ensures core { self.new.station.core ≡ record self.old.station.core {
-          endpoint = self.new.station.core.endpoint;
+        ensures core { station.new.core ≡ record station.old.core {
+          endpoint = station.new.core.endpoint;
         } }
-        ensures clock { self.new.station.clock ≡ self.old.station.clock }
-        ensures wire { self.new.station.wire ≡ self.old.station.wire }
-        ensures readiness { self.new.station.readiness ≡ self.old.station.readiness }
+        ensures clock { station.new.clock ≡ station.old.clock }
+        ensures wire { station.new.wire ≡ station.old.wire }
+        ensures readiness { station.new.readiness ≡ station.old.readiness }
         ensures outlet { self.new.outlet ≡ self.old.outlet }
         ensures once { self.new.once ≡ self.old.once }
     {
         for _tended in 0..MOST_CALLERS {
-            let Some(place) = self.first_to_tend() else {
+            let Some(place) = first_to_tend(&station.core, &self.held) else {
                 break;
             };
-            self.tend(rt, alloc, place)?;
+            self.tend(rt, alloc, station, place)?;
         }
         Ok(())
     }

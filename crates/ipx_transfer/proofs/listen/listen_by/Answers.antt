@@ -12,6 +12,6 @@ returns-clause-well g c =
     let started = c.open-started.ensures in
     let ran = c.run_listening.ensures in
     on_ok _ c.args.loaded c.in-Ok.file c.in-Ok.is
-    (begun c.in-Ok.file (c.run_listening.new.writer ≡ c.args.writer.now) c.open-started.result (λ l. listening_at l (held c.args.writer.now)) (λ l. l.once) (λ l. peers_of l.station.wire.peers.items)
+    (begun c.in-Ok.file (c.run_listening.new.writer ≡ c.args.writer.now) c.open-started.result (λ l. listening_at l (held c.args.writer.now)) (λ l. l.callers.once) (λ l. peers_of l.station.wire.peers.items)
     c.args.once (held c.args.writer.now) (held c.run_listening.new.writer) NeverGoesBack c.run_listening.result
     started.network started.node started.router started.peers started.listens started.alone started.links started.accepted started.unpaced started.from started.own started.nobody started.nothing started.once (λ l. refl) ran.unstarted ran.well)

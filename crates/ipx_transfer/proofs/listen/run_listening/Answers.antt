@@ -12,5 +12,5 @@ returns-in-Ok-tell_place-clause-well g c = λ zero.
     rw (c.in-Ok.is) (
       run.2,
       ended_well (listening_at old (held c.args.writer.now))
-          (listening_at new (held c.finish.new.writer)) old.once run.0 _ _ run.2 run.3 run.4 (sym run.1 ∙ zero) (c.finish.ensures.written zero).1,
+          (listening_at new (held c.finish.new.writer)) old.callers.once run.0 _ _ run.2 run.3 run.4 (sym run.1 ∙ zero) (c.finish.ensures.written zero).1,
     )

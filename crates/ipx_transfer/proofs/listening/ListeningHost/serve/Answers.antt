@@ -21,7 +21,7 @@ loop-step-preserved g c =
     record {
       once = c.step_or_wait.ensures.once ∙ i.once;
       peers = c.step_or_wait.ensures.peers ∙ i.peers;
-      steps = steps_more c.loop-step._step start before after old.once now.once _ _ _ i.steps.0 step.0 i.once (ap (λ l. peers_of l.items) i.peers) i.steps.1 step.1;
+      steps = steps_more c.loop-step._step start before after old.callers.once now.callers.once _ _ _ i.steps.0 step.0 i.once (ap (λ l. peers_of l.items) i.peers) i.steps.1 step.1;
     }
 
 pub returns-in-Err-clause-serves : goal.returns-in-Err-clause-serves
@@ -35,7 +35,7 @@ returns-in-Err-clause-serves g c =
     let start = listening_at old (held c.args.writer.now) in
     let before = listening_at now (held c.loop-step.writer) in
     let after = listening_at new (held c.step_or_wait.new.writer) in
-    served c.loop-step._step start before after old.once now.once c.in-Err.stop _ _ _ i.steps.0 step.0 i.once (ap (λ l. peers_of l.items) i.peers) i.steps.1 step.1
+    served c.loop-step._step start before after old.callers.once now.callers.once c.in-Err.stop _ _ _ i.steps.0 step.0 i.once (ap (λ l. peers_of l.items) i.peers) i.steps.1 step.1
 
 pub returns-clause-serves : goal.returns-clause-serves
 returns-clause-serves g c =
@@ -45,4 +45,4 @@ returns-clause-serves g c =
     let i = c.loop-step.invariant in
     let start = listening_at old (held c.args.writer.now) in
     let before = listening_at now (held c.loop-step.writer) in
-    served_long c.loop-step._step start before old.once _ _ i.steps.0 (omega (arith, c.loop-step-test.false, c.loop-step.auto._step-end)) i.steps.1
+    served_long c.loop-step._step start before old.callers.once _ _ i.steps.0 (omega (arith, c.loop-step-test.false, c.loop-step.auto._step-end)) i.steps.1

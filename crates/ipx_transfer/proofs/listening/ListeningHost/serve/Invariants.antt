@@ -8,7 +8,7 @@ use Rattle.ipx_transfer.proofs.listening.ListeningHost.serve.Given as goal
 -- so many steps were taken
 abbrev pub invariant-loop-step : goal.invariant-loop-step
 invariant-loop-step g l = record {
-  once : l.self.once ≡ l.fn.self.once;
+  once : l.self.callers.once ≡ l.fn.self.callers.once;
   peers : l.self.station.wire.peers ≡ l.fn.self.station.wire.peers;
-  steps : (bytes : List ℕ) × StepsWithoutStop l._step (listening_at l.fn.self (g.W.Write.contents l.fn.writer)) (listening_at l.self (g.W.Write.contents l.writer)) l.fn.self.once NeverGoesBack (peers_of l.fn.self.station.wire.peers.items) bytes;
+  steps : (bytes : List ℕ) × StepsWithoutStop l._step (listening_at l.fn.self (g.W.Write.contents l.fn.writer)) (listening_at l.self (g.W.Write.contents l.writer)) l.fn.self.callers.once NeverGoesBack (peers_of l.fn.self.station.wire.peers.items) bytes;
 }

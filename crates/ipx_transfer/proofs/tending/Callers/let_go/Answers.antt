@@ -5,7 +5,7 @@ use Rattle.ipx_transfer.specs.Callers.{KeepsOne, raised_if}
 use Rattle.ipx_transfer.specs.Outlet.{left_of}
 use Rattle.ipx_transfer.specs.declared.callers.Caller.{Caller}
 use Rattle.ipx_transfer.proofs.Holding.{keeps_removed}
-use Rattle.ipx_transfer.proofs.listening.ListeningHost.let_go.Goals as goal
+use Rattle.ipx_transfer.proofs.tending.Callers.let_go.Goals as goal
 
 pub invariant_of-self : goal.invariant_of-self
 invariant_of-self g c =
@@ -13,26 +13,26 @@ invariant_of-self g c =
     record {
       room = omega (arith, c.remove-caller.ensures.capacity, old.room);
       one = subst (λ (l : List Caller). KeepsOne old.once l (left_of old.outlet)) (sym c.remove-caller.ensures.items)
-          (keeps_removed old.once old.callers.items (left_of old.outlet) c.args.place c.requires old.one);
+          (keeps_removed old.once old.held.items (left_of old.outlet) c.args.place c.requires old.one);
     }
 
 pub returns-clause-released : goal.returns-clause-released
 returns-clause-released g c =
-    let items = c.args.self.now.callers.items in
+    let items = c.args.self.now.held.items in
     let k = c.remove-caller.result in
     let at : slice_get items c.args.place ≡ Some k = slice_get_read items (length items) c.args.place k refl c.requires c.remove-caller.ensures.value in
     rw at c.let_link_go.ensures
 
 pub returns-clause-stops : goal.returns-clause-stops
 returns-clause-stops g c =
-    let items = c.args.self.now.callers.items in
+    let items = c.args.self.now.held.items in
     let k = c.remove-caller.result in
     let at : slice_get items c.args.place ≡ Some k = slice_get_read items (length items) c.args.place k refl c.requires c.remove-caller.ensures.value in
     rw at c.stop_of.ensures.stops
 
 pub returns-clause-counts : goal.returns-clause-counts
 returns-clause-counts g c =
-    let items = c.args.self.now.callers.items in
+    let items = c.args.self.now.held.items in
     let k = c.remove-caller.result in
     let at : slice_get items c.args.place ≡ Some k = slice_get_read items (length items) c.args.place k refl c.requires c.remove-caller.ensures.value in
     rw at (c.count_if-self.ensures ∙ ap (λ (b : Bool). raised_if b c.args.self.now.never_spoke) c.is_unheard.ensures)

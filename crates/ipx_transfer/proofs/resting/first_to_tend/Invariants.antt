@@ -1,8 +1,8 @@
 use Rattle.std.proofs.Common.{take}
 use Rattle.std.specs.Prelude.{All}
 use Rattle.ipx_transfer.specs.Tending.{JustStays}
-use Rattle.ipx_transfer.proofs.listening.ListeningHost.first_to_tend.Given as goal
+use Rattle.ipx_transfer.proofs.resting.first_to_tend.Given as goal
 
 -- nothing is to be done with those before
 abbrev pub invariant-loop-place : goal.invariant-loop-place
-invariant-loop-place g l = All (JustStays l.self.station.core) (take l.place l.self.callers.items)
+invariant-loop-place l = All (JustStays l.core) (take l.place l.callers)
