@@ -1,6 +1,7 @@
 //! The connections of a host that listens: they come, pass what they hold, are asked, and go.
 
 ghost use Rattle.std.specs.Prelude.{◌≡◌, ◌<◌, ◌≤◌, [], ℕ, List, false, is_some, length, map, position, remove, slice_get, slice_set, vec_capacity, IfOk, IfSome, IsTrue, OnErr, OnOk, Err, Ok};
+ghost use Rattle.ipx_site.specs.Moments.{IsToldIfDue};
 ghost use Rattle.spx_messages.specs.EndpointView.{held_at};
 ghost use Rattle.ipx_transfer.specs.Callers.{Admits, Asks, AsksOrCounts, EndedAlone, KeepsHeard, KeepsOne, LetsLinkGo, MakesRoom, NotesHeard, caller_of, heard_by, is_overdue, keeps_one_prop, raised_if};
 ghost use Rattle.ipx_transfer.specs.CallerActions.{is_unheard};
@@ -220,6 +221,9 @@ impl Callers {
 
     /// Tells how many connections went before anything was heard of them, once a minute at most.
     pub fn tell_silent<R: Log>(&mut self, rt: &R, moment: u64)
+        ensures told { IsToldIfDue self.old.never_spoke moment
+            self.old.of_never_spoke self.new.of_never_spoke }
+        ensures count { self.new.never_spoke ≡ self.old.never_spoke }
         ensures held { self.new.held ≡ self.old.held }
         ensures outlet { self.new.outlet ≡ self.old.outlet }
         ensures once { self.new.once ≡ self.old.once }
