@@ -40,7 +40,8 @@ fn run_listening<R: Net + Log + Clock + Eprint, W: Write>(
     // Where it ends well, the writer took the bodies that the takes gave, one behind the other.
     ensures well { result ≡ 0 → IfOk started.entry (λ l. (bytes : List ℕ) × ServesWell
         (listening_at l (W.contents writer.old))
-        l.callers.once (W.contents writer.new) NeverGoesBack (peers_of l.station.wire.peers.items) bytes) }
+        l.callers.once (W.contents writer.new)
+        NeverGoesBack (peers_of l.station.wire.peers.items) bytes) }
     ensures few { result ≤ 1 }
     ensures once { result ≡ 0 → IfOk started.entry (λ l. IsTrue l.callers.once) }
 {

@@ -217,7 +217,8 @@ impl<'a, R: Net + Log + Clock> ListeningHost<'a, R> {
         // took, and then what is left to write: also from one step to the next.
         ensures serves { (bytes : List ℕ) × Serves (listening_at self.old (W.contents writer.old))
             (listening_at self.new (W.contents writer.new))
-            self.old.callers.once result NeverGoesBack (peers_of self.old.station.wire.peers.items) bytes
+            self.old.callers.once result
+            NeverGoesBack (peers_of self.old.station.wire.peers.items) bytes
             × Writes (left_of self.old.callers.outlet ++ bytes) (left_of self.new.callers.outlet)
             (W.contents writer.old) (W.contents writer.new) }
         ensures written { result ≡ Stops.Ended
@@ -242,10 +243,12 @@ impl<'a, R: Net + Log + Clock + Eprint> ListeningHost<'a, R> {
         ensures serves { (stop : AStop) × (result ≡ stop_status stop) × (bytes : List ℕ) × Serves
             (listening_at self.old (W.contents writer.old))
             (listening_at self.new (W.contents writer.new))
-            self.old.callers.once stop NeverGoesBack (peers_of self.old.station.wire.peers.items) bytes
+            self.old.callers.once stop
+            NeverGoesBack (peers_of self.old.station.wire.peers.items) bytes
             × Writes (left_of self.old.callers.outlet ++ bytes) (left_of self.new.callers.outlet)
             (W.contents writer.old) (W.contents writer.new) }
-        ensures written { result ≡ 0 → IsTrue self.new.callers.once × (left_of self.new.callers.outlet ≡ []) }
+        ensures written { result ≡ 0
+            → IsTrue self.new.callers.once × (left_of self.new.callers.outlet ≡ []) }
         ensures few { result ≤ 1 }
         ensures once { self.new.callers.once ≡ self.old.callers.once }
     {
