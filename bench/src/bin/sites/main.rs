@@ -1,11 +1,12 @@
-//! The program `ipx` as processes over the loopback: packets a second through one router, beside a
-//! plain loop of `recv_from` and `send_to`; a transfer, from host to host and over two routers; and
-//! what a router does that has nothing to do.
+//! The program `ipx` as processes over the loopback: packets and frames a second through a router,
+//! beside a plain loop of `recv_from` and `send_to`; a transfer, from host to host and over two
+//! routers; and what a router does that has nothing to do.
 //!
 //! Its argument is the program. It takes two minutes, and leaves no process behind.
 
 mod floor;
 mod idle;
+mod load;
 mod packets;
 mod transfer;
 mod world;

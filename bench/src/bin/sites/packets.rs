@@ -1,17 +1,18 @@
-//! Packets a second through one process.
+//! Packets and frames a second through one process.
 
 use crate::Port;
+use crate::load::{Load, RECEIVER, SENDER, STATIONS};
 use crate::or_say;
-use crate::world::{Process, World, node};
+use crate::world::{Process, World};
 use std::io;
 use std::net::UdpSocket;
 use std::sync::atomic::{AtomicU64, Ordering};
 use std::thread;
 use std::time::{Duration, Instant};
 
-const SENDER: &str = "127.0.2.20";
-const RECEIVER: &str = "127.0.2.30";
+/// The bytes of packets, and of packets in frames: the last are the longest that one can have.
 const SIZES: [usize; 3] = [30, 576, 1500];
+const FRAMED_SIZES: [usize; 3] = [30, 576, 1497];
 /// How many packets are on their way at once: fewer than a socket's room holds.
 const WINDOW: u64 = 64;
 /// A repetition, and how often both sides are gone through in turn.
@@ -20,29 +21,13 @@ const TIMES: usize = 6;
 /// After this silence what is on its way is given up as lost.
 const SILENCE: Duration = Duration::from_millis(20);
 
-/// A packet from the sender's host to the receiver's, of so many bytes.
-fn packet(size: usize) -> Vec<u8> {
-    let mut bytes = vec![0; size];
-    bytes[..2].copy_from_slice(&[0xff, 0xff]);
-    bytes[2..4].copy_from_slice(&(size as u16).to_be_bytes());
-    bytes[5] = 4;
-    bytes[6..10].copy_from_slice(&[0, 0, 0, 0x22]);
-    bytes[10..16].copy_from_slice(&node(RECEIVER));
-    bytes[16..18].copy_from_slice(&[0x40, 0]);
-    bytes[18..22].copy_from_slice(&[0, 0, 0, 0x11]);
-    bytes[22..28].copy_from_slice(&node(SENDER));
-    bytes[28..30].copy_from_slice(&[0x50, 0]);
-    bytes
-}
-
-/// Counts packets of that size until the moment.
-fn count(socket: &UdpSocket, size: usize, end: Instant, received: &AtomicU64) -> io::Result<()> {
+/// Counts what comes of a load until the moment.
+fn count(socket: &UdpSocket, load: &Load, end: Instant, received: &AtomicU64) -> io::Result<()> {
     let mut room = [0; 1536];
     socket.set_read_timeout(Some(SILENCE))?;
     while Instant::now() < end {
         if let Ok((count, _)) = socket.recv_from(&mut room)
-            && count == size
-            && room[16..18] == [0x40, 0]
+            && load.is_come_as(&room[..count])
         {
             received.fetch_add(1, Ordering::Release);
         }
@@ -81,14 +66,13 @@ fn pour(
 }
 
 /// Packets a second, in at one address and out to the receiver.
-fn rate(world: &World, ends: &Ends, by: &str, size: usize) -> io::Result<f64> {
+fn rate(world: &World, ends: &Ends, by: &str, load: &Load) -> io::Result<f64> {
     let received = AtomicU64::new(0);
-    let bytes = packet(size);
     let start = Instant::now();
     let end = start + REPETITION;
     thread::scope(|scope| {
-        let counted = scope.spawn(|| count(&ends.receiver, size, end, &received));
-        pour(&ends.sender, (by, world.port), &bytes, end, &received)?;
+        let counted = scope.spawn(|| count(&ends.receiver, load, end, &received));
+        pour(&ends.sender, (by, world.port), &load.bytes, end, &received)?;
         counted.join().expect("the counting thread ends")
     })?;
     Ok(received.load(Ordering::Acquire) as f64 / start.elapsed().as_secs_f64())
@@ -100,13 +84,23 @@ struct Ends {
     receiver: UdpSocket,
 }
 
-/// Both processes: a router between the hosts, and the plain loop.
-fn start(world: &World) -> io::Result<(Process, Process, Ends)> {
-    let ports = [
+/// The ports of a router between the hosts.
+fn ports() -> [Port; 2] {
+    [
         Port::new("00000011", "127.0.2.1", SENDER),
         Port::new("00000022", "127.0.2.2", RECEIVER),
-    ];
-    let router = world.router("one", &ports)?;
+    ]
+}
+
+/// The same ports, each on a wire of frames.
+fn wires() -> [Port; 2] {
+    let [one, other] = ports();
+    [one.on_wire(STATIONS[0]), other.on_wire(STATIONS[1])]
+}
+
+/// Both processes: a router of these ports, and the plain loop, when the load passes by each.
+fn start(world: &World, ports: &[Port], load: &Load) -> io::Result<(Process, Process, Ends)> {
+    let router = world.router("one", ports)?;
     let port = world.port.to_string();
     let me = std::env::current_exe()?;
     let plain = world.start(&me, &["floor", "127.0.2.3", "127.0.2.4", RECEIVER, &port])?;
@@ -115,16 +109,16 @@ fn start(world: &World) -> io::Result<(Process, Process, Ends)> {
         receiver: UdpSocket::bind((RECEIVER, world.port))?,
     };
     for by in ["127.0.2.1", "127.0.2.3"] {
-        while_silent(world, &ends, by)?;
+        while_silent(world, &ends, by, load)?;
     }
     Ok((router, plain, ends))
 }
 
-/// Waits until packets pass, for five seconds at most.
-fn while_silent(world: &World, ends: &Ends, by: &str) -> io::Result<()> {
+/// Waits until the load passes, for five seconds at most.
+fn while_silent(world: &World, ends: &Ends, by: &str, load: &Load) -> io::Result<()> {
     let end = Instant::now() + Duration::from_secs(5);
     while Instant::now() < end {
-        if rate(world, ends, by, 30)? > 0.0 {
+        if rate(world, ends, by, load)? > 0.0 {
             return Ok(());
         }
     }
@@ -135,22 +129,22 @@ fn while_silent(world: &World, ends: &Ends, by: &str) -> io::Result<()> {
 }
 
 /// The best rates of both sides, which run in turn.
-fn both(world: &World, ends: &Ends, size: usize) -> io::Result<(f64, f64)> {
+fn both(world: &World, ends: &Ends, load: &Load) -> io::Result<(f64, f64)> {
     let (mut ours, mut plain) = (0.0_f64, 0.0_f64);
     for _ in 0..TIMES {
-        ours = ours.max(rate(world, ends, "127.0.2.1", size)?);
-        plain = plain.max(rate(world, ends, "127.0.2.3", size)?);
+        ours = ours.max(rate(world, ends, "127.0.2.1", load)?);
+        plain = plain.max(rate(world, ends, "127.0.2.3", load)?);
     }
     Ok((ours, plain))
 }
 
-fn print_rows(world: &World) -> io::Result<()> {
-    let (_router, _plain, ends) = start(world)?;
-    for size in SIZES {
-        let (ours, plain) = both(world, &ends, size)?;
+fn print_rows(world: &World, ports: &[Port], loads: &[Load; 3]) -> io::Result<()> {
+    let (_router, _plain, ends) = start(world, ports, &loads[0])?;
+    for load in loads {
+        let (ours, plain) = both(world, &ends, load)?;
         println!(
             "{:<36} {:>12.1} {:>12.1} {:>12.2} {:>12.2} {:>8.3}",
-            format!("one router, {size} bytes"),
+            load.name,
             ours / 1e3,
             plain / 1e3,
             1e6 / ours,
@@ -161,11 +155,14 @@ fn print_rows(world: &World) -> io::Result<()> {
     Ok(())
 }
 
-/// Prints a row for each size.
+/// Prints a row for each size, of packets and of frames.
 pub fn print(world: &mut World) {
     println!(
         "{:<36} {:>12} {:>12} {:>12} {:>12} {:>8}",
         "packets a second, by processes", "ours, k", "plain, k", "ours us", "plain us", "ratio"
     );
-    or_say("packets a second", print_rows(world));
+    let packets = SIZES.map(Load::packet);
+    or_say("packets a second", print_rows(world, &ports(), &packets));
+    let frames = FRAMED_SIZES.map(Load::frame);
+    or_say("frames a second", print_rows(world, &wires(), &frames));
 }

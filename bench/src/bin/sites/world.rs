@@ -20,11 +20,12 @@ const ADDRESSES: [&str; 10] = [
     "127.0.2.30",
 ];
 
-/// A port of a router, with one peer.
+/// A port of a router, with one peer; or of frames, with one end, where the router is that station.
 pub struct Port {
     network: &'static str,
     address: &'static str,
     peer: &'static str,
+    station: Option<[u8; 6]>,
 }
 
 impl Port {
@@ -33,7 +34,33 @@ impl Port {
             network,
             address,
             peer,
+            station: None,
         }
+    }
+
+    /// The same as a port of frames, in 802.2.
+    pub fn on_wire(self, station: [u8; 6]) -> Port {
+        Port {
+            station: Some(station),
+            ..self
+        }
+    }
+
+    /// Its table in the router's file.
+    fn table(&self, udp_port: u16) -> String {
+        let place = format!(
+            "[[port]]\nnetwork = \"{}\"\naddress = \"{}\"\nudp_port = {udp_port}\n",
+            self.network, self.address
+        );
+        let Some(station) = self.station else {
+            return format!("{place}peers = [\"{}\"]\n", self.peer);
+        };
+        let node = station.map(|byte| format!("{byte:02x}")).join(":");
+        format!(
+            "{place}kind = \"frames\"\nframe = \"802.2\"\nnode = \"{node}\"\n\
+             ends = [\"{}:{udp_port}\"]\n",
+            self.peer
+        )
     }
 }
 
@@ -110,10 +137,7 @@ impl World {
         let status = self.folder.join(format!("{name}.prom"));
         let mut text = format!("status = \"{}\"\n", status.display());
         for port in ports {
-            text += &format!(
-                "[[port]]\nnetwork = \"{}\"\naddress = \"{}\"\nudp_port = {}\npeers = [\"{}\"]\n",
-                port.network, port.address, self.port, port.peer
-            );
+            text += &port.table(self.port);
         }
         self.start(&self.program, &["route", &self.write(name, &text)?])
     }
