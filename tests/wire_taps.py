@@ -149,13 +149,21 @@ def are_all_there(ends):
     return until(lambda: all(len(end.take()) >= len(end.wanted) for end in ends), 5)
 
 
+def given_to(sent, port):
+    """What a port gave to UDP, of the frames at the loopback: behind 14 bytes of the device, 20 of IP and 8 of UDP."""
+    return [bytes_[42:] for bytes_ in sent if struct.unpack(">H", bytes_[34:36])[0] == port.place[1]]
+
+
 def check_dumps(wires, router, devices, dumps, wire):
     """What tcpdump saw at each TAP is what Linux read there, and what the router gave to UDP."""
+    # (tcpdump may be behind, on a machine that is loaded)
+    until(lambda: all(len(given_to(frames_of(wire.path), one.port)) >= len(one.heard) + len(one.wanted)
+                      and len(frames_of(dump.path)) >= len(one.heard) + len(one.wanted)
+                      for one, dump in zip(devices, dumps)), 10)
     sent = wire.frames()
     for one, dump in zip(devices, dumps):
         here = [bytes_ for bytes_ in dump.frames() if bytes_[6:12].hex() == one.port.node]
-        # Behind 14 bytes of the device, 20 of IP and 8 of UDP.
-        given = [bytes_[42:] for bytes_ in sent if struct.unpack(">H", bytes_[34:36])[0] == one.port.place[1]]
+        given = given_to(sent, one.port)
         one.take()
         # The three end one after another, and the router may say something between.
         least = min(len(here), len(one.all), len(given))
