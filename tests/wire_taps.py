@@ -88,9 +88,9 @@ class Dump:
 
     def __init__(self, world, device, *words):
         self.path = world.path(f"{device}.pcap")
-        # (as root: who changes its user outlives this process)
-        self.process = world.start(f"tcpdump-{device}", "-i", device, "-U", "-Z", "root", "--immediate-mode",
-                                   "-w", self.path, *words, program="tcpdump")
+        # As root: who changes its user outlives this process. With -s there is room for many packets at once.
+        self.process = world.start(f"tcpdump-{device}", "-i", device, "-U", "-Z", "root", "--immediate-mode", "-s", "2000",
+                                   "-B", "8192", "-w", self.path, *words, program="tcpdump")
         until(lambda: any("listening on" in line for line in self.process.said()), 5)
 
     def frames(self):
