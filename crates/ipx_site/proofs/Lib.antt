@@ -18,3 +18,4 @@ pub mod WireEnds
 pub mod WrittenStations
 pub mod Spots
 pub mod KindLists
+pub mod PortsRun

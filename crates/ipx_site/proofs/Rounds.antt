@@ -16,16 +16,16 @@ same_ports now times times_after old mid (inl h) = ap (λ (v : SparingView CoreV
 same_ports now times times_after old mid (inr h) = ap (λ (v : SparingView CoreView). length v.core.router.ports) h.2
 
 pub is_round : {K A : Type 0} (tells : K → ℕ → K → Type 0) (clock told tick clock_after : K) (ways here : Ways A)
-    (i j n : ℕ) (now times times_after : ℕ) (old mid new : SparingView CoreView) (b : Burst) → tells clock now told → tick ≡ told
+    (i j n : ℕ) (now moment times times_after : ℕ) (old mid new : SparingView CoreView) (b : Burst) → tells clock now told → tick ≡ told → moment ≡ now
     → AsksAgain now times times_after old mid → here ≡ ways → j ≡ i
     → BurstsBy (HearsSparingly RouterHears) (MissesBelow Misses) (GivesBelow RouterGives) (WithholdsBelow Withholds) tells (length mid.core.router.ports) here 256 b j n tick clock_after mid new
-    → IsRound clock clock_after tells ways i n times times_after old new b
-is_round {A = A} tells clock told tick clock_after ways here i j n now times times_after old mid new b h e asks f g bursts =
+    → IsRound clock clock_after tells ways i n times times_after old new moment b
+is_round {A = A} tells clock told tick clock_after ways here i j n now moment times times_after old mid new b h e m asks f g bursts =
     let at = subst (λ ports. BurstsBy (HearsSparingly RouterHears) (MissesBelow Misses) (GivesBelow RouterGives) (WithholdsBelow Withholds) tells ports here 256 b j n tick clock_after mid new)
     (same_ports now times times_after old mid asks) bursts in
     let by = subst (λ (it : Ways A). BurstsBy (HearsSparingly RouterHears) (MissesBelow Misses) (GivesBelow RouterGives) (WithholdsBelow Withholds) tells (length old.core.router.ports) it 256 b j n tick clock_after mid new) f at in
     let kept = subst (λ it. BurstsBy (HearsSparingly RouterHears) (MissesBelow Misses) (GivesBelow RouterGives) (WithholdsBelow Withholds) tells (length old.core.router.ports) ways 256 b it n tick clock_after mid new) g by in
-    (now, tick, mid, subst (λ it. tells clock now it) (sym e) h, asks, kept)
+    (now, tick, mid, subst (λ it. tells clock now it) (sym e) h, m, asks, kept)
 
 -- how long a router waits, by how its burst ended
 pub rests : {K : Type 0} (todo : ℕ → Type 0) (clock clock' : K) (tells : K → ℕ → K → Type 0) (asked asked' : Option ℕ)

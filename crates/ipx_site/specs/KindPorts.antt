@@ -5,8 +5,14 @@ use Rattle.std.specs.List.{flat_map}
 use Rattle.ipx_frames.specs.declared.wire.WirePort.{WirePort}
 use Rattle.ipx_hub.specs.Heard.{HubView, new_hub}
 use Rattle.ipx_carrier.specs.Turns.{peers_of}
-use Rattle.ipx_wires.specs.WirePlaces.{ends_behind}
-use Rattle.ipx_site.specs.declared.router_ports.RouterPorts.{RouterPorts}
+use Rattle.ipx_wires.specs.WirePlaces.{places_behind}
+use Rattle.ipx_wires.specs.declared.sockets.Place.{Place}
+use Rattle.ipx_carrier.specs.declared.datagrams.Datagrams as OfDevice
+use Rattle.ipx_wires.specs.declared.end_sockets.EndSockets as OfSockets
+use Rattle.ipx_wires.specs.declared.sockets.WireSockets.{WireSockets}
+use Rattle.ipx_site.specs.declared.peers.PeersOnly.{PeersOnly}
+use Rattle.ipx_site.specs.declared.sockets.SiteSockets.{SiteSockets}
+use Rattle.ipx_site.specs.PortsView.{SitePortsRun}
 use Rattle.ipx_site.specs.declared.router_ports.Spot.{Spot}
 use Rattle.ipx_site.specs.declared.router_ports.Spot.TheVariants.{Datagrams, Wire}
 use Rattle.ipx_site.specs.declared.site.FramesPort.{FramesPort}
@@ -51,16 +57,16 @@ wire_port_of p = record { own = p.node; network = p.network; encapsulation = p.e
 abbrev pub hub_of : FramesPort → HubView
 hub_of p = new_hub (wire_port_of p) p.joined
 
--- how many ends the wire of each has
-abbrev pub end_counts : List FramesPort → List ℕ
-end_counts ports = map (λ p. length p.ends.items) ports
+-- where the ends of the wire of each are
+abbrev pub end_places : List FramesPort → List (List Place)
+end_places ports = map (λ p. p.ends.items) ports
 
 -- the ports of a file as those of a router: each of RFC 1234 has its peers, its guard, and a socket with the
 -- port of UDP of its peers; each on a wire has its hub, and a socket with the places of its ends
-pub record ArePortsBound (ports : List PortOfKind) (r : RouterPorts) : Type 0 where
+pub record ArePortsBound {gd : OfDevice.Ghosts (PeersOnly SiteSockets)} {ge : OfSockets.Ghosts WireSockets} (ports : List PortOfKind) (r : SitePortsRun gd ge) : Type 0 where
   pub spots : r.spots.items ≡ spots_of ports
   pub peers : peers_of r.datagrams.peers.items ≡ site_peers (datagram_ports ports)
   pub guards : GuardPorts (datagram_ports ports) r.datagrams.device.guards.items
   pub sockets : map (λ s. s.udp_port) r.datagrams.device.device.sockets.items ≡ udp_ports (datagram_ports ports)
   pub hubs : r.wires.hubs.items ≡ map hub_of (wire_ports ports)
-  pub ends : ends_behind r.wires.sockets.wires.items ≡ end_counts (wire_ports ports)
+  pub ends : places_behind r.wires.sockets.wires.items ≡ end_places (wire_ports ports)

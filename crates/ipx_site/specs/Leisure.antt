@@ -4,7 +4,12 @@ use Rattle.ipx_carrier.specs.RouterCore.{CoreView}
 use Rattle.ipx_router.specs.Telling.{is_due}
 use Rattle.ipx_site.specs.declared.figures.Figures.{Figures}
 use Rattle.ipx_site.specs.declared.router_counts.RouterCounts.{RouterCounts}
-use Rattle.ipx_site.specs.declared.router_ports.RouterPorts.{RouterPorts}
+use Rattle.ipx_carrier.specs.declared.datagrams.Datagrams as OfDevice
+use Rattle.ipx_wires.specs.declared.end_sockets.EndSockets as OfSockets
+use Rattle.ipx_wires.specs.declared.sockets.WireSockets.{WireSockets}
+use Rattle.ipx_site.specs.declared.peers.PeersOnly.{PeersOnly}
+use Rattle.ipx_site.specs.declared.sockets.SiteSockets.{SiteSockets}
+use Rattle.ipx_site.specs.PortsView.{SitePortsRun}
 use Rattle.ipx_site.specs.declared.troubles.Trouble.{Trouble}
 use Rattle.ipx_site.specs.declared.troubles.Troubles.{Troubles}
 use Rattle.ipx_carrier.specs.Counting.{counted}
@@ -47,11 +52,11 @@ happened_in f = record {
 }
 
 -- how many datagrams and frames the system refused
-abbrev pub lost_in : RouterPorts → ℕ
+abbrev pub lost_in : {gd : OfDevice.Ghosts (PeersOnly SiteSockets)} {ge : OfSockets.Ghosts WireSockets} → SitePortsRun gd ge → ℕ
 lost_in r = r.datagrams.device.device.faults + (r.wires.sockets.failures + r.wires.sockets.faults)
 
 -- by what it tallies, what its core counts, and what its ports kept back, did not send and lost
-abbrev pub happened : RouterCounts → SparingView CoreView → RouterPorts → Happened
+abbrev pub happened : {gd : OfDevice.Ghosts (PeersOnly SiteSockets)} {ge : OfSockets.Ghosts WireSockets} → RouterCounts → SparingView CoreView → SitePortsRun gd ge → Happened
 happened tally core ports = record {
   strangers = ports.datagrams.device.kept.strangers.count;
   forged = ports.datagrams.device.kept.forged.count;

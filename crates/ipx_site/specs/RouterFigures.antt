@@ -8,7 +8,12 @@ use Rattle.ipx_carrier.specs.declared.fault.RunFault.TheVariants.{Device, OutOfM
 use Rattle.ipx_site.specs.Sparing.{SparingView}
 use Rattle.ipx_site.specs.declared.figures.Figures.{Figures}
 use Rattle.ipx_site.specs.declared.router_counts.RouterCounts.{RouterCounts}
-use Rattle.ipx_site.specs.declared.router_ports.RouterPorts.{RouterPorts}
+use Rattle.ipx_carrier.specs.declared.datagrams.Datagrams as OfDevice
+use Rattle.ipx_wires.specs.declared.end_sockets.EndSockets as OfSockets
+use Rattle.ipx_wires.specs.declared.sockets.WireSockets.{WireSockets}
+use Rattle.ipx_site.specs.declared.peers.PeersOnly.{PeersOnly}
+use Rattle.ipx_site.specs.declared.sockets.SiteSockets.{SiteSockets}
+use Rattle.ipx_site.specs.PortsView.{SitePortsRun}
 use Rattle.ipx_carrier.specs.declared.report.Burst.{Burst}
 use Rattle.ipx_site.specs.declared.watch.Known.{Known}
 
@@ -33,7 +38,7 @@ with_burst b t = with_fault b.fault (record t { unmapped = counted (t.unmapped +
 -- the figures of a router at a moment, in milliseconds since its start, besides how often it happened of
 -- which a line is told: by what it counts itself, what its core counts, what its device kept back, how many
 -- datagrams the system took of it, and what it knew as it looked last
-pub record AreFigures (tally : RouterCounts) (core : SparingView CoreView) (ports : RouterPorts) (known : Known) (now : ℕ) (f : Figures) : Type 0 where
+pub record AreFigures {gd : OfDevice.Ghosts (PeersOnly SiteSockets)} {ge : OfSockets.Ghosts WireSockets} (tally : RouterCounts) (core : SparingView CoreView) (ports : SitePortsRun gd ge) (known : Known) (now : ℕ) (f : Figures) : Type 0 where
   -- each datagram that was heard became something. A query that came too often is none of them
   pub heard : f.heard ≡ counted (outcomes_in core.core.fates)
   pub fates : f.fates ≡ core.core.fates

@@ -1,12 +1,15 @@
 -- The ports of a router that runs, of both kinds: by what a packet is sent at each, and what is kept from
 -- the core. All of it is own.
-use Rattle.std.specs.Prelude.{◌<◌, ◌+◌, ℕ, List, Option, Some, None, option_map, map, slice_get}
-use Rattle.ipx_carrier.specs.Device.{Datagram}
-use Rattle.ipx_carrier.specs.Turns.{Given, Peers, Ways, by_ip}
+use Rattle.std.specs.Prelude.{◌≡◌, ◌<◌, ℕ, List, [], ◌∷◌, Option, Some, None, Result, IfSome, MatchResult, option_map, map, slice_get, slice_index}
+use Rattle.ipx_wire.specs.declared.address.Node.{Node}
+use Rattle.ipx_carrier.specs.declared.fault.DeviceFault.{DeviceFault}
+use Rattle.ipx_carrier.specs.declared.segments.PacketSent.{PacketSent}
+use Rattle.ipx_carrier.specs.Device.{Datagram, Passes, Traffic, received_in}
+use Rattle.ipx_carrier.specs.Segments.{SendsFrontOf}
+use Rattle.ipx_carrier.specs.Turns.{Given, Peers, Ways, by_ip, copies_of}
 use Rattle.ipx_frames.specs.declared.wire.WirePort.{WirePort}
-use Rattle.ipx_wires.specs.OnWires.{WireFrame, by_frames}
-use Rattle.ipx_site.specs.SitePeers.{kept_in}
-use Rattle.ipx_site.specs.declared.peers.KeptBack.{KeptBack}
+use Rattle.ipx_wires.specs.EndTraffic.{EndFrame}
+use Rattle.ipx_wires.specs.OnWires.{HearsAnswerOf, SendsPacket, WireFrame, WiresView, by_frames}
 use Rattle.ipx_site.specs.declared.router_ports.Spot.{Spot}
 use Rattle.ipx_site.specs.declared.router_ports.Spot.TheVariants.{Datagrams, Wire}
 
@@ -42,6 +45,28 @@ count_at datagrams wires (Wire k) = wires
 abbrev pub fits : ℕ → ℕ → Spot → Type 0
 fits datagrams wires spot = spot_place spot < count_at datagrams wires spot
 
--- how much was kept from the core: what the guards did, frames that a hub did, and what came from no end
-abbrev pub kept_by_kind : KeptBack → ℕ → ℕ → ℕ
-kept_by_kind guarded frames strangers = kept_in guarded + (frames + strangers)
+-- a packet is sent by where its port is: by a datagram to each IP address that stands for its node, or by
+-- the first of them where the device failed; or by its frame on a wire. What passes at ports of the other
+-- kind is nothing
+abbrev pub SendsByKind : Option Spot → Node → List ℕ → Result PacketSent DeviceFault → Peers → List ℕ → ℕ → Option Traffic → Option Traffic → WiresView → WiresView → Type 0
+SendsByKind None node packet result peers ends now before after old new = ⊥
+SendsByKind (Some (Datagrams k)) node packet result peers ends now before after old new =
+    MatchResult result
+    (λ _. Passes before after [] (copies_of (by_ip peers) (record { port = k; node = node; bytes = packet })))
+    (λ _. SendsFrontOf (copies_of (by_ip peers) (record { port = k; node = node; bytes = packet })) before after)
+    × (new ≡ old)
+SendsByKind (Some (Wire k)) node packet result peers ends now before after old new =
+    MatchResult result (λ sent. SendsPacket (slice_index ends k) now k node packet sent old new) (λ _. ⊥)
+    × (after ≡ before)
+
+-- likewise what comes for the core, into so much room: a datagram that waited, or a packet in a frame
+abbrev pub ReceivesByKind : Option Spot → ℕ → List ℕ → Result (Option ℕ) DeviceFault → List ℕ → ℕ → Option Traffic → Option Traffic → WiresView → WiresView → Type 0
+ReceivesByKind None most room result ends now before after old new = ⊥
+ReceivesByKind (Some (Datagrams k)) most room result ends now before after old new =
+    MatchResult result
+    (λ count. Passes before after (record { port = k; bytes = received_in room count } ∷ []) [])
+    (λ _. after ≡ before) × (new ≡ old)
+ReceivesByKind (Some (Wire k)) most room result ends now before after old new =
+    MatchResult result (λ up. (came : Option EndFrame) × IfSome came (λ f. f.port ≡ k)
+    × HearsAnswerOf (slice_index ends k) now most came room up old new) (λ _. ⊥)
+    × (after ≡ before)

@@ -18,12 +18,13 @@ AsksAgain now times times_after old new =
     ⊎ ((IsToAskAgain times now → ⊥) × (times_after ≡ times) × (new ≡ old))
 
 -- one round, at the moment that the clock tells: it asks again where it is time, and takes a burst of
--- at most 256 turns, this one, in which packets are sent these ways, and its ports keep back from the one count to the other. Its core
+-- at most 256 turns, this one, in which packets are sent these ways, and its ports keep back from the one
+-- count to the other; what comes and goes on its wires does so at that moment. Its core
 -- lets those who ask for all that it knows do so in turn
-abbrev pub IsRound : {K A : Type 0} → K → K → (K → ℕ → K → Type 0) → Ways A → ℕ → ℕ → ℕ → ℕ → SparingView CoreView → SparingView CoreView → Burst → Type 0
-IsRound {K} clock clock_after tells ways kept kept_after times times_after old new b = (now : ℕ) × (tick : K)
+abbrev pub IsRound : {K A : Type 0} → K → K → (K → ℕ → K → Type 0) → Ways A → ℕ → ℕ → ℕ → ℕ → SparingView CoreView → SparingView CoreView → ℕ → Burst → Type 0
+IsRound {K} clock clock_after tells ways kept kept_after times times_after old new moment b = (now : ℕ) × (tick : K)
     × (mid : SparingView CoreView) × tells clock now tick
-    × AsksAgain now times times_after old mid
+    × (moment ≡ now) × AsksAgain now times times_after old mid
     × BurstsBy (HearsSparingly RouterHears) (MissesBelow Misses) (GivesBelow RouterGives) (WithholdsBelow Withholds) tells
     (length old.core.router.ports) ways 256 b kept kept_after tick clock_after mid new
 

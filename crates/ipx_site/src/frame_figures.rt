@@ -1,6 +1,6 @@
 //! What a router counts of frames on its wires, as a text for Prometheus.
 
-use crate::router_ports::{RouterPorts, Spot};
+use crate::router_ports::{SiteRouterPorts, Spot};
 use crate::wire_totals::came_in;
 use ipx_frames::{Encapsulation, WireCounts};
 use ipx_hub::Hub;
@@ -17,7 +17,7 @@ const ALL: [Encapsulation; 4] = [
 ];
 
 /// The hub of a port that is on a wire.
-fn hub_at(ports: &RouterPorts, spot: Spot) -> Option<&Hub> {
+fn hub_at(ports: &SiteRouterPorts, spot: Spot) -> Option<&Hub> {
     match spot {
         Spot::Datagrams(_) => None,
         Spot::Wire(place) => ports.wires().hubs().get(place),
@@ -61,7 +61,7 @@ fn put_encapsulations(
 }
 
 /// Writes what became of the frames that came to each port.
-fn put_frames(text: &mut String, ports: &RouterPorts) -> Result<(), AllocError> {
+fn put_frames(text: &mut String, ports: &SiteRouterPorts) -> Result<(), AllocError> {
     write!(
         text,
         "# HELP ipx_frames_total Frames that came on a wire, by what became of them at the port.\n"
@@ -77,7 +77,7 @@ fn put_frames(text: &mut String, ports: &RouterPorts) -> Result<(), AllocError> 
 }
 
 /// Writes how many frames went on from one end of a wire to others.
-fn put_passed(text: &mut String, ports: &RouterPorts) -> Result<(), AllocError> {
+fn put_passed(text: &mut String, ports: &SiteRouterPorts) -> Result<(), AllocError> {
     write!(
         text,
         "# HELP ipx_frames_passed_total Frames that were to go on from one end to others.\n"
@@ -97,7 +97,7 @@ fn put_passed(text: &mut String, ports: &RouterPorts) -> Result<(), AllocError> 
 }
 
 /// Writes how many packets of the router no frame could carry.
-fn put_refused(text: &mut String, ports: &RouterPorts) -> Result<(), AllocError> {
+fn put_refused(text: &mut String, ports: &SiteRouterPorts) -> Result<(), AllocError> {
     write!(
         text,
         "# HELP ipx_frames_refused_total Packets that no frame could carry.\n"
@@ -117,7 +117,7 @@ fn put_refused(text: &mut String, ports: &RouterPorts) -> Result<(), AllocError>
 }
 
 /// Writes what the sockets of all wires counted.
-fn put_wire_sockets(text: &mut String, ports: &RouterPorts) -> Result<(), AllocError> {
+fn put_wire_sockets(text: &mut String, ports: &SiteRouterPorts) -> Result<(), AllocError> {
     let sockets = ports.wires().sockets();
     let strangers = sockets.strangers();
     let sent = sockets.sent();
@@ -136,7 +136,7 @@ fn put_wire_sockets(text: &mut String, ports: &RouterPorts) -> Result<(), AllocE
 }
 
 /// Writes what a router counts of frames behind its other figures; nothing where it is on no wire.
-pub fn put_frame_figures(text: &mut String, ports: &RouterPorts) -> Result<(), AllocError> {
+pub fn put_frame_figures(text: &mut String, ports: &SiteRouterPorts) -> Result<(), AllocError> {
     if ports.wires().hubs().is_empty() {
         return Ok(());
     }
@@ -160,7 +160,7 @@ fn tell_encapsulations_at<R: Log>(rt: &R, number: usize, hub: &Hub) {
 }
 
 /// Tells which other encapsulations came to each port.
-pub fn tell_encapsulations<R: Log>(rt: &R, ports: &RouterPorts) {
+pub fn tell_encapsulations<R: Log>(rt: &R, ports: &SiteRouterPorts) {
     for (place, spot) in ports.spots().iter().enumerate() {
         if let Some(hub) = hub_at(ports, *spot) {
             tell_encapsulations_at(rt, place + 1, hub);

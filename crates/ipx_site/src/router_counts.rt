@@ -7,7 +7,7 @@ ghost use Rattle.ipx_site.specs.Leisure.{happened, happened_in, lost_in};
 ghost use Rattle.ipx_site.specs.RouterFigures.{AreFigures, no_counts, with_burst, with_memory_fault};
 
 use crate::figures::Figures;
-use crate::router_ports::RouterPorts;
+use crate::router_ports::SiteRouterPorts;
 use crate::sparing::Sparing;
 use crate::watch::Known;
 use crate::wire_totals::{in_other_encapsulations, unframed};
@@ -31,7 +31,7 @@ fn heard_in(fates: &OutcomeCounts) -> u64
 }
 
 /// How often the system refused a datagram or a frame.
-fn faults_of(ports: &RouterPorts) -> u64
+fn faults_of(ports: &SiteRouterPorts) -> u64
     ensures { result ≡ counted (lost_in ports.now) }
 {
     let sockets = ports.wires().sockets();
@@ -82,7 +82,7 @@ impl RouterCounts {
     pub fn figures(
         &self,
         core: &Sparing<RouterCore>,
-        ports: &RouterPorts,
+        ports: &SiteRouterPorts,
         known: &Known,
         now: u64,
     ) -> Figures

@@ -13,7 +13,7 @@ use crate::files::load_site;
 use crate::peers::{Guard, PeersOnly};
 use crate::readiness::{Readiness, WaitFault};
 use crate::room::{SOCKET_ROOM, ask_room};
-use crate::router_ports::{RouterPorts, Spot};
+use crate::router_ports::{RouterPorts, SiteRouterPorts, Spot};
 use crate::running_router::{Parts, RunningRouter};
 use crate::site::{Accept, PortOfKind, SiteFile, SitePort};
 use crate::sockets::SiteSockets;
@@ -171,8 +171,9 @@ fn tell_port<R: Log>(rt: &R, number: usize, line: &str, room: u32) {
     }
 }
 
-/// How many bytes the socket of a port holds, as the system said; 0 where it did not say.
-fn room_at(ports: &RouterPorts, spot: Spot) -> u32 {
+/// How many bytes the socket of a port holds, as the system said; 0 where it did not say. That of a wire
+/// is asked to hold more now.
+fn room_at(ports: &SiteRouterPorts, spot: Spot) -> u32 {
     match spot {
         Spot::Datagrams(place) => ports.device().device().room(place).unwrap_or(0),
         Spot::Wire(place) => match ports.wires().sockets().descriptor(place) {
@@ -182,7 +183,7 @@ fn room_at(ports: &RouterPorts, spot: Spot) -> u32 {
     }
 }
 
-fn tell_ports<R: Log>(rt: &R, lines: &[String], ports: &RouterPorts) {
+fn tell_ports<R: Log>(rt: &R, lines: &[String], ports: &SiteRouterPorts) {
     for (place, line) in lines.iter().enumerate() {
         if let Some(spot) = ports.spots().get(place) {
             tell_port(rt, place + 1, line, room_at(ports, *spot));
@@ -214,7 +215,7 @@ fn bound_ports<R: Net>(
     rt: &R,
     alloc: Global,
     ports: &[PortOfKind],
-) -> Result<RouterPorts, RouteFault>
+) -> Result<SiteRouterPorts, RouteFault>
     ensures { IfOk result (ArePortsBound ports.now) }
 {
     let spots = spots_of(alloc, ports)?;
@@ -224,7 +225,11 @@ fn bound_ports<R: Net>(
 }
 
 /// What waits for the sockets of ports.
-fn ready_for<R: Net>(rt: &R, alloc: Global, ports: &RouterPorts) -> Result<Readiness, RouteFault>
+fn ready_for<R: Net>(
+    rt: &R,
+    alloc: Global,
+    ports: &SiteRouterPorts,
+) -> Result<Readiness, RouteFault>
     ensures { IfOk result (λ r. r.watched
         ≡ counted (length ports.now.datagrams.device.device.sockets.items
         + length ports.now.wires.sockets.wires.items)) }

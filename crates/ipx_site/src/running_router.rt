@@ -1,6 +1,7 @@
 //! A router with its sockets, and what is to be done besides its turns.
 
 ghost use Rattle.std.specs.Prelude.{◌≡◌, length, map};
+ghost use Rattle.ipx_carrier.specs.Turns.{peers_of};
 ghost use Rattle.ipx_site.specs.Leisure.{IsLeisure, IsToDo, agenda, counts_told, happened, happened_in, look_after};
 ghost use Rattle.ipx_site.specs.Moments.{AreToldIfDue};
 ghost use Rattle.ipx_site.specs.SitePorts.{access_by};
@@ -15,7 +16,7 @@ use crate::frame_figures::{put_frame_figures, tell_encapsulations};
 use crate::moments::{LONGEST, end_of, is_over, sooner, time_to};
 use crate::readiness::{Readiness, WaitFault};
 use crate::router_counts::RouterCounts;
-use crate::router_ports::RouterPorts;
+use crate::router_ports::SiteRouterPorts;
 use crate::sparing::Sparing;
 use crate::status::write_whole;
 use crate::troubles::Troubles;
@@ -41,7 +42,7 @@ const TURNS: u32 = 256;
 #[derive(Drop)]
 pub struct RunningRouter<'a, R: SystemClock> {
     core: Sparing<RouterCore>,
-    ports: RouterPorts,
+    ports: SiteRouterPorts,
     clock: SteadyClock<'a, R>,
     ready: Readiness,
     status: Option<String>,
@@ -63,7 +64,7 @@ pub struct RunningRouter<'a, R: SystemClock> {
 #[derive(Drop)]
 pub struct Parts<'a, R: SystemClock> {
     pub core: Sparing<RouterCore>,
-    pub ports: RouterPorts,
+    pub ports: SiteRouterPorts,
     pub clock: SteadyClock<'a, R>,
     pub ready: Readiness,
     pub status: Option<String>,
@@ -225,10 +226,14 @@ impl<'a, R: SystemClock> RunningRouter<'a, R> {
         ensures core { IsRound self.old.clock self.new.clock
             NeverGoesBack (ways_in self.old.ports)
             (kept_in_ports self.old.ports) (kept_in_ports self.new.ports)
-            self.old.asked self.new.asked self.old.core self.new.core result }
+            self.old.asked self.new.asked self.old.core self.new.core
+            self.new.ports.wires.moment result }
         ensures ready { self.new.ready ≡ self.old.ready }
         // By what packets are sent, and who may speak, stays.
         ensures ways { ways_in self.new.ports ≡ ways_in self.old.ports }
+        ensures peers { peers_of self.new.ports.datagrams.peers.items
+            ≡ peers_of self.old.ports.datagrams.peers.items }
+        ensures spots { self.new.ports.spots.items ≡ self.old.ports.spots.items }
         ensures access { map access_by self.new.ports.datagrams.device.guards.items
             ≡ map access_by self.old.ports.datagrams.device.guards.items }
     {
@@ -253,13 +258,17 @@ impl<'a, R: SystemClock> RunningRouter<'a, R> {
         ensures core { (between : SteadyClock R) × (burst : Burst)
             × IsRound self.old.clock between NeverGoesBack (ways_in self.old.ports)
             (kept_in_ports self.old.ports) (kept_in_ports self.new.ports)
-            self.old.asked self.new.asked self.old.core self.new.core burst
+            self.old.asked self.new.asked self.old.core self.new.core
+            self.new.ports.wires.moment burst
             × SleepsBehind (IsToDo (agenda self.new.asked self.new.looked self.new.responses
             self.new.written self.new.core self.new.troubles
             (happened self.new.tally self.new.core self.new.ports)))
             between self.new.clock NeverGoesBack
             self.old.ready.asked self.new.ready.asked burst.fault burst.quiet }
         ensures ways { ways_in self.new.ports ≡ ways_in self.old.ports }
+        ensures peers { peers_of self.new.ports.datagrams.peers.items
+            ≡ peers_of self.old.ports.datagrams.peers.items }
+        ensures spots { self.new.ports.spots.items ≡ self.old.ports.spots.items }
         ensures access { map access_by self.new.ports.datagrams.device.guards.items
             ≡ map access_by self.old.ports.datagrams.device.guards.items }
     {

@@ -1,8 +1,8 @@
 //! The ports of a router on wires: their sockets and their hubs.
 
-ghost use Rattle.std.specs.Prelude.{◌≡◌, ◌++◌, ◌∷◌, [], IfOk, OnOk, length, map};
-ghost use Rattle.ipx_site.specs.KindPorts.{end_counts, hub_of, wire_port_of, wire_ports};
-ghost use Rattle.ipx_wires.specs.WirePlaces.{ends_behind};
+ghost use Rattle.std.specs.Prelude.{◌≡◌, ◌++◌, ◌∷◌, [], IfOk, OnOk, map};
+ghost use Rattle.ipx_site.specs.KindPorts.{end_places, hub_of, wire_port_of, wire_ports};
+ghost use Rattle.ipx_wires.specs.WirePlaces.{places_behind};
 
 use crate::bind_fault::{BindFault, obstacle_of};
 use crate::site::{FramesPort, PortOfKind};
@@ -10,6 +10,7 @@ use ipx_frames::WirePort;
 use ipx_hub::Hub;
 use ipx_wires::{Place, WireSockets, Wires};
 use std::alloc::{AllocError, Global};
+use std::io::ErrorKind;
 use std::net::Net;
 
 /// A port of a file as one on a wire.
@@ -45,8 +46,8 @@ fn bind_wire<R: Net>(
     number: usize,
     port: &FramesPort,
 ) -> Result<(), BindFault>
-    ensures { OnOk result (ends_behind sockets.new.wires.items
-        ≡ ends_behind sockets.old.wires.items ++ length port.now.ends.items ∷ []) }
+    ensures { OnOk result (places_behind sockets.new.wires.items
+        ≡ places_behind sockets.old.wires.items ++ port.now.ends.items ∷ []) }
 {
     let Ok(ends) = Vec::from_slice(alloc, &port.ends) else {
         return Err(BindFault::OutOfMemory);
@@ -57,6 +58,7 @@ fn bind_wire<R: Net>(
     };
     match sockets.bind(rt, at, ends) {
         Ok(()) => Ok(()),
+        Err(error) if error.kind() == ErrorKind::OutOfMemory => Err(BindFault::OutOfMemory),
         Err(error) => Err(BindFault::Port(number, obstacle_of(error.kind()))),
     }
 }
@@ -65,7 +67,7 @@ fn bind_wire<R: Net>(
 /// stays bound.
 fn bind_wires<R: Net>(rt: &R, alloc: Global, ports: &[PortOfKind]) -> Result<WireSockets, BindFault>
     ensures { IfOk result (λ s.
-        ends_behind s.wires.items ≡ end_counts (wire_ports ports.now)) }
+        places_behind s.wires.items ≡ end_places (wire_ports ports.now)) }
 {
     let mut sockets = WireSockets::new(alloc);
     for (place, port) in ports.iter().enumerate() {
@@ -84,7 +86,7 @@ pub fn wires_of<R: Net>(
 ) -> Result<Wires<WireSockets>, BindFault>
     ensures hubs { IfOk result (λ w. w.hubs.items ≡ map hub_of (wire_ports ports.now)) }
     ensures ends { IfOk result (λ w.
-        ends_behind w.sockets.wires.items ≡ end_counts (wire_ports ports.now)) }
+        places_behind w.sockets.wires.items ≡ end_places (wire_ports ports.now)) }
 {
     let Ok(hubs) = hubs_of(alloc, ports) else {
         return Err(BindFault::OutOfMemory);

@@ -2,7 +2,7 @@
 
 ghost use Rattle.std.specs.Prelude.{◌≡◌};
 ghost use Rattle.ipx_carrier.specs.Counting.{counted};
-ghost use Rattle.ipx_site.specs.WireTotals.{encapsulated_otherwise, encapsulated_otherwise_in, unframed_in};
+ghost use Rattle.ipx_site.specs.WireTotals.{came_as, encapsulated_otherwise, encapsulated_otherwise_in, unframed_in};
 
 use ipx_frames::{Encapsulation, WireCounts};
 use ipx_hub::Hub;
@@ -42,7 +42,9 @@ pub fn in_other_encapsulations(hubs: &[Hub]) -> u64
 }
 
 /// How many came in an encapsulation to a port that has another one.
-pub fn came_in(counts: WireCounts, encapsulation: Encapsulation) -> u64 {
+pub fn came_in(counts: WireCounts, encapsulation: Encapsulation) -> u64
+    ensures { result ≡ came_as counts encapsulation }
+{
     match encapsulation {
         Encapsulation::Raw => counts.in_raw,
         Encapsulation::Llc => counts.in_llc,

@@ -20,3 +20,7 @@ end_at_place from ends = position (is_place from) ends
 -- how many ends each socket has
 abbrev pub ends_behind : List WireSocket → List ℕ
 ends_behind wires = map (λ w. length w.ends.items) wires
+
+-- where the ends of each are
+abbrev pub places_behind : List WireSocket → List (List Place)
+places_behind wires = map (λ w. w.ends.items) wires

@@ -3,7 +3,7 @@
 ghost use Rattle.std.specs.Prelude.{◌≡◌, ◌<◌, ◌≤◌, ◌↔◌, ◌++◌, ◌∷◌, [], IfOk, IfSome, IsSome, OnErr, OnOk, length, slice_index};
 ghost use Rattle.ipx_carrier.specs.Counting.{raised};
 ghost use Rattle.ipx_wires.specs.EndTraffic.{failures_counted};
-ghost use Rattle.ipx_wires.specs.WirePlaces.{end_at_place, ends_behind, is_place};
+ghost use Rattle.ipx_wires.specs.WirePlaces.{end_at_place, ends_behind, is_place, places_behind};
 
 use crate::end_sockets::{EndSockets, FrameCame};
 use ipx_carrier::{DeviceFault, bound_socket, place_of, raise};
@@ -65,7 +65,7 @@ fn end_at(ends: &[Place], from: SocketAddr) -> Option<usize>
 impl WireSockets {
     /// Sockets without a port.
     pub fn new(alloc: Global) -> WireSockets
-        ensures none { ends_behind result.wires.items ≡ [] }
+        ensures none { result.wires.items ≡ [] }
         ensures fresh { (result.sent ≡ 0) × (result.failures ≡ 0) × (result.faults ≡ 0)
             × (result.strangers ≡ 0) }
     {
@@ -83,8 +83,9 @@ impl WireSockets {
     pub fn bind<R: Net>(&mut self, rt: &R, at: Place, ends: Vec<Place>) -> io::Result<()>
         ensures bound { OnOk result (ends_behind self.new.wires.items
             ≡ ends_behind self.old.wires.items ++ length ends.items ∷ []) }
-        ensures refused { OnErr result
-            (ends_behind self.new.wires.items ≡ ends_behind self.old.wires.items) }
+        ensures places { OnOk result (places_behind self.new.wires.items
+            ≡ places_behind self.old.wires.items ++ ends.items ∷ []) }
+        ensures refused { OnErr result (self.new.wires.items ≡ self.old.wires.items) }
     {
         let socket = bound_socket(rt, at.ip, at.udp_port)?;
         let wire = WireSocket { socket, ends };

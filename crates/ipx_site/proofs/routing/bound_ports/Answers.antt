@@ -12,6 +12,6 @@ new-requires g c =
     let wires = c.in_ok-wires.wires in
     let sockets = same_length (λ s. s.udp_port) (λ p. p.udp_port) c.in_ok-datagrams.datagrams.device.device.sockets.items (datagram_ports ports) c.in_ok-datagrams.ensures.sockets in
     let hubs : length wires.hubs.items ≡ length (wire_ports ports) = ap length c.in_ok-wires.ensures.hubs ∙ length-map (wire_ports ports) hub_of in
-    let ends : length (ends_behind wires.sockets.wires.items) ≡ length (wire_ports ports) = ap length c.in_ok-wires.ensures.ends ∙ length-map (wire_ports ports) (λ p. length p.ends.items) in
+    let ends : length (ends_behind wires.sockets.wires.items) ≡ length (wire_ports ports) = length-map wires.sockets.wires.items (λ w. length w.ends.items) ∙ same_length (λ w. w.ends.items) (λ p. p.ends.items) wires.sockets.wires.items (wire_ports ports) c.in_ok-wires.ensures.ends in
     all_fit ports c.in_ok-spots.spots.items (length c.in_ok-datagrams.datagrams.device.device.sockets.items) (min (length wires.hubs.items) (length (ends_behind wires.sockets.wires.items)))
     c.in_ok-spots.ensures sockets (omega (arith, hubs, ends))
