@@ -244,6 +244,16 @@ def check_told(it, strangers):
     wrong = {name: (found.get(name), value) for name, value in wanted.items() if found.get(name) != value}
     it.wires.check("all that came is counted, each by what became of it", not wrong,
                    f"(found, wanted): {wrong}" if wrong else f"{len(wanted)} figures")
+    ends = [end for ends in it.ends.values() for end in ends]
+
+    def taken():
+        """How many frames came to all ends."""
+        for end in ends:
+            end.take()
+        return sum(end.count for end in ends)
+
+    sent = it.router.figures(lambda found: found.get("ipx_frames_sent_total") == taken()).get("ipx_frames_sent_total")
+    it.wires.check("each frame that it sent is counted, and came", sent == taken(), f"{sent} of {taken()}")
 
 
 def check_stations(wires):

@@ -115,7 +115,7 @@ class End:
         self.port, self.station = port, station
         self.socket = bound(*place)
         self.socket.setsockopt(socket.SOL_SOCKET, socket.SO_RCVBUF, ROOM)
-        self.got, self.wanted, self.heard = [], [], set()
+        self.got, self.wanted, self.heard, self.count = [], [], set(), 0
         port.ends.append(self)
 
     def send(self, bytes_, fate=None):
@@ -148,6 +148,7 @@ class End:
                 bytes_ = self.socket.recv(70000)
             except BlockingIOError:
                 return self.got
+            self.count += 1
             if bytes_ in self.port.said:
                 self.heard.add(bytes_)
             else:

@@ -1,5 +1,6 @@
 //! What a router counts, as a text for Prometheus.
 
+use crate::family::{Family, put_each, put_one};
 use crate::peers::{Kept, KeptBack};
 use ipx_carrier::OutcomeCounts;
 use std::alloc::{AllocError, Global};
@@ -13,7 +14,8 @@ pub struct Figures {
     pub sent: u64,
     /// What became of those that it heard.
     pub fates: OutcomeCounts,
-    /// The packets that found no room in its queue, and those whose node has no IP address.
+    /// The packets that found no room in its queue, and those that nothing could carry to their node: it has no
+    /// IP address, or no frame holds the packet, which `unframed` counts too.
     pub queue_full: u64,
     pub unmapped: u64,
     /// The datagrams that came and were not heard, and those that were to go to no peer.
@@ -35,13 +37,6 @@ pub struct Figures {
     pub services: u64,
     /// The seconds since it started.
     pub seconds: u64,
-}
-
-/// A family of figures: its name, what it is, and its type.
-struct Family {
-    name: &'static str,
-    help: &'static str,
-    kind: &'static str,
 }
 
 const HEARD: Family = Family {
@@ -109,36 +104,6 @@ const SECONDS: Family = Family {
     help: "Seconds since the start",
     kind: "gauge",
 };
-
-/// Writes what a family of figures is.
-fn put_family(text: &mut String, family: &Family) -> Result<(), AllocError> {
-    let name = family.name;
-    let help = family.help;
-    let kind = family.kind;
-    write!(text, "# HELP {name} {help}.\n# TYPE {name} {kind}\n")
-}
-
-/// Writes a family of one figure.
-fn put_one(text: &mut String, family: &Family, value: u64) -> Result<(), AllocError> {
-    put_family(text, family)?;
-    let name = family.name;
-    write!(text, "{name} {value}\n")
-}
-
-/// Writes a family of several figures, each with its label.
-fn put_each(
-    text: &mut String,
-    family: &Family,
-    label: &str,
-    figures: &[(&'static str, u64)],
-) -> Result<(), AllocError> {
-    put_family(text, family)?;
-    let name = family.name;
-    for (word, value) in figures {
-        write!(text, "{name}{{{label}=\"{word}\"}} {value}\n")?;
-    }
-    Ok(())
-}
 
 fn put_fates(text: &mut String, fates: &OutcomeCounts) -> Result<(), AllocError> {
     let figures = [

@@ -1,5 +1,6 @@
 //! What a router counts of frames on its wires, as a text for Prometheus.
 
+use crate::family::{Family, put_family, put_of_port, put_one};
 use crate::router_ports::{SiteRouterPorts, Spot};
 use crate::wire_totals::came_in;
 use ipx_frames::{Encapsulation, WireCounts};
@@ -15,6 +16,36 @@ const ALL: [Encapsulation; 4] = [
     Encapsulation::Snap,
     Encapsulation::EthernetII,
 ];
+
+const FRAMES: Family = Family {
+    name: "ipx_frames_total",
+    help: "Frames that came on a wire, by what became of them at the port",
+    kind: "counter",
+};
+
+const PASSED: Family = Family {
+    name: "ipx_frames_passed_total",
+    help: "Frames that were to go on from one end to others",
+    kind: "counter",
+};
+
+const REFUSED: Family = Family {
+    name: "ipx_frames_refused_total",
+    help: "Packets that no frame could carry",
+    kind: "counter",
+};
+
+const STRANGERS: Family = Family {
+    name: "ipx_frames_strangers_total",
+    help: "Datagrams that came from no end of a wire",
+    kind: "counter",
+};
+
+const SENT: Family = Family {
+    name: "ipx_frames_sent_total",
+    help: "Frames that the system took to be sent",
+    kind: "counter",
+};
 
 /// The hub of a port that is on a wire.
 fn hub_at(ports: &SiteRouterPorts, spot: Spot) -> Option<&Hub> {
@@ -62,11 +93,7 @@ fn put_encapsulations(
 
 /// Writes what became of the frames that came to each port.
 fn put_frames(text: &mut String, ports: &SiteRouterPorts) -> Result<(), AllocError> {
-    write!(
-        text,
-        "# HELP ipx_frames_total Frames that came on a wire, by what became of them at the port.\n"
-    )?;
-    write!(text, "# TYPE ipx_frames_total counter\n")?;
+    put_family(text, &FRAMES)?;
     for (place, spot) in ports.spots().iter().enumerate() {
         if let Some(hub) = hub_at(ports, *spot) {
             put_fates(text, place + 1, hub.counts())?;
@@ -78,19 +105,10 @@ fn put_frames(text: &mut String, ports: &SiteRouterPorts) -> Result<(), AllocErr
 
 /// Writes how many frames went on from one end of a wire to others.
 fn put_passed(text: &mut String, ports: &SiteRouterPorts) -> Result<(), AllocError> {
-    write!(
-        text,
-        "# HELP ipx_frames_passed_total Frames that were to go on from one end to others.\n"
-    )?;
-    write!(text, "# TYPE ipx_frames_passed_total counter\n")?;
+    put_family(text, &PASSED)?;
     for (place, spot) in ports.spots().iter().enumerate() {
         if let Some(hub) = hub_at(ports, *spot) {
-            let number = place + 1;
-            let count = hub.passed();
-            write!(
-                text,
-                "ipx_frames_passed_total{{port=\"{number}\"}} {count}\n"
-            )?;
+            put_of_port(text, &PASSED, place + 1, hub.passed())?;
         }
     }
     Ok(())
@@ -98,19 +116,10 @@ fn put_passed(text: &mut String, ports: &SiteRouterPorts) -> Result<(), AllocErr
 
 /// Writes how many packets of the router no frame could carry.
 fn put_refused(text: &mut String, ports: &SiteRouterPorts) -> Result<(), AllocError> {
-    write!(
-        text,
-        "# HELP ipx_frames_refused_total Packets that no frame could carry.\n"
-    )?;
-    write!(text, "# TYPE ipx_frames_refused_total counter\n")?;
+    put_family(text, &REFUSED)?;
     for (place, spot) in ports.spots().iter().enumerate() {
         if let Some(hub) = hub_at(ports, *spot) {
-            let number = place + 1;
-            let count = hub.refused();
-            write!(
-                text,
-                "ipx_frames_refused_total{{port=\"{number}\"}} {count}\n"
-            )?;
+            put_of_port(text, &REFUSED, place + 1, hub.refused())?;
         }
     }
     Ok(())
@@ -119,20 +128,8 @@ fn put_refused(text: &mut String, ports: &SiteRouterPorts) -> Result<(), AllocEr
 /// Writes what the sockets of all wires counted.
 fn put_wire_sockets(text: &mut String, ports: &SiteRouterPorts) -> Result<(), AllocError> {
     let sockets = ports.wires().sockets();
-    let strangers = sockets.strangers();
-    let sent = sockets.sent();
-    write!(
-        text,
-        "# HELP ipx_frames_strangers_total Datagrams that came from no end of a wire.\n"
-    )?;
-    write!(text, "# TYPE ipx_frames_strangers_total counter\n")?;
-    write!(text, "ipx_frames_strangers_total {strangers}\n")?;
-    write!(
-        text,
-        "# HELP ipx_frames_sent_total Frames that the system took to be sent.\n"
-    )?;
-    write!(text, "# TYPE ipx_frames_sent_total counter\n")?;
-    write!(text, "ipx_frames_sent_total {sent}\n")
+    put_one(text, &STRANGERS, sockets.strangers())?;
+    put_one(text, &SENT, sockets.sent())
 }
 
 /// Writes what a router counts of frames behind its other figures; nothing where it is on no wire.

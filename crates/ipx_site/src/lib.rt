@@ -14,6 +14,7 @@ mod bind_fault;
 mod causes;
 mod checking;
 mod clock;
+mod family;
 mod fault;
 mod fields;
 mod figures;

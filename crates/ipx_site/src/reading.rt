@@ -113,8 +113,8 @@ fn site_of(alloc: Global, table: &Table) -> Result<SiteFile, FileFault>
 }
 
 /// Reads the text of a router's file, or answers its first fault: ports are read in the order of
-/// the file, and of each table first a name that is no key is told, and then its keys in the order
-/// of the documents.
+/// the file, and of each table first its `kind` is told, then a name that is no key of that kind, and
+/// then its keys in the order of the documents.
 pub fn read_site(alloc: Global, text: &str) -> Result<SiteFile, FileFault>
     ensures site { IfOk result (IsSiteText text.now) }
     // What `Router::new` is owed of its ports.
