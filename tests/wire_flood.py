@@ -16,8 +16,8 @@ ROUTER, FLOODER, OTHERS = "127.0.3.1", "127.0.3.9", ["127.0.3.10", "127.0.3.11"]
 FLOODED, NETWORKS = "00000001", ["00000031", "00000032"]
 FLOODER_STATION, STATIONS = "02000000f100", ["02000000f101", "02000000f102"]
 PER_SECOND, SECONDS, BEFORE = 10_000, 10, 4
-# How many packets are on their way at once, and how many tries a machine that is loaded gets.
-WINDOW, TRIES = 16, 3
+# How many packets of others are sent a second, at most so many at once, and how many tries a machine that is loaded gets.
+OFFERED, AT_ONCE, TRIES = 10_000, 64, 5
 SHARE = 0.9
 # How much memory it may take more as its tables fill, and how much more in the second half, when they are full.
 PAGES = os.sysconf("SC_PAGESIZE") // 1024
@@ -91,20 +91,18 @@ class Flood:
                 return count
 
     def rate(self, seconds):
-        """How many packets a second go through, so many on their way at once. One that is lost is no more on its way
-        after 100 ms."""
-        start, came, out, last = time.monotonic(), 0, 0, time.monotonic()
+        """How many packets a second go through, of those that are sent at an even pace. One that is behind, since the
+        machine is loaded, sends few at once."""
+        start, came, sent = time.monotonic(), 0, 0
         while time.monotonic() < start + seconds:
-            while out < WINDOW:
+            due = min(int((time.monotonic() - start) * OFFERED) + 1, sent + AT_ONCE)
+            while sent < due:
                 self.giver.socket.sendto(self.given, self.giver.port.place)
-                out += 1
-            select.select([self.taker.socket], [], [], 0.1)
-            count, now = self.took(), time.monotonic()
-            if count:
-                came, out, last = came + count, max(0, out - count), now
-            elif now > last + 0.1:
-                out, last = 0, now
-        return came / (time.monotonic() - start)
+                sent += 1
+            select.select([self.taker.socket], [], [], 0.001)
+            came += self.took()
+        time.sleep(0.1)
+        return (came + self.took()) / seconds
 
     @staticmethod
     def counts(found):
@@ -134,7 +132,7 @@ class Flood:
 
 
 def check_flood(wires):
-    """The rate of the others, in one of three tries; the memory; and that the frames came."""
+    """The rate of the others, in one of five tries; the memory; and that the frames came."""
     it = Flood(wires)
     it.router.start()
     until(lambda: it.taker.take() is not None and it.taker.heard, 10)
