@@ -2,7 +2,7 @@
 use Rattle.std.proofs.Common.{◌≡◌, ℕ, ◌+◌, Bool, true, false, not, List, [], ◌∷◌, get_or, refl, sym, ap, ◌∙◌, inl, inr, arith}
 use mathlib.Core.Bool.{◌&&◌, ◌||◌}
 use Rattle.std.specs.List.{insert, remove, list_any}
-use Rattle.std.specs.Cmp.{IsTotalOrder}
+use Rattle.std.specs.Cmp.{IsEquivalence, IsTotalOrder}
 use Rattle.std.specs.Ordering.{is_eq, ordering_reverse}
 use Rattle.std.specs.declared.cmp.Ordering.{Ordering}
 use Rattle.std.specs.declared.cmp.Ordering.TheVariants.{Less, Equal, Greater}
@@ -12,7 +12,7 @@ use Rattle.std.proofs.lemmas.List.Folds.{list_any_none, list_any_at}
 use Rattle.std.proofs.lemmas.List.Edits.{length-remove, get_or-remove_below, get_or-remove_above}
 use Rattle.std.proofs.lemmas.List.{get_or_default}
 use Rattle.std.proofs.lemmas.Bool.{cases_lt}
-use Rattle.std.proofs.lemmas.Cmp.{then_total, on_total, nat_cmp_total}
+use Rattle.std.proofs.lemmas.Cmp.{eq_by_cmp_equiv, then_total, on_total, nat_cmp_total}
 use Rattle.ipx_tables.specs.declared.expiry_key.ExpiryKey.{ExpiryKey}
 use Rattle.ipx_tables.specs.ExpiryKeys.{mark_cmp}
 use Rattle.ipx_tables.proofs.Lists.{source_total}
@@ -67,3 +67,6 @@ module _ {X K : Type 0} {cmp : K → K → Ordering} (o : IsTotalOrder cmp) (key
 module _ {K : Type 0} {cmp : K → K → Ordering} (o : IsTotalOrder cmp) where
   pub mark_total : IsTotalOrder (mark_cmp cmp)
   mark_total = then_total (on_total (λ (m : ExpiryKey K). m.moment) nat_cmp_total) (then_total (on_total (λ (m : ExpiryKey K). m.key) o) (on_total (λ (m : ExpiryKey K). m.source) source_total))
+
+  pub mark_equiv : IsEquivalence (λ x y. is_eq (mark_cmp cmp x y))
+  mark_equiv = eq_by_cmp_equiv mark_total

@@ -1,27 +1,34 @@
 -- Edits that keep offers and marks alike.
-use Rattle.std.proofs.Common.{◌≡◌, ℕ, ◌<◌, ◌≤◌, Bool, true, false, cond, not, eqb, List, [], ◌∷◌, length, get_or, set, Option, Some, None, refl, sym, ap, ◌∙◌, inl, inr, arith}
+use Rattle.std.proofs.Common.{◌≡◌, ℕ, suc, ◌<◌, ◌≤◌, Bool, true, false, cond, not, eqb, List, [], ◌∷◌, length, map, get_or, set, Option, Some, None, refl, sym, ap, ◌∙◌, inl, inr, arith}
 use mathlib.Core.Bool.{◌&&◌, ◌||◌, true≢false}
-use Rattle.std.specs.List.{insert, remove}
-use Rattle.std.specs.Cmp.{IsTotalOrder}
-use Rattle.std.specs.Ordering.{is_eq, ordering_then, nat_cmp}
+use Rattle.std.specs.List.{filter, insert, list_any, remove, IsDistinct}
+use Rattle.std.specs.List.Sorted.{IsPermutation, IsSorted}
+use Rattle.std.specs.Cmp.{IsEquivalence, IsTotalOrder}
+use Rattle.std.specs.Ordering.{is_eq, is_lt, ordering_then, ordering_reverse, nat_cmp}
 use Rattle.std.specs.declared.cmp.Ordering.{Ordering}
 use Rattle.std.specs.declared.cmp.Ordering.TheVariants.{Less, Equal, Greater}
 use Rattle.std.proofs.lemmas.Bool.{eq-eqb, ne_eqb, eqb-true, cases_lt}
 use Rattle.std.proofs.lemmas.Bool.Decides.{nat_tests}
-use Rattle.std.proofs.lemmas.List.{get_or_default, nil_from_length}
+use Rattle.std.proofs.lemmas.List.{get_or_default, nil_from_length, length-map}
+use Rattle.std.proofs.lemmas.List.Elements.{All-map, recursion_from_All}
+use Rattle.std.proofs.lemmas.List.Kept.{AllPairs-filter}
+use Rattle.std.proofs.lemmas.List.Sorted.{list_any-IsPermutation, ranks_by, sorted_far}
+use Rattle.std.proofs.lemmas.Map.Keys.{IsDistinct-cons, IsDistinct-from_apart, IsDistinct-IsPermutation, apart_from_distinct}
+use Rattle.std.proofs.lemmas.Map.Made.{length-from_same_keys}
+use Rattle.std.proofs.lemmas.Map.Views.{any-filter_same}
 use Rattle.std.proofs.lemmas.List.Folds.{Any-from_list_any}
 use Rattle.std.proofs.lemmas.Cmp.{alike_right, tied_itself}
 use Rattle.ipx_tables.specs.declared.source.Source.{Source}
 use Rattle.ipx_tables.specs.declared.offer.Offer.{Offer}
 use Rattle.ipx_tables.specs.declared.expiry_key.ExpiryKey.{ExpiryKey}
-use Rattle.ipx_tables.specs.Content.{content, said_of, is_same, pair_of, pair_cmp}
+use Rattle.ipx_tables.specs.Content.{IsApart, content, said_of, is_same, is_young, pair_of, pair_cmp, still}
 use Rattle.ipx_tables.specs.Expiry.{IsOldest}
 use Rattle.ipx_tables.specs.ExpiryKeys.{mark_at, mark_cmp, mark_itself, expiry_key_of, has_expiry_key, is_heard_at, AreAlike, IsPaired}
 use Rattle.ipx_tables.specs.Sorted.{IsRising, IsAtKey, IsGapFor}
-use Rattle.ipx_tables.proofs.Lists.{same_equiv, pair_total, found_same, found_set, found_insert, found_remove}
+use Rattle.ipx_tables.proofs.Lists.{same_equiv, pair_total, found_filter, found_same, found_set, found_insert, found_remove}
 use Rattle.ipx_tables.proofs.Places.{at_read, insert_rising, remove_rising, set_rising}
-use Rattle.ipx_tables.proofs.Held.{has_at, mark_total}
-use Rattle.ipx_tables.proofs.Ordered.{apart_rising, at_itself, at_same, said_at, unsaid}
+use Rattle.ipx_tables.proofs.Held.{has_at, mark_equiv, mark_total}
+use Rattle.ipx_tables.proofs.Ordered.{apart_rising, at_itself, at_same, said_at, tail_rising, unsaid}
 
 mark_parts : (a b : ℕ) (r : Ordering) → is_eq (ordering_then (nat_cmp a b) r) ≡ (eqb a b && is_eq r)
 mark_parts a b Less = grind (arith, nat_tests)
@@ -47,6 +54,35 @@ and_true : (x : Bool) → x ≡ (x && true)
 and_true true = refl
 and_true false = refl
 
+and_false : (x : Bool) → (x && false) ≡ false
+and_false true = refl
+and_false false = refl
+
+both_true : (x y : Bool) → (x && y) ≡ true → x ≡ true
+both_true true y h = refl
+both_true false y h = cc
+
+alone : (x : Bool) → ((x && true) || false) ≡ x
+alone true = refl
+alone false = refl
+
+other : (x y : Bool) → ((x && false) || y) ≡ y
+other true y = refl
+other false y = refl
+
+only_less : (r : Ordering) → is_lt (ordering_reverse r) ≡ false → is_eq r ≡ false → r ≡ Less
+only_less Less h k = refl
+only_less Equal h k = cc
+only_less Greater h k = cc
+
+heard_if : {M : Type 0} (b : Bool) (v : M × ℕ) (t : ℕ) → eqb v.1 t ≡ true → (b && eqb v.1 t) ≡ is_heard_at t (cond b (Some v) None)
+heard_if true v t e = refl
+heard_if false v t e = refl
+
+unheard_if : {M : Type 0} (b : Bool) (v : M × ℕ) (t : ℕ) → eqb v.1 t ≡ false → is_heard_at t (cond b (Some v) None) ≡ false
+unheard_if true v t e = e
+unheard_if false v t e = refl
+
 is_equal : (r : Ordering) → is_eq r ≡ true → r ≡ Equal
 is_equal Less h = cc
 is_equal Equal h = refl
@@ -62,6 +98,21 @@ equal_first : (a b : ℕ) (r : Ordering) → ordering_then (nat_cmp a b) r ≡ E
 equal_first a b Less h = grind (arith, nat_tests)
 equal_first a b Equal h = grind (arith, nat_tests)
 equal_first a b Greater h = grind (arith, nat_tests)
+
+same_moment : (a b : ℕ) (r : Ordering) → is_eq (ordering_then (nat_cmp a b) r) ≡ true → a ≡ b
+same_moment a b r tie = eqb-true a b (both_true _ _ (sym (mark_parts a b r) ∙ tie))
+
+still_heard : {M : Type 0} (now t : ℕ) (v : Option (M × ℕ)) → (is_young now t && is_heard_at t v) ≡ is_heard_at t (still now v)
+still_heard now t None = and_false (is_young now t)
+still_heard now t (Some v) = elim (eqb v.1 t) as (λ b. eqb v.1 t ≡ b → (is_young now t && eqb v.1 t) ≡ is_heard_at t (cond (is_young now v.1) (Some v) None)) [
+  | true ↦ λ e. ap (λ n. is_young now n && eqb v.1 t) (sym (eqb-true v.1 t e)) ∙ heard_if (is_young now v.1) v t e
+  | false ↦ λ e. ap (λ b. is_young now t && b) e ∙ and_false (is_young now t) ∙ sym (unheard_if (is_young now v.1) v t e)
+] refl
+
+-- a test that is symmetric finds the same from either side
+flipped : {X : Type 0} {same : X → X → Bool} → IsEquivalence same → (xs : List X) (q : X) → list_any (same q) xs ≡ list_any (λ x. same x q) xs
+flipped e [] q = refl
+flipped {X} {same} e (x ∷ xs) q = ap (λ b. b || list_any (same q) xs) (e.symm q x) ∙ ap (λ b. same x q || b) (flipped e xs q)
 
 module _ {K : Type 0} (cmp : K → K → Ordering) where
   moment_less : (x y : ExpiryKey K) → mark_cmp cmp x y ≡ Less → x.moment ≤ y.moment
@@ -109,6 +160,46 @@ module _ {K M : Type 0} {cmp : K → K → Ordering} (o : IsTotalOrder cmp) wher
           | false ↦ λ e. refl
         ] refl in
         alike m ∙ rest ∙ ap heard (sym (offers q))
+
+  -- the marks of offers that are apart are alike to them
+  marks_alike : (os : List (Offer K M)) → IsApart (is_same cmp) os → (m : ExpiryKey K) → has_expiry_key cmp (map expiry_key_of os) m ≡ is_heard_at m.moment (content cmp os (m.key, m.source))
+  marks_alike [] apart m = refl
+  marks_alike (x ∷ xs) apart m =
+      let q : K × Source = (m.key, m.source) in
+      let rest = marks_alike xs apart.1 m in
+      let own = mark_parts x.heard m.moment (pair_cmp cmp (pair_of x) q) in
+      let gone = found_same (same_equiv o) said_of xs (pair_of x) q in
+      ap (λ b. b || has_expiry_key cmp (map expiry_key_of xs) m) own
+      ∙ ap (λ b. (eqb x.heard m.moment && is_same cmp (pair_of x) q) || b) rest
+      ∙ elim (is_same cmp (pair_of x) q) as (λ b. is_same cmp (pair_of x) q ≡ b → ((eqb x.heard m.moment && b) || is_heard_at m.moment (content cmp xs q)) ≡ is_heard_at m.moment (cond b (Some (said_of x)) (content cmp xs q))) [
+        | true ↦ λ e. ap (λ v. (eqb x.heard m.moment && true) || is_heard_at m.moment v) (sym (gone e) ∙ apart.0) ∙ alone (eqb x.heard m.moment)
+        | false ↦ λ e. other (eqb x.heard m.moment) (is_heard_at m.moment (content cmp xs q))
+      ] refl
+
+  -- no two of them tie
+  marks_apart : (os : List (Offer K M)) → IsRising (pair_cmp cmp) pair_of os → IsDistinct (λ x y. is_eq (mark_cmp cmp x y)) (map expiry_key_of os)
+  marks_apart [] rising = IsDistinct-from_apart (λ a b. is_eq (mark_cmp cmp a b)) [] (λ i j d lt within. absurd (omega (arith, within)))
+  marks_apart (x ∷ xs) rising = IsDistinct-cons (λ a b. is_eq (mark_cmp cmp a b)) (expiry_key_of x) (map expiry_key_of xs)
+      (recursion_from_All (λ y. is_eq (mark_cmp cmp (expiry_key_of x) y) ≡ false) (map expiry_key_of xs) (All-map (λ y. is_eq (mark_cmp cmp (expiry_key_of x) y) ≡ false) expiry_key_of xs (λ j d lt.
+      mark_parts x.heard (get_or xs j d).heard (pair_cmp cmp (pair_of x) (pair_of (get_or xs j d)))
+      ∙ ap (λ b. eqb x.heard (get_or xs j d).heard && b) (ap is_eq (rising 0 (suc j) d (omega arith) (omega (arith, lt))))
+      ∙ and_false (eqb x.heard (get_or xs j d).heard))))
+      (marks_apart xs (tail_rising o x xs rising))
+
+  -- the marks of offers, sorted, are paired with them
+  pub paired_anew : (os : List (Offer K M)) (ms : List (ExpiryKey K)) → IsRising (pair_cmp cmp) pair_of os → IsPermutation (map expiry_key_of os) ms → IsSorted (mark_cmp cmp) ms → IsPaired cmp os ms
+  paired_anew os ms rising moved sorted =
+      let tie : ExpiryKey K → ExpiryKey K → Bool = λ x y. is_eq (mark_cmp cmp x y) in
+      let distinct : IsDistinct tie ms = IsDistinct-IsPermutation tie (mark_equiv o).symm (map expiry_key_of os) ms moved (marks_apart os rising) in
+      record {
+        by_pair = rising;
+        by_moment = λ i j d lt within.
+            let x = get_or ms i d in
+            let y = get_or ms j d in
+            let not_above : is_lt (mark_cmp cmp y x) ≡ false = sorted_far (λ a b. is_lt (mark_cmp cmp a b)) (ranks_by (mark_total o) (λ m. m)) ms sorted i j d (omega arith) within in
+            only_less _ (ap is_lt (sym ((mark_total o).antisymm y x)) ∙ not_above) (apart_from_distinct tie ms i j d distinct lt within);
+        alike = λ m. sym (list_any-IsPermutation (λ x. is_eq (mark_cmp cmp x m)) (map expiry_key_of os) ms moved) ∙ marks_alike os (apart_rising o os rising) m;
+      }
 
   module _ (os : List (Offer K M)) (ms : List (ExpiryKey K)) (paired : IsPaired cmp os ms) where
     -- each offer has its mark
@@ -186,6 +277,27 @@ module _ {K M : Type 0} {cmp : K → K → Ordering} (o : IsTotalOrder cmp) wher
           by_moment = up;
           alike = alike_changed os (insert os i x) ms new_ms paired.alike (pair_of x) None (Some (said_of x)) none (found_insert (same_equiv o) said_of os x i none) (λ m. marks m ∙ ap (λ b. is_eq (mark_cmp cmp (expiry_key_of x) m) || b) (and_true (has_expiry_key cmp ms m)));
         }
+
+    -- those of old moments go from both
+    pub paired_young : (now : ℕ) → IsPaired cmp (filter (λ x. is_young now x.heard) os) (filter (λ m. is_young now m.moment) ms)
+    paired_young now = record {
+      by_pair = AllPairs-filter (λ a b. pair_cmp cmp (pair_of a) (pair_of b) ≡ Less) (λ x. is_young now x.heard) os paired.by_pair;
+      by_moment = AllPairs-filter (λ a b. mark_cmp cmp a b ≡ Less) (λ m. is_young now m.moment) ms paired.by_moment;
+      alike = λ m.
+          let q : K × Source = (m.key, m.source) in
+          any-filter_same (λ x. is_eq (mark_cmp cmp x m)) (λ x. is_young now x.moment) (is_young now m.moment) (λ x tie. ap (is_young now) (same_moment x.moment m.moment _ tie)) ms
+          ∙ ap (λ b. is_young now m.moment && b) (paired.alike m)
+          ∙ still_heard now m.moment (content cmp os q)
+          ∙ ap (is_heard_at m.moment) (sym (found_filter (same_equiv o) os now (apart_rising o os paired.by_pair) q));
+    }
+
+    -- there are as many of both
+    pub as_many : length ms ≡ length os
+    as_many =
+        let marks : List (ExpiryKey K) = map expiry_key_of os in
+        length-from_same_keys (mark_equiv o) ms marks (IsDistinct-from_apart (λ x y. is_eq (mark_cmp cmp x y)) ms (λ i j d lt within. ap is_eq (paired.by_moment i j d lt within))) (marks_apart os paired.by_pair) (λ q.
+        flipped (mark_equiv o) ms q ∙ paired.alike q ∙ sym (marks_alike os (apart_rising o os paired.by_pair) q) ∙ sym (flipped (mark_equiv o) marks q))
+        ∙ length-map os expiry_key_of
 
     module _ (i : ℕ) (before after : Offer K M) (read : before ≡ get_or os i before) (at : IsAtKey (pair_cmp cmp) pair_of os (pair_of after) i) where
       same_pair : is_same cmp (pair_of before) (pair_of after) ≡ true

@@ -1,19 +1,18 @@
 -- Lists of offers as they were heard last, beside the same offers with the moments of their marks.
-use Rattle.std.proofs.Common.{◌≡◌, ◌≢◌, ℕ, zero, suc, ◌+◌, ◌<◌, ◌≤◌, Bool, true, false, cond, List, ◌++◌, ◌∷◌, [], length, get_or, set, Result, Ok, Err, take, drop, map, inl, inr, refl, sym, ap, ◌∙◌, arith}
-use Rattle.std.specs.Prelude.{IfOk, IfErr, OnOk, OnErr, not, ◌==◌, count_by}
-use Rattle.std.specs.List.{All, insert, remove}
+use Rattle.std.proofs.Common.{◌≡◌, ℕ, suc, ◌<◌, ◌≤◌, Bool, true, false, cond, List, ◌∷◌, [], length, get_or, Option, Some, None, Result, Ok, Err, take, drop, map, refl, sym, ap, ◌∙◌, arith}
+use mathlib.Core.Bool.{◌||◌}
+use Rattle.std.specs.Prelude.{IfSome, IfOk, IfErr, OnOk, OnErr, not}
+use Rattle.std.specs.List.{All, filter, insert, list_any, remove}
 use Rattle.std.specs.declared.cmp.Ordering.{Ordering}
-use Rattle.std.proofs.lemmas.Bool.{ne_eqb}
-use Rattle.std.proofs.lemmas.Bool.Decides.{eqb_tells}
-use Rattle.std.proofs.lemmas.List.{map-append, length-map, map-set, take-map, drop-map, get_or-map}
-use Rattle.std.proofs.lemmas.List.Sums.{sum_by-set}
-use Rattle.std.proofs.lemmas.List.Elements.{All-map, All-set, All-append, All-take, All-drop, All-cons}
+use Rattle.std.proofs.lemmas.Bool.{eqb-true}
+use Rattle.std.proofs.lemmas.List.{map-append, length-map, take-map, drop-map, get_or-map}
+use Rattle.std.proofs.lemmas.List.Elements.{All-map, All-append, All-take, All-drop, All-cons}
 use Rattle.ipx_tables.specs.declared.offer.Offer.{Offer}
 use Rattle.ipx_tables.specs.declared.source.Source.{Source}
-use Rattle.ipx_tables.specs.declared.rack.Heard.{Heard}
-use Rattle.ipx_tables.specs.Content.{pair_cmp, pair_of}
+use Rattle.ipx_tables.specs.declared.heard.Heard.{Heard}
+use Rattle.ipx_tables.specs.Content.{is_young, pair_cmp, pair_of}
 use Rattle.ipx_tables.specs.Expiry.{IsOldest}
-use Rattle.ipx_tables.specs.Late.{IsInTime, as_heard, as_marked}
+use Rattle.ipx_tables.specs.Late.{IsInTime, as_heard, as_marked, is_late, settled}
 use Rattle.ipx_tables.specs.Sorted.{IsRising, IsAtKey, IsGapFor}
 
 pub map_remove : {X Y : Type 0} (f : X → Y) (xs : List X) (i : ℕ) → map f (remove xs i) ≡ remove (map f xs) i
@@ -61,24 +60,13 @@ module _ {X Y K : Type 0} (cmp : K → K → Ordering) (f : X → Y) (back : Y �
     above = λ j d le lt. rw (down j d lt) (gap.above j (f d) le (omega (arith, lt, length-map xs f)));
   }
 
-itself_eqb : (n : ℕ) → (n == n) ≡ true
-itself_eqb n = elim (eqb_tells n n) [ inl same ↦ same.0 | inr other ↦ absurd (other.1 refl) ]
+neither : (a b : Bool) → (a || b) ≡ false → (a ≡ false) × (b ≡ false)
+neither true b h = cc
+neither false b h = (refl, h)
 
-set_itself : {X : Type 0} (xs : List X) (i : ℕ) (x : X) → i < length xs → x ≡ get_or xs i x → set xs i x ≡ xs
-set_itself [] i x lt is = refl
-set_itself (y ∷ ys) zero x lt is = ap (λ z. z ∷ ys) is
-set_itself (y ∷ ys) (suc i) x lt is = ap (λ l. y ∷ l) (set_itself ys i x (omega (arith, lt)) is)
-
-count_set : {X : Type 0} (p : X → Bool) (xs : List X) (i : ℕ) (x y : X) → i < length xs → x ≡ get_or xs i x → p x ≡ true → p y ≡ false → count_by p (set xs i y) + 1 ≡ count_by p xs
-count_set p xs i x y lt is before after =
-    let change : count_by p (set xs i y) + cond (p (get_or xs i x)) 1 0 ≡ count_by p xs + cond (p y) 1 0 = sum_by-set (λ v. cond (p v) 1 0) xs i y x lt in
-    let one : cond (p (get_or xs i x)) 1 0 ≡ 1 = ap (λ (b : Bool). let n : ℕ = cond b 1 0 in n) (ap p (sym is) ∙ before) in
-    let none : cond (p y) 1 0 ≡ 0 = ap (λ (b : Bool). let n : ℕ = cond b 1 0 in n) after in
-    omega (arith, change, one, none)
-
--- an offer whose mark is late
-abbrev pub is_late : {K M : Type 0} → Offer K (Heard M) → Bool
-is_late o = not (o.metric.moment == o.heard)
+not_false : (a : Bool) → not a ≡ false → a ≡ true
+not_false true h = refl
+not_false false h = cc
 
 module _ {K M : Type 0} (cmp : K → K → Ordering) (xs : List (Offer K (Heard M))) where
   back : Offer K M → Offer K (Heard M)
@@ -111,21 +99,57 @@ module _ {K M : Type 0} (xs : List (Offer K (Heard M))) (i : ℕ) (x : Offer K (
     first = All-map (λ (o : Offer K M). moment ≤ o.heard) as_heard xs (λ j d within. omega (arith, first.first j d within, in_time j d within));
   }
 
-  moved : Offer K (Heard M)
-  moved = record x { heard = x.metric.moment }
+module _ {K M : Type 0} where
+  back_to : Offer K M → Offer K (Heard M)
+  back_to o = as_marked o.heard o
 
-  -- a mark that moves up leaves what was heard
-  pub moved_same : map as_heard (set xs i (record x { heard = x.metric.moment })) ≡ map as_heard xs
-  moved_same =
-      map-set as_heard xs i (record x { heard = x.metric.moment })
-      ∙ sym (map-set as_heard xs i x)
-      ∙ ap (map as_heard) (set_itself xs i x lt is)
+  -- marks that are put right leave what was heard
+  pub settled_same : (xs : List (Offer K (Heard M))) → map as_heard (map settled xs) ≡ map as_heard xs
+  settled_same [] = refl
+  settled_same (x ∷ xs) = ap (λ l. as_heard x ∷ l) (settled_same xs)
 
-  pub moved_in_time : All IsInTime xs → All IsInTime (set xs i (record x { heard = x.metric.moment }))
-  moved_in_time in_time = All-set IsInTime xs i (record x { heard = x.metric.moment }) (omega arith) in_time
+  pub settled_in_time : (xs : List (Offer K (Heard M))) → All IsInTime (map settled xs)
+  settled_in_time xs = All-map IsInTime settled xs (λ j d lt. omega arith)
 
-  pub moved_less : (x.metric.moment ≢ x.heard) → count_by is_late (set xs i (record x { heard = x.metric.moment })) + 1 ≡ count_by is_late xs
-  moved_less late = count_set is_late xs i x (record x { heard = x.metric.moment }) lt is (ap not (ne_eqb x.metric.moment x.heard late)) (ap not (itself_eqb x.metric.moment))
+  -- the pairs stay
+  pub settled_rising : (cmp : K → K → Ordering) (xs : List (Offer K (Heard M))) → IsRising (pair_cmp cmp) pair_of xs → IsRising (pair_cmp cmp) pair_of (map settled xs)
+  settled_rising cmp = rising_up (pair_cmp cmp) settled (λ o. o) pair_of pair_of (λ x. refl)
+
+  -- where no mark is late all stand as they are
+  pub none_late : (xs : List (Offer K (Heard M))) → list_any is_late xs ≡ false → map settled xs ≡ xs
+  none_late [] none = refl
+  none_late (x ∷ xs) none =
+      let here : is_late x ≡ false = (neither _ _ none).0 in
+      let same : x.metric.moment ≡ x.heard = eqb-true x.metric.moment x.heard (not_false _ here) in
+      ap (λ h. record x { heard = h } ∷ map settled xs) same ∙ ap (λ l. x ∷ l) (none_late xs (neither _ _ none).1)
+
+  moments_alike : (xs : List (Offer K (Heard M))) (j : ℕ) (d : Offer K M) → j < length xs → (get_or (map as_heard xs) j d).heard ≡ (get_or (map settled xs) j (back_to d)).heard
+  moments_alike xs j d lt = ap (λ (o : Offer K M). o.heard) (get_or-map as_heard xs j (back_to d) d lt) ∙ sym (ap (λ (o : Offer K (Heard M)). o.heard) (get_or-map settled xs j (back_to d) (back_to d) lt))
+
+  -- where all marks are right the offer of the first was heard first
+  pub first_is_settled : (xs : List (Offer K (Heard M))) (i moment : ℕ) → IsOldest (map settled xs) i moment → IsOldest (map as_heard xs) i moment
+  first_is_settled xs i moment first =
+      let long = length-map xs as_heard in
+      let same = length-map xs settled in
+      record {
+        in_range = omega (arith, first.in_range, long, same);
+        heard = λ d. moments_alike xs i d (omega (arith, first.in_range, same)) ∙ first.heard (back_to d);
+        first = λ j d lt. let within : j < length xs = omega (arith, lt, long) in omega (arith, moments_alike xs j d within, first.first j (back_to d) (omega (arith, within, same)));
+      }
+
+  -- what is kept by the marks that are right is what is kept by the moments heard last
+  pub young_settled : (now : ℕ) (xs : List (Offer K (Heard M))) → map as_heard (filter (λ o. is_young now o.heard) (map settled xs)) ≡ filter (λ o. is_young now o.heard) (map as_heard xs)
+  young_settled now [] = refl
+  young_settled now (x ∷ xs) =
+      let rest = young_settled now xs in
+      elim (is_young now x.metric.moment) as (λ b. map as_heard (cond b (settled x ∷ filter (λ o. is_young now o.heard) (map settled xs)) (filter (λ o. is_young now o.heard) (map settled xs))) ≡ cond b (as_heard x ∷ filter (λ o. is_young now o.heard) (map as_heard xs)) (filter (λ o. is_young now o.heard) (map as_heard xs))) [
+        | true ↦ ap (λ l. as_heard x ∷ l) rest
+        | false ↦ rest
+      ]
+
+pub if_some : {A : Type 0} (r : Option A) (P Q : A → Type 0) → ((a : A) → P a → Q a) → IfSome r P → IfSome r Q
+if_some None P Q f h = h
+if_some (Some a) P Q f h = f a h
 
 pub if_ok : {A E : Type 0} (r : Result A E) (P Q : A → Type 0) → ((a : A) → P a → Q a) → IfOk r P → IfOk r Q
 if_ok (Ok a) P Q f h = f a h

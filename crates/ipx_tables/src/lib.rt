@@ -7,9 +7,11 @@
 //! moment.
 #![tactic(auto)]
 
+mod ageing;
 mod expiry_key;
 mod fault;
 mod finding;
+mod heard;
 mod laws;
 mod marks;
 mod metric;

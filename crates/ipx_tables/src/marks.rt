@@ -1,12 +1,14 @@
 //! Marks in the order of their moments.
 
-ghost use Rattle.std.specs.Prelude.{◌≡◌, ◌+◌, ◌<◌, ◌&&◌, ◌||◌, true, false, not, IfOk, IfErr, IfSome, MatchResult};
+ghost use Rattle.std.specs.Prelude.{◌≡◌, ◌+◌, ◌<◌, ◌≤◌, ◌&&◌, ◌||◌, true, false, not, length, map, IfOk, IfErr, IfSome, MatchResult};
+ghost use Rattle.std.specs.List.Sorted.{IsPermutation, IsSorted};
 ghost use Rattle.std.specs.Ordering.{is_eq};
 ghost use Rattle.std.specs.VecDeque.{deque_len, deque_capacity};
-ghost use Rattle.ipx_tables.specs.ExpiryKeys.{has_expiry_key, mark_cmp, mark_itself};
+ghost use Rattle.ipx_tables.specs.ExpiryKeys.{expiry_key_of, has_expiry_key, mark_cmp, mark_itself};
 ghost use Rattle.ipx_tables.specs.Sorted.{IsAtKey, IsGapFor, IsRising};
 
-use crate::expiry_key::ExpiryKey;
+use crate::expiry_key::{ExpiryKey, mark_by};
+use crate::offer::Offer;
 use std::cmp::Ordering;
 use std::collections::VecDeque;
 
@@ -78,4 +80,17 @@ pub fn put_mark<K: Ord + Copy>(marks: &mut VecDeque<ExpiryKey<K>>, mark: ExpiryK
     if let Err(at) = place_of_mark(marks, mark) {
         let _put = marks.insert(at, mark);
     }
+}
+
+/// Marks each offer anew. There is room for all of the marks.
+pub fn mark_anew<K: Ord + Copy, M: Copy>(marks: &mut VecDeque<ExpiryKey<K>>, offers: &[Offer<K, M>])
+    requires { length offers.now ≤ deque_capacity marks.old }
+    ensures permutation { IsPermutation (map expiry_key_of offers.now) marks.new.items }
+    ensures sorted { IsSorted (mark_cmp K.cmp) marks.new.items }
+{
+    marks.clear();
+    for offer in offers {
+        marks.push_back_reserved(mark_by(*offer));
+    }
+    marks.make_contiguous().sort_unstable();
 }

@@ -7,10 +7,11 @@ ghost use Rattle.ipx_tables.specs.Room.{Grows, IsFull};
 ghost use Rattle.ipx_tables.specs.Best.{IsBest, NoneCounts};
 ghost use Rattle.ipx_tables.specs.Listing.{IsListing};
 
+use crate::ageing::keep_young;
 use crate::fault::TableFault;
 use crate::finding::best_in;
 use crate::metric::Metric;
-use crate::moments::{expiry, keep_young};
+use crate::moments::expiry;
 use crate::offer::Offer;
 use crate::rack::Rack;
 use crate::source::Source;

@@ -1,30 +1,25 @@
 //! Offers whose marks follow late.
 
 ghost use Rattle.std.specs.Prelude.{◌≡◌, ◌+◌, ◌^◌, ◌<◌, [], List, length, IfNone, IfSome, IfOk, IfErr, OnOk, OnErr, insert, remove, slice_index_or, slice_set};
+ghost use Rattle.std.specs.List.{filter};
 ghost use Rattle.std.specs.Ordering.{is_eq};
-ghost use Rattle.ipx_tables.specs.Content.{pair_cmp, pair_of};
+ghost use Rattle.ipx_tables.specs.Content.{is_young, pair_cmp, pair_of};
 ghost use Rattle.ipx_tables.specs.Expiry.{IsOldest};
 ghost use Rattle.ipx_tables.specs.Late.{as_heard, as_marked};
 ghost use Rattle.ipx_tables.specs.Sorted.{IsAtKey, IsGapFor, IsRising};
 
+use crate::heard::Heard;
 use crate::offer::Offer;
 use crate::shelf::Shelf;
 use crate::source::Source;
 use std::alloc::{AllocError, Global};
 use std::marker::Model;
 
-/// A metric, and the moment at which it was heard.
-#[derive(Clone, Copy, Debug)]
-pub struct Heard<M> {
-    pub metric: M,
-    pub moment: u64,
-}
-
 /// Offers by key and source, no two of one key and source.
 ///
 /// On the shelf an offer has the moment of its mark. Who is heard again keeps the mark, so that
-/// hearing moves none. Ageing moves the oldest marks to the moments heard last, once for all the
-/// times heard since.
+/// hearing moves none. Ageing puts all late marks right together, once for all the times heard
+/// since.
 #[derive(Drop)]
 pub struct Rack<K: Ord + Copy, M: Copy> {
     shelf: Shelf<K, Heard<M>>,
@@ -126,21 +121,27 @@ impl<K: Ord + Copy, M: Copy> Rack<K, M> {
         self.shelf.place_of(key, source)
     }
 
-    /// An offer that was heard first, and when that was. Marks that are late move up to it.
+    /// An offer that was heard first, and when that was. Where the first mark is late, all that are
+    /// late are put right, together.
     pub fn oldest(&mut self) -> Option<(usize, u64)>
         ensures oldest { IfSome result (λ o. IsOldest self.old o.0 o.1) }
         ensures none { IfNone result (self.old ≡ []) }
         ensures same { self.new ≡ self.old }
     {
-        while let Some((at, moment)) = self.shelf.oldest() {
-            let offer = self.shelf.get(at);
-            if offer.metric.moment == moment {
-                return Some((at, moment));
-            }
-            let heard = offer.metric.moment;
-            self.shelf.replace(at, Offer { heard, ..offer });
+        let (at, moment) = self.shelf.oldest()?;
+        if self.shelf.get(at).metric.moment == moment {
+            return Some((at, moment));
         }
-        None
+        self.shelf.settle();
+        self.shelf.oldest()
+    }
+
+    /// Takes out each offer that counts no more at a moment, all together.
+    pub fn keep_young(&mut self, now: u64)
+        ensures { self.new ≡ filter (λ o. is_young now o.heard) self.old }
+    {
+        self.shelf.settle();
+        self.shelf.keep_young(now);
     }
 
     /// Takes an offer out.

@@ -1,13 +1,17 @@
 //! Offers in two sorted sequences: by key and source, and by the moment heard.
 
-ghost use Rattle.std.specs.Prelude.{◌≡◌, ◌+◌, ◌^◌, ◌<◌, [], List, length, IfNone, IfSome, IfOk, IfErr, OnOk, OnErr, insert, remove, slice_index_or, slice_set};
+ghost use Rattle.std.specs.Prelude.{◌≡◌, ◌+◌, ◌^◌, ◌<◌, [], List, length, map, IfNone, IfSome, IfOk, IfErr, OnOk, OnErr, insert, remove, slice_index_or, slice_set};
+ghost use Rattle.std.specs.List.{filter, list_any};
 ghost use Rattle.std.specs.Ordering.{is_eq};
-ghost use Rattle.ipx_tables.specs.Content.{pair_cmp, pair_of};
+ghost use Rattle.ipx_tables.specs.Content.{is_young, pair_cmp, pair_of};
 ghost use Rattle.ipx_tables.specs.Expiry.{IsOldest};
+ghost use Rattle.ipx_tables.specs.Late.{is_late, settled};
 ghost use Rattle.ipx_tables.specs.Sorted.{IsAtKey, IsGapFor, IsRising};
 
 use crate::expiry_key::{ExpiryKey, mark_by};
-use crate::marks::{put_mark, unmark};
+use crate::heard::Heard;
+use crate::marks::{mark_anew, put_mark, unmark};
+use crate::moments::counts;
 use crate::offer::Offer;
 use crate::source::Source;
 use std::alloc::{AllocError, Global};
@@ -118,6 +122,14 @@ impl<K: Ord + Copy, M: Copy> Shelf<K, M> {
         unmark(&mut self.marks, mark_by(gone));
     }
 
+    /// Takes out each offer whose mark is old at a moment, in one pass over each sequence.
+    pub fn keep_young(&mut self, now: u64)
+        ensures { self.new ≡ filter (λ o. is_young now o.heard) self.old }
+    {
+        self.offers.retain(|offer| counts(now, offer.heard));
+        self.marks.retain(|mark| counts(now, mark.moment));
+    }
+
     /// Puts an offer over the one of its key and source.
     pub fn replace(&mut self, at: usize, offer: Offer<K, M>)
         requires { IsAtKey (pair_cmp K.cmp) pair_of self.old (pair_of offer) at }
@@ -147,6 +159,37 @@ impl<K: Ord + Copy, M: Copy> Shelf<K, M> {
         put_mark(&mut self.marks, mark_by(offer));
         self.next = at + 1;
         Ok(())
+    }
+}
+
+impl<K: Ord + Copy, M: Copy> Shelf<K, Heard<M>> {
+    /// Puts all late marks right together: each then has the moment at which its offer was heard
+    /// last.
+    pub fn settle(&mut self)
+        ensures { self.new ≡ map settled self.old }
+    {
+        if any_late(&self.offers) {
+            settle_all(&mut self.offers);
+            mark_anew(&mut self.marks, &self.offers);
+        }
+    }
+}
+
+/// Whether the mark of some offer is late.
+fn any_late<K: Copy, M: Copy>(offers: &[Offer<K, Heard<M>>]) -> bool
+    ensures { result ≡ list_any is_late offers.now }
+{
+    offers
+        .iter()
+        .any(|offer| offer.metric.moment != offer.heard)
+}
+
+/// Gives each offer the moment at which it was heard last.
+fn settle_all<K: Copy, M: Copy>(offers: &mut Vec<Offer<K, Heard<M>>>)
+    ensures { offers.new.items ≡ map settled offers.old.items }
+{
+    for offer in offers.iter_mut() {
+        offer.heard = offer.metric.moment;
     }
 }
 

@@ -1,9 +1,7 @@
-use Rattle.std.proofs.Common.{◌≡◌, ◌∙◌, IfOk, IfErr, refl, sym, ap, map, set, length, arith}
-use Rattle.std.proofs.lemmas.List.{length-map, map-set}
-use Rattle.std.proofs.lemmas.List.Elements.{All-set}
+use Rattle.std.proofs.Common.{ap, arith}
 use Rattle.ipx_tables.specs.Content.{pair_of}
-use Rattle.ipx_tables.specs.Late.{IsInTime, as_heard, as_marked}
-use Rattle.ipx_tables.proofs.Racks.{added_as_heard, added_in_time, if_err, if_ok, in_time_removed, map_remove, new_down, new_up, pairs_up, place_down, place_up, refused_as_heard}
+use Rattle.ipx_tables.specs.Late.{as_heard}
+use Rattle.ipx_tables.proofs.Racks.{added_as_heard, added_in_time, new_down, pairs_up}
 use Rattle.ipx_tables.proofs.rack.Rack.add.Goals as goal
 
 pub add-requires : goal.add-requires

@@ -1,33 +1,20 @@
-use Rattle.std.proofs.Common.{◌≡◌, ◌∙◌, sym, ap, length, map, arith}
-use Rattle.std.proofs.lemmas.Cmp.{tied_itself}
-use Rattle.ipx_tables.specs.Content.{pair_of}
+use Rattle.std.proofs.Common.{◌∙◌, ap, map}
 use Rattle.ipx_tables.specs.Late.{as_heard}
-use Rattle.ipx_tables.proofs.Lists.{pair_total}
-use Rattle.ipx_tables.proofs.Places.{at_read}
-use Rattle.ipx_tables.proofs.Racks.{first_is_exact, moved_in_time, moved_less, moved_same}
+use Rattle.ipx_tables.proofs.Racks.{first_is_exact, first_is_settled, if_some, settled_in_time, settled_same}
 use Rattle.ipx_tables.proofs.rack.Rack.oldest.Goals as goal
 
-pub returns-then-offer-moment-clause-oldest : goal.returns-then-offer-moment-clause-oldest
-returns-then-offer-moment-clause-oldest g c =
-    let first = c.in-Some.ensures.oldest in
-    rw (← c.loop-at.invariant.same) (first_is_exact c.loop-at.self-inside.shelf c.in-Some.at c.get-offer.result first.in_range c.get-offer.ensures c.in-Some.moment c.loop-at.invariant.in_time first c.if-offer-moment.true)
+pub returns-then-get-moment-clause-oldest : goal.returns-then-get-moment-clause-oldest
+returns-then-get-moment-clause-oldest g c =
+    let first = c.in_ok-at.ensures.oldest in
+    rw (← c.self.view_is) (first_is_exact c.self.inside.shelf c.in_ok-at.at c.get.result first.in_range c.get.ensures c.in_ok-at.moment c.self.invariant first c.if-get-moment.true)
 
-pub replace-requires : goal.replace-requires
-replace-requires g c =
-    at_read (pair_total g.met.K.Ord.total) pair_of c.loop-at.self-inside.shelf c.in-Some.at c.get-offer.result (pair_of c.get-offer.result) c.in-Some.ensures.oldest.in_range c.get-offer.ensures (tied_itself (pair_total g.met.K.Ord.total) (pair_of c.get-offer.result))
+pub invariant_of-self : goal.invariant_of-self
+invariant_of-self g c = rw c.settle.ensures (settled_in_time c.self.inside.shelf)
 
-pub loop-at-preserved : goal.loop-at-preserved
-loop-at-preserved g c =
-    let x = c.get-offer.result in
-    let shelf = c.loop-at.self-inside.shelf in
-    let lt = c.in-Some.ensures.oldest.in_range in
-    record {
-      same = ap (map as_heard) c.replace.ensures.items ∙ moved_same shelf c.in-Some.at x lt c.get-offer.ensures ∙ c.loop-at.invariant.same;
-      in_time = rw c.replace.ensures.items (moved_in_time shelf c.in-Some.at x lt c.get-offer.ensures c.loop-at.invariant.in_time);
-    }
+pub returns-clause-oldest : goal.returns-clause-oldest
+returns-clause-oldest g c =
+    let first = rw c.settle.ensures at c.oldest-2.ensures.oldest in
+    rw (← c.self.view_is) (if_some c.oldest-2.result _ _ (λ o. first_is_settled c.self.inside.shelf o.0 o.1) first)
 
-pub loop-at-smaller : goal.loop-at-smaller
-loop-at-smaller g c =
-    let x = c.get-offer.result in
-    let late = moved_less c.loop-at.self-inside.shelf c.in-Some.at x c.in-Some.ensures.oldest.in_range c.get-offer.ensures (λ same. c.if-offer-moment.false (same ∙ ap (λ o. o.heard) c.get-offer.ensures ∙ c.in-Some.ensures.oldest.heard x)) in
-    rw c.replace.ensures.items (omega (arith, late))
+pub returns-clause-same : goal.returns-clause-same
+returns-clause-same g c = ap (map as_heard) c.settle.ensures ∙ settled_same c.self.inside.shelf ∙ c.self.view_is

@@ -1,9 +1,4 @@
-use Rattle.std.proofs.Common.{◌≡◌, ◌∙◌, IfOk, IfErr, refl, sym, ap, length, arith}
-use Rattle.std.proofs.lemmas.List.{length-map, map-set}
-use Rattle.std.proofs.lemmas.List.Elements.{All-set}
-use Rattle.ipx_tables.specs.Content.{pair_of}
-use Rattle.ipx_tables.specs.Late.{IsInTime, as_heard, as_marked}
-use Rattle.ipx_tables.proofs.Racks.{added_as_heard, added_in_time, if_err, if_ok, in_time_removed, map_remove, new_down, new_up, pairs_up, place_down, place_up, refused_as_heard}
+use Rattle.ipx_tables.proofs.Racks.{if_err, if_ok, new_up, place_up}
 use Rattle.ipx_tables.proofs.rack.Rack.place_of.Goals as goal
 
 pub returns-clause-found : goal.returns-clause-found

@@ -1,9 +1,9 @@
-use Rattle.std.proofs.Common.{◌≡◌, ◌∙◌, IfOk, IfErr, refl, sym, ap, map, set, length, arith}
-use Rattle.std.proofs.lemmas.List.{length-map, map-set}
+use Rattle.std.proofs.Common.{◌∙◌, ap, map, set, arith}
+use Rattle.std.proofs.lemmas.List.{map-set}
 use Rattle.std.proofs.lemmas.List.Elements.{All-set}
 use Rattle.ipx_tables.specs.Content.{pair_of}
-use Rattle.ipx_tables.specs.Late.{IsInTime, as_heard, as_marked}
-use Rattle.ipx_tables.proofs.Racks.{added_as_heard, added_in_time, if_err, if_ok, in_time_removed, map_remove, new_down, new_up, pairs_up, place_down, place_up, refused_as_heard}
+use Rattle.ipx_tables.specs.Late.{IsInTime, as_heard}
+use Rattle.ipx_tables.proofs.Racks.{pairs_up, place_down}
 use Rattle.ipx_tables.proofs.rack.Rack.replace.Goals as goal
 
 pub replace-requires : goal.replace-requires

@@ -1,4 +1,4 @@
-use Rattle.std.proofs.Common.{◌≡◌, ◌∙◌, ap, sym, get_or, map}
+use Rattle.std.proofs.Common.{◌∙◌, ap, sym, get_or, map}
 use Rattle.std.specs.Ordering.{is_eq}
 use Rattle.ipx_tables.specs.Late.{as_heard, as_marked}
 use Rattle.ipx_tables.proofs.Racks.{keys_up}
