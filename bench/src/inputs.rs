@@ -236,7 +236,29 @@ pub fn routes_and_services(routes: u32, services: u32) -> Records {
     Records::of(SAP_RECORD, rip.chain(sap))
 }
 
-/// The same, with the services in the order of their types and names.
+/// The same, and then all of it again with 16 hops.
+pub fn told_and_withdrawn(routes: u32, services: u32) -> Records {
+    let mut records = routes_and_services(routes, services);
+    let mut gone = records.bytes.clone();
+    gone.chunks_exact_mut(records.size).for_each(withdraw);
+    records.bytes.extend(gone);
+    records
+}
+
+/// Gives each entry of a response 16 hops.
+fn withdraw(record: &mut [u8]) {
+    let end = LEAD + usize::from(u16::from_be_bytes([record[LEAD + 2], record[LEAD + 3]]));
+    let (size, hops) = match record[LEAD + 5] {
+        1 => (8, 4),
+        _ => (64, 62),
+    };
+    for entry in record[LEAD + 32..end].chunks_exact_mut(size) {
+        entry[hops..hops + 2].copy_from_slice(&16u16.to_be_bytes());
+    }
+}
+
+/// RIP and SAP responses as of `routes_and_services`, with the services in the order of their types
+/// and names.
 pub fn routes_and_services_by_key(routes: u32, services: u32) -> Records {
     let rip = parts(routes, 50, &[1, 2, 3]).map(|(port, numbers)| rip_response(port, numbers));
     let mut by_key = (0..services).collect::<Vec<_>>();

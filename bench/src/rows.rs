@@ -3,7 +3,7 @@
 
 use crate::inputs::{
     AT_ONCE, FIRST_LEARNED, LEAD, PORT_NETWORKS, Pace, Records, asking, fifty_of, others, packets,
-    refused, routes, routes_and_services, routes_and_services_by_key,
+    refused, routes, routes_and_services, routes_and_services_by_key, told_and_withdrawn,
 };
 use crate::plain::endpoint::MOST_BYTES;
 use crate::plain::spx::MOST_DATA;
@@ -140,6 +140,46 @@ fn hear_all() -> [Row; 6] {
     ]
 }
 
+/// A round each 200 seconds, with all its packets at one moment: all that the round before told
+/// grows old at the first packet, and is learned anew.
+const OLD_AT_ONCE: Pace = Pace {
+    apart: 0,
+    period: 200_000,
+};
+
+/// A round each 180 seconds, in which a packet comes each tenth of a second: what each packet told
+/// the round before grows old just as it comes again.
+const OLD_ONE_BY_ONE: Pace = Pace {
+    apart: 100,
+    period: 180_000,
+};
+
+/// All routes and services, learned in each round by a router that holds none any more, since they
+/// grew old or were withdrawn.
+fn learn_all() -> [Row; 5] {
+    let row = |how: &str, records: fn(u32, u32) -> Records, pace| {
+        let name = format!("learn {ROUTES} and {SERVICES}{how}");
+        let mut row = receive_at(name, Records::none(), records(ROUTES, SERVICES), pace);
+        row.calls = 1;
+        row
+    };
+    [
+        row(", old at once", routes_and_services, OLD_AT_ONCE),
+        row(", old one by one", routes_and_services, OLD_ONE_BY_ONE),
+        row(", withdrawn", told_and_withdrawn, AT_ONCE),
+        row(
+            " by key, old at once",
+            routes_and_services_by_key,
+            OLD_AT_ONCE,
+        ),
+        row(
+            " by key, old one by one",
+            routes_and_services_by_key,
+            OLD_ONE_BY_ONE,
+        ),
+    ]
+}
+
 /// What is asked of a router that holds all routes and services.
 fn ask(name: &str, socket: u16, body: &[u8]) -> Row {
     let heard = routes_and_services(ROUTES, SERVICES);
@@ -235,6 +275,7 @@ pub fn all() -> Vec<Row> {
         .chain([forward_with_all_held()])
         .chain(hear())
         .chain(hear_all())
+        .chain(learn_all())
         .chain(ask_all())
         .chain([tell()])
         .chain(PASSES.map(pass))

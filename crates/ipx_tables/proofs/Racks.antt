@@ -12,7 +12,7 @@ use Rattle.ipx_tables.specs.declared.source.Source.{Source}
 use Rattle.ipx_tables.specs.declared.heard.Heard.{Heard}
 use Rattle.ipx_tables.specs.Content.{is_young, pair_cmp, pair_of}
 use Rattle.ipx_tables.specs.Expiry.{IsOldest}
-use Rattle.ipx_tables.specs.Late.{IsInTime, as_heard, as_marked, is_late, settled}
+use Rattle.ipx_tables.specs.Late.{IsInTime, as_heard, as_marked, is_late, put_right}
 use Rattle.ipx_tables.specs.Sorted.{IsRising, IsAtKey, IsGapFor}
 
 pub map_remove : {X Y : Type 0} (f : X → Y) (xs : List X) (i : ℕ) → map f (remove xs i) ≡ remove (map f xs) i
@@ -104,33 +104,33 @@ module _ {K M : Type 0} where
   back_to o = as_marked o.heard o
 
   -- marks that are put right leave what was heard
-  pub settled_same : (xs : List (Offer K (Heard M))) → map as_heard (map settled xs) ≡ map as_heard xs
+  pub settled_same : (xs : List (Offer K (Heard M))) → map as_heard (map put_right xs) ≡ map as_heard xs
   settled_same [] = refl
   settled_same (x ∷ xs) = ap (λ l. as_heard x ∷ l) (settled_same xs)
 
-  pub settled_in_time : (xs : List (Offer K (Heard M))) → All IsInTime (map settled xs)
-  settled_in_time xs = All-map IsInTime settled xs (λ j d lt. omega arith)
+  pub settled_in_time : (xs : List (Offer K (Heard M))) → All IsInTime (map put_right xs)
+  settled_in_time xs = All-map IsInTime put_right xs (λ j d lt. omega arith)
 
   -- the pairs stay
-  pub settled_rising : (cmp : K → K → Ordering) (xs : List (Offer K (Heard M))) → IsRising (pair_cmp cmp) pair_of xs → IsRising (pair_cmp cmp) pair_of (map settled xs)
-  settled_rising cmp = rising_up (pair_cmp cmp) settled (λ o. o) pair_of pair_of (λ x. refl)
+  pub settled_rising : (cmp : K → K → Ordering) (xs : List (Offer K (Heard M))) → IsRising (pair_cmp cmp) pair_of xs → IsRising (pair_cmp cmp) pair_of (map put_right xs)
+  settled_rising cmp = rising_up (pair_cmp cmp) put_right (λ o. o) pair_of pair_of (λ x. refl)
 
   -- where no mark is late all stand as they are
-  pub none_late : (xs : List (Offer K (Heard M))) → list_any is_late xs ≡ false → map settled xs ≡ xs
+  pub none_late : (xs : List (Offer K (Heard M))) → list_any is_late xs ≡ false → map put_right xs ≡ xs
   none_late [] none = refl
   none_late (x ∷ xs) none =
       let here : is_late x ≡ false = (neither _ _ none).0 in
       let same : x.metric.moment ≡ x.heard = eqb-true x.metric.moment x.heard (not_false _ here) in
-      ap (λ h. record x { heard = h } ∷ map settled xs) same ∙ ap (λ l. x ∷ l) (none_late xs (neither _ _ none).1)
+      ap (λ h. record x { heard = h } ∷ map put_right xs) same ∙ ap (λ l. x ∷ l) (none_late xs (neither _ _ none).1)
 
-  moments_alike : (xs : List (Offer K (Heard M))) (j : ℕ) (d : Offer K M) → j < length xs → (get_or (map as_heard xs) j d).heard ≡ (get_or (map settled xs) j (back_to d)).heard
-  moments_alike xs j d lt = ap (λ (o : Offer K M). o.heard) (get_or-map as_heard xs j (back_to d) d lt) ∙ sym (ap (λ (o : Offer K (Heard M)). o.heard) (get_or-map settled xs j (back_to d) (back_to d) lt))
+  moments_alike : (xs : List (Offer K (Heard M))) (j : ℕ) (d : Offer K M) → j < length xs → (get_or (map as_heard xs) j d).heard ≡ (get_or (map put_right xs) j (back_to d)).heard
+  moments_alike xs j d lt = ap (λ (o : Offer K M). o.heard) (get_or-map as_heard xs j (back_to d) d lt) ∙ sym (ap (λ (o : Offer K (Heard M)). o.heard) (get_or-map put_right xs j (back_to d) (back_to d) lt))
 
   -- where all marks are right the offer of the first was heard first
-  pub first_is_settled : (xs : List (Offer K (Heard M))) (i moment : ℕ) → IsOldest (map settled xs) i moment → IsOldest (map as_heard xs) i moment
+  pub first_is_settled : (xs : List (Offer K (Heard M))) (i moment : ℕ) → IsOldest (map put_right xs) i moment → IsOldest (map as_heard xs) i moment
   first_is_settled xs i moment first =
       let long = length-map xs as_heard in
-      let same = length-map xs settled in
+      let same = length-map xs put_right in
       record {
         in_range = omega (arith, first.in_range, long, same);
         heard = λ d. moments_alike xs i d (omega (arith, first.in_range, same)) ∙ first.heard (back_to d);
@@ -138,11 +138,11 @@ module _ {K M : Type 0} where
       }
 
   -- what is kept by the marks that are right is what is kept by the moments heard last
-  pub young_settled : (now : ℕ) (xs : List (Offer K (Heard M))) → map as_heard (filter (λ o. is_young now o.heard) (map settled xs)) ≡ filter (λ o. is_young now o.heard) (map as_heard xs)
+  pub young_settled : (now : ℕ) (xs : List (Offer K (Heard M))) → map as_heard (filter (λ o. is_young now o.heard) (map put_right xs)) ≡ filter (λ o. is_young now o.heard) (map as_heard xs)
   young_settled now [] = refl
   young_settled now (x ∷ xs) =
       let rest = young_settled now xs in
-      elim (is_young now x.metric.moment) as (λ b. map as_heard (cond b (settled x ∷ filter (λ o. is_young now o.heard) (map settled xs)) (filter (λ o. is_young now o.heard) (map settled xs))) ≡ cond b (as_heard x ∷ filter (λ o. is_young now o.heard) (map as_heard xs)) (filter (λ o. is_young now o.heard) (map as_heard xs))) [
+      elim (is_young now x.metric.moment) as (λ b. map as_heard (cond b (put_right x ∷ filter (λ o. is_young now o.heard) (map put_right xs)) (filter (λ o. is_young now o.heard) (map put_right xs))) ≡ cond b (as_heard x ∷ filter (λ o. is_young now o.heard) (map as_heard xs)) (filter (λ o. is_young now o.heard) (map as_heard xs))) [
         | true ↦ ap (λ l. as_heard x ∷ l) rest
         | false ↦ rest
       ]

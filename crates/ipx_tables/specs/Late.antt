@@ -31,5 +31,5 @@ abbrev pub is_late : {K M : Type 0} → Offer K (Heard M) → Bool
 is_late o = not (o.metric.moment == o.heard)
 
 -- an offer whose mark is put right
-abbrev pub settled : {K M : Type 0} → Offer K (Heard M) → Offer K (Heard M)
-settled o = record o { heard = o.metric.moment }
+abbrev pub put_right : {K M : Type 0} → Offer K (Heard M) → Offer K (Heard M)
+put_right o = record o { heard = o.metric.moment }

@@ -5,7 +5,7 @@ ghost use Rattle.std.specs.List.{filter, list_any};
 ghost use Rattle.std.specs.Ordering.{is_eq};
 ghost use Rattle.ipx_tables.specs.Content.{is_young, pair_cmp, pair_of};
 ghost use Rattle.ipx_tables.specs.Expiry.{IsOldest};
-ghost use Rattle.ipx_tables.specs.Late.{is_late, settled};
+ghost use Rattle.ipx_tables.specs.Late.{is_late, put_right};
 ghost use Rattle.ipx_tables.specs.Sorted.{IsAtKey, IsGapFor, IsRising};
 
 use crate::expiry_key::{ExpiryKey, mark_by};
@@ -166,7 +166,7 @@ impl<K: Ord + Copy, M: Copy> Shelf<K, Heard<M>> {
     /// Puts all late marks right together: each then has the moment at which its offer was heard
     /// last.
     pub fn settle(&mut self)
-        ensures { self.new ≡ map settled self.old }
+        ensures { self.new ≡ map put_right self.old }
     {
         if any_late(&self.offers) {
             settle_all(&mut self.offers);
@@ -186,7 +186,7 @@ fn any_late<K: Copy, M: Copy>(offers: &[Offer<K, Heard<M>>]) -> bool
 
 /// Gives each offer the moment at which it was heard last.
 fn settle_all<K: Copy, M: Copy>(offers: &mut Vec<Offer<K, Heard<M>>>)
-    ensures { offers.new.items ≡ map settled offers.old.items }
+    ensures { offers.new.items ≡ map put_right offers.old.items }
 {
     for offer in offers.iter_mut() {
         offer.heard = offer.metric.moment;

@@ -1,7 +1,7 @@
 use Rattle.std.proofs.Common.{◌≡◌, ◌∙◌, false, length, sym, ap, arith}
 use Rattle.std.specs.List.{list_any}
 use Rattle.std.proofs.lemmas.List.{length-map}
-use Rattle.ipx_tables.specs.Late.{is_late, settled}
+use Rattle.ipx_tables.specs.Late.{is_late, put_right}
 use Rattle.ipx_tables.proofs.Pairing.{as_many, paired_anew}
 use Rattle.ipx_tables.proofs.Racks.{none_late, settled_rising}
 use Rattle.ipx_tables.proofs.shelf.Shelf+K+Heard+M.settle.Goals as goal
@@ -9,7 +9,7 @@ use Rattle.ipx_tables.proofs.shelf.Shelf+K+Heard+M.settle.Goals as goal
 pub mark_anew-requires : goal.mark_anew-requires
 mark_anew-requires g c =
     let many = as_many g.met.K.Ord.total _ _ c.self.invariant in
-    let long : length c.deref-then-any_late.result.now ≡ length c.self.inside.offers.items = ap length (c.deref-then-any_late.ensures.value ∙ c.settle_all.ensures) ∙ length-map _ settled in
+    let long : length c.deref-then-any_late.result.now ≡ length c.self.inside.offers.items = ap length (c.deref-then-any_late.ensures.value ∙ c.settle_all.ensures) ∙ length-map _ put_right in
     omega (arith, long, many, c.self.inside.marks.ok.0, c.self.inside.marks.ok.1)
 
 pub invariant_of-self : goal.invariant_of-self
