@@ -127,3 +127,42 @@ pub returns-in-Err-clause-no_memory_if_there : goal.returns-in-Err-clause-no_mem
 returns-in-Err-clause-no_memory_if_there g c =
     let gone = unsaid g.met.K.Ord.total _ _ _ c.in-Err.ensures.absent in
     rw (← c.self.view_is) (λ there. absurd (true≢false (sym there ∙ ap is_some gone)))
+
+pub returns-in-Ok-clause-full : goal.returns-in-Ok-clause-full
+returns-in-Ok-clause-full g c = ((λ e. cc), (λ f. absurd (true≢false (sym (sym c.dead.ensures ∙ c.if-dead.true) ∙ f.alive))))
+
+pub returns-in_default-clause-full : goal.returns-in_default-clause-full
+returns-in_default-clause-full g c = ((λ e. cc), (λ f. absurd (true≢false (sym (sym c.dead.ensures ∙ c.if-dead.true) ∙ f.alive))))
+
+pub returns-in_err-add-in-Err-2-clause-full : goal.returns-in_err-add-in-Err-2-clause-full
+returns-in_err-add-in-Err-2-clause-full g c = rw (← c.self.view_is) ((λ e. grind (arith, common_steps)), (λ f. absurd (omega (arith, f.full, c.len.ensures.len, c.if-len-self.false))))
+
+pub returns-in_ok-add-in-Err-2-clause-full : goal.returns-in_ok-add-in-Err-2-clause-full
+returns-in_ok-add-in-Err-2-clause-full g c = rw (← c.self.view_is) ((λ e. cc), (λ f. absurd (omega (arith, f.full, c.len.ensures.len, c.if-len-self.false))))
+
+pub returns-in-Ok-clause-out_of_memory : goal.returns-in-Ok-clause-out_of_memory
+returns-in-Ok-clause-out_of_memory g c = λ e. cc
+
+pub returns-in_default-clause-out_of_memory : goal.returns-in_default-clause-out_of_memory
+returns-in_default-clause-out_of_memory g c = λ e. cc
+
+pub returns-in-Ok-place-clause-out_of_memory : goal.returns-in-Ok-place-clause-out_of_memory
+returns-in-Ok-place-clause-out_of_memory g c = λ e. cc
+
+pub returns-in-Err-clause-out_of_memory : goal.returns-in-Err-clause-out_of_memory
+returns-in-Err-clause-out_of_memory g c = λ e. cc
+
+pub returns-in_ok-add-in-Err-2-clause-out_of_memory : goal.returns-in_ok-add-in-Err-2-clause-out_of_memory
+returns-in_ok-add-in-Err-2-clause-out_of_memory g c = λ e. cc
+
+pub returns-in-Ok-clause-no_memory_if_there : goal.returns-in-Ok-clause-no_memory_if_there
+returns-in-Ok-clause-no_memory_if_there g c = λ there. refl
+
+pub returns-in_default-clause-no_memory_if_there : goal.returns-in_default-clause-no_memory_if_there
+returns-in_default-clause-no_memory_if_there g c = λ there. refl
+
+pub returns-in-Ok-place-clause-no_memory_if_there : goal.returns-in-Ok-place-clause-no_memory_if_there
+returns-in-Ok-place-clause-no_memory_if_there g c = λ there. refl
+
+pub returns-in_ok-add-in-Err-2-clause-no_memory_if_there : goal.returns-in_ok-add-in-Err-2-clause-no_memory_if_there
+returns-in_ok-add-in-Err-2-clause-no_memory_if_there g c = λ there. refl
