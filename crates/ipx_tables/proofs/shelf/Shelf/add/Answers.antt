@@ -1,4 +1,4 @@
-use Rattle.std.proofs.Common.{◌≡◌, true, is_ok, arith}
+use Rattle.std.proofs.Common.{◌≡◌, true, is_ok, arith, refl}
 use Rattle.std.proofs.lemmas.Grind.{common_steps}
 use Rattle.ipx_tables.specs.Content.{pair_of}
 use Rattle.ipx_tables.proofs.Lists.{pair_total}
@@ -26,3 +26,9 @@ returns-clause-rising g c =
     let ok : is_ok c.insert-put.result ≡ true = grind (arith, common_steps) in
     let items = rw ok at c.insert-put.ensures.items in
     rw (items, c.reserve.ensures.items) (insert_rising (pair_total g.met.K.Ord.total) pair_of _ c.self.invariant.by_pair c.args.offer c.args.at gap)
+
+pub returns-clause-added : goal.returns-clause-added
+returns-clause-added g c =
+    let ok : is_ok c.insert-put.result ≡ true = grind (arith, common_steps) in
+    let items = rw ok at c.insert-put.ensures.items in
+    rw (items, c.reserve.ensures.items, ← c.self.view_is) refl
