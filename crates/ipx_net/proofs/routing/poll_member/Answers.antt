@@ -12,3 +12,17 @@ returns-clause-memory c =
     let sent = sendings c.in_ok-replies.replies.items in
     λ made. of_list (λ x. RouterPollWantsMemory x c.args.now) c.args.routers.now c.args.router r (slice_get_read c.args.routers.now (length c.args.routers.now) c.args.router r refl c.requires c.index-routers-router.is)
     (inr (inr (_, sent, rw (← c.index-routers-router.is) at c.in_ok-replies.ensures.polled, told_of_some (growth_view c.in_ok-growth.growth) c.args.router _ c.args.first sent c.in_ok-growth.ensures.grows made)))
+
+pub returns-clause-polled : goal.returns-clause-polled
+returns-clause-polled c =
+    let r = c.index-routers-router.result in
+    record {
+      before = r;
+      there = slice_get_read c.args.routers.now (length c.args.routers.now) c.args.router r refl c.requires c.index-routers-router.is;
+      after = c.poll_router.new.member;
+      sent = sendings c.in_ok-replies.replies.items;
+      polled = rw (← c.index-routers-router.is) at c.in_ok-replies.ensures.polled;
+      own = c.in_ok-replies.ensures.own;
+      grows = rw (c.ports.ensures.ports, c.poll_router.ensures.ports, ← c.index-routers-router.is) at c.in_ok-growth.ensures.grows;
+      routers = refl;
+    }
