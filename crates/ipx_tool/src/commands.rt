@@ -80,7 +80,7 @@ const CHECKS_FILE: OptionShape = OptionShape {
 };
 
 /// All commands, in the order in which the help tells them.
-pub const COMMANDS: [CommandShape; 8] = [
+const COMMANDS: &[CommandShape] = &[
     CommandShape {
         name: HOP,
         about: "What a router with two ports does with one packet",
@@ -186,3 +186,8 @@ pub const COMMANDS: [CommandShape; 8] = [
         options: &[],
     },
 ];
+
+/// All commands, in the order in which the help tells them.
+pub fn shapes() -> &'static [CommandShape] {
+    COMMANDS
+}

@@ -1,22 +1,19 @@
 //! What `clap` is told of the commands.
 
-use crate::commands::{COMMANDS, CommandShape, OptionShape, OptionValue, WordShape};
+use crate::commands::{CommandShape, OptionShape, OptionValue, WordShape, shapes};
 use crate::texts::{ABOUT, STATUSES};
 use clap::builder::ValueParser;
-use clap::{Arg, ArgAction, Command, Error};
-use std::alloc::Global;
+use clap::{Arg, ArgAction, Command};
+use std::alloc::{AllocError, Global};
 
 /// The version of the program.
 pub const VERSION: &str = "0.1.0";
 
-fn word_arg<'a>(alloc: Global, word: &WordShape) -> Result<Arg<'a>, Error> {
+fn word_arg<'a>(alloc: Global, word: &WordShape) -> Result<Arg<'a>, AllocError> {
     let arg = Arg::new(alloc, word.name).help(word.help);
     match word.unless {
         None => Ok(arg.required(true)),
-        Some(option) => {
-            let arg = arg.required_unless_present(option)?;
-            Ok(arg.conflicts_with(option)?)
-        }
+        Some(option) => arg.required_unless_present(option)?.conflicts_with(option),
     }
 }
 
@@ -38,7 +35,7 @@ fn option_alone<'a>(
     alloc: Global,
     option: &OptionShape,
     others: &[OptionShape],
-) -> Result<Arg<'a>, Error> {
+) -> Result<Arg<'a>, AllocError> {
     let mut arg = option_arg(alloc, option);
     for other in others {
         arg = arg.conflicts_with(other.name)?;
@@ -46,31 +43,50 @@ fn option_alone<'a>(
     Ok(arg)
 }
 
+/// A command with one word more.
+fn with_word<'a>(
+    alloc: Global,
+    command: Command<'a>,
+    word: &WordShape,
+) -> Result<Command<'a>, AllocError> {
+    command.arg(word_arg(alloc, word)?)
+}
+
 fn with_words<'a>(
     alloc: Global,
     command: Command<'a>,
     words: &[WordShape],
-) -> Result<Command<'a>, Error> {
+) -> Result<Command<'a>, AllocError> {
     let mut command = command;
     for word in words {
-        command = command.arg(word_arg(alloc, word)?)?;
+        command = with_word(alloc, command, word)?;
     }
     Ok(command)
+}
+
+/// A command with one option more, beside which none of the others stands.
+fn with_option<'a>(
+    alloc: Global,
+    command: Command<'a>,
+    option: &OptionShape,
+    others: &[OptionShape],
+) -> Result<Command<'a>, AllocError> {
+    command.arg(option_alone(alloc, option, others)?)
 }
 
 fn with_options<'a>(
     alloc: Global,
     command: Command<'a>,
     options: &[OptionShape],
-) -> Result<Command<'a>, Error> {
+) -> Result<Command<'a>, AllocError> {
     let mut command = command;
     for (place, option) in options.iter().enumerate() {
-        command = command.arg(option_alone(alloc, option, &options[..place])?)?;
+        command = with_option(alloc, command, option, &options[..place])?;
     }
     Ok(command)
 }
 
-fn command_of<'a>(alloc: Global, shape: &CommandShape) -> Result<Command<'a>, Error> {
+fn command_of<'a>(alloc: Global, shape: &CommandShape) -> Result<Command<'a>, AllocError> {
     let command = Command::new(alloc, shape.name)
         .about(shape.about)
         .long_about(shape.long_about)
@@ -79,16 +95,38 @@ fn command_of<'a>(alloc: Global, shape: &CommandShape) -> Result<Command<'a>, Er
     with_options(alloc, command, shape.options)
 }
 
-/// The program's commands, with what is said of them.
-pub fn whole_command<'a>(alloc: Global) -> Result<Command<'a>, Error> {
-    let mut command = Command::new(alloc, "ipx")
-        .bin_name("ipx")?
+/// The program, before its commands.
+fn program<'a>(alloc: Global) -> Result<Command<'a>, AllocError> {
+    let program = Command::new(alloc, "ipx").bin_name("ipx")?;
+    Ok(program
         .version(VERSION)
         .about(ABOUT)
         .after_help(STATUSES)
-        .subcommand_required(true);
-    for shape in &COMMANDS {
-        command = command.subcommand(command_of(alloc, shape)?)?;
+        .subcommand_required(true))
+}
+
+/// The program with one command more.
+fn with_command<'a>(
+    alloc: Global,
+    program: Command<'a>,
+    shape: &CommandShape,
+) -> Result<Command<'a>, AllocError> {
+    program.subcommand(command_of(alloc, shape)?)
+}
+
+fn with_commands<'a>(
+    alloc: Global,
+    program: Command<'a>,
+    shapes: &[CommandShape],
+) -> Result<Command<'a>, AllocError> {
+    let mut program = program;
+    for shape in shapes {
+        program = with_command(alloc, program, shape)?;
     }
-    Ok(command)
+    Ok(program)
+}
+
+/// The program's commands, with what is said of them.
+pub fn whole_command<'a>(alloc: Global) -> Result<Command<'a>, AllocError> {
+    with_commands(alloc, program(alloc)?, shapes())
 }
