@@ -98,11 +98,13 @@ fn command_of<'a>(alloc: Global, shape: &CommandShape) -> Result<Command<'a>, Al
 /// The program, before its commands.
 fn program<'a>(alloc: Global) -> Result<Command<'a>, AllocError> {
     let program = Command::new(alloc, "ipx").bin_name("ipx")?;
-    Ok(program
-        .version(VERSION)
-        .about(ABOUT)
-        .after_help(STATUSES)
-        .subcommand_required(true))
+    Ok(
+        program
+            .version(VERSION)
+            .about(ABOUT)
+            .after_help(STATUSES)
+            .subcommand_required(true),
+    )
 }
 
 /// The program with one command more.

@@ -11,8 +11,9 @@ use ipx_commands::{do_check, do_hop, do_show, tell_no_memory};
 use ipx_shown_frames::do_show_frames;
 use ipx_sim::do_sim;
 use ipx_site::{check_site, do_route};
-use ipx_transfer::{check_host, do_listen, do_send};
+use ipx_transfer::{Target, check_host, do_listen, do_send};
 use ipx_udp::do_udp;
+use ipx_wire::Node;
 use std::io::IsTerminal;
 use std::process::ExitCode;
 use std::{env, io};
@@ -34,26 +35,47 @@ fn given_words(rt: &HostRuntime) -> Result<Vec<String>, u8> {
     }
 }
 
+fn hop(rt: &HostRuntime) -> Result<u8, u8> {
+    do_hop(rt.alloc(), &mut rt.stdin(), &mut io::writer(rt))
+}
+
+fn show_frames(rt: &HostRuntime, own: Node) -> Result<u8, u8> {
+    do_show_frames(rt.alloc(), own, &mut rt.stdin(), &mut io::writer(rt))
+}
+
+fn check(rt: &HostRuntime) -> Result<u8, u8> {
+    do_check(rt.alloc(), &mut rt.stdin(), &mut io::writer(rt))
+}
+
+fn sim(rt: &HostRuntime) -> Result<u8, u8> {
+    do_sim(rt.alloc(), &mut rt.stdin(), &mut io::writer(rt))
+}
+
+fn udp(rt: &HostRuntime, port: u16) -> Result<u8, u8> {
+    do_udp(rt, rt.alloc(), &mut rt.stdin(), &mut io::writer(rt), port)
+}
+
+/// A host that sends shows how far it is where a person looks.
+fn send(rt: &HostRuntime, file: &str, target: Target<'_>) -> u8 {
+    let shows = rt.stderr().is_terminal();
+    do_send(rt, rt.alloc(), file, target, &mut rt.stdin(), shows)
+}
+
 fn do_task(rt: &HostRuntime, task: Task<'_>) -> Result<u8, u8> {
     match task {
-        Task::Hop => do_hop(rt.alloc(), &mut rt.stdin(), &mut io::writer(rt)),
+        Task::Hop => hop(rt),
         Task::Show(text) => do_show(rt.alloc(), text, &mut io::writer(rt)),
-        Task::ShowFrames(own) => {
-            do_show_frames(rt.alloc(), own, &mut rt.stdin(), &mut io::writer(rt))
-        }
-        Task::Check => do_check(rt.alloc(), &mut rt.stdin(), &mut io::writer(rt)),
-        Task::Sim => do_sim(rt.alloc(), &mut rt.stdin(), &mut io::writer(rt)),
-        Task::Udp(port) => do_udp(rt, rt.alloc(), &mut rt.stdin(), &mut io::writer(rt), port),
+        Task::ShowFrames(own) => show_frames(rt, own),
+        Task::Check => check(rt),
+        Task::Sim => sim(rt),
+        Task::Udp(port) => udp(rt, port),
         Task::Route(file) => Ok(do_route(rt, rt.alloc(), file)),
         Task::CheckSite(file) => Ok(check_site(rt, rt.alloc(), file, &mut io::writer(rt))),
         Task::CheckHost(file) => Ok(check_host(rt, rt.alloc(), file, &mut io::writer(rt))),
         Task::Listen(file, once) => {
             Ok(do_listen(rt, rt.alloc(), file, once, &mut io::writer(rt)))
         }
-        Task::Send(file, target) => {
-            let shows = rt.stderr().is_terminal();
-            Ok(do_send(rt, rt.alloc(), file, target, &mut rt.stdin(), shows))
-        }
+        Task::Send(file, target) => Ok(send(rt, file, target)),
     }
 }
 
