@@ -1,11 +1,14 @@
 //! The hosts and routers that a script lays out, as their sockets are bound.
 
-ghost use Rattle.std.specs.Prelude.{◌≡◌, ◌≢◌, ℕ, All, IfOk, IfSome, None, Some};
+ghost use Rattle.std.specs.Prelude.{◌≡◌, ◌≢◌, ◌∷◌, [], ℕ, List, All, IfOk, IfSome, None, Some, length};
 ghost use Rattle.ipx_net.specs.NetBeginnings.{ArePortsOwed};
 ghost use Rattle.ipx_router.specs.NewRouter.{IsOwnNetwork};
 ghost use Rattle.ipx_wire.specs.declared.address.Socket.{Socket as AnySocket};
 ghost use Rattle.spx_messages.specs.EndpointView.{buffers_at, held_at};
+ghost use Rattle.ipx_carrier.specs.Turns.{peers_of as all_peers};
+ghost use Rattle.ipx_net.specs.declared.place.Place.TheVariants as Places;
 ghost use Rattle.ipx_udp.specs.Binding.{IsHostOf};
+ghost use Rattle.ipx_udp.specs.Mapped.{ArePeersAt};
 
 use crate::mapped::{address_of, peers_of};
 use crate::runner::Runner;
@@ -44,6 +47,32 @@ fn endpoint_of(alloc: Global, host: &Host) -> Result<Endpoint, UdpScriptFault>
     Ok(endpoint)
 }
 
+/// The peers of the one port of a host.
+fn peers_of_host(
+    alloc: Global,
+    map: &Map,
+    number: usize,
+    host: &Host,
+) -> Result<Vec<Vec<[u8; 4]>>, UdpScriptFault>
+    ensures { IfOk result (λ v. (peers : List (List ℕ)) × (all_peers v.items ≡ peers ∷ [])
+        × ArePeersAt map.now.spots.items (Places.Host number) host.now.network peers) }
+{
+    let peers = peers_of(alloc, map, Place::Host(number), host.network)?;
+    Ok(vec![in alloc; peers]?)
+}
+
+/// The socket of a host, at the IP address of its node.
+fn socket_of<R: Net>(
+    rt: &R,
+    alloc: Global,
+    host: &Host,
+    port: u16,
+) -> Result<UdpDatagrams, UdpScriptFault>
+    ensures { IfOk result (λ d. length d.sockets.items ≡ 1) }
+{
+    Ok(UdpDatagrams::bind(rt, alloc, &[address_of(host.node)?], port)?)
+}
+
 /// A host with a socket at the IP address of its node.
 fn bound_host<R: Net>(
     rt: &R,
@@ -55,9 +84,8 @@ fn bound_host<R: Net>(
     ensures { IfOk result (IsHostOf ground.entry.map.now.spots.items number host.now) }
 {
     let endpoint = endpoint_of(alloc, host)?;
-    let peers = peers_of(alloc, ground.map, Place::Host(number), host.network)?;
-    let peers = vec![in alloc; peers]?;
-    let device = UdpDatagrams::bind(rt, alloc, &[address_of(host.node)?], ground.port)?;
+    let peers = peers_of_host(alloc, ground.map, number, host)?;
+    let device = socket_of(rt, alloc, host, ground.port)?;
     Ok(Runner::new(HostCore::new(endpoint), device, peers))
 }
 
@@ -87,6 +115,27 @@ fn peers_of_ports(
     Ok(peers)
 }
 
+/// A router of these ports.
+fn router_of(alloc: Global, ports: &[Port]) -> Result<Router, UdpScriptFault>
+    requires { All IsOwnNetwork ports.now }
+{
+    match Router::new(alloc, Vec::from_slice(alloc, ports)?) {
+        Ok(router) => Ok(router),
+        Err(_) => Err(UdpScriptFault::Memory),
+    }
+}
+
+/// The sockets of a router, one at the IP address of each of its ports.
+fn sockets_of<R: Net>(
+    rt: &R,
+    alloc: Global,
+    ports: &[Port],
+    port: u16,
+) -> Result<UdpDatagrams, UdpScriptFault> {
+    let addresses = addresses_of(alloc, ports)?;
+    Ok(UdpDatagrams::bind(rt, alloc, &addresses, port)?)
+}
+
 /// A router with a socket at the IP address of each of its ports.
 fn bound_router<R: Net>(
     rt: &R,
@@ -97,12 +146,9 @@ fn bound_router<R: Net>(
 ) -> Result<Runner<RouterCore>, UdpScriptFault>
     requires { All IsOwnNetwork ports.now }
 {
-    let Ok(router) = Router::new(alloc, Vec::from_slice(alloc, ports)?) else {
-        return Err(UdpScriptFault::Memory);
-    };
+    let router = router_of(alloc, ports)?;
     let peers = peers_of_ports(alloc, ground.map, number, ports)?;
-    let addresses = addresses_of(alloc, ports)?;
-    let device = UdpDatagrams::bind(rt, alloc, &addresses, ground.port)?;
+    let device = sockets_of(rt, alloc, ports, ground.port)?;
     Ok(Runner::new(RouterCore::new(alloc, router), device, peers))
 }
 
