@@ -1,0 +1,12 @@
+use Rattle.std.proofs.Common.{◌≡◌, ℕ, List, [], ◌++◌, length, ap, rules}
+use Rattle.byteorder.specs.Endian.{big_bytes}
+use Rattle.ipx_wire.specs.declared.address.Node.{Node}
+use Rattle.ipx_lobby.proofs.Nodes.{node_bytes}
+use Rattle.ipx_lobby.proofs.place.Place.node.Goals as goal
+
+pub returns : goal.returns
+returns c =
+    let place = c.args.self in
+    let four : length place.ip ≡ 4 = search rules in
+    let node : List ℕ → Node = λ bytes. record { 0 = bytes } in
+    ap node (node_bytes c.copy_from_slice.new.self place.ip c.write_u16.new.buf place.udp_port (search rules) four (search rules))

@@ -1,0 +1,3 @@
+pub mod LobbyClients
+pub mod LobbyHears
+pub mod LobbyCounted

@@ -1,0 +1,103 @@
+-- The clients of a lobby, and for how long they are known. A node is made as DOSBox 0.74-3 makes it;
+-- all else is own.
+use Rattle.std.specs.Prelude.{◌≡◌, ◌≢◌, ◌≤◌, ℕ, ◌+◌, ◌-◌, List, [], ◌∷◌, ◌++◌, length, drop, filter, find, count_by, AllPairs, Bool, true, not, ◌==◌, ◌&&◌, nat_le, nat_lt, Option, Some, None}
+use Rattle.std.specs.Str.{bytes_eq}
+use Rattle.byteorder.specs.Endian.{big_bytes}
+use Rattle.ipx_wire.specs.declared.address.Node.{Node}
+use Rattle.ipx_lobby.specs.declared.place.Place.{Place}
+use Rattle.ipx_lobby.specs.declared.clients.Client.{Client}
+
+-- a lobby has so many clients at most
+abbrev pub most_lobby_clients : ℕ
+most_lobby_clients = 150
+
+-- the times in ms: behind the first a silent client is forgotten, behind the second where another wants
+-- its place; and in the third so many new ones may register
+abbrev pub forgotten_after : ℕ
+forgotten_after = 86400000
+
+abbrev pub replaced_after : ℕ
+replaced_after = 3600000
+
+abbrev pub newcomer_time : ℕ
+newcomer_time = 1000
+
+abbrev pub most_newcomers : ℕ
+most_newcomers = 10
+
+-- the node of a client at a place: the IP address, and then the port of UDP
+abbrev pub node_of_place : Place → Node
+node_of_place place = record { 0 = place.ip ++ big_bytes 2 place.udp_port }
+
+abbrev pub are_one_place : Place → Place → Bool
+are_one_place a b = bytes_eq a.ip b.ip && (a.udp_port == b.udp_port)
+
+abbrev pub is_client_at : Place → Client → Bool
+is_client_at place c = are_one_place c.place place
+
+abbrev pub has_client_node : Node → Client → Bool
+has_client_node node c = bytes_eq c.node.0 node.0
+
+-- the client at a place, and the client of a node
+abbrev pub client_at : Place → List Client → Option Client
+client_at place known = find (is_client_at place) known
+
+abbrev pub client_of_node : Node → List Client → Option Client
+client_of_node node known = find (has_client_node node) known
+
+-- no two clients are at one place, and no two have one node
+pub record AreTwoClients (a b : Client) : Type 0 where
+  pub places : a.place ≢ b.place
+  pub nodes : a.node ≢ b.node
+
+abbrev pub EachClientOnce : List Client → Type 0
+EachClientOnce known = AllPairs AreTwoClients known
+
+-- it was heard less than so long ago; by a clock that went back no time has passed
+abbrev pub was_heard_within : ℕ → ℕ → Client → Bool
+was_heard_within time now c = nat_lt (now - c.heard) time
+
+-- those who are not forgotten
+abbrev pub clients_left : ℕ → List Client → List Client
+clients_left now known = filter (was_heard_within forgotten_after now) known
+
+-- how many registered less than a second ago
+abbrev pub is_newcomer : ℕ → Client → Bool
+is_newcomer now c = nat_le c.since now && nat_lt (now - c.since) newcomer_time
+
+abbrev pub newcomers : ℕ → List Client → ℕ
+newcomers now known = count_by (is_newcomer now) known
+
+-- there is no place for one more, nor the first one's, which was heard longest ago
+abbrev pub is_first_heard : ℕ → List Client → Bool
+is_first_heard now [] = true
+is_first_heard now (c ∷ rest) = was_heard_within replaced_after now c
+
+abbrev pub are_places_taken : ℕ → ℕ → List Client → Bool
+are_places_taken most now known = nat_le most (length known) && is_first_heard now known
+
+-- the client that is heard at a place, which is a new one where none is known there
+abbrev pub client_heard : Place → ℕ → Option Client → Client
+client_heard place now None =
+    record { node = node_of_place place; place = place; since = now; heard = now }
+client_heard place now (Some c) = record c { heard = now }
+
+-- it is known once, behind all the others, and where there are too many the first one goes
+abbrev pub clients_heard : ℕ → Place → ℕ → List Client → List Client
+clients_heard most place now known =
+    drop (length (filter (λ c. not (is_client_at place c)) known) + 1 - most)
+    (filter (λ c. not (is_client_at place c)) known)
+    ++ client_heard place now (client_at place known) ∷ []
+
+-- how many there may be, and who they are
+pub record ClientsView : Type 0 where
+  pub most : ℕ
+  pub known : List Client
+
+-- what is so of all that a lobby has: no more than it may, and each once; and there is room for all
+pub record AreClients (most : ℕ) (known : List Client) (room : ℕ) : Type 0 where
+  pub some : 1 ≤ most
+  pub few : most ≤ most_lobby_clients
+  pub within : length known ≤ most
+  pub once : EachClientOnce known
+  pub all : room ≡ most

@@ -1,0 +1,40 @@
+-- What a lobby counts of what it drops. All of it is own.
+use Rattle.std.specs.Prelude.{ℕ, ◌+◌, ◌-◌, ◌^◌, min}
+use Rattle.ipx_lobby.specs.declared.counts.LobbyCounts.{LobbyCounts}
+use Rattle.ipx_lobby.specs.declared.drops.LobbyDrop.{LobbyDrop}
+use Rattle.ipx_lobby.specs.declared.drops.LobbyDrop.TheVariants.{Malformed, NodeTaken, TooManyNew, PlacesTaken, Unregistered, OtherSource, TooLong, NoSuchNode, ToItself, PingElsewhere, BroadcastElsewhere}
+
+-- a count of 64 bits goes up by one, and stays where it is the greatest
+abbrev pub drops_raised : ℕ → ℕ
+drops_raised n = min (n + 1) (2 ^ 64 - 1)
+
+-- one more is dropped: the count of its cause alone is another
+abbrev pub drop_counted : LobbyDrop → LobbyCounts → LobbyCounts
+drop_counted (Malformed fault) c = record c { malformed = drops_raised c.malformed }
+drop_counted (NodeTaken node) c = record c { node_taken = drops_raised c.node_taken }
+drop_counted TooManyNew c = record c { too_many_new = drops_raised c.too_many_new }
+drop_counted PlacesTaken c = record c { places_taken = drops_raised c.places_taken }
+drop_counted Unregistered c = record c { unregistered = drops_raised c.unregistered }
+drop_counted (OtherSource node) c = record c { other_source = drops_raised c.other_source }
+drop_counted (TooLong size) c = record c { too_long = drops_raised c.too_long }
+drop_counted (NoSuchNode node) c = record c { no_such_node = drops_raised c.no_such_node }
+drop_counted ToItself c = record c { to_itself = drops_raised c.to_itself }
+drop_counted (PingElsewhere network) c = record c { ping_elsewhere = drops_raised c.ping_elsewhere }
+drop_counted (BroadcastElsewhere network) c =
+    record c { broadcast_elsewhere = drops_raised c.broadcast_elsewhere }
+
+-- nothing was dropped yet
+abbrev pub no_drops : LobbyCounts
+no_drops = record {
+  malformed = 0;
+  node_taken = 0;
+  too_many_new = 0;
+  places_taken = 0;
+  unregistered = 0;
+  other_source = 0;
+  too_long = 0;
+  no_such_node = 0;
+  to_itself = 0;
+  ping_elsewhere = 0;
+  broadcast_elsewhere = 0;
+}

@@ -1,0 +1,42 @@
+//! Why something is dropped.
+
+use ipx_wire::{IpxFault, Network, Node};
+use thiserror::Error;
+
+/// Why a datagram that came, or a packet of the core, goes nowhere.
+#[derive(Clone, Copy, Debug, PartialEq, Eq, Error)]
+pub enum LobbyDrop {
+    /// It is no packet: why.
+    #[error("{0}")]
+    Malformed(IpxFault),
+    /// A registration whose node is the router's, all nodes' or another client's: which.
+    #[error("a client's node is taken: {0}")]
+    NodeTaken(Node),
+    /// A registration, and ten clients are new in less than a second.
+    #[error("too many registrations in a second")]
+    TooManyNew,
+    /// A registration, and each place is taken by a client that was heard within the last hour.
+    #[error("all places of clients are taken")]
+    PlacesTaken,
+    /// It came from where no client is known.
+    #[error("from no client")]
+    Unregistered,
+    /// It has another source node than its client was given: which.
+    #[error("a client sent from another's node: {0}")]
+    OtherSource(Node),
+    /// It has more bytes than a client takes: how many.
+    #[error("{0} bytes, over the 1424 that a client takes")]
+    TooLong(usize),
+    /// Nobody here has the node that it is for: which.
+    #[error("no client has the node {0}")]
+    NoSuchNode(Node),
+    /// It is for the client that sent it.
+    #[error("a client sent to itself")]
+    ToItself,
+    /// It is for the socket of registrations and pings on another network: on which.
+    #[error("a ping for network {0}")]
+    PingElsewhere(Network),
+    /// It is for all nodes of another network: of which.
+    #[error("a broadcast for network {0}")]
+    BroadcastElsewhere(Network),
+}

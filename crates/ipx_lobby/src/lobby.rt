@@ -1,0 +1,233 @@
+//! A port for clients that register.
+
+ghost use Rattle.std.specs.Prelude.{◌≡◌, ◌≤◌, ℕ, List, IfOk, None, Some, false, length};
+ghost use Rattle.ipx_wire.specs.declared.ipx.fault.IpxFault.{IpxFault};
+ghost use Rattle.ipx_wire.specs.Ipx.{BeginsWith, PacketView, ipx_fault};
+ghost use Rattle.ipx_lobby.specs.declared.heard.Heard.TheVariants.{Dropped};
+ghost use Rattle.ipx_lobby.specs.declared.drops.LobbyDrop.TheVariants.{Malformed};
+ghost use Rattle.ipx_lobby.specs.LobbyClients.{EachClientOnce, client_of_node, most_lobby_clients};
+ghost use Rattle.ipx_lobby.specs.LobbyHears.{LobbyView, client_gets, client_hears, is_taker, lobby_aged, lobby_dropping, lobby_gives, lobby_giving, lobby_hearing};
+ghost use Rattle.ipx_lobby.specs.LobbyHears.{lobby_hears, lobby_hears_from, lobby_hears_here, new_lobby, newcomer_drop, registration_hears, takers_of};
+
+use crate::clients::{Client, Clients, MOST_NEWCOMERS};
+use crate::counts::LobbyCounts;
+use crate::drops::LobbyDrop;
+use crate::heard::Heard;
+use crate::hearing::{MOST_CLIENT_BYTES, answer_with_node, elsewhere, is_for_all, registers, stays, to_all};
+use crate::place::Place;
+use crate::port::LobbyPort;
+use crate::takers::Takers;
+use ipx_wire::{IpxHeader, Node, decode};
+use std::alloc::{AllocError, Global};
+use std::marker::Model;
+
+/// A port for clients that register, and a hub between them.
+#[derive(Drop)]
+pub struct Lobby {
+    port: LobbyPort,
+    clients: Clients,
+    counts: LobbyCounts,
+}
+
+impl Model for Lobby {
+    ghost use Rattle.ipx_lobby.specs.LobbyHears.{LobbyView};
+
+    ghost Value = { LobbyView };
+
+    ghost view = { λ l. record {
+      port = l.port;
+      most = l.clients.most;
+      clients = l.clients.known;
+      counts = l.counts;
+    } };
+}
+
+impl Lobby {
+    /// A lobby of a port, with at most so many clients: 1 to 150, which the caller owes. Nobody is
+    /// known yet. Memory is taken here alone.
+    pub fn new(alloc: Global, port: LobbyPort, most: usize) -> Result<Lobby, AllocError>
+        requires some { 1 ≤ most }
+        requires few { most ≤ most_lobby_clients }
+        ensures { IfOk result (λ l. l ≡ new_lobby port most) }
+    {
+        let clients = Clients::new(alloc, most)?;
+        Ok(Lobby {
+            port,
+            clients,
+            counts: LobbyCounts::new(),
+        })
+    }
+
+    /// The port.
+    pub fn port(&self) -> LobbyPort
+        ensures { result ≡ self.now.port }
+    {
+        self.port
+    }
+
+    /// How much was dropped.
+    pub fn counts(&self) -> LobbyCounts
+        ensures { result ≡ self.now.counts }
+    {
+        self.counts
+    }
+
+    /// The clients, the one that was heard last behind the others: no two at one place, and no two of
+    /// one node.
+    pub fn clients(&self) -> &[Client]
+        ensures all { result.now ≡ self.now.clients }
+        ensures once { EachClientOnce self.now.clients }
+        ensures few { length self.now.clients ≤ self.now.most }
+        ensures most { self.now.most ≤ most_lobby_clients }
+    {
+        self.clients.all()
+    }
+
+    /// Why a place gets none among the clients.
+    fn refuses(&self, from: Place, now: u64) -> Option<LobbyDrop>
+        ensures { result ≡ newcomer_drop self.now.port self.now.most self.now.clients from now }
+    {
+        let node = from.node();
+        if node == self.port.own || node == Node::BROADCAST || self.clients.of_node(node).is_some() {
+            return Some(LobbyDrop::NodeTaken(node));
+        }
+        if self.clients.newcomers(now) >= MOST_NEWCOMERS {
+            return Some(LobbyDrop::TooManyNew);
+        }
+        if self.clients.are_places_taken(now) {
+            return Some(LobbyDrop::PlacesTaken);
+        }
+        None
+    }
+
+    /// What becomes of a registration.
+    fn registration(&self, from: Place, now: u64, known: Option<Client>) -> Heard
+        ensures { result ≡ registration_hears self.now.port self.now.most self.now.clients from now known }
+    {
+        if let Some(client) = known {
+            return Heard::Registered(answer_with_node(self.port, client.node));
+        }
+        match self.refuses(from, now) {
+            Some(drop) => Heard::Dropped(drop),
+            None => Heard::Registered(answer_with_node(self.port, from.node())),
+        }
+    }
+
+    /// What becomes of a packet for one node here.
+    fn to_node(&self, from: Place, header: IpxHeader, size: usize) -> Heard
+        ensures { result ≡ client_hears from header size (client_of_node header.to.node self.now.clients) }
+    {
+        match self.clients.of_node(header.to.node) {
+            None => Heard::Dropped(LobbyDrop::NoSuchNode(header.to.node)),
+            Some(client) if client.place == from => Heard::Dropped(LobbyDrop::ToItself),
+            Some(_) if size > MOST_CLIENT_BYTES => Heard::Dropped(LobbyDrop::TooLong(size)),
+            Some(client) => Heard::ToClient(client.place),
+        }
+    }
+
+    /// What becomes of a packet for the network of the port.
+    fn here(&self, from: Place, header: IpxHeader, size: usize) -> Heard
+        ensures { result ≡ lobby_hears_here self.now.port self.now.clients from header size }
+    {
+        if is_for_all(header) {
+            return to_all(self.port, from, header, size);
+        }
+        if header.to.node == self.port.own {
+            return Heard::ToCore;
+        }
+        self.to_node(from, header, size)
+    }
+
+    /// What becomes of a packet of a client, if one is known there.
+    fn from_client(&self, from: Place, header: IpxHeader, size: usize, known: Option<Client>) -> Heard
+        ensures { result ≡ lobby_hears_from self.now.port self.now.clients from header size known }
+    {
+        let Some(client) = known else {
+            return Heard::Dropped(LobbyDrop::Unregistered);
+        };
+        if header.from.node != client.node {
+            return Heard::Dropped(LobbyDrop::OtherSource(header.from.node));
+        }
+        if stays(self.port, header) {
+            return self.here(from, header, size);
+        }
+        elsewhere(header)
+    }
+
+    /// What becomes of a packet.
+    fn outcome(&self, from: Place, header: IpxHeader, size: usize, now: u64) -> Heard
+        ensures { result ≡ lobby_hears self.now from header size now }
+    {
+        let known = self.clients.at(from);
+        if registers(header, size) {
+            return self.registration(from, now, known);
+        }
+        self.from_client(from, header, size, known)
+    }
+
+    /// What becomes of a datagram.
+    fn judge(&self, from: Place, bytes: &[u8], now: u64) -> Heard
+        ensures malformed { (f : IpxFault) → ipx_fault bytes.now ≡ Some f
+            → result ≡ Dropped (Malformed f) }
+        ensures packet { (p : PacketView) → BeginsWith bytes.now p
+            → result ≡ lobby_hears self.now from p.header (length bytes.now) now }
+    {
+        match decode(bytes) {
+            Ok(packet) => self.outcome(from, packet.header, bytes.len(), now),
+            Err(fault) => Heard::Dropped(LobbyDrop::Malformed(fault)),
+        }
+    }
+
+    /// A datagram that came from a place at the moment `now`, in ms: what is answered, which clients
+    /// the bytes go on to, and whether the core gets them. No memory is taken.
+    ///
+    /// One calls it with whatever came, first sends the answer to that place, and then the bytes, as
+    /// they came, to each client that the takers have.
+    pub fn hear(&mut self, from: Place, bytes: &[u8], now: u64) -> Heard
+        ensures malformed { (f : IpxFault) → ipx_fault bytes.now ≡ Some f
+            → result ≡ Dropped (Malformed f) }
+        ensures packet { (p : PacketView) → BeginsWith bytes.now p
+            → result ≡ lobby_hears (lobby_aged now self.old) from p.header (length bytes.now) now }
+        ensures lobby { self.new ≡ lobby_hearing result from now (lobby_aged now self.old) }
+        // It goes back to its sender never.
+        ensures back { is_taker (takers_of result) from ≡ false }
+    {
+        self.clients.age(now);
+        let heard = self.judge(from, bytes, now);
+        match heard {
+            Heard::Dropped(drop) => self.counts.count(drop),
+            _ => self.clients.put(from, now),
+        }
+        heard
+    }
+
+    /// Which clients a packet of the core for a node goes to, at the moment `now`, in ms, or why it
+    /// goes to none. No memory is taken.
+    pub fn give(&mut self, node: Node, packet: &[u8], now: u64) -> Result<Takers, LobbyDrop>
+        ensures takers { result ≡ lobby_gives (lobby_aged now self.old) node (length packet.now) }
+        ensures lobby { self.new ≡ lobby_giving result (lobby_aged now self.old) }
+    {
+        self.clients.age(now);
+        let takers = self.takers(node, packet.len());
+        if let Err(drop) = takers {
+            self.counts.count(drop);
+        }
+        takers
+    }
+
+    /// Which clients a packet of the core of so many bytes goes to.
+    fn takers(&self, node: Node, size: usize) -> Result<Takers, LobbyDrop>
+        ensures { result ≡ lobby_gives self.now node size }
+    {
+        if size > MOST_CLIENT_BYTES {
+            return Err(LobbyDrop::TooLong(size));
+        }
+        if node == Node::BROADCAST {
+            return Ok(Takers::All);
+        }
+        match self.clients.of_node(node) {
+            Some(client) => Ok(Takers::One(client.place)),
+            None => Err(LobbyDrop::NoSuchNode(node)),
+        }
+    }
+}
