@@ -1,2 +1,4 @@
 pub mod Nodes
+pub mod Hears
 pub mod Once
+pub mod Still

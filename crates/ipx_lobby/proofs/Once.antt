@@ -26,7 +26,7 @@ behind R zero xs pairs = pairs
 behind R (suc n) [] pairs = pairs
 behind R (suc n) (x ∷ xs) pairs = behind R n xs (tails R x xs pairs)
 
-fewer : {X : Type 0} (p : X → Bool) (xs : List X) → length (filter p xs) ≤ length xs
+pub fewer : {X : Type 0} (p : X → Bool) (xs : List X) → length (filter p xs) ≤ length xs
 fewer p xs = omega (arith, length-filter_both p (λ x. not (p x)) (λ x. refl) xs)
 
 pub behind_all : {X : Type 0} (xs : List X) (x : X) → take (length xs) xs ++ x ∷ drop (length xs) xs ≡ xs ++ x ∷ []
@@ -44,7 +44,7 @@ once_left now most room known are = record {
   all = are.all;
 }
 
-same_place : (p : Place) → are_one_place p p ≡ true
+pub same_place : (p : Place) → are_one_place p p ≡ true
 same_place p = rw ((bytes_eq-Decides p.ip p.ip).1 refl) (eq-eqb p.udp_port p.udp_port refl)
 
 same_node : (a b : Node) → a ≡ b → bytes_eq a.0 b.0 ≡ true
@@ -63,7 +63,7 @@ absurd_none c e = cc
 not_here : (place : Place) (k c : Client) → is_client_at place k ≡ false → is_client_at place c ≡ true → k.place ≢ c.place
 not_here place k c isnt here same = cc (ap (λ (p : Place). are_one_place p place) same)
 
-some_is : {X : Type 0} (x c : X) → Some x ≡ Some c → x ≡ c
+pub some_is : {X : Type 0} (x c : X) → Some x ≡ Some c → x ≡ c
 some_is x c e = cc
 
 -- what is so of all is so of the one that is found

@@ -132,7 +132,8 @@ impl Clients {
 
     /// Those who were silent for a day are forgotten.
     pub fn age(&mut self, now: u64)
-        ensures { self.new ≡ record self.old { known = clients_left now self.old.known } }
+        ensures left { self.new ≡ record self.old { known = clients_left now self.old.known } }
+        ensures few { length self.new.known ≤ self.new.most }
     {
         leave_out_silent(&mut self.known, now);
     }

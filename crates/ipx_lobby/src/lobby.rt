@@ -1,12 +1,14 @@
 //! A port for clients that register.
 
-ghost use Rattle.std.specs.Prelude.{◌≡◌, ◌≤◌, ℕ, List, IfOk, None, Some, false, length};
+ghost use Rattle.std.specs.Prelude.{◌≡◌, ◌≤◌, IfOk, None, Ok, Some, false, is_some, length, true};
 ghost use Rattle.ipx_wire.specs.declared.ipx.fault.IpxFault.{IpxFault};
 ghost use Rattle.ipx_wire.specs.Ipx.{BeginsWith, PacketView, ipx_fault};
 ghost use Rattle.ipx_lobby.specs.declared.heard.Heard.TheVariants.{Dropped};
 ghost use Rattle.ipx_lobby.specs.declared.drops.LobbyDrop.TheVariants.{Malformed};
-ghost use Rattle.ipx_lobby.specs.LobbyClients.{EachClientOnce, client_of_node, most_lobby_clients};
-ghost use Rattle.ipx_lobby.specs.LobbyHears.{LobbyView, client_gets, client_hears, is_taker, lobby_aged, lobby_dropping, lobby_gives, lobby_giving, lobby_hearing};
+ghost use Rattle.ipx_lobby.specs.declared.place.Place.{Place};
+ghost use Rattle.ipx_lobby.specs.declared.takers.Takers.TheVariants.{One};
+ghost use Rattle.ipx_lobby.specs.LobbyClients.{EachClientOnce, client_at, client_heard, client_of_node, clients_left, most_lobby_clients, node_of_place};
+ghost use Rattle.ipx_lobby.specs.LobbyHears.{IsNoLonger, IsSoundHearing, client_hears, is_dropped, is_taker, lobby_aged, lobby_gives, lobby_giving, lobby_hearing};
 ghost use Rattle.ipx_lobby.specs.LobbyHears.{lobby_hears, lobby_hears_from, lobby_hears_here, new_lobby, newcomer_drop, registration_hears, takers_of};
 
 use crate::clients::{Client, Clients, MOST_NEWCOMERS};
@@ -171,6 +173,7 @@ impl Lobby {
             → result ≡ Dropped (Malformed f) }
         ensures packet { (p : PacketView) → BeginsWith bytes.now p
             → result ≡ lobby_hears self.now from p.header (length bytes.now) now }
+        ensures sound { IsSoundHearing self.now from (length bytes.now) result }
     {
         match decode(bytes) {
             Ok(packet) => self.outcome(from, packet.header, bytes.len(), now),
@@ -178,26 +181,49 @@ impl Lobby {
         }
     }
 
+    /// Keeps what became of a datagram: its cause, where it was dropped, or that its sender was heard.
+    fn keep(&mut self, heard: Heard, from: Place, now: u64)
+        requires { is_dropped heard ≡ false → client_at from self.old.clients ≡ None
+            → client_of_node (node_of_place from) self.old.clients ≡ None }
+        ensures { self.new ≡ lobby_hearing heard from now self.old }
+    {
+        match heard {
+            Heard::Dropped(drop) => self.counts.count(drop),
+            Heard::Registered(_)
+            | Heard::Pinged(_, _)
+            | Heard::ToClient(_)
+            | Heard::ToOthers(_)
+            | Heard::ToOthersAndCore(_)
+            | Heard::ToCore => self.clients.put(from, now),
+        }
+    }
+
     /// A datagram that came from a place at the moment `now`, in ms: what is answered, which clients
     /// the bytes go on to, and whether the core gets them. No memory is taken.
     ///
     /// One calls it with whatever came, first sends the answer to that place, and then the bytes, as
-    /// they came, to each client that the takers have.
+    /// they came, to each of the clients that are among the takers. What is dropped changes nothing
+    /// but its count, and who was silent for a day is forgotten at any call.
     pub fn hear(&mut self, from: Place, bytes: &[u8], now: u64) -> Heard
+        // What becomes of it: bytes are no packet, or they begin with one.
         ensures malformed { (f : IpxFault) → ipx_fault bytes.now ≡ Some f
             → result ≡ Dropped (Malformed f) }
         ensures packet { (p : PacketView) → BeginsWith bytes.now p
             → result ≡ lobby_hears (lobby_aged now self.old) from p.header (length bytes.now) now }
+        // What the lobby is then.
         ensures lobby { self.new ≡ lobby_hearing result from now (lobby_aged now self.old) }
-        // It goes back to its sender never.
+        // It never goes back to its sender, but for an answer, which is no longer.
         ensures back { is_taker (takers_of result) from ≡ false }
+        ensures no_longer { IsNoLonger result (length bytes.now) }
+        // Who sent what is not dropped is a client then, and so is the one that it goes to.
+        ensures sender { is_dropped result ≡ false → client_at from self.new.clients
+            ≡ Some (client_heard from now (client_at from (clients_left now self.old.clients))) }
+        ensures taker { (place : Place) → takers_of result ≡ One place
+            → is_some (client_at place self.new.clients) ≡ true }
     {
         self.clients.age(now);
         let heard = self.judge(from, bytes, now);
-        match heard {
-            Heard::Dropped(drop) => self.counts.count(drop),
-            _ => self.clients.put(from, now),
-        }
+        self.keep(heard, from, now);
         heard
     }
 
@@ -206,6 +232,9 @@ impl Lobby {
     pub fn give(&mut self, node: Node, packet: &[u8], now: u64) -> Result<Takers, LobbyDrop>
         ensures takers { result ≡ lobby_gives (lobby_aged now self.old) node (length packet.now) }
         ensures lobby { self.new ≡ lobby_giving result (lobby_aged now self.old) }
+        // The one that it goes to is a client.
+        ensures taker { (place : Place) → result ≡ Ok (One place)
+            → is_some (client_at place self.new.clients) ≡ true }
     {
         self.clients.age(now);
         let takers = self.takers(node, packet.len());

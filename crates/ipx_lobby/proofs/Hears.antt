@@ -1,0 +1,196 @@
+-- What holds of each packet, whatever becomes of it.
+use Rattle.std.proofs.Common.{◌≡◌, ◌≤◌, ◌<◌, ℕ, List, [], ◌∷◌, Bool, true, false, Option, Some, None, length, find, not, cond, arith, refl, sym, ap, subst, eq-eqb, ◌∙◌}
+use Rattle.std.specs.Prelude.{is_some, replicate, ◌==◌, ◌&&◌, ◌||◌, nat_le, nat_lt, if◌then◌else◌}
+use Rattle.std.specs.Str.{bytes_eq}
+use Rattle.ipx_wire.specs.Assigned.{ipx_header_size}
+use Rattle.ipx_wire.specs.declared.ipx.packet.IpxHeader.{IpxHeader}
+use Rattle.ipx_lobby.specs.declared.clients.Client.{Client}
+use Rattle.ipx_lobby.specs.declared.drops.LobbyDrop.{LobbyDrop}
+use Rattle.ipx_lobby.specs.declared.drops.LobbyDrop.TheVariants.{NodeTaken, TooManyNew, PlacesTaken, Unregistered, OtherSource, TooLong, NoSuchNode, ToItself, PingElsewhere, BroadcastElsewhere}
+use Rattle.ipx_lobby.specs.declared.heard.Heard.{Heard}
+use Rattle.ipx_lobby.specs.declared.heard.Heard.TheVariants.{Registered, Pinged, ToClient, ToOthers, ToOthersAndCore, ToCore, Dropped}
+use Rattle.ipx_lobby.specs.declared.place.Place.{Place}
+use Rattle.ipx_lobby.specs.declared.port.LobbyPort.{LobbyPort}
+use Rattle.ipx_lobby.specs.declared.takers.Takers.TheVariants.{One}
+use Rattle.ipx_lobby.specs.LobbyClients.{are_one_place, are_places_taken, client_at, client_of_node, has_client_node, is_client_at, most_newcomers, newcomers, node_of_place}
+use Rattle.ipx_lobby.specs.LobbyHears.{IsNoLonger, IsSoundHearing, LobbyView, all_hear, answer_of, client_hears, is_dropped, is_for_lobby, is_node_taken, is_registration, is_taker, is_to_all_nodes, is_to_service, lobby_hears, lobby_hears_elsewhere, lobby_hears_from, lobby_hears_here, lobby_socket, most_client_bytes, newcomer_drop, newcomer_hears, ping_answer, registration_answer, registration_hears, takers_of}
+use Rattle.ipx_wire.specs.declared.address.Node.{Node}
+use Rattle.ipx_wire.specs.Assigned.{broadcast_node}
+use Rattle.std.proofs.lemmas.Bool.{eqb-true}
+use Rattle.ipx_lobby.proofs.Once.{same_place, some_is}
+
+-- a choice of two
+either : (P : Heard → Type 0) (b : Bool) (x y : Heard) → P x → P y → P (if b then x else y)
+either P true x y px py = px
+either P false x y px py = py
+
+-- the same, where the first is known of the test
+either_by : (P : Heard → Type 0) (b : Bool) (x y : Heard) → (b ≡ true → P x) → (b ≡ false → P y) → P (if b then x else y)
+either_by P true x y px py = px refl
+either_by P false x y px py = py refl
+
+left_true : (a b : Bool) → (a && b) ≡ true → a ≡ true
+left_true true b e = refl
+left_true false b e = cc
+
+right_false : (a b : Bool) → (a || b) ≡ false → b ≡ false
+right_false true b e = cc
+right_false false b e = e
+
+first_none : (b : Bool) (d : LobbyDrop) (o : Option LobbyDrop) → (if b then Some d else o) ≡ None → b ≡ false
+first_none true d o e = cc
+first_none false d o e = refl
+
+is_none : (o : Option Client) → is_some o ≡ false → o ≡ None
+is_none None e = refl
+is_none (Some c) e = cc
+
+size_is : (h : IpxHeader) (size : ℕ) → is_registration h size ≡ true → size ≡ ipx_header_size
+size_is h size e =
+    eqb-true size ipx_header_size (left_true (size == ipx_header_size) (bytes_eq h.to.node.0 (replicate 6 0))
+    (left_true ((size == ipx_header_size) && bytes_eq h.to.node.0 (replicate 6 0)) (bytes_eq h.from.node.0 (replicate 6 0))
+    (left_true ((size == ipx_header_size) && bytes_eq h.to.node.0 (replicate 6 0) && bytes_eq h.from.node.0 (replicate 6 0)) (h.to.socket.0 == lobby_socket) e)))
+
+-- who passes one test is found by another that it passes
+finds_by : (p q : Client → Bool) (x c : Client) (b d : Bool) (o r : Option Client) → q x ≡ d → q c ≡ true → (o ≡ Some c → is_some r ≡ true) → cond b (Some x) o ≡ Some c → is_some (cond d (Some x) r) ≡ true
+finds_by p q x c b true o r is here rest found = refl
+finds_by p q x c true false o r is here rest found = cc (ap q (some_is x c found))
+finds_by p q x c false false o r is here rest found = rest found
+
+pub found_finds : (p q : Client → Bool) (xs : List Client) (c : Client) → find p xs ≡ Some c → q c ≡ true → is_some (find q xs) ≡ true
+found_finds p q [] c found here = cc
+found_finds p q (x ∷ xs) c found here =
+    finds_by p q x c (p x) (q x) (find p xs) (find q xs) refl here (λ e. found_finds p q xs c e here) found
+
+known_there : (place : Place) (xs : List Client) (c : Client) → client_at place xs ≡ Some c → is_some (client_at place xs) ≡ true
+known_there place xs c e = ap is_some e
+
+-- the client of a node is the one at its place
+pub taker_known : (node : Node) (place : Place) (xs : List Client) (c : Client) → client_of_node node xs ≡ Some c → c.place ≡ place → is_some (client_at place xs) ≡ true
+taker_known node place xs c found is =
+    found_finds (has_client_node node) (is_client_at place) xs c found (ap (λ (p : Place). are_one_place p place) is ∙ same_place place)
+
+module _ (l : LobbyView) (from : Place) (size : ℕ) (thirty : ipx_header_size ≤ size) where
+  abbrev Sound : Heard → Type 0
+  Sound heard = IsSoundHearing l from size heard
+
+  dropped : (d : LobbyDrop) → Sound (Dropped d)
+  dropped d = record {
+    back = refl;
+    no_longer = (λ answer e. cc, λ giver answer e. cc);
+    free = λ e. cc;
+    sender = λ place e. cc;
+    taker = λ place e. cc;
+  }
+
+  registered : (answer : IpxHeader) → size ≡ ipx_header_size → (client_at from l.clients ≡ None → client_of_node (node_of_place from) l.clients ≡ None) → Sound (Registered answer)
+  registered answer is free = record {
+    back = refl;
+    no_longer = (λ a e. is, λ giver a e. cc);
+    free = λ e. free;
+    sender = λ place e. cc;
+    taker = λ place e. cc;
+  }
+
+  newcomer : (o : Option LobbyDrop) → size ≡ ipx_header_size → (o ≡ None → client_of_node (node_of_place from) l.clients ≡ None) → Sound (newcomer_hears l.port from o)
+  newcomer None is free = registered (registration_answer l.port (node_of_place from)) is (λ e. free refl)
+  newcomer (Some d) is free = dropped d
+
+  free_node : (now : ℕ) → newcomer_drop l.port l.most l.clients from now ≡ None → client_of_node (node_of_place from) l.clients ≡ None
+  free_node now e =
+      let node = node_of_place from in
+      let rest : Option LobbyDrop = if nat_le most_newcomers (newcomers now l.clients) then Some TooManyNew else if are_places_taken l.most now l.clients then Some PlacesTaken else None in
+      let taken = first_none (is_node_taken l.port l.clients node) (NodeTaken node) rest e in
+      is_none (client_of_node node l.clients) (right_false (bytes_eq node.0 l.port.own.0 || bytes_eq node.0 broadcast_node) (is_some (client_of_node node l.clients)) taken)
+
+  registering : (now : ℕ) (o : Option Client) → client_at from l.clients ≡ o → size ≡ ipx_header_size → Sound (registration_hears l.port l.most l.clients from now o)
+  registering now None known is = newcomer (newcomer_drop l.port l.most l.clients from now) is (free_node now)
+  registering now (Some c) known is = registered (registration_answer l.port c.node) is (λ none. cc)
+
+  module _ (c : Client) (known : client_at from l.clients ≡ Some c) where
+    no_newcomer : client_at from l.clients ≡ None → client_of_node (node_of_place from) l.clients ≡ None
+    no_newcomer none = cc
+
+    to_core : Sound ToCore
+    to_core = record {
+      back = refl;
+      no_longer = (λ answer e. cc, λ giver answer e. cc);
+      free = λ e. no_newcomer;
+      sender = λ place e. cc;
+      taker = λ place e. cc;
+    }
+
+    to_others : Sound (ToOthers from)
+    to_others = record {
+      back = ap not (same_place from);
+      no_longer = (λ answer e. cc, λ giver answer e. cc);
+      free = λ e. no_newcomer;
+      sender = λ place e. cc;
+      taker = λ place e. cc;
+    }
+
+    to_both : Sound (ToOthersAndCore from)
+    to_both = record {
+      back = ap not (same_place from);
+      no_longer = (λ answer e. cc, λ giver answer e. cc);
+      free = λ e. no_newcomer;
+      sender = λ place e. cc;
+      taker = λ place e. cc;
+    }
+
+    pinged : (answer : IpxHeader) → Sound (Pinged from answer)
+    pinged answer = record {
+      back = ap not (same_place from);
+      no_longer = (λ a e. cc, λ giver a e. thirty);
+      free = λ e. no_newcomer;
+      sender = λ place e. cc;
+      taker = λ place e. cc;
+    }
+
+    one_is : (a b : Place) → One a ≡ One b → a ≡ b
+    one_is a b e = cc
+
+    to_one : (node : Node) (k : Client) → client_of_node node l.clients ≡ Some k → are_one_place k.place from ≡ false → Sound (ToClient k.place)
+    to_one node k found apart = record {
+      back = apart;
+      no_longer = (λ answer e. cc, λ giver answer e. cc);
+      free = λ e. no_newcomer;
+      sender = λ place e. known_there from l.clients c known;
+      taker = λ place e. taker_known node place l.clients k found (one_is k.place place e);
+    }
+
+    all : (h : IpxHeader) → Sound (all_hear l.port from h size)
+    all h =
+        either Sound (nat_lt most_client_bytes size) _ _ (dropped (TooLong size))
+        (either Sound (h.to.socket.0 == lobby_socket) _ _ (pinged (ping_answer l.port h.from.node))
+        (either Sound (is_to_service h) _ _ to_both to_others))
+
+    client : (h : IpxHeader) (o : Option Client) → client_of_node h.to.node l.clients ≡ o → Sound (client_hears from h size o)
+    client h None found = dropped (NoSuchNode h.to.node)
+    client h (Some k) found =
+        either_by Sound (are_one_place k.place from) _ _ (λ e. dropped ToItself)
+        (λ apart. either Sound (nat_lt most_client_bytes size) _ _ (dropped (TooLong size)) (to_one h.to.node k found apart))
+
+    here : (h : IpxHeader) → Sound (lobby_hears_here l.port l.clients from h size)
+    here h =
+        either Sound (is_to_all_nodes h) _ _ (all h)
+        (either Sound (bytes_eq h.to.node.0 l.port.own.0) _ _ to_core (client h (client_of_node h.to.node l.clients) refl))
+
+    elsewhere : (h : IpxHeader) → Sound (lobby_hears_elsewhere h)
+    elsewhere h =
+        either Sound (h.to.socket.0 == lobby_socket) _ _ (dropped (PingElsewhere h.to.network))
+        (either Sound (is_to_all_nodes h) _ _ (dropped (BroadcastElsewhere h.to.network)) to_core)
+
+    known_hears : (h : IpxHeader) → Sound (lobby_hears_from l.port l.clients from h size (Some c))
+    known_hears h =
+        either Sound (not (bytes_eq h.from.node.0 c.node.0)) _ _ (dropped (OtherSource h.from.node))
+        (either Sound (is_for_lobby l.port h) _ _ (here h) (elsewhere h))
+
+  from_place : (h : IpxHeader) (o : Option Client) → client_at from l.clients ≡ o → Sound (lobby_hears_from l.port l.clients from h size o)
+  from_place h None known = dropped Unregistered
+  from_place h (Some c) known = known_hears c known h
+
+  pub sound_hearing : (h : IpxHeader) (now : ℕ) → IsSoundHearing l from size (lobby_hears l from h size now)
+  sound_hearing h now =
+      either_by Sound (is_registration h size) _ _ (λ e. registering now (client_at from l.clients) refl (size_is h size e))
+      (λ e. from_place h (client_at from l.clients) refl)

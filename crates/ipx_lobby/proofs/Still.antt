@@ -1,0 +1,154 @@
+-- Who is known, once a client was heard.
+use Rattle.std.proofs.Common.{◌≡◌, ◌≤◌, ◌<◌, ◌+◌, ◌-◌, ℕ, List, [], ◌∷◌, ◌++◌, Bool, true, false, Option, Some, None, length, take, drop, filter, find, not, cond, arith, refl, sym, ap, subst, eq-eqb, ◌∙◌, take-append-drop}
+use Rattle.std.specs.Prelude.{is_some, Result, Ok, Err, ◌==◌, ◌&&◌, nat_lt, if◌then◌else◌}
+use Rattle.std.specs.Option.{option_or}
+use Rattle.std.specs.Str.{bytes_eq}
+use Rattle.std.proofs.lemmas.List.Folds.{find-append}
+use Rattle.std.proofs.lemmas.Bool.{eqb-true}
+use Rattle.std.proofs.lemmas.Slice.Eq.{bytes_eq-Decides}
+use Rattle.ipx_lobby.specs.declared.clients.Client.{Client}
+use Rattle.ipx_lobby.specs.declared.heard.Heard.{Heard}
+use Rattle.ipx_lobby.specs.declared.heard.Heard.TheVariants.{Registered, Pinged, ToClient, ToOthers, ToOthersAndCore, ToCore, Dropped}
+use Rattle.ipx_lobby.specs.declared.drops.LobbyDrop.{LobbyDrop}
+use Rattle.ipx_lobby.specs.declared.drops.LobbyDrop.TheVariants.{TooLong}
+use Rattle.ipx_lobby.specs.declared.place.Place.{Place}
+use Rattle.ipx_lobby.specs.declared.takers.Takers.TheVariants.{All, One}
+use Rattle.ipx_wire.specs.Assigned.{broadcast_node}
+use Rattle.ipx_wire.specs.declared.address.Node.{Node}
+use Rattle.ipx_lobby.specs.LobbyClients.{are_one_place, client_at, client_heard, client_of_node, clients_heard, is_client_at}
+use Rattle.ipx_lobby.specs.LobbyHears.{LobbyView, client_gets, is_dropped, lobby_gives, lobby_hearing, most_client_bytes, takers_of}
+use Rattle.ipx_lobby.proofs.Hears.{taker_known}
+use Rattle.ipx_lobby.proofs.Once.{fewer, found_passes, same_place, some_is}
+
+-- ---- places
+
+both_true : (a b : Bool) → (a && b) ≡ true → (a ≡ true) × (b ≡ true)
+both_true true b e = (refl, e)
+both_true false b e = cc
+
+abbrev place_of : List ℕ → ℕ → Place
+place_of ip port = record { ip = ip; udp_port = port }
+
+one_place : (a b : Place) → are_one_place a b ≡ true → a ≡ b
+one_place a b e =
+    let both = both_true (bytes_eq a.ip b.ip) (a.udp_port == b.udp_port) e in
+    let ip : a.ip ≡ b.ip = (bytes_eq-Decides a.ip b.ip).0 both.0 in
+    let port : a.udp_port ≡ b.udp_port = eqb-true a.udp_port b.udp_port both.1 in
+    ap (λ (bytes : List ℕ). place_of bytes a.udp_port) ip ∙ ap (place_of b.ip) port
+
+-- ---- those who are left out, and those who stay
+
+gone_by : (from : Place) (x : Client) (b : Bool) (rest : List Client) → is_client_at from x ≡ b → find (is_client_at from) rest ≡ None → find (is_client_at from) (cond (not b) (x ∷ rest) rest) ≡ None
+gone_by from x true rest is none = none
+gone_by from x false rest is none = rw is none
+
+gone : (from : Place) (xs : List Client) → find (is_client_at from) (filter (λ c. not (is_client_at from c)) xs) ≡ None
+gone from [] = refl
+gone from (x ∷ xs) = gone_by from x (is_client_at from x) (filter (λ c. not (is_client_at from c)) xs) refl (gone from xs)
+
+second_none : (a b : Option Client) → option_or a b ≡ None → b ≡ None
+second_none None b e = e
+second_none (Some x) b e = cc
+
+none_behind : (test : Client → Bool) (n : ℕ) (xs : List Client) → find test xs ≡ None → find test (drop n xs) ≡ None
+none_behind test n xs none =
+    second_none (find test (take n xs)) (find test (drop n xs)) (sym (find-append test (take n xs) (drop n xs)) ∙ ap (find test) (take-append-drop n xs) ∙ none)
+
+stays_by : (from place : Place) (x : Client) (b : Bool) (rest xs : List Client) → is_client_at from x ≡ b → (is_client_at from x ≡ true → is_client_at place x ≡ false) → find (is_client_at place) rest ≡ find (is_client_at place) xs
+    → find (is_client_at place) (cond (not b) (x ∷ rest) rest) ≡ find (is_client_at place) (x ∷ xs)
+stays_by from place x true rest xs is apart same = rw (apart is) same
+stays_by from place x false rest xs is apart same = ap (λ (o : Option Client). cond (is_client_at place x) (Some x) o) same
+
+elsewhere_by : (a b : Place) (d : Bool) → are_one_place a b ≡ d → are_one_place b a ≡ false → d ≡ false
+elsewhere_by a b false is apart = refl
+elsewhere_by a b true is apart = cc (ap (λ (p : Place). are_one_place b p) (one_place a b is) ∙ same_place b)
+
+elsewhere : (a b : Place) → are_one_place b a ≡ false → are_one_place a b ≡ false
+elsewhere a b apart = elsewhere_by a b (are_one_place a b) refl apart
+
+is_elsewhere : (from place : Place) (x : Client) → are_one_place place from ≡ false → is_client_at from x ≡ true → is_client_at place x ≡ false
+is_elsewhere from place x apart is = ap (λ (p : Place). are_one_place p place) (one_place x.place from is) ∙ elsewhere from place apart
+
+stay : (from place : Place) (xs : List Client) → are_one_place place from ≡ false → find (is_client_at place) (filter (λ c. not (is_client_at from c)) xs) ≡ find (is_client_at place) xs
+stay from place [] apart = refl
+stay from place (x ∷ xs) apart =
+    stays_by from place x (is_client_at from x) (filter (λ c. not (is_client_at from c)) xs) xs refl (is_elsewhere from place x apart) (stay from place xs apart)
+
+shorter_by : (from : Place) (x c : Client) (b : Bool) (kept rest : List Client) → is_client_at from x ≡ b → length kept ≤ length rest → (find (is_client_at from) rest ≡ Some c → length kept + 1 ≤ length rest) → cond b (Some x) (find (is_client_at from) rest) ≡ Some c
+    → length (cond (not b) (x ∷ kept) kept) + 1 ≤ length (x ∷ rest)
+shorter_by from x c true kept rest is few less found = omega (arith, few)
+shorter_by from x c false kept rest is few less found = omega (arith, less found)
+
+shorter : (from : Place) (c : Client) (xs : List Client) → client_at from xs ≡ Some c → length (filter (λ k. not (is_client_at from k)) xs) + 1 ≤ length xs
+shorter from c [] found = cc
+shorter from c (x ∷ xs) found =
+    shorter_by from x c (is_client_at from x) (filter (λ k. not (is_client_at from k)) xs) xs refl (fewer (λ k. not (is_client_at from k)) xs) (shorter from c xs) found
+
+-- ---- the one that was heard
+
+is_there : (from : Place) (now : ℕ) (xs : List Client) (o : Option Client) → client_at from xs ≡ o → is_client_at from (client_heard from now o) ≡ true
+is_there from now xs None is = same_place from
+is_there from now xs (Some c) is = found_passes (is_client_at from) xs c is
+
+alone : (from : Place) (c : Client) → is_client_at from c ≡ true → find (is_client_at from) (c ∷ []) ≡ Some c
+alone from c is = rw is refl
+
+pub heard_found : (most now : ℕ) (from : Place) (xs : List Client) → client_at from (clients_heard most from now xs) ≡ Some (client_heard from now (client_at from xs))
+heard_found most now from xs =
+    let test = is_client_at from in
+    let kept : List Client = filter (λ k. not (is_client_at from k)) xs in
+    let n = length kept + 1 - most in
+    let c : Client = client_heard from now (client_at from xs) in
+    let none : find test (drop n kept) ≡ None = none_behind test n kept (gone from xs) in
+    find-append test (drop n kept) (c ∷ []) ∙ ap (λ (o : Option Client). option_or o (find test (c ∷ []))) none ∙ alone from c (is_there from now xs (client_at from xs) refl)
+
+-- ---- the others
+
+first_is : (a b : Option Client) → is_some a ≡ true → is_some (option_or a b) ≡ true
+first_is None b e = cc
+first_is (Some x) b e = refl
+
+pub still_there : (most now : ℕ) (from place : Place) (xs : List Client) (o : Option Client) → length xs ≤ most → client_at from xs ≡ o → is_some o ≡ true → are_one_place place from ≡ false → is_some (client_at place xs) ≡ true
+    → is_some (client_at place (clients_heard most from now xs)) ≡ true
+still_there most now from place xs None few is known apart there = cc
+still_there most now from place xs (Some c) few is known apart there =
+    let test = is_client_at place in
+    let kept : List Client = filter (λ k. not (is_client_at from k)) xs in
+    let last : Client = client_heard from now (client_at from xs) in
+    let zero : length kept + 1 - most ≡ 0 = omega (arith, few, shorter from c xs is) in
+    let stays : is_some (find test kept) ≡ true = ap is_some (stay from place xs apart) ∙ there in
+    let all : is_some (find test (kept ++ last ∷ [])) ≡ true = ap is_some (find-append test kept (last ∷ [])) ∙ first_is (find test kept) (find test (last ∷ [])) stays in
+    ap (λ (i : ℕ). is_some (find test (drop i kept ++ last ∷ []))) zero ∙ all
+
+-- ---- a lobby behind a datagram
+
+pub hearing_clients : (heard : Heard) (from : Place) (now : ℕ) (l : LobbyView) → is_dropped heard ≡ false → (lobby_hearing heard from now l).clients ≡ clients_heard l.most from now l.clients
+hearing_clients (Registered answer) from now l e = refl
+hearing_clients (Pinged giver answer) from now l e = refl
+hearing_clients (ToClient place) from now l e = refl
+hearing_clients (ToOthers giver) from now l e = refl
+hearing_clients (ToOthersAndCore giver) from now l e = refl
+hearing_clients ToCore from now l e = refl
+hearing_clients (Dropped d) from now l e = cc
+
+pub taker_heard : (heard : Heard) (place : Place) → takers_of heard ≡ One place → is_dropped heard ≡ false
+taker_heard (Registered answer) place e = refl
+taker_heard (Pinged giver answer) place e = refl
+taker_heard (ToClient one) place e = refl
+taker_heard (ToOthers giver) place e = refl
+taker_heard (ToOthersAndCore giver) place e = refl
+taker_heard ToCore place e = refl
+taker_heard (Dropped d) place e = cc
+
+-- ---- packets of the core
+
+gives_by : (long broad : Bool) (drop : LobbyDrop) (node : Node) (o : Option Client) (place : Place) (xs : List Client) → client_of_node node xs ≡ o
+    → (if long then Err drop else if broad then Ok All else client_gets node o) ≡ Ok (One place) → is_some (client_at place xs) ≡ true
+gives_by true broad drop node o place xs found e = cc
+gives_by false true drop node o place xs found e = cc
+gives_by false false drop node None place xs found e = cc
+gives_by false false drop node (Some c) place xs found e = taker_known node place xs c found (cc e)
+
+pub gives_client : (l : LobbyView) (node : Node) (size : ℕ) (place : Place) → lobby_gives l node size ≡ Ok (One place) → is_some (client_at place l.clients) ≡ true
+gives_client l node size place e =
+    gives_by (nat_lt most_client_bytes size) (bytes_eq node.0 broadcast_node) (TooLong size) node (client_of_node node l.clients) place l.clients refl e

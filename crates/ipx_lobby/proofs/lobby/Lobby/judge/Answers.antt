@@ -1,0 +1,14 @@
+use Rattle.std.proofs.Common.{◌≡◌, ◌≤◌, ℕ, length, arith, sym, subst}
+use Rattle.ipx_lobby.specs.declared.heard.Heard.{Heard}
+use Rattle.ipx_wire.specs.Assigned.{ipx_header_size}
+use Rattle.ipx_lobby.specs.LobbyHears.{IsSoundHearing}
+use Rattle.ipx_lobby.proofs.Hears.{sound_hearing}
+use Rattle.ipx_lobby.proofs.lobby.Lobby.judge.Goals as goal
+
+pub returns-in-Ok-clause-sound : goal.returns-in-Ok-clause-sound
+returns-in-Ok-clause-sound c =
+    let l = c.args.self.now in
+    let size = length c.args.bytes.now in
+    let thirty : ipx_header_size ≤ size = omega (arith, c.in-Ok.ensures.found.1.size) in
+    let P : Heard → Type 0 = λ heard. IsSoundHearing l c.args.from size heard in
+    subst P (sym c.outcome.ensures) (sound_hearing l c.args.from size thirty c.in-Ok.packet.header c.args.now)
