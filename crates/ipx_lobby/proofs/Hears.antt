@@ -1,5 +1,5 @@
 -- What holds of each packet, whatever becomes of it.
-use Rattle.std.proofs.Common.{◌≡◌, ◌≤◌, ◌<◌, ℕ, List, [], ◌∷◌, Bool, true, false, Option, Some, None, length, find, not, cond, arith, refl, sym, ap, subst, eq-eqb, ◌∙◌}
+use Rattle.std.proofs.Common.{◌≡◌, ◌≤◌, ℕ, List, [], ◌∷◌, Bool, true, false, Option, Some, None, find, not, cond, refl, ap, ◌∙◌}
 use Rattle.std.specs.Prelude.{is_some, replicate, ◌==◌, ◌&&◌, ◌||◌, nat_le, nat_lt, if◌then◌else◌}
 use Rattle.std.specs.Str.{bytes_eq}
 use Rattle.ipx_wire.specs.Assigned.{ipx_header_size}
@@ -10,10 +10,9 @@ use Rattle.ipx_lobby.specs.declared.drops.LobbyDrop.TheVariants.{NodeTaken, TooM
 use Rattle.ipx_lobby.specs.declared.heard.Heard.{Heard}
 use Rattle.ipx_lobby.specs.declared.heard.Heard.TheVariants.{Registered, Pinged, ToClient, ToOthers, ToOthersAndCore, ToCore, Dropped}
 use Rattle.ipx_lobby.specs.declared.place.Place.{Place}
-use Rattle.ipx_lobby.specs.declared.port.LobbyPort.{LobbyPort}
 use Rattle.ipx_lobby.specs.declared.takers.Takers.TheVariants.{One}
 use Rattle.ipx_lobby.specs.LobbyClients.{are_one_place, are_places_taken, client_at, client_of_node, has_client_node, is_client_at, most_newcomers, newcomers, node_of_place}
-use Rattle.ipx_lobby.specs.LobbyHears.{IsNoLonger, IsSoundHearing, LobbyView, all_hear, answer_of, client_hears, is_dropped, is_for_lobby, is_node_taken, is_registration, is_taker, is_to_all_nodes, is_to_service, lobby_hears, lobby_hears_elsewhere, lobby_hears_from, lobby_hears_here, lobby_socket, most_client_bytes, newcomer_drop, newcomer_hears, ping_answer, registration_answer, registration_hears, takers_of}
+use Rattle.ipx_lobby.specs.LobbyHears.{IsSoundHearing, LobbyView, all_hear, client_hears, is_for_lobby, is_node_taken, is_registration, is_to_all_nodes, is_to_service, lobby_hears, lobby_hears_elsewhere, lobby_hears_from, lobby_hears_here, lobby_socket, most_client_bytes, newcomer_drop, newcomer_hears, ping_answer, registration_answer, registration_hears}
 use Rattle.ipx_wire.specs.declared.address.Node.{Node}
 use Rattle.ipx_wire.specs.Assigned.{broadcast_node}
 use Rattle.std.proofs.lemmas.Bool.{eqb-true}

@@ -1,5 +1,5 @@
 -- The bytes of a node that is made of a place.
-use Rattle.std.proofs.Common.{◌≡◌, ℕ, List, [], ◌∷◌, ◌++◌, length, refl, ap}
+use Rattle.std.proofs.Common.{◌≡◌, ℕ, List, [], ◌∷◌, ◌++◌, length, refl}
 use Rattle.byteorder.specs.Endian.{big_bytes}
 use borrow.Rule.Slice.PartMut.{put_mid}
 

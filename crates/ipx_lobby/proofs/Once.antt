@@ -133,7 +133,7 @@ others_by place now known None once is free k d lt isnt =
 others_by place now known (Some c) once is free k d lt isnt =
     record {
       places = λ same. not_here place (get_or known k d) c isnt (found_passes (is_client_at place) known c is) same;
-      nodes = others_differ place c known once is k d lt isnt
+      nodes = others_differ place c known once is k d lt isnt;
     }
 
 kept_others : (place : Place) (c : Client) (known : List Client) → All (AreOthers place c) known

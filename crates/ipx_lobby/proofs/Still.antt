@@ -1,6 +1,6 @@
 -- Who is known, once a client was heard.
-use Rattle.std.proofs.Common.{◌≡◌, ◌≤◌, ◌<◌, ◌+◌, ◌-◌, ℕ, List, [], ◌∷◌, ◌++◌, Bool, true, false, Option, Some, None, length, take, drop, filter, find, not, cond, arith, refl, sym, ap, subst, eq-eqb, ◌∙◌, take-append-drop}
-use Rattle.std.specs.Prelude.{is_some, Result, Ok, Err, ◌==◌, ◌&&◌, nat_lt, if◌then◌else◌}
+use Rattle.std.proofs.Common.{◌≡◌, ◌≤◌, ◌+◌, ◌-◌, ℕ, List, [], ◌∷◌, ◌++◌, Bool, true, false, Option, Some, None, length, take, drop, filter, find, not, cond, arith, refl, sym, ap, ◌∙◌, take-append-drop}
+use Rattle.std.specs.Prelude.{is_some, Ok, Err, ◌==◌, ◌&&◌, nat_lt, if◌then◌else◌}
 use Rattle.std.specs.Option.{option_or}
 use Rattle.std.specs.Str.{bytes_eq}
 use Rattle.std.proofs.lemmas.List.Folds.{find-append}
@@ -18,7 +18,7 @@ use Rattle.ipx_wire.specs.declared.address.Node.{Node}
 use Rattle.ipx_lobby.specs.LobbyClients.{are_one_place, client_at, client_heard, client_of_node, clients_heard, is_client_at}
 use Rattle.ipx_lobby.specs.LobbyHears.{LobbyView, client_gets, is_dropped, lobby_gives, lobby_hearing, most_client_bytes, takers_of}
 use Rattle.ipx_lobby.proofs.Hears.{taker_known}
-use Rattle.ipx_lobby.proofs.Once.{fewer, found_passes, same_place, some_is}
+use Rattle.ipx_lobby.proofs.Once.{fewer, found_passes, same_place}
 
 -- ---- places
 

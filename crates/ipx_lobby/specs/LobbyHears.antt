@@ -1,7 +1,7 @@
 -- What a lobby does with a datagram, and with a packet of its router. Registration and ping are
 -- DOSBox 0.74-3's, the socket and the layout of both as it has them; the order of the cases, and what
 -- is dropped, is own.
-use Rattle.std.specs.Prelude.{◌≡◌, ◌≤◌, ℕ, List, [], replicate, length, Bool, true, false, not, ◌==◌, ◌&&◌, ◌||◌, nat_le, nat_lt, is_some, Option, Some, None, Result, Ok, Err, if◌then◌else◌}
+use Rattle.std.specs.Prelude.{◌≡◌, ◌≤◌, ℕ, List, [], replicate, Bool, true, false, not, ◌==◌, ◌&&◌, ◌||◌, nat_le, nat_lt, is_some, Option, Some, None, Result, Ok, Err, if◌then◌else◌}
 use Rattle.std.specs.Str.{bytes_eq}
 use Rattle.ipx_wire.specs.Assigned.{broadcast_node, ipx_header_size, local_network, rip_socket, sap_socket, unknown_type}
 use Rattle.ipx_wire.specs.Ipx.{IsIpx, packet_of}

@@ -1,6 +1,6 @@
 //! The clients of a lobby.
 
-ghost use Rattle.std.specs.Prelude.{◌≡◌, ◌≤◌, ◌<◌, ◌+◌, ◌-◌, [], List, None, IfOk, count_by, drop, filter, find, length, not, option_copied};
+ghost use Rattle.std.specs.Prelude.{◌≡◌, ◌≤◌, ◌<◌, ◌+◌, ◌-◌, [], None, IfOk, drop, filter, find, length, not, option_copied};
 ghost use Rattle.std.specs.Vec.{vec_capacity, vec_len};
 ghost use Rattle.ipx_lobby.specs.LobbyClients.{EachClientOnce, are_places_taken, client_at, client_heard, client_of_node, clients_heard, clients_left};
 ghost use Rattle.ipx_lobby.specs.LobbyClients.{has_client_node, is_client_at, is_newcomer, most_lobby_clients, newcomers, node_of_place};
@@ -199,7 +199,8 @@ impl Clients {
         requires { client_at place self.old.known ≡ None
             → client_of_node (node_of_place place) self.old.known ≡ None }
         ensures { self.new ≡ record self.old {
-            known = clients_heard self.old.most place now self.old.known } }
+          known = clients_heard self.old.most place now self.old.known;
+        } }
     {
         let client = self.heard_at(place, now);
         leave_out(&mut self.known, place);

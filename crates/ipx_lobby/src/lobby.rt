@@ -15,7 +15,9 @@ use crate::clients::{Client, Clients, MOST_NEWCOMERS};
 use crate::counts::LobbyCounts;
 use crate::drops::LobbyDrop;
 use crate::heard::Heard;
-use crate::hearing::{MOST_CLIENT_BYTES, answer_with_node, elsewhere, is_for_all, registers, stays, to_all};
+use crate::hearing::{
+    MOST_CLIENT_BYTES, answer_with_node, elsewhere, is_for_all, registers, stays, to_all,
+};
 use crate::place::Place;
 use crate::port::LobbyPort;
 use crate::takers::Takers;
@@ -90,7 +92,10 @@ impl Lobby {
         ensures { result ≡ newcomer_drop self.now.port self.now.most self.now.clients from now }
     {
         let node = from.node();
-        if node == self.port.own || node == Node::BROADCAST || self.clients.of_node(node).is_some() {
+        if node == self.port.own
+            || node == Node::BROADCAST
+            || self.clients.of_node(node).is_some()
+        {
             return Some(LobbyDrop::NodeTaken(node));
         }
         if self.clients.newcomers(now) >= MOST_NEWCOMERS {
@@ -141,7 +146,13 @@ impl Lobby {
     }
 
     /// What becomes of a packet of a client, if one is known there.
-    fn from_client(&self, from: Place, header: IpxHeader, size: usize, known: Option<Client>) -> Heard
+    fn from_client(
+        &self,
+        from: Place,
+        header: IpxHeader,
+        size: usize,
+        known: Option<Client>,
+    ) -> Heard
         ensures { result ≡ lobby_hears_from self.now.port self.now.clients from header size known }
     {
         let Some(client) = known else {

@@ -1,4 +1,4 @@
-use Rattle.std.proofs.Common.{◌≡◌, ◌+◌, ◌-◌, ℕ, List, [], ◌∷◌, ◌++◌, Option, None, length, take, drop, filter, not, sym, ap, subst, ◌∙◌, rules}
+use Rattle.std.proofs.Common.{◌≡◌, ◌+◌, ◌-◌, ℕ, List, [], ◌∷◌, ◌++◌, None, length, take, drop, filter, not, sym, ap, subst, ◌∙◌, rules}
 use Rattle.std.specs.Vec.{vec_capacity}
 use Rattle.ipx_lobby.specs.declared.clients.Client.{Client}
 use Rattle.ipx_lobby.specs.LobbyClients.{AreClients, ClientsView, client_at, client_heard, client_of_node, clients_heard, is_client_at, node_of_place}

@@ -1,4 +1,4 @@
-use Rattle.std.proofs.Common.{◌≡◌, ◌≤◌, ℕ, length, arith, sym, subst}
+use Rattle.std.proofs.Common.{◌≤◌, length, arith, sym, subst}
 use Rattle.ipx_lobby.specs.declared.heard.Heard.{Heard}
 use Rattle.ipx_wire.specs.Assigned.{ipx_header_size}
 use Rattle.ipx_lobby.specs.LobbyHears.{IsSoundHearing}

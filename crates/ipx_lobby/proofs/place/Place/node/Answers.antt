@@ -1,5 +1,4 @@
-use Rattle.std.proofs.Common.{◌≡◌, ℕ, List, [], ◌++◌, length, ap, rules}
-use Rattle.byteorder.specs.Endian.{big_bytes}
+use Rattle.std.proofs.Common.{◌≡◌, ℕ, List, length, ap, rules}
 use Rattle.ipx_wire.specs.declared.address.Node.{Node}
 use Rattle.ipx_lobby.proofs.Nodes.{node_bytes}
 use Rattle.ipx_lobby.proofs.place.Place.node.Goals as goal
