@@ -249,8 +249,9 @@ impl Lobby {
     {
         self.clients.age(now);
         let takers = self.takers(node, packet.len());
-        if let Err(drop) = takers {
-            self.counts.count(drop);
+        match takers {
+            Ok(_) => {}
+            Err(drop) => self.counts.count(drop),
         }
         takers
     }

@@ -1,0 +1,56 @@
+//! How one gives a datagram on that came from a place.
+
+use crate::fixture::{CAME, FIRST, FIRST_NODE, PORT, REGISTRATION, SECOND, THIRD, packet, register_all};
+use ipx_lobby::{Heard, Lobby, Place, Takers};
+use ipx_wire::Node;
+use std::test::Fail;
+
+/// Whether the client at a place is one of the takers: one goes through the clients, and sends to no
+/// other place.
+fn gets(lobby: &Lobby, takers: Takers, place: Place) -> bool {
+    lobby
+        .clients()
+        .iter()
+        .any(|client| client.place == place && takers.has(client.place))
+}
+
+/// Which of the three players get the bytes.
+pub fn reached(lobby: &Lobby, takers: Takers) -> [bool; 3] {
+    [
+        gets(lobby, takers, FIRST),
+        gets(lobby, takers, SECOND),
+        gets(lobby, takers, THIRD),
+    ]
+}
+
+/// What becomes of a datagram: whether it is answered, which of the three players get it, and whether
+/// the core does.
+pub fn give(lobby: &mut Lobby, from: Place, bytes: &[u8]) -> (bool, [bool; 3], bool) {
+    let heard = lobby.hear(from, bytes, 0);
+    let answered = heard.answer().is_some();
+    (answered, reached(lobby, heard.takers()), heard.is_for_core())
+}
+
+#[test]
+fn datagrams_of_three_players(rt: HostRuntime) -> Result<(), Fail> {
+    let mut lobby = Lobby::new(rt.alloc(), PORT, 64)?;
+    // Before it registers nobody gets anything, and nothing comes of what it sends.
+    assert_eq!(rt; give(&mut lobby, FIRST, &CAME), (false, [false; 3], false));
+    assert_eq!(rt;
+        give(&mut lobby, FIRST, &REGISTRATION),
+        (true, [false; 3], false)
+    );
+    register_all(&mut lobby);
+    assert_eq!(rt;
+        give(&mut lobby, FIRST, &CAME),
+        (false, [false, true, false], false)
+    );
+    let all = packet(Node::BROADCAST, 0x4001, FIRST_NODE);
+    assert_eq!(rt;
+        give(&mut lobby, FIRST, &all),
+        (false, [false, true, true], false)
+    );
+    assert_eq!(rt; lobby.clients().len(), 3);
+    assert_eq!(rt; lobby.hear(FIRST, &all, 0), Heard::ToOthers(FIRST));
+    Ok(())
+}

@@ -1,0 +1,26 @@
+//! Tests of a port for clients that register, with literal values. They call what that crate makes
+//! public, and no crate stands on this one.
+#![tactic(auto)]
+
+#[cfg(test)]
+mod between;
+#[cfg(test)]
+mod caller;
+#[cfg(test)]
+mod dropped;
+#[cfg(test)]
+mod fixture;
+#[cfg(test)]
+mod giving;
+#[cfg(test)]
+mod pings;
+#[cfg(test)]
+mod places;
+#[cfg(test)]
+mod refused;
+#[cfg(test)]
+mod registering;
+#[cfg(test)]
+mod router;
+#[cfg(test)]
+mod silent;

@@ -1,0 +1,96 @@
+//! How many players there may be, and how many register in a second.
+
+use crate::fixture::{FIRST, FIRST_NODE, PORT, REGISTRATION, SECOND, THIRD, packet};
+use ipx_lobby::{Heard, Lobby, LobbyDrop, Place};
+use ipx_wire::Node;
+use std::test::Fail;
+
+/// A place of a number.
+fn place(number: u16) -> Place {
+    Place {
+        ip: [192, 0, 2, 1],
+        udp_port: number,
+    }
+}
+
+/// Whether an end registers at a moment, and why it does not.
+fn registers(lobby: &mut Lobby, from: Place, now: u64) -> Option<LobbyDrop> {
+    match lobby.hear(from, &REGISTRATION, now) {
+        Heard::Dropped(drop) => Some(drop),
+        _ => None,
+    }
+}
+
+/// Where all places are taken, the player that was silent longest makes room behind an hour.
+#[test]
+fn all_places_taken(rt: HostRuntime) -> Result<(), Fail> {
+    let mut lobby = Lobby::new(rt.alloc(), PORT, 2)?;
+    assert_eq!(rt; registers(&mut lobby, FIRST, 0), None);
+    assert_eq!(rt; registers(&mut lobby, SECOND, 10), None);
+    // The first is heard again, so that the second was silent longer.
+    lobby.hear(FIRST, &packet(Node::BROADCAST, 0x4001, FIRST_NODE), 20);
+    assert_eq!(rt;
+        registers(&mut lobby, THIRD, 3_600_009),
+        Some(LobbyDrop::PlacesTaken)
+    );
+    assert_eq!(rt; lobby.counts().places_taken, 1);
+    // Who is known registers as ever.
+    assert_eq!(rt; lobby.clients().len(), 2);
+    assert_eq!(rt; registers(&mut lobby, THIRD, 3_600_010), None);
+    assert_eq!(rt; lobby.clients().len(), 2);
+    assert_eq!(rt; lobby.clients()[0].place, FIRST);
+    assert_eq!(rt; lobby.clients()[1].place, THIRD);
+    assert_eq!(rt; registers(&mut lobby, FIRST, 3_600_011), None);
+    assert_eq!(rt;
+        registers(&mut lobby, SECOND, 3_600_012),
+        Some(LobbyDrop::PlacesTaken)
+    );
+    Ok(())
+}
+
+/// Ten in a second, and the next one a second behind the first.
+#[test]
+fn ten_in_a_second(rt: HostRuntime) -> Result<(), Fail> {
+    let mut lobby = Lobby::new(rt.alloc(), PORT, 150)?;
+    for number in 1..=10 {
+        assert_eq!(rt;
+            registers(&mut lobby, place(number), 100 * u64::from(number)),
+            None
+        );
+    }
+    assert_eq!(rt;
+        registers(&mut lobby, place(11), 1099),
+        Some(LobbyDrop::TooManyNew)
+    );
+    // One that is known is answered all the same.
+    assert_eq!(rt; registers(&mut lobby, place(1), 1099), None);
+    assert_eq!(rt; registers(&mut lobby, place(11), 1100), None);
+    assert_eq!(rt;
+        registers(&mut lobby, place(12), 1199),
+        Some(LobbyDrop::TooManyNew)
+    );
+    assert_eq!(rt; lobby.counts().too_many_new, 2);
+    assert_eq!(rt; lobby.clients().len(), 11);
+    Ok(())
+}
+
+/// A hundred and fifty, and no one more within the hour.
+#[test]
+fn a_full_lobby(rt: HostRuntime) -> Result<(), Fail> {
+    let mut lobby = Lobby::new(rt.alloc(), PORT, 150)?;
+    for number in 1..=150 {
+        assert_eq!(rt;
+            registers(&mut lobby, place(number), 100 * u64::from(number)),
+            None
+        );
+    }
+    assert_eq!(rt; lobby.clients().len(), 150);
+    assert_eq!(rt;
+        registers(&mut lobby, place(151), 3_600_099),
+        Some(LobbyDrop::PlacesTaken)
+    );
+    assert_eq!(rt; registers(&mut lobby, place(151), 3_600_100), None);
+    assert_eq!(rt; lobby.clients().len(), 150);
+    assert_eq!(rt; lobby.clients()[0].place, place(2));
+    Ok(())
+}
