@@ -1,7 +1,9 @@
 //! Packets between players: who gets them, and what stays as it came.
 
 use crate::caller::give;
-use crate::fixture::{CAME, FIRST, FIRST_NODE, PORT, SECOND, SECOND_NODE, THIRD, long_packet, packet, register_all};
+use crate::fixture::{
+    CAME, FIRST, FIRST_NODE, PORT, SECOND, SECOND_NODE, THIRD, long_packet, packet, register_all,
+};
 use ipx_lobby::{Heard, Lobby, LobbyDrop};
 use ipx_wire::Node;
 use std::test::Fail;
@@ -26,9 +28,17 @@ fn to_one_player(rt: HostRuntime) -> Result<(), Fail> {
 fn to_all_players(rt: HostRuntime) -> Result<(), Fail> {
     let mut lobby = Lobby::new(rt.alloc(), PORT, 64)?;
     register_all(&mut lobby);
-    for (socket, core) in [(0x4001, false), (0x451, false), (0x452, true), (0x453, true)] {
+    for (socket, core) in [
+        (0x4001, false),
+        (0x451, false),
+        (0x452, true),
+        (0x453, true),
+    ] {
         let all = packet(Node::BROADCAST, socket, FIRST_NODE);
-        assert_eq!(rt; give(&mut lobby, FIRST, &all), (false, [false, true, true], core));
+        assert_eq!(rt;
+            give(&mut lobby, FIRST, &all),
+            (false, [false, true, true], core)
+        );
     }
     // NetBIOS, of type 20: to the others, as any.
     let mut netbios = packet(Node::BROADCAST, 0x455, FIRST_NODE);

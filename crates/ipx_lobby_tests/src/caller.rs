@@ -1,6 +1,8 @@
 //! How one gives a datagram on that came from a place.
 
-use crate::fixture::{CAME, FIRST, FIRST_NODE, PORT, REGISTRATION, SECOND, THIRD, packet, register_all};
+use crate::fixture::{
+    CAME, FIRST, FIRST_NODE, PORT, REGISTRATION, SECOND, THIRD, packet, register_all,
+};
 use ipx_lobby::{Heard, Lobby, Place, Takers};
 use ipx_wire::Node;
 use std::test::Fail;
@@ -28,7 +30,11 @@ pub fn reached(lobby: &Lobby, takers: Takers) -> [bool; 3] {
 pub fn give(lobby: &mut Lobby, from: Place, bytes: &[u8]) -> (bool, [bool; 3], bool) {
     let heard = lobby.hear(from, bytes, 0);
     let answered = heard.answer().is_some();
-    (answered, reached(lobby, heard.takers()), heard.is_for_core())
+    (
+        answered,
+        reached(lobby, heard.takers()),
+        heard.is_for_core(),
+    )
 }
 
 #[test]

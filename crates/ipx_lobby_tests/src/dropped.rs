@@ -107,10 +107,7 @@ fn texts(rt: HostRuntime) -> Result<(), Fail> {
             LobbyDrop::NodeTaken(FIRST_NODE),
             "a client's node is taken: 7f000001bc47",
         ),
-        (
-            LobbyDrop::TooManyNew,
-            "too many registrations in a second",
-        ),
+        (LobbyDrop::TooManyNew, "too many registrations in a second"),
         (LobbyDrop::PlacesTaken, "all places of clients are taken"),
         (LobbyDrop::Unregistered, "from no client"),
         (

@@ -37,7 +37,10 @@ fn packets_of_the_core(rt: HostRuntime) -> Result<(), Fail> {
 fn long_packets_of_the_core(rt: HostRuntime) -> Result<(), Fail> {
     let mut lobby = Lobby::new(rt.alloc(), PORT, 64)?;
     register_all(&mut lobby);
-    assert_eq!(rt; lobby.give(FIRST_NODE, &[0; 1424], 0), Ok(Takers::One(FIRST)));
+    assert_eq!(rt;
+        lobby.give(FIRST_NODE, &[0; 1424], 0),
+        Ok(Takers::One(FIRST))
+    );
     let long = Err(LobbyDrop::TooLong(1425));
     assert_eq!(rt; lobby.give(FIRST_NODE, &[0; 1425], 0), long);
     assert_eq!(rt; lobby.give(Node::BROADCAST, &[0; 1425], 0), long);
@@ -51,7 +54,10 @@ fn long_packets_of_the_core(rt: HostRuntime) -> Result<(), Fail> {
 fn to_one_who_is_forgotten(rt: HostRuntime) -> Result<(), Fail> {
     let mut lobby = Lobby::new(rt.alloc(), PORT, 64)?;
     lobby.hear(FIRST, &REGISTRATION, 5);
-    assert_eq!(rt; lobby.give(FIRST_NODE, &[0; 40], 86_400_004), Ok(Takers::One(FIRST)));
+    assert_eq!(rt;
+        lobby.give(FIRST_NODE, &[0; 40], 86_400_004),
+        Ok(Takers::One(FIRST))
+    );
     assert_eq!(rt;
         lobby.give(FIRST_NODE, &[0; 40], 86_400_005),
         Err(LobbyDrop::NoSuchNode(FIRST_NODE))

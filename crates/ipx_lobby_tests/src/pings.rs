@@ -28,7 +28,10 @@ const OF_SECOND: [u8; 30] = [
 fn a_ping(rt: HostRuntime) -> Result<(), Fail> {
     let mut lobby = Lobby::new(rt.alloc(), PORT, 64)?;
     register_all(&mut lobby);
-    assert_eq!(rt; give(&mut lobby, FIRST, &PING), (true, [false, true, true], false));
+    assert_eq!(rt;
+        give(&mut lobby, FIRST, &PING),
+        (true, [false, true, true], false)
+    );
     assert_eq!(rt; lobby.hear(FIRST, &PING, 0).answer(), Some(ANSWER));
     // Others answer for themselves, to the one that asked alone.
     assert_eq!(rt;

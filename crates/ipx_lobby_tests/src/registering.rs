@@ -23,7 +23,10 @@ const THIRD_ANSWER: [u8; 30] = [
 fn answers(rt: HostRuntime) -> Result<(), Fail> {
     let mut lobby = Lobby::new(rt.alloc(), PORT, 64)?;
     assert_eq!(rt; lobby.hear(FIRST, &REGISTRATION, 7).answer(), Some(ANSWER));
-    assert_eq!(rt; lobby.hear(THIRD, &REGISTRATION, 8).answer(), Some(THIRD_ANSWER));
+    assert_eq!(rt;
+        lobby.hear(THIRD, &REGISTRATION, 8).answer(),
+        Some(THIRD_ANSWER)
+    );
     let first = Client {
         node: FIRST_NODE,
         place: FIRST,

@@ -87,7 +87,10 @@ fn a_route_is_asked(rt: HostRuntime) -> Result<(), Fail> {
     assert_eq!(rt; replies.len(), 1);
     assert_eq!(rt; replies[0].port, 1);
     let node = replies[0].next;
-    assert_eq!(rt; lobby.give(node, &replies[0].bytes, 0), Ok(Takers::One(FIRST)));
+    assert_eq!(rt;
+        lobby.give(node, &replies[0].bytes, 0),
+        Ok(Takers::One(FIRST))
+    );
     Ok(())
 }
 
