@@ -1,5 +1,5 @@
 -- What holds of each packet, whatever becomes of it.
-use Rattle.std.proofs.Common.{◌≡◌, ◌≤◌, ℕ, List, [], ◌∷◌, Bool, true, false, Option, Some, None, find, not, cond, refl, ap, ◌∙◌}
+use Rattle.std.proofs.Common.{◌≡◌, ◌≤◌, ℕ, List, [], ◌∷◌, Bool, true, false, Option, Some, None, length, find, not, cond, arith, refl, sym, ap, ◌∙◌}
 use Rattle.std.specs.Prelude.{is_some, replicate, ◌==◌, ◌&&◌, ◌||◌, nat_le, nat_lt, if◌then◌else◌}
 use Rattle.std.specs.Str.{bytes_eq}
 use Rattle.ipx_wire.specs.Assigned.{ipx_header_size}
@@ -12,11 +12,12 @@ use Rattle.ipx_lobby.specs.declared.heard.Heard.TheVariants.{Registered, Pinged,
 use Rattle.ipx_lobby.specs.declared.place.Place.{Place}
 use Rattle.ipx_lobby.specs.declared.takers.Takers.TheVariants.{One}
 use Rattle.ipx_lobby.specs.LobbyClients.{are_one_place, are_places_taken, client_at, client_of_node, has_client_node, is_client_at, most_newcomers, newcomers, node_of_place}
-use Rattle.ipx_lobby.specs.LobbyHears.{IsSoundHearing, LobbyView, all_hear, client_hears, is_for_lobby, is_node_taken, is_registration, is_to_all_nodes, is_to_service, lobby_hears, lobby_hears_elsewhere, lobby_hears_from, lobby_hears_here, lobby_socket, most_client_bytes, newcomer_drop, newcomer_hears, ping_answer, registration_answer, registration_hears}
+use Rattle.ipx_lobby.specs.LobbyHears.{IsAnswer, LobbyView, all_hear, client_hears, is_for_lobby, is_node_taken, is_registration, is_to_all_nodes, is_to_service, lobby_hears, lobby_hears_elsewhere, lobby_hears_from, lobby_hears_here, lobby_socket, most_client_bytes, newcomer_drop, newcomer_hears, ping_answer, registration_answer, registration_hears}
+use Rattle.ipx_lobby.specs.LobbyInside.{IsSoundHearing}
 use Rattle.ipx_wire.specs.declared.address.Node.{Node}
 use Rattle.ipx_wire.specs.Assigned.{broadcast_node}
 use Rattle.std.proofs.lemmas.Bool.{eqb-true}
-use Rattle.ipx_lobby.proofs.Once.{same_place, some_is}
+use Rattle.ipx_lobby.proofs.Once.{absurd_none, same_place, some_is}
 
 -- a choice of two
 either : (P : Heard → Type 0) (b : Bool) (x y : Heard) → P x → P y → P (if b then x else y)
@@ -69,23 +70,34 @@ pub taker_known : (node : Node) (place : Place) (xs : List Client) (c : Client) 
 taker_known node place xs c found is =
     found_finds (has_client_node node) (is_client_at place) xs c found (ap (λ (p : Place). are_one_place p place) is ∙ same_place place)
 
+pub dropped_hears : (l : LobbyView) (from : Place) (size : ℕ) (d : LobbyDrop) → IsSoundHearing l from size (Dropped d)
+dropped_hears l from size d = record {
+  back = refl;
+  as_many = λ header answer e a. cc;
+  no_longer = λ answer a. absurd_none a.0 a.1;
+  free = λ e. cc;
+  sender = λ place e. cc;
+  taker = λ place e. cc;
+}
+
 module _ (l : LobbyView) (from : Place) (size : ℕ) (thirty : ipx_header_size ≤ size) where
   abbrev Sound : Heard → Type 0
   Sound heard = IsSoundHearing l from size heard
 
+  size_of : (heard : Heard) (answer : List ℕ) → IsAnswer heard answer → length answer ≡ ipx_header_size
+  size_of heard answer a = omega (arith, a.2.size)
+
+  short : (heard : Heard) (answer : List ℕ) → IsAnswer heard answer → length answer ≤ size
+  short heard answer a = omega (arith, size_of heard answer a, thirty)
+
   dropped : (d : LobbyDrop) → Sound (Dropped d)
-  dropped d = record {
-    back = refl;
-    no_longer = (λ answer e. cc, λ giver answer e. cc);
-    free = λ e. cc;
-    sender = λ place e. cc;
-    taker = λ place e. cc;
-  }
+  dropped d = dropped_hears l from size d
 
   registered : (answer : IpxHeader) → size ≡ ipx_header_size → (client_at from l.clients ≡ None → client_of_node (node_of_place from) l.clients ≡ None) → Sound (Registered answer)
   registered answer is free = record {
     back = refl;
-    no_longer = (λ a e. is, λ giver a e. cc);
+    as_many = λ header bytes e a. size_of (Registered answer) bytes a ∙ sym is;
+    no_longer = λ bytes a. short (Registered answer) bytes a;
     free = λ e. free;
     sender = λ place e. cc;
     taker = λ place e. cc;
@@ -113,7 +125,8 @@ module _ (l : LobbyView) (from : Place) (size : ℕ) (thirty : ipx_header_size �
     to_core : Sound ToCore
     to_core = record {
       back = refl;
-      no_longer = (λ answer e. cc, λ giver answer e. cc);
+      as_many = λ header answer e a. cc;
+      no_longer = λ answer a. short ToCore answer a;
       free = λ e. no_newcomer;
       sender = λ place e. cc;
       taker = λ place e. cc;
@@ -122,7 +135,8 @@ module _ (l : LobbyView) (from : Place) (size : ℕ) (thirty : ipx_header_size �
     to_others : Sound (ToOthers from)
     to_others = record {
       back = ap not (same_place from);
-      no_longer = (λ answer e. cc, λ giver answer e. cc);
+      as_many = λ header answer e a. cc;
+      no_longer = λ answer a. short (ToOthers from) answer a;
       free = λ e. no_newcomer;
       sender = λ place e. cc;
       taker = λ place e. cc;
@@ -131,7 +145,8 @@ module _ (l : LobbyView) (from : Place) (size : ℕ) (thirty : ipx_header_size �
     to_both : Sound (ToOthersAndCore from)
     to_both = record {
       back = ap not (same_place from);
-      no_longer = (λ answer e. cc, λ giver answer e. cc);
+      as_many = λ header answer e a. cc;
+      no_longer = λ answer a. short (ToOthersAndCore from) answer a;
       free = λ e. no_newcomer;
       sender = λ place e. cc;
       taker = λ place e. cc;
@@ -140,7 +155,8 @@ module _ (l : LobbyView) (from : Place) (size : ℕ) (thirty : ipx_header_size �
     pinged : (answer : IpxHeader) → Sound (Pinged from answer)
     pinged answer = record {
       back = ap not (same_place from);
-      no_longer = (λ a e. cc, λ giver a e. thirty);
+      as_many = λ header bytes e a. cc;
+      no_longer = λ bytes a. short (Pinged from answer) bytes a;
       free = λ e. no_newcomer;
       sender = λ place e. cc;
       taker = λ place e. cc;
@@ -152,7 +168,8 @@ module _ (l : LobbyView) (from : Place) (size : ℕ) (thirty : ipx_header_size �
     to_one : (node : Node) (k : Client) → client_of_node node l.clients ≡ Some k → are_one_place k.place from ≡ false → Sound (ToClient k.place)
     to_one node k found apart = record {
       back = apart;
-      no_longer = (λ answer e. cc, λ giver answer e. cc);
+      as_many = λ header answer e a. cc;
+      no_longer = λ answer a. short (ToClient k.place) answer a;
       free = λ e. no_newcomer;
       sender = λ place e. known_there from l.clients c known;
       taker = λ place e. taker_known node place l.clients k found (one_is k.place place e);

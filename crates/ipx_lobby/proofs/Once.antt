@@ -11,7 +11,8 @@ use Rattle.std.proofs.lemmas.Slice.Eq.{bytes_eq-Decides}
 use Rattle.ipx_wire.specs.declared.address.Node.{Node}
 use Rattle.ipx_lobby.specs.declared.clients.Client.{Client}
 use Rattle.ipx_lobby.specs.declared.place.Place.{Place}
-use Rattle.ipx_lobby.specs.LobbyClients.{AreClients, AreTwoClients, EachClientOnce, are_one_place, client_at, client_heard, client_of_node, clients_heard, clients_left, forgotten_after, has_client_node, is_client_at, node_of_place, was_heard_within}
+use Rattle.ipx_lobby.specs.LobbyClients.{AreTwoClients, EachClientOnce, are_one_place, client_at, client_heard, client_of_node, clients_heard, clients_left, forgotten_after, has_client_node, is_client_at, node_of_place, was_heard_within}
+use Rattle.ipx_lobby.specs.LobbyInside.{AreClients}
 
 -- ---- lists
 
@@ -57,7 +58,7 @@ is_not false e = refl
 absurd_below : {P : Type 0} {k : ℕ} → k < 0 → P
 absurd_below {P} {k} lt = absurd (omega (arith, lt))
 
-absurd_none : {X : Type 0} {P : Type 0} (c : X) → None ≡ Some c → P
+pub absurd_none : {X : Type 0} {P : Type 0} (c : X) → None ≡ Some c → P
 absurd_none c e = cc
 
 not_here : (place : Place) (k c : Client) → is_client_at place k ≡ false → is_client_at place c ≡ true → k.place ≢ c.place

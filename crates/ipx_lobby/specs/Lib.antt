@@ -1,3 +1,4 @@
 pub mod LobbyClients
 pub mod LobbyHears
 pub mod LobbyCounted
+pub mod LobbyInside

@@ -1,6 +1,6 @@
 -- The clients of a lobby, and for how long they are known. A node is made as DOSBox 0.74-3 makes it;
 -- all else is own.
-use Rattle.std.specs.Prelude.{◌≡◌, ◌≢◌, ◌≤◌, ℕ, ◌+◌, ◌-◌, List, [], ◌∷◌, ◌++◌, length, drop, filter, find, count_by, AllPairs, Bool, true, not, ◌==◌, ◌&&◌, nat_le, nat_lt, Option, Some, None}
+use Rattle.std.specs.Prelude.{◌≢◌, ℕ, ◌+◌, ◌-◌, List, [], ◌∷◌, ◌++◌, length, drop, filter, find, count_by, AllPairs, Bool, true, not, ◌==◌, ◌&&◌, nat_le, nat_lt, Option, Some, None}
 use Rattle.std.specs.Str.{bytes_eq}
 use Rattle.byteorder.specs.Endian.{big_bytes}
 use Rattle.ipx_wire.specs.declared.address.Node.{Node}
@@ -88,16 +88,3 @@ clients_heard most place now known =
     drop (length (filter (λ c. not (is_client_at place c)) known) + 1 - most)
     (filter (λ c. not (is_client_at place c)) known)
     ++ client_heard place now (client_at place known) ∷ []
-
--- how many there may be, and who they are
-pub record ClientsView : Type 0 where
-  pub most : ℕ
-  pub known : List Client
-
--- what is so of all that a lobby has: no more than it may, and each once; and there is room for all
-pub record AreClients (most : ℕ) (known : List Client) (room : ℕ) : Type 0 where
-  pub some : 1 ≤ most
-  pub few : most ≤ most_lobby_clients
-  pub within : length known ≤ most
-  pub once : EachClientOnce known
-  pub all : room ≡ most

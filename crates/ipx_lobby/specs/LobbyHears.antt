@@ -1,7 +1,7 @@
 -- What a lobby does with a datagram, and with a packet of its router. Registration and ping are
 -- DOSBox 0.74-3's, the socket and the layout of both as it has them; the order of the cases, and what
 -- is dropped, is own.
-use Rattle.std.specs.Prelude.{◌≡◌, ◌≤◌, ℕ, List, [], replicate, Bool, true, false, not, ◌==◌, ◌&&◌, ◌||◌, nat_le, nat_lt, is_some, Option, Some, None, Result, Ok, Err, if◌then◌else◌}
+use Rattle.std.specs.Prelude.{◌≡◌, ℕ, List, [], replicate, Bool, true, false, not, ◌==◌, ◌&&◌, ◌||◌, nat_le, nat_lt, is_some, Option, Some, None, Result, Ok, Err, if◌then◌else◌}
 use Rattle.std.specs.Str.{bytes_eq}
 use Rattle.ipx_wire.specs.Assigned.{broadcast_node, ipx_header_size, local_network, rip_socket, sap_socket, unknown_type}
 use Rattle.ipx_wire.specs.Ipx.{IsIpx, packet_of}
@@ -194,11 +194,6 @@ is_dropped (Dropped drop) = true
 abbrev pub IsAnswer : Heard → List ℕ → Type 0
 IsAnswer heard bytes = (h : IpxHeader) × (answer_of heard ≡ Some h) × IsIpx (packet_of h []) bytes []
 
--- an answer, of 30 bytes, goes to a registration of as many, or to a ping of no fewer
-abbrev pub IsNoLonger : Heard → ℕ → Type 0
-IsNoLonger heard size = ((answer : IpxHeader) → heard ≡ Registered answer → size ≡ ipx_header_size)
-    × ((from : Place) (answer : IpxHeader) → heard ≡ Pinged from answer → ipx_header_size ≤ size)
-
 -- whom a packet of the core for a node reaches, of so many bytes
 abbrev pub client_gets : Node → Option Client → Result Takers LobbyDrop
 client_gets node None = Err (NoSuchNode node)
@@ -241,13 +236,3 @@ lobby_giving (Err drop) l = lobby_dropping drop l
 -- nobody is known yet
 abbrev pub new_lobby : LobbyPort → ℕ → LobbyView
 new_lobby port most = record { port = port; most = most; clients = []; counts = no_drops }
-
--- what holds of each datagram of so many bytes, whatever becomes of it: it goes to no place that it
--- came from, its answer is no longer, and only a node that is free is given, and to clients it goes
-pub record IsSoundHearing (l : LobbyView) (from : Place) (size : ℕ) (heard : Heard) : Type 0 where
-  pub back : is_taker (takers_of heard) from ≡ false
-  pub no_longer : IsNoLonger heard size
-  pub free : is_dropped heard ≡ false → client_at from l.clients ≡ None
-      → client_of_node (node_of_place from) l.clients ≡ None
-  pub sender : (place : Place) → takers_of heard ≡ One place → is_some (client_at from l.clients) ≡ true
-  pub taker : (place : Place) → takers_of heard ≡ One place → is_some (client_at place l.clients) ≡ true

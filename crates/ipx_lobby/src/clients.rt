@@ -48,7 +48,7 @@ pub struct Clients {
 
 impl Model for Clients {
     ghost use Rattle.std.specs.Vec.{vec_capacity};
-    ghost use Rattle.ipx_lobby.specs.LobbyClients.{AreClients, ClientsView};
+    ghost use Rattle.ipx_lobby.specs.LobbyInside.{AreClients, ClientsView};
 
     ghost Value = { ClientsView };
 

@@ -1,14 +1,16 @@
 //! A port for clients that register.
 
-ghost use Rattle.std.specs.Prelude.{◌≡◌, ◌≤◌, IfOk, None, Ok, Some, false, is_some, length, true};
+ghost use Rattle.std.specs.Prelude.{◌≡◌, ◌≤◌, ℕ, List, IfOk, None, Ok, Some, false, is_some, length, true};
 ghost use Rattle.ipx_wire.specs.declared.ipx.fault.IpxFault.{IpxFault};
 ghost use Rattle.ipx_wire.specs.Ipx.{BeginsWith, PacketView, ipx_fault};
-ghost use Rattle.ipx_lobby.specs.declared.heard.Heard.TheVariants.{Dropped};
+ghost use Rattle.ipx_wire.specs.declared.ipx.packet.IpxHeader.{IpxHeader};
+ghost use Rattle.ipx_lobby.specs.declared.heard.Heard.TheVariants.{Dropped, Registered};
 ghost use Rattle.ipx_lobby.specs.declared.drops.LobbyDrop.TheVariants.{Malformed};
 ghost use Rattle.ipx_lobby.specs.declared.place.Place.{Place};
 ghost use Rattle.ipx_lobby.specs.declared.takers.Takers.TheVariants.{One};
 ghost use Rattle.ipx_lobby.specs.LobbyClients.{EachClientOnce, client_at, client_heard, client_of_node, clients_left, most_lobby_clients, node_of_place};
-ghost use Rattle.ipx_lobby.specs.LobbyHears.{IsNoLonger, IsSoundHearing, client_hears, is_dropped, is_taker, lobby_aged, lobby_gives, lobby_giving, lobby_hearing};
+ghost use Rattle.ipx_lobby.specs.LobbyHears.{IsAnswer, client_hears, is_dropped, is_taker, lobby_aged, lobby_gives, lobby_giving, lobby_hearing};
+ghost use Rattle.ipx_lobby.specs.LobbyInside.{IsSoundHearing};
 ghost use Rattle.ipx_lobby.specs.LobbyHears.{lobby_hears, lobby_hears_from, lobby_hears_here, new_lobby, newcomer_drop, registration_hears, takers_of};
 
 use crate::clients::{Client, Clients, MOST_NEWCOMERS};
@@ -223,9 +225,12 @@ impl Lobby {
             → result ≡ lobby_hears (lobby_aged now self.old) from p.header (length bytes.now) now }
         // What the lobby is then.
         ensures lobby { self.new ≡ lobby_hearing result from now (lobby_aged now self.old) }
-        // It never goes back to its sender, but for an answer, which is no longer.
+        // It never goes back to its sender, but for an answer: to a registration one of as many bytes.
         ensures back { is_taker (takers_of result) from ≡ false }
-        ensures no_longer { IsNoLonger result (length bytes.now) }
+        ensures as_many { (header : IpxHeader) (answer : List ℕ) → result ≡ Registered header
+            → IsAnswer result answer → length answer ≡ length bytes.now }
+        ensures no_longer { (answer : List ℕ) → IsAnswer result answer
+            → length answer ≤ length bytes.now }
         // Who sent what is not dropped is a client then, and so is the one that it goes to.
         ensures sender { is_dropped result ≡ false → client_at from self.new.clients
             ≡ Some (client_heard from now (client_at from (clients_left now self.old.clients))) }

@@ -1,7 +1,7 @@
 use Rattle.std.proofs.Common.{ℕ, List, sym, subst}
 use Rattle.std.specs.Vec.{vec_capacity}
 use Rattle.ipx_lobby.specs.declared.clients.Client.{Client}
-use Rattle.ipx_lobby.specs.LobbyClients.{AreClients}
+use Rattle.ipx_lobby.specs.LobbyInside.{AreClients}
 use Rattle.ipx_lobby.proofs.Once.{once_left}
 use Rattle.ipx_lobby.proofs.clients.Clients.age.Goals as goal
 

@@ -1,7 +1,8 @@
 use Rattle.std.proofs.Common.{◌≡◌, ◌+◌, ◌-◌, ℕ, List, [], ◌∷◌, ◌++◌, None, length, take, drop, filter, not, sym, ap, subst, ◌∙◌, rules}
 use Rattle.std.specs.Vec.{vec_capacity}
 use Rattle.ipx_lobby.specs.declared.clients.Client.{Client}
-use Rattle.ipx_lobby.specs.LobbyClients.{AreClients, ClientsView, client_at, client_heard, client_of_node, clients_heard, is_client_at, node_of_place}
+use Rattle.ipx_lobby.specs.LobbyClients.{client_at, client_heard, client_of_node, clients_heard, is_client_at, node_of_place}
+use Rattle.ipx_lobby.specs.LobbyInside.{AreClients, ClientsView}
 use Rattle.ipx_lobby.proofs.Once.{behind_all, once_heard}
 use Rattle.ipx_lobby.proofs.clients.Clients.put.Goals as goal
 

@@ -2,7 +2,8 @@ use Rattle.std.proofs.Common.{◌≡◌, List, false, Some, ap, refl, subst, ◌
 use Rattle.std.specs.Prelude.{is_some}
 use Rattle.ipx_lobby.specs.declared.clients.Client.{Client}
 use Rattle.ipx_lobby.specs.declared.takers.Takers.{Takers}
-use Rattle.ipx_lobby.specs.LobbyClients.{ClientsView, are_one_place, client_at, client_heard, clients_left}
+use Rattle.ipx_lobby.specs.LobbyClients.{are_one_place, client_at, client_heard, clients_left}
+use Rattle.ipx_lobby.specs.LobbyInside.{ClientsView}
 use Rattle.ipx_lobby.specs.LobbyHears.{LobbyView, is_taker}
 use Rattle.ipx_lobby.proofs.Still.{hearing_clients, heard_found, still_there, taker_heard}
 use Rattle.ipx_lobby.proofs.lobby.Lobby.hear.Goals as goal
