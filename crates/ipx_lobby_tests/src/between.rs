@@ -17,6 +17,10 @@ fn to_one_player(rt: HostRuntime) -> Result<(), Fail> {
     let mut bytes = packet(SECOND_NODE, 0x4001, FIRST_NODE);
     bytes[4..6].copy_from_slice(&[16, 20]);
     assert_eq!(rt; lobby.hear(FIRST, &bytes, 0), Heard::ToClient(SECOND));
+    // With bytes behind it, which go along.
+    let mut padded = [0xee; 36];
+    padded[..34].copy_from_slice(&CAME);
+    assert_eq!(rt; lobby.hear(FIRST, &padded, 0), Heard::ToClient(SECOND));
     // Also to a socket of the router's services: it is for that player's program.
     let rip = packet(SECOND_NODE, 0x453, FIRST_NODE);
     assert_eq!(rt; lobby.hear(FIRST, &rip, 0), Heard::ToClient(SECOND));

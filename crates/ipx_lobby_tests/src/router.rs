@@ -1,8 +1,8 @@
 //! A lobby at a port of a router: to another network and back, and routes that are asked.
 
-use crate::fixture::{CAME, FIRST, FIRST_NODE, PORT, packet, register_all};
+use crate::fixture::{CAME, FIRST, FIRST_NODE, PORT, packet, packet_for, register_all};
 use ipx_lobby::{Heard, Lobby, LobbyDrop, Takers};
-use ipx_router::{Outcome, Port, Router};
+use ipx_router::{Outcome, Port, Reason, Router};
 use ipx_wire::{Network, Node};
 use std::alloc::Global;
 use std::test::Fail;
@@ -57,6 +57,20 @@ fn to_another_network(rt: HostRuntime) -> Result<(), Fail> {
     Ok(())
 }
 
+/// Type 20 goes to no other network: the router drops it, as on any port.
+#[test]
+fn netbios_to_another_network(rt: HostRuntime) -> Result<(), Fail> {
+    let mut lobby = Lobby::new(rt.alloc(), PORT, 64)?;
+    register_all(&mut lobby);
+    let mut router = router(rt.alloc())?;
+    let mut bytes = packet_for(0x99, FAR, 0x455, FIRST_NODE);
+    bytes[5] = 20;
+    assert_eq!(rt; lobby.hear(FIRST, &bytes, 0), Heard::ToCore);
+    let outcome = router.receive(rt.alloc(), 1, &bytes, 0)?;
+    assert!(rt; matches!(outcome, Outcome::Dropped(Reason::Propagated)));
+    Ok(())
+}
+
 /// And back: to the player of the node.
 #[test]
 fn from_another_network(rt: HostRuntime) -> Result<(), Fail> {
@@ -99,6 +113,6 @@ fn a_route_is_asked(rt: HostRuntime) -> Result<(), Fail> {
 fn what_stays_is_for_the_lobby(rt: HostRuntime) -> Result<(), Fail> {
     let mut router = router(rt.alloc())?;
     let outcome = router.receive(rt.alloc(), 1, &CAME, 0)?;
-    assert!(rt; matches!(outcome, Outcome::Dropped(_)));
+    assert!(rt; matches!(outcome, Outcome::Dropped(Reason::NotOurs)));
     Ok(())
 }
