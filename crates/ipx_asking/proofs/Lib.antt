@@ -1,0 +1,2 @@
+pub mod HearingSteps
+pub mod AnswerSteps

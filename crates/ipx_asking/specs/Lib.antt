@@ -1,0 +1,4 @@
+pub mod AskView
+pub mod AskQueries
+pub mod AskAnswers
+pub mod AskEnds
