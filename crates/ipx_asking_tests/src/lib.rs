@@ -9,6 +9,8 @@ mod ends;
 #[cfg(test)]
 mod fixture;
 #[cfg(test)]
+mod pings;
+#[cfg(test)]
 mod queries;
 #[cfg(test)]
 mod refused;
