@@ -1,5 +1,5 @@
 -- Until when offers count, and what ageing before that moment leaves.
-use Rattle.std.proofs.Common.{◌≡◌, ℕ, suc, ◌+◌, ◌-◌, ◌^◌, ◌<◌, ◌≤◌, min, Bool, true, cond, List, [], ◌∷◌, set, take, drop, length, get_or, None, refl, sym, ap, ◌∙◌, arith}
+use Rattle.std.proofs.Common.{◌≡◌, ℕ, zero, suc, ◌+◌, ◌-◌, ◌^◌, ◌<◌, ◌≤◌, min, Bool, true, false, cond, List, [], ◌∷◌, set, take, drop, length, get_or, None, refl, sym, ap, ◌∙◌, arith}
 use Rattle.std.specs.List.{insert, remove, filter, count_by}
 use Rattle.std.specs.Option.{is_some}
 use Rattle.std.specs.Cmp.{IsTotalOrder}
@@ -63,6 +63,12 @@ module _ {K M : Type 0} {cmp : K → K → Ordering} (o : IsTotalOrder cmp) (os 
   pub many_none : length os ≡ count_by (λ o. is_young now o.heard) os
   many_none = ap length (sym (filter_none_old os moment now none lt)) ∙ length-filter (λ o. is_young now o.heard) os
 
+-- what is kept where an old offer goes is what was kept before
+filter_removed : {X : Type 0} (p : X → Bool) (xs : List X) (i : ℕ) → i < length xs → ((d : X) → p (get_or xs i d) ≡ false) → filter p (remove xs i) ≡ filter p xs
+filter_removed p [] i within old = absurd (omega (arith, within))
+filter_removed p (x ∷ xs) zero within old = sym (ap (λ b. cond b (x ∷ filter p xs) (filter p xs)) (old x))
+filter_removed p (x ∷ xs) (suc i) within old = ap (λ l. cond (p x) (x ∷ l) l) (filter_removed p xs i (omega (arith, within)) old)
+
 -- where all are kept the list stays
 pub filter_all : {X : Type 0} (p : X → Bool) (xs : List X) → ((j : ℕ) (d : X) → j < length xs → p (get_or xs j d) ≡ true) → filter p xs ≡ xs
 filter_all p [] all = refl
@@ -73,6 +79,10 @@ module _ {K M : Type 0} (os : List (Offer K M)) (i moment now : ℕ) (oldest : I
   pub all_young : is_young now moment ≡ true → filter (λ o. is_young now o.heard) os ≡ os
   all_young young = filter_all (λ o. is_young now o.heard) os (λ j d lt.
       lt-ltb (now - (get_or os j d).heard) 180000 (omega (arith, oldest.first j d lt, ltb-true (now - moment) 180000 young)))
+
+  -- an old one that goes was not to be kept
+  pub old_goes : is_young now moment ≡ false → filter (λ o. is_young now o.heard) (remove os i) ≡ filter (λ o. is_young now o.heard) os
+  old_goes old = filter_removed (λ o. is_young now o.heard) os i oldest.in_range (λ d. ap (is_young now) (oldest.heard d) ∙ old)
 
   pub no_later_than_oldest : (ends until : ℕ) → ends ≡ min (moment + 180000) (2 ^ 64 - 1) → until < 2 ^ 64 → NoneOldBefore until os → until ≤ ends
   no_later_than_oldest ends until is fits none = elim os as (λ l. IsOldest l i moment → NoneOldBefore until l → until ≤ ends) [

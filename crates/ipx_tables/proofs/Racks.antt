@@ -1,12 +1,12 @@
 -- Lists of offers as they were heard last, beside the same offers with the moments of their marks.
-use Rattle.std.proofs.Common.{◌≡◌, ℕ, suc, ◌<◌, ◌≤◌, Bool, true, false, cond, List, ◌∷◌, [], length, get_or, Option, Some, None, Result, Ok, Err, take, drop, map, refl, sym, ap, ◌∙◌, arith}
+use Rattle.std.proofs.Common.{◌≡◌, ℕ, zero, suc, ◌<◌, ◌≤◌, Bool, true, false, cond, List, ◌∷◌, [], length, get_or, set, Option, Some, None, Result, Ok, Err, take, drop, map, refl, sym, ap, ◌∙◌, arith}
 use mathlib.Core.Bool.{◌||◌}
 use Rattle.std.specs.Prelude.{IfSome, IfOk, IfErr, OnOk, OnErr, not}
 use Rattle.std.specs.List.{All, filter, insert, list_any, remove}
 use Rattle.std.specs.declared.cmp.Ordering.{Ordering}
 use Rattle.std.proofs.lemmas.Bool.{eqb-true}
-use Rattle.std.proofs.lemmas.List.{map-append, length-map, take-map, drop-map, get_or-map}
-use Rattle.std.proofs.lemmas.List.Elements.{All-map, All-append, All-take, All-drop, All-cons}
+use Rattle.std.proofs.lemmas.List.{map-append, map-set, length-map, take-map, drop-map, get_or-map}
+use Rattle.std.proofs.lemmas.List.Elements.{All-set, All-map, All-append, All-take, All-drop, All-cons}
 use Rattle.ipx_tables.specs.declared.offer.Offer.{Offer}
 use Rattle.ipx_tables.specs.declared.source.Source.{Source}
 use Rattle.ipx_tables.specs.declared.heard.Heard.{Heard}
@@ -60,6 +60,11 @@ module _ {X Y K : Type 0} (cmp : K → K → Ordering) (f : X → Y) (back : Y �
     above = λ j d le lt. rw (down j d lt) (gap.above j (f d) le (omega (arith, lt, length-map xs f)));
   }
 
+set_itself : {X : Type 0} (xs : List X) (i : ℕ) (x : X) → i < length xs → x ≡ get_or xs i x → set xs i x ≡ xs
+set_itself [] i x lt is = refl
+set_itself (y ∷ ys) zero x lt is = ap (λ z. z ∷ ys) is
+set_itself (y ∷ ys) (suc i) x lt is = ap (λ l. y ∷ l) (set_itself ys i x (omega (arith, lt)) is)
+
 neither : (a b : Bool) → (a || b) ≡ false → (a ≡ false) × (b ≡ false)
 neither true b h = cc
 neither false b h = (refl, h)
@@ -98,6 +103,16 @@ module _ {K M : Type 0} (xs : List (Offer K (Heard M))) (i : ℕ) (x : Offer K (
     heard = λ d. ap (λ o. o.heard) (get_or-map as_heard xs i x d lt ∙ ap as_heard (sym is)) ∙ exact;
     first = All-map (λ (o : Offer K M). moment ≤ o.heard) as_heard xs (λ j d within. omega (arith, first.first j d within, in_time j d within));
   }
+
+  -- a mark that moves up leaves what was heard
+  pub moved_same : map as_heard (set xs i (record x { heard = x.metric.moment })) ≡ map as_heard xs
+  moved_same =
+      map-set as_heard xs i (record x { heard = x.metric.moment })
+      ∙ sym (map-set as_heard xs i x)
+      ∙ ap (map as_heard) (set_itself xs i x lt is)
+
+  pub moved_in_time : All IsInTime xs → All IsInTime (set xs i (record x { heard = x.metric.moment }))
+  moved_in_time in_time = All-set IsInTime xs i (record x { heard = x.metric.moment }) (omega arith) in_time
 
 module _ {K M : Type 0} where
   back_to : Offer K M → Offer K (Heard M)

@@ -10,16 +10,19 @@ ghost use Rattle.ipx_tables.specs.Sorted.{IsAtKey, IsGapFor, IsRising};
 
 use crate::heard::Heard;
 use crate::offer::Offer;
-use crate::shelf::Shelf;
+use crate::shelf::{Shelf, settle};
 use crate::source::Source;
 use std::alloc::{AllocError, Global};
 use std::marker::Model;
 
+/// How many marks move, or offers go, each by itself: the services of one packet, and one more. To
+/// take one costs about a fifth of a pass over a full table.
+pub const FEW: u32 = 8;
+
 /// Offers by key and source, no two of one key and source.
 ///
 /// On the shelf an offer has the moment of its mark. Who is heard again keeps the mark, so that
-/// hearing moves none. Ageing puts all late marks right together, once for all the times heard
-/// since.
+/// hearing moves none. Ageing puts late marks right, once for all the times heard since.
 #[derive(Drop)]
 pub struct Rack<K: Ord + Copy, M: Copy> {
     shelf: Shelf<K, Heard<M>>,
@@ -121,26 +124,44 @@ impl<K: Ord + Copy, M: Copy> Rack<K, M> {
         self.shelf.place_of(key, source)
     }
 
-    /// An offer that was heard first, and when that was. Where the first mark is late, all that are
-    /// late are put right, together.
+    /// An offer that was heard first, and when that was. Marks that are late move up to it: a few
+    /// each by itself, and where there are more all together.
     pub fn oldest(&mut self) -> Option<(usize, u64)>
         ensures oldest { IfSome result (λ o. IsOldest self.old o.0 o.1) }
         ensures none { IfNone result (self.old ≡ []) }
         ensures same { self.new ≡ self.old }
     {
+        self.move_few();
         let (at, moment) = self.shelf.oldest()?;
         if self.shelf.get(at).metric.moment == moment {
             return Some((at, moment));
         }
-        self.shelf.settle();
+        settle(&mut self.shelf);
         self.shelf.oldest()
+    }
+
+    /// Moves the first marks, as long as they are late, and not more than a few.
+    fn move_few(&mut self)
+        ensures { self.new ≡ self.old }
+    {
+        for _ in 0..FEW {
+            let Some((at, moment)) = self.shelf.oldest() else {
+                return;
+            };
+            let offer = self.shelf.get(at);
+            if offer.metric.moment == moment {
+                return;
+            }
+            let heard = offer.metric.moment;
+            self.shelf.replace(at, Offer { heard, ..offer });
+        }
     }
 
     /// Takes out each offer that counts no more at a moment, all together.
     pub fn keep_young(&mut self, now: u64)
         ensures { self.new ≡ filter (λ o. is_young now o.heard) self.old }
     {
-        self.shelf.settle();
+        settle(&mut self.shelf);
         self.shelf.keep_young(now);
     }
 

@@ -162,16 +162,13 @@ impl<K: Ord + Copy, M: Copy> Shelf<K, M> {
     }
 }
 
-impl<K: Ord + Copy, M: Copy> Shelf<K, Heard<M>> {
-    /// Puts all late marks right together: each then has the moment at which its offer was heard
-    /// last.
-    pub fn settle(&mut self)
-        ensures { self.new ≡ map put_right self.old }
-    {
-        if any_late(&self.offers) {
-            settle_all(&mut self.offers);
-            mark_anew(&mut self.marks, &self.offers);
-        }
+/// Puts all late marks right together: each then has the moment at which its offer was heard last.
+pub fn settle<K: Ord + Copy, M: Copy>(shelf: &mut Shelf<K, Heard<M>>)
+    ensures { shelf.new ≡ map put_right shelf.old }
+{
+    if any_late(&shelf.offers) {
+        settle_all(&mut shelf.offers);
+        mark_anew(&mut shelf.marks, &shelf.offers);
     }
 }
 
