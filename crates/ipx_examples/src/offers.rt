@@ -32,15 +32,20 @@ fn print_best(rt: &impl Print, routes: &RouteTable, now: u64) -> Result<()> {
     Ok(())
 }
 
+/// Two neighbours tell of the network, and one takes its word back.
+fn hear(rt: &impl Print, alloc: Global, routes: &mut RouteTable) -> Result<()> {
+    routes.hear(alloc, NETWORK, neighbour(3), metric(3, 5), 0)?;
+    routes.hear(alloc, NETWORK, neighbour(4), metric(4, 1), 0)?;
+    print_best(rt, routes, 0)?;
+    routes.hear(alloc, NETWORK, neighbour(3), metric(3, 16), 0)?;
+    print_best(rt, routes, 179_999)
+}
+
 /// Fewer ticks are the better route, 16 hops take an offer back, and after three minutes an offer
 /// does not count any more. Moments are milliseconds.
 pub fn hear_and_age(rt: &impl Print, alloc: Global) -> Result<()> {
     let mut routes = route_table(alloc);
-    routes.hear(alloc, NETWORK, neighbour(3), metric(3, 5), 0)?;
-    routes.hear(alloc, NETWORK, neighbour(4), metric(4, 1), 0)?;
-    print_best(rt, &routes, 0)?;
-    routes.hear(alloc, NETWORK, neighbour(3), metric(3, 16), 0)?;
-    print_best(rt, &routes, 179_999)?;
+    hear(rt, alloc, &mut routes)?;
     routes.age(180_000);
     print_best(rt, &routes, 180_000)
 }
