@@ -125,6 +125,39 @@ fn turns(
     Ok(())
 }
 
+/// Sends a message from the near host, and writes whether it was taken.
+fn send(
+    alloc: Global,
+    near: &mut Endpoint,
+    message: &Message,
+    out: &mut Vec<u8>,
+) -> Result<(), OutOfMemory> {
+    let sent = match near.send(alloc, ID, message) {
+        Ok(()) => 0,
+        Err(fault) => fault.number(),
+    };
+    out.push(sent)?;
+    Ok(())
+}
+
+/// What two hosts say when messages are sent, one after another.
+fn say(
+    alloc: Global,
+    hosts: &mut Hosts,
+    messages: &[Message],
+    altered: bool,
+    out: &mut Vec<u8>,
+) -> Result<(), OutOfMemory> {
+    let mut now = 0;
+    turns(alloc, hosts, altered, now, 1, out)?;
+    for message in messages {
+        send(alloc, &mut hosts.near, message, out)?;
+        turns(alloc, hosts, altered, now, TURNS, out)?;
+        now = now.saturating_add(TURNS * LATER);
+    }
+    Ok(())
+}
+
 /// What two new hosts with so many buffers say when messages are sent, one after another.
 fn talk(
     alloc: Global,
@@ -134,17 +167,7 @@ fn talk(
 ) -> Result<Vec<u8>, OutOfMemory> {
     let mut hosts = Hosts::new(alloc, buffers)?;
     let mut out = Vec::new(alloc);
-    let mut now = 0;
-    turns(alloc, &mut hosts, altered, now, 1, &mut out)?;
-    for message in messages {
-        let sent = match hosts.near.send(alloc, ID, message) {
-            Ok(()) => 0,
-            Err(fault) => fault.number(),
-        };
-        out.push(sent)?;
-        turns(alloc, &mut hosts, altered, now, TURNS, &mut out)?;
-        now = now.saturating_add(TURNS * LATER);
-    }
+    say(alloc, &mut hosts, messages, altered, &mut out)?;
     Ok(out)
 }
 
