@@ -1,5 +1,6 @@
--- What a host that asks routers hears: which packets are answers, and what it knows by them (RIP and SAP
--- responses of the Novell IPX Router Specification). It hears entries as a router of one port does.
+-- What a host that asks routers hears: which packets are answers, and what it knows by them (RIP and
+-- SAP responses of the Novell IPX Router Specification). It hears entries as a router of one port
+-- does.
 -- The entry points are `AskHears`, and `AskMisses` where memory is refused.
 use Rattle.std.specs.Prelude.{◌≡◌, ℕ, ◌==◌, ◌||◌, ◌&&◌, Bool, true, nat_lt, List, [], ◌∷◌, length, map, Option, Some, None, MatchBool, MatchOption, if◌then◌else◌}
 use Rattle.std.specs.List.{list_any}
@@ -78,8 +79,8 @@ TakesServices node now entries old cut new = (new.most ≡ old.most) × MatchBoo
     × AtEntry entries n (IsFullForService (source_at node) new))
     (HeardServices (source_at node) now entries (services_in old) (length entries) new)
 
--- a response is an answer, which ends with a packet that is not full: of under 50 routes, or under 7
--- services. A request and what is no packet change nothing
+-- a response is an answer, which ends with a packet that is not full: of under 50 routes, or under
+-- 7 services. A request and what is no packet change nothing
 abbrev pub HearsRipMessage : Address → Node → ℕ → Table Network RouteMetric → RipView
     → Option AnswerHeard → Table Network RouteMetric → Type 0
 HearsRipMessage own node now old (rip.Request asked) answer new = (answer ≡ None) × (new ≡ old)

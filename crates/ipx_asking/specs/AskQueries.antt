@@ -1,5 +1,5 @@
--- The queries of a host that asks routers: which are due, and their bytes (RIP request and SAP query of
--- the Novell IPX Router Specification). When one asks again is own.
+-- The queries of a host that asks routers: which are due, and their bytes (RIP request and SAP query
+-- of the Novell IPX Router Specification). When one asks again is own.
 -- The entry point is `AskGives`.
 use Rattle.std.specs.Prelude.{◌≡◌, ℕ, ◌+◌, ◌/◌, Bool, false, not, ◌&&◌, nat_le, nat_lt, min, List, [], ◌∷◌, position, slice_get, slice_set, Option, Some, None, unwrap_or, if◌then◌else◌}
 use Rattle.ipx_wire.specs.declared.address.Address.{Address}
@@ -51,8 +51,8 @@ pub record IsQuery (own : Address) (question : Question) (node : Node)
   pub packet : IsIpx (packet_of (query_header own question node) body) bytes []
   pub in_range : IsBytes bytes
 
--- how many rounds have begun so long after the first: one at once, and one after each of two seconds.
--- After four seconds none is left
+-- how many rounds have begun so long after the first: one at once, and one after each of two
+-- seconds. After four seconds none is left
 abbrev pub rounds_by : ℕ → ℕ
 rounds_by passed = if nat_le 4000 passed then 0 else (min (passed / 1000) 2 + 1)
 

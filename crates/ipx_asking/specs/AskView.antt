@@ -1,5 +1,5 @@
--- A host that asks routers of its own network what they know: whom it asks for what, and what it heard so
--- far. All of it is own.
+-- A host that asks routers of its own network what they know: whom it asks for what, and what it
+-- heard so far. All of it is own.
 use Rattle.std.specs.Prelude.{◌≡◌, ◌^◌, ℕ, ◌-◌, ◌*◌, Bool, false, List, [], length, map, min, Option, None, unwrap_or}
 use Rattle.ipx_wire.specs.declared.address.Address.{Address}
 use Rattle.ipx_wire.specs.declared.address.Network.{Network}

@@ -1,5 +1,5 @@
--- What a host that pings hears (Novell SPX): an answer is what would let the link of its request join, and
--- what it knows by it.
+-- What a host that pings hears (Novell SPX): an answer is what would let the link of its request
+-- join, and what it knows by it.
 -- The entry point is `PingHears`.
 use Rattle.std.specs.Prelude.{◌≡◌, ℕ, ◌==◌, ◌||◌, ◌&&◌, Bool, nat_lt, is_none, List, Option, Some, None, MatchBool, MatchOption, if◌then◌else◌}
 use Rattle.ipx_wire.specs.declared.address.Address.{Address}
@@ -17,7 +17,8 @@ use Rattle.ipx_asking.specs.PingRequests.{ping_link}
 
 -- two addresses are the same
 abbrev pub is_address : Address → Address → Bool
-is_address a b = (a.network.0 == b.network.0) && (is_node a.node b.node && (a.socket.0 == b.socket.0))
+is_address a b =
+    (a.network.0 == b.network.0) && (is_node a.node b.node && (a.socket.0 == b.socket.0))
 
 -- a packet of type 5 is to the host's own node and socket, and from the listener's address
 abbrev pub is_from_pinged : PingCore → IpxHeader → Bool

@@ -1,5 +1,5 @@
--- A host that pings a listener of SPX by requests for a connection, all of one id (Novell SPX; how often it
--- asks is own): what it holds, and what it gives.
+-- A host that pings a listener of SPX by requests for a connection, all of one id (Novell SPX; how
+-- often it asks is own): what it gives.
 -- The entry point is `PingGives`.
 use Rattle.std.specs.Prelude.{◌≡◌, ℕ, ◌+◌, ◌-◌, ◌==◌, ◌||◌, ◌&&◌, Bool, nat_le, nat_lt, List, Option, Some, None, MatchBool, if◌then◌else◌}
 use Rattle.ipx_wire.specs.declared.address.Address.{Address}

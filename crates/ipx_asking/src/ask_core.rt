@@ -263,7 +263,8 @@ impl AskCore {
         now: u64,
     ) -> Result<(), OutOfMemory>
         ensures heard { OnOk result (HearsBody Networks self.old node body.now now self.new) }
-        ensures refused { OnErr result (BodyWantsMemory Networks self.old node body.now now self.new) }
+        ensures refused { OnErr result
+            (BodyWantsMemory Networks self.old node body.now now self.new) }
     {
         match hear_rip(alloc, self.own, &mut self.routes, node, body, now) {
             Err(_) => Err(OutOfMemory),
@@ -303,7 +304,8 @@ impl AskCore {
         body: &[u8],
         now: u64,
     ) -> Result<(), OutOfMemory>
-        ensures heard { OnOk result (HearsBody self.old.question self.old node body.now now self.new) }
+        ensures heard { OnOk result
+            (HearsBody self.old.question self.old node body.now now self.new) }
         ensures refused { OnErr result
             (BodyWantsMemory self.old.question self.old node body.now now self.new) }
     {

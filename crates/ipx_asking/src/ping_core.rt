@@ -22,12 +22,12 @@ const INTERVAL: u64 = 1000;
 /// For how many milliseconds the last request is waited for.
 const PATIENCE: u64 = 2000;
 
-/// A host that pings a listener of SPX, over a device of one port: by requests for a connection, all
-/// of one id, one a second. A listener answers each of them by the reply, and keeps one place for
-/// all.
+/// A host that pings a listener of SPX, over a device of one port: by requests for a connection,
+/// all of one id, one a second. A listener answers each of them by the reply, and keeps one place
+/// for all.
 ///
-/// The first answer since the latest request was sent counts, for that request. It is over where all
-/// were sent, and the last one was answered or two seconds passed since.
+/// The first answer since the latest request was sent counts, for that request. It is over where
+/// all were sent, and the last one was answered or two seconds passed since.
 #[derive(Clone, Copy, Debug, PartialEq, Eq)]
 pub struct PingCore {
     own: Address,

@@ -23,7 +23,8 @@ const LATER_ROUNDS: u64 = 2;
 /// After how many milliseconds nobody is asked any more, and it is over.
 pub const LONGEST: u64 = 4000;
 
-/// How many rounds have begun so many milliseconds after the first; none is left after four seconds.
+/// How many rounds have begun so many milliseconds after the first. After four seconds none is
+/// left.
 pub fn rounds_after(passed: u64) -> u8
     ensures { result ≡ rounds_by passed }
 {

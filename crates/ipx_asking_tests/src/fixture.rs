@@ -55,7 +55,7 @@ pub fn hear(alloc: Global, core: &mut AskCore, text: &str, now: u64) -> Result<(
     Ok(())
 }
 
-/// A RIP response from the first router to the host, of so many routes: to the networks 01000000 and
+/// A RIP response from the first router to the host, of so many routes: to the network 01000000 and
 /// the next ones, by 1 hop and 2 ticks.
 pub fn routes_from(alloc: Global, first: u16, count: u16) -> Result<Vec<u8>, Fail> {
     let head = "ffff0000000100000011000000000000400300000011000000000000045300020000";

@@ -33,9 +33,9 @@ const REPLY: &str = "ffff002a02050000001100007f00000940030000002200000a02001e400
 const LATER: &str = "ffff002a03050000001100007f00000940030000002200000a02001e4002\
     800003050102000000000000";
 
-/// What is no answer: it wants an acknowledgement; is no system packet; of stream fe; to another id;
-/// from id ffff, and from id 0; from another socket, node and network; to another socket, node and
-/// network; of type 4; with an SPX header that is cut; and no packet.
+/// What is no answer: it wants an acknowledgement; it is no system packet; of stream fe; to another
+/// id; from id ffff, and from id 0; from another socket, node and network; to another socket, node
+/// and network; of type 4; with an SPX header that is cut.
 const STRANGE: [&str; 14] = [
     "ffff002a02050000001100007f00000940030000002200000a02001e4002c00003050102000000000000",
     "ffff002a02050000001100007f00000940030000002200000a02001e4002000003050102000000000000",
@@ -142,7 +142,8 @@ fn what_is_no_answer(rt: HostRuntime) -> Result<(), Fail> {
     Ok(())
 }
 
-/// A listener on the host's own network is asked without a router; of no request it is over at once.
+/// A listener on the host's own network is asked without a router; without requests it is over at
+/// once.
 #[test]
 fn at_hand_and_none(rt: HostRuntime) -> Result<(), Fail> {
     let alloc = rt.alloc();
