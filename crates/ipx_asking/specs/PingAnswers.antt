@@ -1,7 +1,7 @@
 -- What a host that pings hears (Novell SPX): an answer is what would let the link of its request
 -- join, and what it knows by it.
 -- The entry point is `PingHears`.
-use Rattle.std.specs.Prelude.{◌≡◌, ℕ, ◌==◌, ◌||◌, ◌&&◌, Bool, nat_lt, is_none, List, Option, Some, None, MatchBool, MatchOption, if◌then◌else◌}
+use Rattle.std.specs.Prelude.{◌≡◌, ℕ, ◌==◌, ◌&&◌, Bool, nat_lt, is_none, List, Option, Some, None, MatchBool, MatchOption, if◌then◌else◌}
 use Rattle.ipx_wire.specs.declared.address.Address.{Address}
 use Rattle.ipx_wire.specs.declared.ipx.packet.IpxHeader.{IpxHeader}
 use Rattle.ipx_wire.specs.declared.spx.packet.SpxHeader.{SpxHeader}

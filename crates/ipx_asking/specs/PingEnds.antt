@@ -1,5 +1,5 @@
 -- When a host that pings is done, and what it ends with. All of it is own.
-use Rattle.std.specs.Prelude.{◌≡◌, ℕ, ◌-◌, ◌==◌, ◌||◌, ◌&&◌, Bool, nat_le, is_some, None, if◌then◌else◌}
+use Rattle.std.specs.Prelude.{ℕ, ◌-◌, ◌==◌, ◌||◌, ◌&&◌, Bool, nat_le, is_some, None, if◌then◌else◌}
 use Rattle.ipx_wire.specs.declared.address.Address.{Address}
 use Rattle.ipx_wire.specs.declared.address.Node.{Node}
 use Rattle.ipx_asking.specs.declared.ping_core.PingCore.{PingCore}

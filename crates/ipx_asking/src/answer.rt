@@ -1,6 +1,6 @@
 //! The bodies of answers.
 
-ghost use Rattle.std.specs.Prelude.{◌≡◌, ℕ, IfOk, OnErr, Err, Some, MatchResult, true, false};
+ghost use Rattle.std.specs.Prelude.{◌≡◌, IfOk, OnErr, Err, Some, MatchResult, true, false};
 ghost use Rattle.ipx_tables.specs.Content.{IsTable};
 ghost use Rattle.ipx_tables.specs.Route.{network_cmp};
 ghost use Rattle.ipx_tables.specs.Service.{service_key_cmp};

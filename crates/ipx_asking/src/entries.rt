@@ -1,6 +1,6 @@
 //! The entries of answers.
 
-ghost use Rattle.std.specs.Prelude.{◌≡◌, ◌≤◌, ℕ, IfErr, OnOk, length};
+ghost use Rattle.std.specs.Prelude.{◌≡◌, ℕ, IfErr, OnOk, length};
 ghost use Rattle.ipx_tables.specs.Content.{IsTable};
 ghost use Rattle.ipx_tables.specs.Route.{network_cmp};
 ghost use Rattle.ipx_tables.specs.Service.{service_key_cmp};

@@ -1,12 +1,12 @@
 //! A host that pings a listener, as a core.
 
-ghost use Rattle.std.specs.Prelude.{◌≡◌, MatchBool, None, Some, if◌then◌else◌};
+ghost use Rattle.std.specs.Prelude.{◌≡◌};
 ghost use Rattle.ipx_wire.specs.Ipx.{packet_view};
 ghost use Rattle.spx_link.specs.Receive.{is_reply};
 ghost use Rattle.ipx_asking.specs.AskAnswers.{is_at_hand};
 ghost use Rattle.ipx_asking.specs.PingAnswers.{IsPingAnswer, ReadsPing, is_address, is_from_pinged, ping_heard};
 ghost use Rattle.ipx_asking.specs.PingEnds.{is_ping_over, new_ping, ping_status};
-ghost use Rattle.ipx_asking.specs.PingRequests.{is_ping_due, ping_link, ping_node, ping_sent};
+ghost use Rattle.ipx_asking.specs.PingRequests.{is_ping_due, ping_link, ping_node};
 
 use crate::ping::ping_into;
 use ipx_carrier::{Core, raise};

@@ -5,6 +5,8 @@
 #[cfg(test)]
 mod answers;
 #[cfg(test)]
+mod between;
+#[cfg(test)]
 mod ends;
 #[cfg(test)]
 mod fixture;
