@@ -6,12 +6,12 @@ use Rattle.ipx_wire.specs.Assigned.{ipx_header_size}
 use Rattle.ipx_wire.specs.declared.ipx.packet.IpxHeader.{IpxHeader}
 use Rattle.ipx_lobby.specs.declared.clients.Client.{Client}
 use Rattle.ipx_lobby.specs.declared.drops.LobbyDrop.{LobbyDrop}
-use Rattle.ipx_lobby.specs.declared.drops.LobbyDrop.TheVariants.{NodeTaken, TooManyNew, PlacesTaken, Unregistered, OtherSource, TooLong, NoSuchNode, ToItself, PingElsewhere, BroadcastElsewhere}
+use Rattle.ipx_lobby.specs.declared.drops.LobbyDrop.TheVariants.{NodeTaken, TooManyNew, Full, Unregistered, OtherSource, TooLong, NoSuchNode, ToItself, PingElsewhere, BroadcastElsewhere}
 use Rattle.ipx_lobby.specs.declared.heard.Heard.{Heard}
 use Rattle.ipx_lobby.specs.declared.heard.Heard.TheVariants.{Registered, Pinged, ToClient, ToOthers, ToOthersAndCore, ToCore, Dropped}
 use Rattle.ipx_lobby.specs.declared.place.Place.{Place}
 use Rattle.ipx_lobby.specs.declared.takers.Takers.TheVariants.{One}
-use Rattle.ipx_lobby.specs.LobbyClients.{are_one_place, are_places_taken, client_at, client_of_node, has_client_node, is_client_at, most_newcomers, newcomers, node_of_place}
+use Rattle.ipx_lobby.specs.LobbyClients.{are_one_place, is_lobby_full, client_at, client_of_node, has_client_node, is_client_at, most_newcomers, newcomers, node_of_place}
 use Rattle.ipx_lobby.specs.LobbyHears.{IsAnswer, LobbyView, all_hear, client_hears, is_for_lobby, is_node_taken, is_registration, is_to_all_nodes, is_to_service, lobby_hears, lobby_hears_elsewhere, lobby_hears_from, lobby_hears_here, lobby_socket, most_client_bytes, newcomer_drop, newcomer_hears, ping_answer, registration_answer, registration_hears}
 use Rattle.ipx_lobby.specs.LobbyInside.{IsSoundHearing}
 use Rattle.ipx_wire.specs.declared.address.Node.{Node}
@@ -110,7 +110,7 @@ module _ (l : LobbyView) (from : Place) (size : ℕ) (thirty : ipx_header_size �
   free_node : (now : ℕ) → newcomer_drop l.port l.most l.clients from now ≡ None → client_of_node (node_of_place from) l.clients ≡ None
   free_node now e =
       let node = node_of_place from in
-      let rest : Option LobbyDrop = if nat_le most_newcomers (newcomers now l.clients) then Some TooManyNew else if are_places_taken l.most now l.clients then Some PlacesTaken else None in
+      let rest : Option LobbyDrop = if nat_le most_newcomers (newcomers now l.clients) then Some TooManyNew else if is_lobby_full l.most now l.clients then Some Full else None in
       let taken = first_none (is_node_taken l.port l.clients node) (NodeTaken node) rest e in
       is_none (client_of_node node l.clients) (right_false (bytes_eq node.0 l.port.own.0 || bytes_eq node.0 broadcast_node) (is_some (client_of_node node l.clients)) taken)
 

@@ -11,8 +11,8 @@ use Rattle.ipx_lobby.specs.declared.clients.Client.{Client}
 abbrev pub most_lobby_clients : ℕ
 most_lobby_clients = 150
 
--- the times in ms: behind the first a silent client is forgotten, behind the second where another wants
--- its place; and in the third so many new ones may register
+-- the times in ms: behind the first a silent client is forgotten, behind the second where there is no
+-- room for another; and in the third so many new ones may register
 abbrev pub forgotten_after : ℕ
 forgotten_after = 86400000
 
@@ -68,13 +68,14 @@ is_newcomer now c = nat_le c.since now && nat_lt (now - c.since) newcomer_time
 abbrev pub newcomers : ℕ → List Client → ℕ
 newcomers now known = count_by (is_newcomer now) known
 
--- there is no place for one more, nor the first one's, which was heard longest ago
+-- the first one, which was heard longest ago, was heard within the hour
 abbrev pub is_first_heard : ℕ → List Client → Bool
 is_first_heard now [] = true
 is_first_heard now (c ∷ rest) = was_heard_within replaced_after now c
 
-abbrev pub are_places_taken : ℕ → ℕ → List Client → Bool
-are_places_taken most now known = nat_le most (length known) && is_first_heard now known
+-- there is no room for one more
+abbrev pub is_lobby_full : ℕ → ℕ → List Client → Bool
+is_lobby_full most now known = nat_le most (length known) && is_first_heard now known
 
 -- the client that is heard at a place, which is a new one where none is known there
 abbrev pub client_heard : Place → ℕ → Option Client → Client

@@ -2,7 +2,7 @@
 use Rattle.std.specs.Prelude.{ℕ, ◌+◌, ◌-◌, ◌^◌, min}
 use Rattle.ipx_lobby.specs.declared.counts.LobbyCounts.{LobbyCounts}
 use Rattle.ipx_lobby.specs.declared.drops.LobbyDrop.{LobbyDrop}
-use Rattle.ipx_lobby.specs.declared.drops.LobbyDrop.TheVariants.{Malformed, NodeTaken, TooManyNew, PlacesTaken, Unregistered, OtherSource, TooLong, NoSuchNode, ToItself, PingElsewhere, BroadcastElsewhere}
+use Rattle.ipx_lobby.specs.declared.drops.LobbyDrop.TheVariants.{Malformed, NodeTaken, TooManyNew, Full, Unregistered, OtherSource, TooLong, NoSuchNode, ToItself, PingElsewhere, BroadcastElsewhere}
 
 -- a count of 64 bits goes up by one, and stays where it is the greatest
 abbrev pub drops_raised : ℕ → ℕ
@@ -13,7 +13,7 @@ abbrev pub drop_counted : LobbyDrop → LobbyCounts → LobbyCounts
 drop_counted (Malformed fault) c = record c { malformed = drops_raised c.malformed }
 drop_counted (NodeTaken node) c = record c { node_taken = drops_raised c.node_taken }
 drop_counted TooManyNew c = record c { too_many_new = drops_raised c.too_many_new }
-drop_counted PlacesTaken c = record c { places_taken = drops_raised c.places_taken }
+drop_counted Full c = record c { full = drops_raised c.full }
 drop_counted Unregistered c = record c { unregistered = drops_raised c.unregistered }
 drop_counted (OtherSource node) c = record c { other_source = drops_raised c.other_source }
 drop_counted (TooLong size) c = record c { too_long = drops_raised c.too_long }
@@ -29,7 +29,7 @@ no_drops = record {
   malformed = 0;
   node_taken = 0;
   too_many_new = 0;
-  places_taken = 0;
+  full = 0;
   unregistered = 0;
   other_source = 0;
   too_long = 0;

@@ -12,13 +12,13 @@ use Rattle.ipx_lobby.specs.declared.place.Place.{Place}
 use Rattle.ipx_lobby.specs.declared.clients.Client.{Client}
 use Rattle.ipx_lobby.specs.declared.counts.LobbyCounts.{LobbyCounts}
 use Rattle.ipx_lobby.specs.declared.drops.LobbyDrop.{LobbyDrop}
-use Rattle.ipx_lobby.specs.declared.drops.LobbyDrop.TheVariants.{NodeTaken, TooManyNew, PlacesTaken, Unregistered, OtherSource, TooLong, NoSuchNode, ToItself, PingElsewhere, BroadcastElsewhere}
+use Rattle.ipx_lobby.specs.declared.drops.LobbyDrop.TheVariants.{NodeTaken, TooManyNew, Full, Unregistered, OtherSource, TooLong, NoSuchNode, ToItself, PingElsewhere, BroadcastElsewhere}
 use Rattle.ipx_lobby.specs.declared.heard.Heard.{Heard}
 use Rattle.ipx_lobby.specs.declared.heard.Heard.TheVariants.{Registered, Pinged, ToClient, ToOthers, ToOthersAndCore, ToCore, Dropped}
 use Rattle.ipx_lobby.specs.declared.takers.Takers.{Takers}
 use Rattle.ipx_lobby.specs.declared.takers.Takers.TheVariants.{Nobody, One, Others, All}
 use Rattle.ipx_lobby.specs.declared.port.LobbyPort.{LobbyPort}
-use Rattle.ipx_lobby.specs.LobbyClients.{are_one_place, are_places_taken, client_at, client_of_node, clients_heard, clients_left, most_newcomers, newcomers, node_of_place}
+use Rattle.ipx_lobby.specs.LobbyClients.{are_one_place, is_lobby_full, client_at, client_of_node, clients_heard, clients_left, most_newcomers, newcomers, node_of_place}
 use Rattle.ipx_lobby.specs.LobbyCounted.{drop_counted, no_drops}
 
 -- a lobby: its port, how many clients it may have, who they are, the one that was heard last behind the
@@ -79,12 +79,12 @@ abbrev pub is_node_taken : LobbyPort → List Client → Node → Bool
 is_node_taken port known node = bytes_eq node.0 port.own.0 || bytes_eq node.0 broadcast_node
     || is_some (client_of_node node known)
 
--- why a place gets no place among the clients
+-- why who registers from a place becomes no client
 abbrev pub newcomer_drop : LobbyPort → ℕ → List Client → Place → ℕ → Option LobbyDrop
 newcomer_drop port most known from now =
     if is_node_taken port known (node_of_place from) then Some (NodeTaken (node_of_place from))
     else if nat_le most_newcomers (newcomers now known) then Some TooManyNew
-    else if are_places_taken most now known then Some PlacesTaken
+    else if is_lobby_full most now known then Some Full
     else None
 
 abbrev pub newcomer_hears : LobbyPort → Place → Option LobbyDrop → Heard

@@ -2,7 +2,7 @@
 
 ghost use Rattle.std.specs.Prelude.{◌≡◌, ◌≤◌, ◌<◌, ◌+◌, ◌-◌, [], None, IfOk, drop, filter, find, length, not, option_copied};
 ghost use Rattle.std.specs.Vec.{vec_capacity, vec_len};
-ghost use Rattle.ipx_lobby.specs.LobbyClients.{EachClientOnce, are_places_taken, client_at, client_heard, client_of_node, clients_heard, clients_left};
+ghost use Rattle.ipx_lobby.specs.LobbyClients.{EachClientOnce, is_lobby_full, client_at, client_heard, client_of_node, clients_heard, clients_left};
 ghost use Rattle.ipx_lobby.specs.LobbyClients.{has_client_node, is_client_at, is_newcomer, most_lobby_clients, newcomers, node_of_place};
 
 use crate::place::Place;
@@ -16,8 +16,8 @@ pub const MOST_CLIENTS: usize = 150;
 /// After how many milliseconds of silence a client is forgotten: a day.
 pub const FORGOTTEN_AFTER_MS: u64 = 86_400_000;
 
-/// After how many milliseconds of silence a client is forgotten where another wants its place: an
-/// hour.
+/// After how many milliseconds of silence a client is forgotten where there is no room for another:
+/// an hour.
 pub const REPLACED_AFTER_MS: u64 = 3_600_000;
 
 /// How many new clients may register in less than a second.
@@ -162,9 +162,9 @@ impl Clients {
             .count()
     }
 
-    /// Whether one more finds no place, since all of them were heard within the last hour.
-    pub fn are_places_taken(&self, now: u64) -> bool
-        ensures { result ≡ are_places_taken self.now.most now self.now.known }
+    /// Whether there is no room for one more: as many as may be, all heard within the last hour.
+    pub fn is_full(&self, now: u64) -> bool
+        ensures { result ≡ is_lobby_full self.now.most now self.now.known }
     {
         if self.known.len() < self.most {
             return false;

@@ -15,9 +15,9 @@ pub enum LobbyDrop {
     /// A registration, and ten clients are new in less than a second.
     #[error("too many registrations in a second")]
     TooManyNew,
-    /// A registration, and each place is taken by a client that was heard within the last hour.
-    #[error("all places of clients are taken")]
-    PlacesTaken,
+    /// A registration, and there are as many clients as there may be, all heard within the last hour.
+    #[error("the lobby is full")]
+    Full,
     /// It came from where no client is known.
     #[error("from no client")]
     Unregistered,

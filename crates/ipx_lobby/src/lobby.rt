@@ -89,7 +89,7 @@ impl Lobby {
         self.clients.all()
     }
 
-    /// Why a place gets none among the clients.
+    /// Why who registers from a place becomes no client.
     fn refuses(&self, from: Place, now: u64) -> Option<LobbyDrop>
         ensures { result ≡ newcomer_drop self.now.port self.now.most self.now.clients from now }
     {
@@ -103,8 +103,8 @@ impl Lobby {
         if self.clients.newcomers(now) >= MOST_NEWCOMERS {
             return Some(LobbyDrop::TooManyNew);
         }
-        if self.clients.are_places_taken(now) {
-            return Some(LobbyDrop::PlacesTaken);
+        if self.clients.is_full(now) {
+            return Some(LobbyDrop::Full);
         }
         None
     }

@@ -108,7 +108,7 @@ fn texts(rt: HostRuntime) -> Result<(), Fail> {
             "a client's node is taken: 7f000001bc47",
         ),
         (LobbyDrop::TooManyNew, "too many registrations in a second"),
-        (LobbyDrop::PlacesTaken, "all places of clients are taken"),
+        (LobbyDrop::Full, "the lobby is full"),
         (LobbyDrop::Unregistered, "from no client"),
         (
             LobbyDrop::OtherSource(FIRST_NODE),

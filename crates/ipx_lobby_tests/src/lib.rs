@@ -15,11 +15,11 @@ mod giving;
 #[cfg(test)]
 mod pings;
 #[cfg(test)]
-mod places;
-#[cfg(test)]
 mod refused;
 #[cfg(test)]
 mod registering;
+#[cfg(test)]
+mod room;
 #[cfg(test)]
 mod router;
 #[cfg(test)]

@@ -21,9 +21,9 @@ fn registers(lobby: &mut Lobby, from: Place, now: u64) -> Option<LobbyDrop> {
     }
 }
 
-/// Where all places are taken, the player that was silent longest makes room behind an hour.
+/// In a full lobby, the player that was silent longest makes room behind an hour.
 #[test]
-fn all_places_taken(rt: HostRuntime) -> Result<(), Fail> {
+fn who_makes_room(rt: HostRuntime) -> Result<(), Fail> {
     let mut lobby = Lobby::new(rt.alloc(), PORT, 2)?;
     assert_eq!(rt; registers(&mut lobby, FIRST, 0), None);
     assert_eq!(rt; registers(&mut lobby, SECOND, 10), None);
@@ -31,9 +31,9 @@ fn all_places_taken(rt: HostRuntime) -> Result<(), Fail> {
     lobby.hear(FIRST, &packet(Node::BROADCAST, 0x4001, FIRST_NODE), 20);
     assert_eq!(rt;
         registers(&mut lobby, THIRD, 3_600_009),
-        Some(LobbyDrop::PlacesTaken)
+        Some(LobbyDrop::Full)
     );
-    assert_eq!(rt; lobby.counts().places_taken, 1);
+    assert_eq!(rt; lobby.counts().full, 1);
     // Who is known registers as ever.
     assert_eq!(rt; lobby.clients().len(), 2);
     assert_eq!(rt; registers(&mut lobby, THIRD, 3_600_010), None);
@@ -43,7 +43,7 @@ fn all_places_taken(rt: HostRuntime) -> Result<(), Fail> {
     assert_eq!(rt; registers(&mut lobby, FIRST, 3_600_011), None);
     assert_eq!(rt;
         registers(&mut lobby, SECOND, 3_600_012),
-        Some(LobbyDrop::PlacesTaken)
+        Some(LobbyDrop::Full)
     );
     Ok(())
 }
@@ -87,7 +87,7 @@ fn a_full_lobby(rt: HostRuntime) -> Result<(), Fail> {
     assert_eq!(rt; lobby.clients().len(), 150);
     assert_eq!(rt;
         registers(&mut lobby, place(151), 3_600_099),
-        Some(LobbyDrop::PlacesTaken)
+        Some(LobbyDrop::Full)
     );
     assert_eq!(rt; registers(&mut lobby, place(151), 3_600_100), None);
     assert_eq!(rt; lobby.clients().len(), 150);
