@@ -30,6 +30,7 @@ use Rattle.ipx_asking.specs.declared.question.Question.{Question}
 use Rattle.ipx_asking.specs.declared.question.Question.TheVariants.{Networks, Services}
 use Rattle.ipx_asking.specs.declared.asked_router.AskedRouter.{AskedRouter}
 use Rattle.ipx_asking.specs.declared.answer_heard.AnswerHeard.{AnswerHeard}
+use Rattle.ipx_asking.specs.AskQueries.{question_socket}
 use Rattle.ipx_asking.specs.AskView.{AskView}
 
 -- ---- which packets are answers
@@ -47,9 +48,12 @@ abbrev pub is_to_asker : AskView → Address → Bool
 is_to_asker ask to = is_at_hand ask.own.network to.network
     && (is_node to.node ask.own.node && (to.socket.0 == ask.own.socket.0))
 
+-- a packet is from there, and from the socket that the question was put to: what answers another question
+-- is no answer
 abbrev pub is_from_asked : AskView → Address → Bool
-is_from_asked ask from =
-    is_at_hand ask.own.network from.network && list_any (was_asked from.node) ask.routers
+is_from_asked ask from = is_at_hand ask.own.network from.network
+    && (list_any (was_asked from.node) ask.routers
+    && (from.socket.0 == question_socket ask.question))
 
 abbrev pub is_answer : AskView → IpxHeader → Bool
 is_answer ask h = is_to_asker ask h.to && is_from_asked ask h.from

@@ -42,6 +42,7 @@ pub record IsNewAsk (own : Address) (question : Question) (nodes : List Node)
   pub asks : ask.question ≡ question
   pub whom : ask.routers ≡ map unasked nodes
   pub unbegun : ask.begun ≡ None
+  pub unheard : ask.heard_at ≡ 0
   pub no_routes : ask.routes.offers ≡ []
   pub no_services : ask.services.offers ≡ []
   pub most_routes : ask.routes.most ≡ room_for 1024 (length nodes)

@@ -16,7 +16,7 @@ ghost use Rattle.ipx_carrier.specs.GivenPackets.{given_in};
 use crate::answer::{hear_rip, hear_sap};
 use crate::answer_heard::AnswerHeard;
 use crate::asked_router::{AskedRouter, due_place, has_asked, hear_router};
-use crate::query::{LONGEST, query_into, rounds_after};
+use crate::query::{LONGEST, query_into, rounds_after, socket_of};
 use crate::question::Question;
 use ipx_carrier::Core;
 use ipx_tables::{
@@ -208,10 +208,12 @@ impl AskCore {
     fn is_from_router(&self, from: Address) -> bool
         ensures { result ≡ is_from_asked self.now from }
     {
-        is_here(self.own.network, from.network) && has_asked(&self.routers, from.node)
+        is_here(self.own.network, from.network)
+            && has_asked(&self.routers, from.node)
+            && from.socket == socket_of(self.question)
     }
 
-    /// Whether a packet is to this host, from a router that was asked.
+    /// Whether a packet is to this host, from a router that was asked and the socket that it was asked at.
     fn is_answer(&self, header: IpxHeader) -> bool
         ensures { result ≡ is_answer self.now header }
     {

@@ -2,7 +2,7 @@
 
 ghost use Rattle.std.specs.Prelude.{◌≡◌, ◌≤◌, length, take};
 ghost use Rattle.ipx_wire.specs.Ipx.{IsBytes};
-ghost use Rattle.ipx_asking.specs.AskQueries.{IsQuery, IsQuestion, query_header, rounds_by};
+ghost use Rattle.ipx_asking.specs.AskQueries.{IsQuery, IsQuestion, query_header, question_socket, rounds_by};
 
 use crate::question::Question;
 use ipx_control::{Sap, encode_sap_into};
@@ -55,12 +55,22 @@ fn question_into(question: Question, out: &mut [u8]) -> usize
     }
 }
 
+/// The socket that a question is put to, and from which it is answered.
+pub fn socket_of(question: Question) -> Socket
+    ensures { result.0 ≡ question_socket question }
+{
+    match question {
+        Question::Networks => Socket::RIP,
+        Question::Services(_) => Socket::SAP,
+    }
+}
+
 fn header_of(own: Address, question: Question, node: Node) -> IpxHeader
     ensures { result ≡ query_header own question node }
 {
-    let (kind, socket) = match question {
-        Question::Networks => (packet_type::RIP, Socket::RIP),
-        Question::Services(_) => (packet_type::PACKET_EXCHANGE, Socket::SAP),
+    let kind = match question {
+        Question::Networks => packet_type::RIP,
+        Question::Services(_) => packet_type::PACKET_EXCHANGE,
     };
     IpxHeader {
         hops: 0,
@@ -68,7 +78,7 @@ fn header_of(own: Address, question: Question, node: Node) -> IpxHeader
         to: Address {
             network: own.network,
             node,
-            socket,
+            socket: socket_of(question),
         },
         from: own,
     }
