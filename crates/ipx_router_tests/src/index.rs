@@ -35,6 +35,7 @@ fn counts(table: &RouteTable, network: Network, now: u64) -> bool {
 fn index_rows(rt: HostRuntime) -> Result<(), Fail> {
     an_offer_of_the_last_moment_stays(&rt, rt.alloc())?;
     what_is_heard_again_grows_old_later(&rt, rt.alloc())?;
+    many_grow_old_together(&rt, rt.alloc())?;
     few_offers_are_read(&rt, rt.alloc())
 }
 
@@ -58,6 +59,22 @@ fn what_is_heard_again_grows_old_later(rt: &impl Abort, alloc: Global) -> Result
     table.age(180_001);
     assert!(rt; counts(&table, A, 180_001));
     assert!(rt; !counts(&table, B, 1));
+    Ok(())
+}
+
+/// Of 1,024 networks, heard at 0, the even ones are heard again, the last first, at the moment of
+/// their number. At 180,000 all odd ones go together, and at 180,101 the even ones up to 100.
+fn many_grow_old_together(rt: &impl Abort, alloc: Global) -> Result<(), Fail> {
+    let mut table = networks_to(alloc, 1024)?;
+    for half in 0..512u32 {
+        let network = 1024 - 2 * half;
+        hear(alloc, &mut table, Network(network), u64::from(network))?;
+    }
+    table.age(180_000);
+    assert!(rt; (1..=1024u32).all(|n| counts(&table, Network(n), 1) == (n % 2 == 0)));
+    table.age(180_101);
+    let young = |n: u32| n % 2 == 0 && n > 101;
+    assert!(rt; (1..=1024u32).all(|n| counts(&table, Network(n), 1) == young(n)));
     Ok(())
 }
 
