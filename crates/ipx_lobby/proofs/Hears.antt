@@ -3,16 +3,18 @@ use Rattle.std.proofs.Common.{◌≡◌, ◌≤◌, ℕ, List, [], ◌∷◌, Bo
 use Rattle.std.specs.Prelude.{is_some, replicate, ◌==◌, ◌&&◌, ◌||◌, nat_le, nat_lt, if◌then◌else◌}
 use Rattle.std.specs.Str.{bytes_eq}
 use Rattle.ipx_wire.specs.Assigned.{ipx_header_size}
+use Rattle.ipx_wire.specs.Ipx.{PacketView}
 use Rattle.ipx_wire.specs.declared.ipx.packet.IpxHeader.{IpxHeader}
 use Rattle.ipx_lobby.specs.declared.clients.Client.{Client}
 use Rattle.ipx_lobby.specs.declared.drops.LobbyDrop.{LobbyDrop}
-use Rattle.ipx_lobby.specs.declared.drops.LobbyDrop.TheVariants.{NodeTaken, TooManyNew, Full, Unregistered, OtherSource, TooLong, NoSuchNode, ToItself, PingElsewhere, BroadcastElsewhere}
+use Rattle.ipx_lobby.specs.declared.drops.LobbyDrop.TheVariants.{NodeTaken, TooManyNew, Full, Unregistered, OtherSource, TooLong, NoSuchNode, ToItself, PingElsewhere, BroadcastElsewhere, FromElsewhere, Response}
 use Rattle.ipx_lobby.specs.declared.heard.Heard.{Heard}
 use Rattle.ipx_lobby.specs.declared.heard.Heard.TheVariants.{Registered, Pinged, ToClient, ToOthers, ToOthersAndCore, ToCore, Dropped}
 use Rattle.ipx_lobby.specs.declared.place.Place.{Place}
+use Rattle.ipx_lobby.specs.declared.port.LobbyPort.{LobbyPort}
 use Rattle.ipx_lobby.specs.declared.takers.Takers.TheVariants.{One}
 use Rattle.ipx_lobby.specs.LobbyClients.{are_one_place, is_lobby_full, client_at, client_of_node, has_client_node, is_client_at, most_newcomers, newcomers, node_of_place}
-use Rattle.ipx_lobby.specs.LobbyHears.{IsAnswer, LobbyView, all_hear, client_hears, is_for_lobby, is_node_taken, is_registration, is_to_all_nodes, is_to_service, lobby_hears, lobby_hears_elsewhere, lobby_hears_from, lobby_hears_here, lobby_socket, most_client_bytes, newcomer_drop, newcomer_hears, ping_answer, registration_answer, registration_hears}
+use Rattle.ipx_lobby.specs.LobbyHears.{IsAnswer, LobbyView, all_hear, client_hears, core_hears, goes_to_core, is_for_lobby, is_from_lobby, is_node_taken, is_registration, is_to_all_nodes, is_to_service, lobby_hears, lobby_hears_elsewhere, lobby_hears_from, lobby_hears_here, lobby_socket, may_reach_core, most_client_bytes, newcomer_drop, newcomer_hears, ping_answer, registration_answer, registration_hears, tells_router}
 use Rattle.ipx_lobby.specs.LobbyInside.{IsSoundHearing}
 use Rattle.ipx_wire.specs.declared.address.Node.{Node}
 use Rattle.ipx_wire.specs.Assigned.{broadcast_node}
@@ -175,11 +177,16 @@ module _ (l : LobbyView) (from : Place) (size : ℕ) (thirty : ipx_header_size �
       taker = λ place e. taker_known node place l.clients k found (one_is k.place place e);
     }
 
-    all : (h : IpxHeader) → Sound (all_hear l.port from h size)
-    all h =
+    all : (p : PacketView) → Sound (all_hear l.port from p size)
+    all p =
         either Sound (nat_lt most_client_bytes size) _ _ (dropped (TooLong size))
-        (either Sound (h.to.socket.0 == lobby_socket) _ _ (pinged (ping_answer l.port h.from.node))
-        (either Sound (is_to_service h) _ _ to_both to_others))
+        (either Sound (p.header.to.socket.0 == lobby_socket) _ _ (pinged (ping_answer l.port p.header.from.node))
+        (either Sound (is_to_service p.header && may_reach_core l.port p) _ _ to_both to_others))
+
+    core : (p : PacketView) → Sound (core_hears l.port p)
+    core p =
+        either Sound (not (is_from_lobby l.port p.header)) _ _ (dropped (FromElsewhere p.header.from.network))
+        (either Sound (tells_router p) _ _ (dropped Response) to_core)
 
     client : (h : IpxHeader) (o : Option Client) → client_of_node h.to.node l.clients ≡ o → Sound (client_hears from h size o)
     client h None found = dropped (NoSuchNode h.to.node)
@@ -187,26 +194,82 @@ module _ (l : LobbyView) (from : Place) (size : ℕ) (thirty : ipx_header_size �
         either_by Sound (are_one_place k.place from) _ _ (λ e. dropped ToItself)
         (λ apart. either Sound (nat_lt most_client_bytes size) _ _ (dropped (TooLong size)) (to_one h.to.node k found apart))
 
-    here : (h : IpxHeader) → Sound (lobby_hears_here l.port l.clients from h size)
-    here h =
-        either Sound (is_to_all_nodes h) _ _ (all h)
-        (either Sound (bytes_eq h.to.node.0 l.port.own.0) _ _ to_core (client h (client_of_node h.to.node l.clients) refl))
+    here : (p : PacketView) → Sound (lobby_hears_here l.port l.clients from p size)
+    here p =
+        either Sound (is_to_all_nodes p.header) _ _ (all p)
+        (either Sound (bytes_eq p.header.to.node.0 l.port.own.0) _ _ (core p) (client p.header (client_of_node p.header.to.node l.clients) refl))
 
-    elsewhere : (h : IpxHeader) → Sound (lobby_hears_elsewhere h)
-    elsewhere h =
-        either Sound (h.to.socket.0 == lobby_socket) _ _ (dropped (PingElsewhere h.to.network))
-        (either Sound (is_to_all_nodes h) _ _ (dropped (BroadcastElsewhere h.to.network)) to_core)
+    elsewhere : (p : PacketView) → Sound (lobby_hears_elsewhere l.port p)
+    elsewhere p =
+        either Sound (p.header.to.socket.0 == lobby_socket) _ _ (dropped (PingElsewhere p.header.to.network))
+        (either Sound (is_to_all_nodes p.header) _ _ (dropped (BroadcastElsewhere p.header.to.network)) (core p))
 
-    known_hears : (h : IpxHeader) → Sound (lobby_hears_from l.port l.clients from h size (Some c))
-    known_hears h =
-        either Sound (not (bytes_eq h.from.node.0 c.node.0)) _ _ (dropped (OtherSource h.from.node))
-        (either Sound (is_for_lobby l.port h) _ _ (here h) (elsewhere h))
+    known_hears : (p : PacketView) → Sound (lobby_hears_from l.port l.clients from p size (Some c))
+    known_hears p =
+        either Sound (not (bytes_eq p.header.from.node.0 c.node.0)) _ _ (dropped (OtherSource p.header.from.node))
+        (either Sound (is_for_lobby l.port p.header) _ _ (here p) (elsewhere p))
 
-  from_place : (h : IpxHeader) (o : Option Client) → client_at from l.clients ≡ o → Sound (lobby_hears_from l.port l.clients from h size o)
-  from_place h None known = dropped Unregistered
-  from_place h (Some c) known = known_hears c known h
+  from_place : (p : PacketView) (o : Option Client) → client_at from l.clients ≡ o → Sound (lobby_hears_from l.port l.clients from p size o)
+  from_place p None known = dropped Unregistered
+  from_place p (Some c) known = known_hears c known p
 
-  pub sound_hearing : (h : IpxHeader) (now : ℕ) → IsSoundHearing l from size (lobby_hears l from h size now)
-  sound_hearing h now =
-      either_by Sound (is_registration h size) _ _ (λ e. registering now (client_at from l.clients) refl (size_is h size e))
-      (λ e. from_place h (client_at from l.clients) refl)
+  pub sound_hearing : (p : PacketView) (now : ℕ) → IsSoundHearing l from size (lobby_hears l from p size now)
+  sound_hearing p now =
+      either_by Sound (is_registration p.header size) _ _ (λ e. registering now (client_at from l.clients) refl (size_is p.header size e))
+      (λ e. from_place p (client_at from l.clients) refl)
+
+-- ---- what goes to the core is of the port's network, and tells nothing
+
+abbrev ReachesCore : LobbyPort → PacketView → Heard → Type 0
+ReachesCore port p heard = goes_to_core heard ≡ true → may_reach_core port p ≡ true
+
+right_true : (a b : Bool) → (a && b) ≡ true → b ≡ true
+right_true true b e = e
+right_true false b e = cc
+
+is_so : (b : Bool) → not b ≡ false → b ≡ true
+is_so true e = refl
+is_so false e = cc
+
+reaches_core : (port : LobbyPort) (p : PacketView) → ReachesCore port p (core_hears port p)
+reaches_core port p =
+    either_by (ReachesCore port p) (not (is_from_lobby port p.header)) _ _ (λ e. λ goes. cc)
+    (λ here. either_by (ReachesCore port p) (tells_router p) _ _ (λ e. λ goes. cc)
+    (λ silent. λ goes. rw (is_so (is_from_lobby port p.header) here, silent) refl))
+
+reaches_all : (port : LobbyPort) (from : Place) (p : PacketView) (size : ℕ) → ReachesCore port p (all_hear port from p size)
+reaches_all port from p size =
+    either (ReachesCore port p) (nat_lt most_client_bytes size) _ _ (λ goes. cc)
+    (either (ReachesCore port p) (p.header.to.socket.0 == lobby_socket) _ _ (λ goes. cc)
+    (either_by (ReachesCore port p) (is_to_service p.header && may_reach_core port p) _ _
+    (λ e. λ goes. right_true (is_to_service p.header) (may_reach_core port p) e) (λ e. λ goes. cc)))
+
+reaches_client : (port : LobbyPort) (from : Place) (p : PacketView) (size : ℕ) (o : Option Client) → ReachesCore port p (client_hears from p.header size o)
+reaches_client port from p size None = λ goes. cc
+reaches_client port from p size (Some c) =
+    either (ReachesCore port p) (are_one_place c.place from) _ _ (λ goes. cc)
+    (either (ReachesCore port p) (nat_lt most_client_bytes size) _ _ (λ goes. cc) (λ goes. cc))
+
+reaches_from : (port : LobbyPort) (known : List Client) (from : Place) (p : PacketView) (size : ℕ) (o : Option Client) → ReachesCore port p (lobby_hears_from port known from p size o)
+reaches_from port known from p size None = λ goes. cc
+reaches_from port known from p size (Some c) =
+    either (ReachesCore port p) (not (bytes_eq p.header.from.node.0 c.node.0)) _ _ (λ goes. cc)
+    (either (ReachesCore port p) (is_for_lobby port p.header) _ _
+    (either (ReachesCore port p) (is_to_all_nodes p.header) _ _ (reaches_all port from p size)
+    (either (ReachesCore port p) (bytes_eq p.header.to.node.0 port.own.0) _ _ (reaches_core port p)
+    (reaches_client port from p size (client_of_node p.header.to.node known))))
+    (either (ReachesCore port p) (p.header.to.socket.0 == lobby_socket) _ _ (λ goes. cc)
+    (either (ReachesCore port p) (is_to_all_nodes p.header) _ _ (λ goes. cc) (reaches_core port p))))
+
+reaches_newcomer : (port : LobbyPort) (from : Place) (p : PacketView) (o : Option LobbyDrop) → ReachesCore port p (newcomer_hears port from o)
+reaches_newcomer port from p None = λ goes. cc
+reaches_newcomer port from p (Some d) = λ goes. cc
+
+reaches_registering : (l : LobbyView) (from : Place) (p : PacketView) (now : ℕ) (o : Option Client) → ReachesCore l.port p (registration_hears l.port l.most l.clients from now o)
+reaches_registering l from p now None = reaches_newcomer l.port from p (newcomer_drop l.port l.most l.clients from now)
+reaches_registering l from p now (Some c) = λ goes. cc
+
+pub core_law : (l : LobbyView) (from : Place) (p : PacketView) (size now : ℕ) → goes_to_core (lobby_hears l from p size now) ≡ true → may_reach_core l.port p ≡ true
+core_law l from p size now =
+    either (ReachesCore l.port p) (is_registration p.header size) _ _ (reaches_registering l from p now (client_at from l.clients))
+    (reaches_from l.port l.clients from p size (client_at from l.clients))

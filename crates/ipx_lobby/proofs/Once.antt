@@ -3,7 +3,7 @@ use Rattle.std.proofs.Common.{◌≡◌, ◌≢◌, ◌≤◌, ◌<◌, ◌+◌,
 use Rattle.std.specs.Prelude.{All, AllPairs}
 use Rattle.std.specs.Str.{bytes_eq}
 use Rattle.std.proofs.lemmas.List.{drop-append-le, length-append, length-drop}
-use Rattle.std.proofs.lemmas.List.Elements.{All-cons, All-filter, All-head, All-tail, filter_passes}
+use Rattle.std.proofs.lemmas.List.Elements.{All-cons, All-drop, All-filter, All-head, All-push, All-tail, filter_passes}
 use Rattle.std.proofs.lemmas.List.Filters.{length-filter_both}
 use Rattle.std.proofs.lemmas.List.Kept.{AllPairs-filter}
 use Rattle.std.proofs.lemmas.List.Quantifiers.{all_pairs_push}
@@ -11,7 +11,7 @@ use Rattle.std.proofs.lemmas.Slice.Eq.{bytes_eq-Decides}
 use Rattle.ipx_wire.specs.declared.address.Node.{Node}
 use Rattle.ipx_lobby.specs.declared.clients.Client.{Client}
 use Rattle.ipx_lobby.specs.declared.place.Place.{Place}
-use Rattle.ipx_lobby.specs.LobbyClients.{AreTwoClients, EachClientOnce, are_one_place, client_at, client_heard, client_of_node, clients_heard, clients_left, forgotten_after, has_client_node, is_client_at, node_of_place, was_heard_within}
+use Rattle.ipx_lobby.specs.LobbyClients.{AreTwoClients, EachClientOnce, HasPlaceNode, are_one_place, client_at, client_heard, client_of_node, clients_heard, clients_left, forgotten_after, has_client_node, is_client_at, node_of_place, was_heard_within}
 use Rattle.ipx_lobby.specs.LobbyInside.{AreClients}
 
 -- ---- lists
@@ -42,6 +42,7 @@ once_left now most room known are = record {
   few = are.few;
   within = omega (arith, are.within, fewer (was_heard_within forgotten_after now) known);
   once = AllPairs-filter AreTwoClients (was_heard_within forgotten_after now) known are.once;
+  nodes = All-filter (was_heard_within forgotten_after now) HasPlaceNode known are.nodes;
   all = are.all;
 }
 
@@ -143,6 +144,11 @@ kept_others place c known others k d lt =
     All-filter (λ x. not (is_client_at place x)) (AreOthers place c) known others k d lt
     (is_not (is_client_at place (get_or (filter (λ x. not (is_client_at place x)) known) k d)) (filter_passes (λ x. not (is_client_at place x)) known k d lt))
 
+-- each of them has the node of its place
+heard_node : (place : Place) (now : ℕ) (known : List Client) (o : Option Client) → All HasPlaceNode known → client_at place known ≡ o → HasPlaceNode (client_heard place now o)
+heard_node place now known None nodes is = refl
+heard_node place now known (Some c) nodes is = found_has HasPlaceNode (is_client_at place) known c nodes is
+
 pub once_heard : (most room now : ℕ) (place : Place) (known : List Client) → AreClients most known room
     → (client_at place known ≡ None → client_of_node (node_of_place place) known ≡ None) → AreClients most (clients_heard most place now known) room
 once_heard most room now place known are free =
@@ -161,5 +167,6 @@ once_heard most room now place known are free =
       few = are.few;
       within = omega (arith, some, within, few, length-append (drop n kept) (c ∷ []), length-drop n kept);
       once = subst EachClientOnce joined (behind AreTwoClients n (kept ++ c ∷ []) pairs);
+      nodes = All-push HasPlaceNode (drop n kept) c (All-drop HasPlaceNode n kept (All-filter test HasPlaceNode known are.nodes)) (heard_node place now known (client_at place known) are.nodes refl);
       all = are.all;
     }

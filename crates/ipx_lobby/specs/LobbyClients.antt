@@ -1,6 +1,6 @@
 -- The clients of a lobby, and for how long they are known. A node is made as DOSBox 0.74-3 makes it;
 -- all else is own.
-use Rattle.std.specs.Prelude.{◌≢◌, ℕ, ◌+◌, ◌-◌, List, [], ◌∷◌, ◌++◌, length, drop, filter, find, count_by, AllPairs, Bool, true, not, ◌==◌, ◌&&◌, nat_le, nat_lt, Option, Some, None}
+use Rattle.std.specs.Prelude.{◌≡◌, ◌≢◌, ℕ, ◌+◌, ◌-◌, List, [], ◌∷◌, ◌++◌, length, drop, filter, find, count_by, AllPairs, Bool, true, not, ◌==◌, ◌&&◌, nat_le, nat_lt, Option, Some, None}
 use Rattle.std.specs.Str.{bytes_eq}
 use Rattle.byteorder.specs.Endian.{big_bytes}
 use Rattle.ipx_wire.specs.declared.address.Node.{Node}
@@ -45,6 +45,10 @@ client_at place known = find (is_client_at place) known
 abbrev pub client_of_node : Node → List Client → Option Client
 client_of_node node known = find (has_client_node node) known
 
+-- a client has the node of its place
+abbrev pub HasPlaceNode : Client → Type 0
+HasPlaceNode c = c.node ≡ node_of_place c.place
+
 -- no two clients are at one place, and no two have one node
 pub record AreTwoClients (a b : Client) : Type 0 where
   pub places : a.place ≢ b.place
@@ -61,14 +65,14 @@ was_heard_within time now c = nat_lt (now - c.heard) time
 abbrev pub clients_left : ℕ → List Client → List Client
 clients_left now known = filter (was_heard_within forgotten_after now) known
 
--- how many registered less than a second ago
+-- how many registered first less than a second ago; by a clock that went back no time has passed
 abbrev pub is_newcomer : ℕ → Client → Bool
-is_newcomer now c = nat_le c.since now && nat_lt (now - c.since) newcomer_time
+is_newcomer now c = nat_lt (now - c.since) newcomer_time
 
 abbrev pub newcomers : ℕ → List Client → ℕ
 newcomers now known = count_by (is_newcomer now) known
 
--- the first one, which was heard longest ago, was heard within the hour
+-- the first one, which was heard before all others, in the order of calls, was heard within the hour
 abbrev pub is_first_heard : ℕ → List Client → Bool
 is_first_heard now [] = true
 is_first_heard now (c ∷ rest) = was_heard_within replaced_after now c

@@ -2,7 +2,7 @@
 use Rattle.std.specs.Prelude.{ℕ, ◌+◌, ◌-◌, ◌^◌, min}
 use Rattle.ipx_lobby.specs.declared.counts.LobbyCounts.{LobbyCounts}
 use Rattle.ipx_lobby.specs.declared.drops.LobbyDrop.{LobbyDrop}
-use Rattle.ipx_lobby.specs.declared.drops.LobbyDrop.TheVariants.{Malformed, NodeTaken, TooManyNew, Full, Unregistered, OtherSource, TooLong, NoSuchNode, ToItself, PingElsewhere, BroadcastElsewhere}
+use Rattle.ipx_lobby.specs.declared.drops.LobbyDrop.TheVariants.{Malformed, NodeTaken, TooManyNew, Full, Unregistered, OtherSource, TooLong, NoSuchNode, ToItself, PingElsewhere, BroadcastElsewhere, FromElsewhere, Response}
 
 -- a count of 64 bits goes up by one, and stays where it is the greatest
 abbrev pub drops_raised : ℕ → ℕ
@@ -22,6 +22,8 @@ drop_counted ToItself c = record c { to_itself = drops_raised c.to_itself }
 drop_counted (PingElsewhere network) c = record c { ping_elsewhere = drops_raised c.ping_elsewhere }
 drop_counted (BroadcastElsewhere network) c =
     record c { broadcast_elsewhere = drops_raised c.broadcast_elsewhere }
+drop_counted (FromElsewhere network) c = record c { from_elsewhere = drops_raised c.from_elsewhere }
+drop_counted Response c = record c { response = drops_raised c.response }
 
 -- nothing was dropped yet
 abbrev pub no_drops : LobbyCounts
@@ -37,4 +39,6 @@ no_drops = record {
   to_itself = 0;
   ping_elsewhere = 0;
   broadcast_elsewhere = 0;
+  from_elsewhere = 0;
+  response = 0;
 }

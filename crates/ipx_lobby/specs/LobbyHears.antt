@@ -1,10 +1,10 @@
 -- What a lobby does with a datagram, and with a packet of its router. Registration and ping are
 -- DOSBox 0.74-3's, the socket and the layout of both as it has them; the order of the cases, and what
 -- is dropped, is own.
-use Rattle.std.specs.Prelude.{◌≡◌, ℕ, List, [], replicate, Bool, true, false, not, ◌==◌, ◌&&◌, ◌||◌, nat_le, nat_lt, is_some, Option, Some, None, Result, Ok, Err, if◌then◌else◌}
+use Rattle.std.specs.Prelude.{◌≡◌, ℕ, List, [], length, replicate, Bool, true, false, not, ◌==◌, ◌&&◌, ◌||◌, nat_le, nat_lt, is_some, Option, Some, None, Result, Ok, Err, if◌then◌else◌}
 use Rattle.std.specs.Str.{bytes_eq}
 use Rattle.ipx_wire.specs.Assigned.{broadcast_node, ipx_header_size, local_network, rip_socket, sap_socket, unknown_type}
-use Rattle.ipx_wire.specs.Ipx.{IsIpx, packet_of}
+use Rattle.ipx_wire.specs.Ipx.{IsIpx, PacketView, number, packet_of}
 use Rattle.ipx_wire.specs.declared.address.Network.{Network}
 use Rattle.ipx_wire.specs.declared.address.Node.{Node}
 use Rattle.ipx_wire.specs.declared.ipx.packet.IpxHeader.{IpxHeader}
@@ -12,7 +12,7 @@ use Rattle.ipx_lobby.specs.declared.place.Place.{Place}
 use Rattle.ipx_lobby.specs.declared.clients.Client.{Client}
 use Rattle.ipx_lobby.specs.declared.counts.LobbyCounts.{LobbyCounts}
 use Rattle.ipx_lobby.specs.declared.drops.LobbyDrop.{LobbyDrop}
-use Rattle.ipx_lobby.specs.declared.drops.LobbyDrop.TheVariants.{NodeTaken, TooManyNew, Full, Unregistered, OtherSource, TooLong, NoSuchNode, ToItself, PingElsewhere, BroadcastElsewhere}
+use Rattle.ipx_lobby.specs.declared.drops.LobbyDrop.TheVariants.{NodeTaken, TooManyNew, Full, Unregistered, OtherSource, TooLong, NoSuchNode, ToItself, PingElsewhere, BroadcastElsewhere, FromElsewhere, Response}
 use Rattle.ipx_lobby.specs.declared.heard.Heard.{Heard}
 use Rattle.ipx_lobby.specs.declared.heard.Heard.TheVariants.{Registered, Pinged, ToClient, ToOthers, ToOthersAndCore, ToCore, Dropped}
 use Rattle.ipx_lobby.specs.declared.takers.Takers.{Takers}
@@ -72,9 +72,29 @@ is_for_lobby port h = (h.to.network.0 == local_network) || (h.to.network.0 == po
 abbrev pub is_to_service : IpxHeader → Bool
 is_to_service h = (h.to.socket.0 == rip_socket) || (h.to.socket.0 == sap_socket)
 
+-- it comes from the network of the port
+abbrev pub is_from_lobby : LobbyPort → IpxHeader → Bool
+is_from_lobby port h = (h.from.network.0 == local_network) || (h.from.network.0 == port.network.0)
+
+-- one of its sockets is this
+abbrev pub has_socket : ℕ → IpxHeader → Bool
+has_socket socket h = (h.to.socket.0 == socket) || (h.from.socket.0 == socket)
+
+-- it tells routes (RIP) or services (SAP): a response, by a socket and its operation
+abbrev pub tells_router : PacketView → Bool
+tells_router p = nat_le 2 (length p.body)
+    && ((has_socket rip_socket p.header && number 2 0 p.body == 2)
+    || (has_socket sap_socket p.header && (number 2 0 p.body == 2 || number 2 0 p.body == 4)))
+
+-- the core gets of clients what comes from their network and tells it nothing
+abbrev pub may_reach_core : LobbyPort → PacketView → Bool
+may_reach_core port p = is_from_lobby port p.header && not (tells_router p)
+
 -- ---- what becomes of it, the first case that applies
 
--- no client can have a node that is the router's, all nodes' or another client's
+-- no client can have a node that is the router's, all nodes' or another client's. None has another
+-- client's by its place, and each has the node of its place: the last is for lobbies that are joined,
+-- where a router makes the nodes
 abbrev pub is_node_taken : LobbyPort → List Client → Node → Bool
 is_node_taken port known node = bytes_eq node.0 port.own.0 || bytes_eq node.0 broadcast_node
     || is_some (client_of_node node known)
@@ -98,12 +118,19 @@ registration_hears port most known from now None =
 registration_hears port most known from now (Some c) = Registered (registration_answer port c.node)
 
 -- to all nodes here
-abbrev pub all_hear : LobbyPort → Place → IpxHeader → ℕ → Heard
-all_hear port from h size =
+abbrev pub all_hear : LobbyPort → Place → PacketView → ℕ → Heard
+all_hear port from p size =
     if nat_lt most_client_bytes size then Dropped (TooLong size)
-    else if h.to.socket.0 == lobby_socket then Pinged from (ping_answer port h.from.node)
-    else if is_to_service h then ToOthersAndCore from
+    else if p.header.to.socket.0 == lobby_socket then Pinged from (ping_answer port p.header.from.node)
+    else if is_to_service p.header && may_reach_core port p then ToOthersAndCore from
     else ToOthers from
+
+-- to the core alone
+abbrev pub core_hears : LobbyPort → PacketView → Heard
+core_hears port p =
+    if not (is_from_lobby port p.header) then Dropped (FromElsewhere p.header.from.network)
+    else if tells_router p then Dropped Response
+    else ToCore
 
 -- to one node here, of which this is the client
 abbrev pub client_hears : Place → IpxHeader → ℕ → Option Client → Heard
@@ -114,33 +141,33 @@ client_hears from h size (Some c) =
     else ToClient c.place
 
 -- to the network of the port
-abbrev pub lobby_hears_here : LobbyPort → List Client → Place → IpxHeader → ℕ → Heard
-lobby_hears_here port known from h size =
-    if is_to_all_nodes h then all_hear port from h size
-    else if bytes_eq h.to.node.0 port.own.0 then ToCore
-    else client_hears from h size (client_of_node h.to.node known)
+abbrev pub lobby_hears_here : LobbyPort → List Client → Place → PacketView → ℕ → Heard
+lobby_hears_here port known from p size =
+    if is_to_all_nodes p.header then all_hear port from p size
+    else if bytes_eq p.header.to.node.0 port.own.0 then core_hears port p
+    else client_hears from p.header size (client_of_node p.header.to.node known)
 
 -- to another
-abbrev pub lobby_hears_elsewhere : IpxHeader → Heard
-lobby_hears_elsewhere h =
-    if h.to.socket.0 == lobby_socket then Dropped (PingElsewhere h.to.network)
-    else if is_to_all_nodes h then Dropped (BroadcastElsewhere h.to.network)
-    else ToCore
+abbrev pub lobby_hears_elsewhere : LobbyPort → PacketView → Heard
+lobby_hears_elsewhere port p =
+    if p.header.to.socket.0 == lobby_socket then Dropped (PingElsewhere p.header.to.network)
+    else if is_to_all_nodes p.header then Dropped (BroadcastElsewhere p.header.to.network)
+    else core_hears port p
 
 -- from a place where this client is known
-abbrev pub lobby_hears_from : LobbyPort → List Client → Place → IpxHeader → ℕ → Option Client → Heard
-lobby_hears_from port known from h size None = Dropped Unregistered
-lobby_hears_from port known from h size (Some c) =
-    if not (bytes_eq h.from.node.0 c.node.0) then Dropped (OtherSource h.from.node)
-    else if is_for_lobby port h then lobby_hears_here port known from h size
-    else lobby_hears_elsewhere h
+abbrev pub lobby_hears_from : LobbyPort → List Client → Place → PacketView → ℕ → Option Client → Heard
+lobby_hears_from port known from p size None = Dropped Unregistered
+lobby_hears_from port known from p size (Some c) =
+    if not (bytes_eq p.header.from.node.0 c.node.0) then Dropped (OtherSource p.header.from.node)
+    else if is_for_lobby port p.header then lobby_hears_here port known from p size
+    else lobby_hears_elsewhere port p
 
--- a packet of this header, in a datagram of so many bytes from a place
-abbrev pub lobby_hears : LobbyView → Place → IpxHeader → ℕ → ℕ → Heard
-lobby_hears l from h size now =
-    if is_registration h size
+-- a packet, in a datagram of so many bytes from a place
+abbrev pub lobby_hears : LobbyView → Place → PacketView → ℕ → ℕ → Heard
+lobby_hears l from p size now =
+    if is_registration p.header size
     then registration_hears l.port l.most l.clients from now (client_at from l.clients)
-    else lobby_hears_from l.port l.clients from h size (client_at from l.clients)
+    else lobby_hears_from l.port l.clients from p size (client_at from l.clients)
 
 -- ---- whom it reaches
 
@@ -159,6 +186,10 @@ is_taker Nobody place = false
 is_taker (One one) place = are_one_place one place
 is_taker (Others from) place = not (are_one_place from place)
 is_taker All place = true
+
+-- the takers have the client at a place: there is one, and it is among them
+abbrev pub takers_reach : LobbyView → Takers → Place → Bool
+takers_reach l takers place = is_some (client_at place l.clients) && is_taker takers place
 
 -- the core gets them
 abbrev pub goes_to_core : Heard → Bool

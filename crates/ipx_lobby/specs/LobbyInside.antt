@@ -1,12 +1,12 @@
 -- What private functions of a lobby tell one another.
-use Rattle.std.specs.Prelude.{◌≡◌, ◌≤◌, ℕ, List, length, true, false, None, is_some}
+use Rattle.std.specs.Prelude.{◌≡◌, ◌≤◌, ℕ, All, List, length, true, false, None, is_some}
 use Rattle.ipx_wire.specs.declared.ipx.packet.IpxHeader.{IpxHeader}
 use Rattle.ipx_lobby.specs.declared.clients.Client.{Client}
 use Rattle.ipx_lobby.specs.declared.heard.Heard.{Heard}
 use Rattle.ipx_lobby.specs.declared.heard.Heard.TheVariants.{Registered}
 use Rattle.ipx_lobby.specs.declared.place.Place.{Place}
 use Rattle.ipx_lobby.specs.declared.takers.Takers.TheVariants.{One}
-use Rattle.ipx_lobby.specs.LobbyClients.{EachClientOnce, client_at, client_of_node, most_lobby_clients, node_of_place}
+use Rattle.ipx_lobby.specs.LobbyClients.{EachClientOnce, HasPlaceNode, client_at, client_of_node, most_lobby_clients, node_of_place}
 use Rattle.ipx_lobby.specs.LobbyHears.{IsAnswer, LobbyView, is_dropped, is_taker, takers_of}
 
 -- how many clients there may be, and who they are
@@ -14,13 +14,14 @@ pub record ClientsView : Type 0 where
   pub most : ℕ
   pub known : List Client
 
--- what is so of all clients that a lobby has: no more than it may, and each once; and there is room for
--- all
+-- what is so of all clients that a lobby has: no more than it may, each once, and each by the node of its
+-- place; and there is room for all
 pub record AreClients (most : ℕ) (known : List Client) (room : ℕ) : Type 0 where
   pub some : 1 ≤ most
   pub few : most ≤ most_lobby_clients
   pub within : length known ≤ most
   pub once : EachClientOnce known
+  pub nodes : All HasPlaceNode known
   pub all : room ≡ most
 
 -- what is so of each datagram of so many bytes, whatever becomes of it: it goes back to its sender

@@ -1,8 +1,8 @@
 //! The clients of a lobby.
 
-ghost use Rattle.std.specs.Prelude.{◌≡◌, ◌≤◌, ◌<◌, ◌+◌, ◌-◌, [], None, IfOk, drop, filter, find, length, not, option_copied};
+ghost use Rattle.std.specs.Prelude.{◌≡◌, ◌≤◌, ◌<◌, ◌+◌, ◌-◌, All, [], None, IfOk, drop, filter, find, length, not, option_copied};
 ghost use Rattle.std.specs.Vec.{vec_capacity, vec_len};
-ghost use Rattle.ipx_lobby.specs.LobbyClients.{EachClientOnce, is_lobby_full, client_at, client_heard, client_of_node, clients_heard, clients_left};
+ghost use Rattle.ipx_lobby.specs.LobbyClients.{EachClientOnce, HasPlaceNode, is_lobby_full, client_at, client_heard, client_of_node, clients_heard, clients_left};
 ghost use Rattle.ipx_lobby.specs.LobbyClients.{has_client_node, is_client_at, is_newcomer, most_lobby_clients, newcomers, node_of_place};
 
 use crate::place::Place;
@@ -10,7 +10,7 @@ use ipx_wire::Node;
 use std::alloc::{AllocError, Global};
 use std::marker::Model;
 
-/// The most clients that a lobby may have.
+/// The most clients that a lobby may have, as `Lobby::may_have` says.
 pub const MOST_CLIENTS: usize = 150;
 
 /// After how many milliseconds of silence a client is forgotten: a day.
@@ -75,7 +75,7 @@ fn leave_out_silent(known: &mut Vec<Client>, now: u64)
     known.retain(|client| now.saturating_sub(client.heard) < FORGOTTEN_AFTER_MS);
 }
 
-/// Lets the client go that was heard longest ago, where no other finds room.
+/// Lets the client go that was heard before all others, where no other finds room.
 fn make_room(known: &mut Vec<Client>, most: usize)
     requires some { 1 ≤ most }
     requires few { vec_len known.old ≤ most }
@@ -106,7 +106,7 @@ fn find_node(known: &[Client], node: Node) -> Option<&Client>
 fn is_new(now: u64, client: &Client) -> bool
     ensures { result ≡ is_newcomer now client.now }
 {
-    client.since <= now && now - client.since < NEWCOMER_MS
+    now.saturating_sub(client.since) < NEWCOMER_MS
 }
 
 impl Clients {
@@ -124,6 +124,7 @@ impl Clients {
     pub fn all(&self) -> &[Client]
         ensures all { result.now ≡ self.now.known }
         ensures once { EachClientOnce self.now.known }
+        ensures nodes { All HasPlaceNode self.now.known }
         ensures few { length self.now.known ≤ self.now.most }
         ensures most { self.now.most ≤ most_lobby_clients }
     {
@@ -194,7 +195,7 @@ impl Clients {
     }
 
     /// A client is heard at a place, where a new one's node is no other's. Where there are too many
-    /// the one goes that was heard longest ago.
+    /// the one goes that was heard before all others.
     pub fn put(&mut self, place: Place, now: u64)
         requires { client_at place self.old.known ≡ None
             → client_of_node (node_of_place place) self.old.known ≡ None }

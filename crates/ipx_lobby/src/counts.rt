@@ -20,6 +20,8 @@ pub struct LobbyCounts {
     pub to_itself: u64,
     pub ping_elsewhere: u64,
     pub broadcast_elsewhere: u64,
+    pub from_elsewhere: u64,
+    pub response: u64,
 }
 
 /// A count goes up by one, and stays where it is the greatest.
@@ -46,6 +48,8 @@ impl LobbyCounts {
             to_itself: 0,
             ping_elsewhere: 0,
             broadcast_elsewhere: 0,
+            from_elsewhere: 0,
+            response: 0,
         }
     }
 
@@ -65,6 +69,8 @@ impl LobbyCounts {
             LobbyDrop::ToItself => raise(&mut self.to_itself),
             LobbyDrop::PingElsewhere(_) => raise(&mut self.ping_elsewhere),
             LobbyDrop::BroadcastElsewhere(_) => raise(&mut self.broadcast_elsewhere),
+            LobbyDrop::FromElsewhere(_) => raise(&mut self.from_elsewhere),
+            LobbyDrop::Response => raise(&mut self.response),
         }
     }
 }

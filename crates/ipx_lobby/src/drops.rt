@@ -9,7 +9,8 @@ pub enum LobbyDrop {
     /// It is no packet: why.
     #[error("{0}")]
     Malformed(IpxFault),
-    /// A registration whose node is the router's, all nodes' or another client's: which.
+    /// A registration whose node is the router's or all nodes', or in a lobby that is joined another
+    /// client's: which.
     #[error("a client's node is taken: {0}")]
     NodeTaken(Node),
     /// A registration, and ten clients are new in less than a second.
@@ -22,7 +23,7 @@ pub enum LobbyDrop {
     #[error("from no client")]
     Unregistered,
     /// It has another source node than its client was given: which.
-    #[error("a client sent from another's node: {0}")]
+    #[error("a client sent from a node that is not its own: {0}")]
     OtherSource(Node),
     /// It has more bytes than a client takes: how many.
     #[error("{0} bytes, over the 1424 that a client takes")]
@@ -39,4 +40,10 @@ pub enum LobbyDrop {
     /// It is for all nodes of another network: of which.
     #[error("a broadcast for network {0}")]
     BroadcastElsewhere(Network),
+    /// It is for the core alone, and its source network is neither 0 nor the port's: which.
+    #[error("a client sent from network {0}")]
+    FromElsewhere(Network),
+    /// It is for the core alone, and is a response of RIP or SAP, which tells routes or services.
+    #[error("a client told routes or services")]
+    Response,
 }

@@ -1,19 +1,27 @@
-//! What becomes of a packet, by its header.
+//! What becomes of a packet.
 
 ghost use Rattle.std.specs.Prelude.{◌≡◌};
-ghost use Rattle.ipx_lobby.specs.LobbyHears.{all_hear, is_for_lobby, is_registration, is_to_all_nodes, is_to_service, lobby_header, lobby_hears_elsewhere, registration_answer};
+ghost use Rattle.ipx_wire.specs.Ipx.{packet_view};
+ghost use Rattle.ipx_lobby.specs.LobbyHears.{all_hear, core_hears, has_socket, is_for_lobby, is_from_lobby, is_registration, is_to_all_nodes, is_to_service};
+ghost use Rattle.ipx_lobby.specs.LobbyHears.{lobby_header, lobby_hears_elsewhere, may_reach_core, registration_answer, tells_router};
 
 use crate::drops::LobbyDrop;
 use crate::heard::Heard;
 use crate::place::Place;
 use crate::port::LobbyPort;
-use ipx_wire::{Address, IPX_HEADER_SIZE, IpxHeader, Network, Node, Socket, packet_type};
+use byteorder::{BigEndian, ByteOrder};
+use ipx_wire::{Address, IPX_HEADER_SIZE, IpxHeader, Network, Node, Packet, Socket, packet_type};
 
 /// The socket of registrations and pings.
 pub const LOBBY_SOCKET: Socket = Socket(2);
 
 /// The most bytes of a datagram that a client takes whole.
 pub const MOST_CLIENT_BYTES: usize = 1424;
+
+/// The operations of responses: of RIP and SAP, and of a SAP query for the nearest service.
+const RESPONSE: u16 = 2;
+
+const NEAREST_RESPONSE: u16 = 4;
 
 /// A header with no hops, between two nodes of a network.
 fn header_between(network: Network, to: Node, from: Node) -> IpxHeader
@@ -73,10 +81,58 @@ fn asks_router(header: IpxHeader) -> bool
     header.to.socket == Socket::RIP || header.to.socket == Socket::SAP
 }
 
-/// What becomes of a packet for all nodes here, in a datagram of so many bytes.
-pub fn to_all(port: LobbyPort, from: Place, header: IpxHeader, size: usize) -> Heard
-    ensures { result ≡ all_hear port from header size }
+/// Whether a packet comes from the network of the port.
+fn is_from_here(port: LobbyPort, header: IpxHeader) -> bool
+    ensures { result ≡ is_from_lobby port header }
 {
+    header.from.network == Network::LOCAL || header.from.network == port.network
+}
+
+/// Whether one of a packet's sockets is this.
+fn has(socket: Socket, header: IpxHeader) -> bool
+    ensures { result ≡ has_socket socket.0 header }
+{
+    header.to.socket == socket || header.from.socket == socket
+}
+
+/// Whether a packet tells routes or services: a response of RIP or SAP.
+fn tells(packet: &Packet<'_>) -> bool
+    ensures { result ≡ tells_router (packet_view packet.now) }
+{
+    if packet.body.len() < 2 {
+        return false;
+    }
+    let operation = BigEndian::read_u16(packet.body);
+    (has(Socket::RIP, packet.header) && operation == RESPONSE)
+        || (has(Socket::SAP, packet.header)
+            && (operation == RESPONSE || operation == NEAREST_RESPONSE))
+}
+
+/// Whether the core may get a packet: it comes from the network of the port, and tells nothing.
+fn may_reach(port: LobbyPort, packet: &Packet<'_>) -> bool
+    ensures { result ≡ may_reach_core port (packet_view packet.now) }
+{
+    is_from_here(port, packet.header) && !tells(packet)
+}
+
+/// What becomes of a packet that is for the core alone.
+pub fn to_core(port: LobbyPort, packet: &Packet<'_>) -> Heard
+    ensures { result ≡ core_hears port (packet_view packet.now) }
+{
+    if !is_from_here(port, packet.header) {
+        return Heard::Dropped(LobbyDrop::FromElsewhere(packet.header.from.network));
+    }
+    if tells(packet) {
+        return Heard::Dropped(LobbyDrop::Response);
+    }
+    Heard::ToCore
+}
+
+/// What becomes of a packet for all nodes here, in a datagram of so many bytes.
+pub fn to_all(port: LobbyPort, from: Place, packet: &Packet<'_>, size: usize) -> Heard
+    ensures { result ≡ all_hear port from (packet_view packet.now) size }
+{
+    let header = packet.header;
     if size > MOST_CLIENT_BYTES {
         return Heard::Dropped(LobbyDrop::TooLong(size));
     }
@@ -84,21 +140,22 @@ pub fn to_all(port: LobbyPort, from: Place, header: IpxHeader, size: usize) -> H
         let answer = header_between(Network::LOCAL, header.from.node, port.own);
         return Heard::Pinged(from, answer);
     }
-    if asks_router(header) {
+    if asks_router(header) && may_reach(port, packet) {
         return Heard::ToOthersAndCore(from);
     }
     Heard::ToOthers(from)
 }
 
 /// What becomes of a packet for another network.
-pub fn elsewhere(header: IpxHeader) -> Heard
-    ensures { result ≡ lobby_hears_elsewhere header }
+pub fn elsewhere(port: LobbyPort, packet: &Packet<'_>) -> Heard
+    ensures { result ≡ lobby_hears_elsewhere port (packet_view packet.now) }
 {
+    let header = packet.header;
     if header.to.socket == LOBBY_SOCKET {
         return Heard::Dropped(LobbyDrop::PingElsewhere(header.to.network));
     }
     if is_for_all(header) {
         return Heard::Dropped(LobbyDrop::BroadcastElsewhere(header.to.network));
     }
-    Heard::ToCore
+    to_core(port, packet)
 }

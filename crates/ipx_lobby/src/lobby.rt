@@ -1,29 +1,29 @@
 //! A port for clients that register.
 
-ghost use Rattle.std.specs.Prelude.{◌≡◌, ◌≤◌, ℕ, List, IfOk, None, Ok, Some, false, is_some, length, true};
+ghost use Rattle.std.specs.Prelude.{◌≡◌, ◌≤◌, ◌&&◌, ℕ, All, List, IfOk, None, Ok, Some, false, is_some, length, nat_le, true};
 ghost use Rattle.ipx_wire.specs.declared.ipx.fault.IpxFault.{IpxFault};
-ghost use Rattle.ipx_wire.specs.Ipx.{BeginsWith, PacketView, ipx_fault};
+ghost use Rattle.ipx_wire.specs.Ipx.{BeginsWith, PacketView, ipx_fault, packet_view};
 ghost use Rattle.ipx_wire.specs.declared.ipx.packet.IpxHeader.{IpxHeader};
 ghost use Rattle.ipx_lobby.specs.declared.heard.Heard.TheVariants.{Dropped, Registered};
 ghost use Rattle.ipx_lobby.specs.declared.drops.LobbyDrop.TheVariants.{Malformed};
 ghost use Rattle.ipx_lobby.specs.declared.place.Place.{Place};
 ghost use Rattle.ipx_lobby.specs.declared.takers.Takers.TheVariants.{One};
 ghost use Rattle.ipx_lobby.specs.LobbyClients.{EachClientOnce, client_at, client_heard, client_of_node, clients_left, most_lobby_clients, node_of_place};
-ghost use Rattle.ipx_lobby.specs.LobbyHears.{IsAnswer, client_hears, is_dropped, is_taker, lobby_aged, lobby_gives, lobby_giving, lobby_hearing};
+ghost use Rattle.ipx_lobby.specs.LobbyHears.{IsAnswer, client_hears, goes_to_core, is_dropped, is_taker, lobby_aged, lobby_gives, lobby_giving, lobby_hearing};
 ghost use Rattle.ipx_lobby.specs.LobbyInside.{IsSoundHearing};
-ghost use Rattle.ipx_lobby.specs.LobbyHears.{lobby_hears, lobby_hears_from, lobby_hears_here, new_lobby, newcomer_drop, registration_hears, takers_of};
+ghost use Rattle.ipx_lobby.specs.LobbyHears.{lobby_hears, lobby_hears_from, lobby_hears_here, may_reach_core, new_lobby, newcomer_drop, registration_hears, takers_of, takers_reach};
 
-use crate::clients::{Client, Clients, MOST_NEWCOMERS};
+use crate::clients::{Client, Clients, MOST_CLIENTS, MOST_NEWCOMERS};
 use crate::counts::LobbyCounts;
 use crate::drops::LobbyDrop;
 use crate::heard::Heard;
 use crate::hearing::{
-    MOST_CLIENT_BYTES, answer_with_node, elsewhere, is_for_all, registers, stays, to_all,
+    MOST_CLIENT_BYTES, answer_with_node, elsewhere, is_for_all, registers, stays, to_all, to_core,
 };
 use crate::place::Place;
 use crate::port::LobbyPort;
 use crate::takers::Takers;
-use ipx_wire::{IpxHeader, Node, decode};
+use ipx_wire::{IpxHeader, Node, Packet, decode};
 use std::alloc::{AllocError, Global};
 use std::marker::Model;
 
@@ -49,6 +49,13 @@ impl Model for Lobby {
 }
 
 impl Lobby {
+    /// Whether a lobby may have so many clients at most: 1 to `MOST_CLIENTS`.
+    pub fn may_have(most: usize) -> bool
+        ensures { result ≡ (nat_le 1 most && nat_le most most_lobby_clients) }
+    {
+        1 <= most && most <= MOST_CLIENTS
+    }
+
     /// A lobby of a port, with at most so many clients: 1 to 150, which the caller owes. Nobody is
     /// known yet. Memory is taken here alone.
     pub fn new(alloc: Global, port: LobbyPort, most: usize) -> Result<Lobby, AllocError>
@@ -79,14 +86,22 @@ impl Lobby {
     }
 
     /// The clients, the one that was heard last behind the others: no two at one place, and no two of
-    /// one node.
+    /// one node, which is that of its place.
     pub fn clients(&self) -> &[Client]
         ensures all { result.now ≡ self.now.clients }
         ensures once { EachClientOnce self.now.clients }
+        ensures nodes { All (λ c. c.node ≡ node_of_place c.place) self.now.clients }
         ensures few { length self.now.clients ≤ self.now.most }
         ensures most { self.now.most ≤ most_lobby_clients }
     {
         self.clients.all()
+    }
+
+    /// Whether bytes with these takers go to a place: a client is known there, and it is one of them.
+    pub fn reaches(&self, takers: Takers, place: Place) -> bool
+        ensures { result ≡ takers_reach self.now takers place }
+    {
+        self.clients.at(place).is_some() && takers.has(place)
     }
 
     /// Why who registers from a place becomes no client.
@@ -135,28 +150,29 @@ impl Lobby {
     }
 
     /// What becomes of a packet for the network of the port.
-    fn here(&self, from: Place, header: IpxHeader, size: usize) -> Heard
-        ensures { result ≡ lobby_hears_here self.now.port self.now.clients from header size }
+    fn here(&self, from: Place, packet: &Packet<'_>, size: usize) -> Heard
+        ensures { result ≡ lobby_hears_here self.now.port self.now.clients from (packet_view packet.now) size }
     {
-        if is_for_all(header) {
-            return to_all(self.port, from, header, size);
+        if is_for_all(packet.header) {
+            return to_all(self.port, from, packet, size);
         }
-        if header.to.node == self.port.own {
-            return Heard::ToCore;
+        if packet.header.to.node == self.port.own {
+            return to_core(self.port, packet);
         }
-        self.to_node(from, header, size)
+        self.to_node(from, packet.header, size)
     }
 
     /// What becomes of a packet of a client, if one is known there.
     fn from_client(
         &self,
         from: Place,
-        header: IpxHeader,
+        packet: &Packet<'_>,
         size: usize,
         known: Option<Client>,
     ) -> Heard
-        ensures { result ≡ lobby_hears_from self.now.port self.now.clients from header size known }
+        ensures { result ≡ lobby_hears_from self.now.port self.now.clients from (packet_view packet.now) size known }
     {
+        let header = packet.header;
         let Some(client) = known else {
             return Heard::Dropped(LobbyDrop::Unregistered);
         };
@@ -164,20 +180,20 @@ impl Lobby {
             return Heard::Dropped(LobbyDrop::OtherSource(header.from.node));
         }
         if stays(self.port, header) {
-            return self.here(from, header, size);
+            return self.here(from, packet, size);
         }
-        elsewhere(header)
+        elsewhere(self.port, packet)
     }
 
     /// What becomes of a packet.
-    fn outcome(&self, from: Place, header: IpxHeader, size: usize, now: u64) -> Heard
-        ensures { result ≡ lobby_hears self.now from header size now }
+    fn outcome(&self, from: Place, packet: &Packet<'_>, size: usize, now: u64) -> Heard
+        ensures { result ≡ lobby_hears self.now from (packet_view packet.now) size now }
     {
         let known = self.clients.at(from);
-        if registers(header, size) {
+        if registers(packet.header, size) {
             return self.registration(from, now, known);
         }
-        self.from_client(from, header, size, known)
+        self.from_client(from, packet, size, known)
     }
 
     /// What becomes of a datagram.
@@ -185,11 +201,11 @@ impl Lobby {
         ensures malformed { (f : IpxFault) → ipx_fault bytes.now ≡ Some f
             → result ≡ Dropped (Malformed f) }
         ensures packet { (p : PacketView) → BeginsWith bytes.now p
-            → result ≡ lobby_hears self.now from p.header (length bytes.now) now }
+            → result ≡ lobby_hears self.now from p (length bytes.now) now }
         ensures sound { IsSoundHearing self.now from (length bytes.now) result }
     {
         match decode(bytes) {
-            Ok(packet) => self.outcome(from, packet.header, bytes.len(), now),
+            Ok(packet) => self.outcome(from, &packet, bytes.len(), now),
             Err(fault) => Heard::Dropped(LobbyDrop::Malformed(fault)),
         }
     }
@@ -222,7 +238,7 @@ impl Lobby {
         ensures malformed { (f : IpxFault) → ipx_fault bytes.now ≡ Some f
             → result ≡ Dropped (Malformed f) }
         ensures packet { (p : PacketView) → BeginsWith bytes.now p
-            → result ≡ lobby_hears (lobby_aged now self.old) from p.header (length bytes.now) now }
+            → result ≡ lobby_hears (lobby_aged now self.old) from p (length bytes.now) now }
         // What the lobby is then.
         ensures lobby { self.new ≡ lobby_hearing result from now (lobby_aged now self.old) }
         // It never goes back to its sender, but for an answer: to a registration one of as many bytes.
@@ -236,6 +252,9 @@ impl Lobby {
             ≡ Some (client_heard from now (client_at from (clients_left now self.old.clients))) }
         ensures taker { (place : Place) → takers_of result ≡ One place
             → is_some (client_at place self.new.clients) ≡ true }
+        // The core gets nothing that comes from another network, nor a response of RIP or SAP.
+        ensures core { (p : PacketView) → BeginsWith bytes.now p → goes_to_core result ≡ true
+            → may_reach_core self.old.port p ≡ true }
     {
         self.clients.age(now);
         let heard = self.judge(from, bytes, now);

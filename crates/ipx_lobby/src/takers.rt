@@ -19,8 +19,8 @@ pub enum Takers {
 }
 
 impl Takers {
-    /// Whether the client at a place is one of them. One asks it of each place of `Lobby::clients`,
-    /// and sends to no other.
+    /// Whether the client at a place is one of them, where there is a client: `Lobby::reaches` asks
+    /// for that too.
     pub fn has(self, place: Place) -> bool
         ensures { result ≡ is_taker self place }
     {

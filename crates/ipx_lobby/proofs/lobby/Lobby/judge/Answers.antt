@@ -2,6 +2,7 @@ use Rattle.std.proofs.Common.{◌≤◌, length, arith, sym, subst}
 use Rattle.ipx_lobby.specs.declared.heard.Heard.{Heard}
 use Rattle.ipx_lobby.specs.declared.drops.LobbyDrop.TheVariants.{Malformed}
 use Rattle.ipx_wire.specs.Assigned.{ipx_header_size}
+use Rattle.ipx_wire.specs.Ipx.{packet_view}
 use Rattle.ipx_lobby.specs.LobbyInside.{IsSoundHearing}
 use Rattle.ipx_lobby.proofs.Hears.{dropped_hears, sound_hearing}
 use Rattle.ipx_lobby.proofs.lobby.Lobby.judge.Goals as goal
@@ -12,7 +13,7 @@ returns-in-Ok-clause-sound c =
     let size = length c.args.bytes.now in
     let thirty : ipx_header_size ≤ size = omega (arith, c.in-Ok.ensures.found.1.size) in
     let P : Heard → Type 0 = λ heard. IsSoundHearing l c.args.from size heard in
-    subst P (sym c.outcome.ensures) (sound_hearing l c.args.from size thirty c.in-Ok.packet.header c.args.now)
+    subst P (sym c.outcome.ensures) (sound_hearing l c.args.from size thirty (packet_view c.in-Ok.packet) c.args.now)
 
 pub returns-in-Err-clause-sound : goal.returns-in-Err-clause-sound
 returns-in-Err-clause-sound c = dropped_hears c.args.self.now c.args.from (length c.args.bytes.now) (Malformed c.in-Err.fault)
