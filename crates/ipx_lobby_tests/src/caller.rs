@@ -7,21 +7,12 @@ use ipx_lobby::{Heard, Lobby, Place, Takers};
 use ipx_wire::Node;
 use std::test::Fail;
 
-/// Whether the client at a place is one of the takers: one goes through the clients, and sends to no
-/// other place.
-fn gets(lobby: &Lobby, takers: Takers, place: Place) -> bool {
-    lobby
-        .clients()
-        .iter()
-        .any(|client| client.place == place && takers.has(client.place))
-}
-
 /// Which of the three players get the bytes.
 pub fn reached(lobby: &Lobby, takers: Takers) -> [bool; 3] {
     [
-        gets(lobby, takers, FIRST),
-        gets(lobby, takers, SECOND),
-        gets(lobby, takers, THIRD),
+        lobby.reaches(takers, FIRST),
+        lobby.reaches(takers, SECOND),
+        lobby.reaches(takers, THIRD),
     ]
 }
 
@@ -57,6 +48,9 @@ fn datagrams_of_three_players(rt: HostRuntime) -> Result<(), Fail> {
         (false, [false, true, true], false)
     );
     assert_eq!(rt; lobby.clients().len(), 3);
+    for client in lobby.clients() {
+        assert_eq!(rt; client.node, client.place.node());
+    }
     assert_eq!(rt; lobby.hear(FIRST, &all, 0), Heard::ToOthers(FIRST));
     Ok(())
 }

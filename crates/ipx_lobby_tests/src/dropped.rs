@@ -112,7 +112,7 @@ fn texts(rt: HostRuntime) -> Result<(), Fail> {
         (LobbyDrop::Unregistered, "from no client"),
         (
             LobbyDrop::OtherSource(FIRST_NODE),
-            "a client sent from another's node: 7f000001bc47",
+            "a client sent from a node that is not its own: 7f000001bc47",
         ),
         (
             LobbyDrop::TooLong(1425),
@@ -131,6 +131,11 @@ fn texts(rt: HostRuntime) -> Result<(), Fail> {
             LobbyDrop::BroadcastElsewhere(Network(0x99)),
             "a broadcast for network 00000099",
         ),
+        (
+            LobbyDrop::FromElsewhere(Network(0x99)),
+            "a client sent from network 00000099",
+        ),
+        (LobbyDrop::Response, "a client told routes or services"),
     ];
     for (drop, wanted) in rows {
         let text = format!(in rt.alloc(); "{drop}")?;

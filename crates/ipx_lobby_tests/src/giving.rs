@@ -16,6 +16,8 @@ fn packets_of_the_core(rt: HostRuntime) -> Result<(), Fail> {
     );
     assert_eq!(rt; lobby.give(Node::BROADCAST, &[0; 40], 0), Ok(Takers::All));
     assert_eq!(rt; reached(&lobby, Takers::All), [false; 3]);
+    assert_eq!(rt; reached(&lobby, Takers::Others(SECOND)), [false; 3]);
+    assert_eq!(rt; reached(&lobby, Takers::One(FIRST)), [false; 3]);
     lobby.hear(FIRST, &REGISTRATION, 0);
     assert_eq!(rt; reached(&lobby, Takers::All), [true, false, false]);
     register_all(&mut lobby);

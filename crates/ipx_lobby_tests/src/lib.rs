@@ -24,3 +24,5 @@ mod room;
 mod router;
 #[cfg(test)]
 mod silent;
+#[cfg(test)]
+mod telling;

@@ -1,7 +1,7 @@
 //! How many players there may be, and how many register in a second.
 
 use crate::fixture::{FIRST, FIRST_NODE, PORT, REGISTRATION, SECOND, THIRD, packet};
-use ipx_lobby::{Heard, Lobby, LobbyDrop, Place};
+use ipx_lobby::{Heard, Lobby, LobbyDrop, MOST_CLIENTS, Place};
 use ipx_wire::Node;
 use std::test::Fail;
 
@@ -19,6 +19,33 @@ fn registers(lobby: &mut Lobby, from: Place, now: u64) -> Option<LobbyDrop> {
         Heard::Dropped(drop) => Some(drop),
         _ => None,
     }
+}
+
+/// How many there may be: 1 to 150.
+#[test]
+fn how_many_there_may_be(rt: HostRuntime) -> Result<(), Fail> {
+    for (most, may) in [(0, false), (1, true), (64, true), (150, true), (151, false)] {
+        assert_eq!(rt; Lobby::may_have(most), may);
+    }
+    assert_eq!(rt; MOST_CLIENTS, 150);
+    Ok(())
+}
+
+/// By a clock that went back no time has passed: who registered before that is new as ever.
+#[test]
+fn ten_before_the_clock_went_back(rt: HostRuntime) -> Result<(), Fail> {
+    let mut lobby = Lobby::new(rt.alloc(), PORT, 150)?;
+    for number in 1..=10 {
+        assert_eq!(rt; registers(&mut lobby, place(number), 5000), None);
+    }
+    for now in [0, 4999, 5999] {
+        assert_eq!(rt;
+            registers(&mut lobby, place(11), now),
+            Some(LobbyDrop::TooManyNew)
+        );
+    }
+    assert_eq!(rt; registers(&mut lobby, place(11), 6000), None);
+    Ok(())
 }
 
 /// In a full lobby, the player that was silent longest makes room behind an hour.
