@@ -92,9 +92,8 @@ may_reach_core port p = is_from_lobby port p.header && not (tells_router p)
 
 -- ---- what becomes of it, the first case that applies
 
--- no client can have a node that is the router's, all nodes' or another client's. None has another
--- client's by its place, and each has the node of its place: the last is for lobbies that are joined,
--- where a router makes the nodes
+-- no client can have a node that is the router's, all nodes' or another client's. The last cannot be
+-- while each has the node of its place: it is for lobbies that are joined, where a router makes nodes
 abbrev pub is_node_taken : LobbyPort → List Client → Node → Bool
 is_node_taken port known node = bytes_eq node.0 port.own.0 || bytes_eq node.0 broadcast_node
     || is_some (client_of_node node known)

@@ -7,6 +7,6 @@ use ipx_wire::{Network, Node};
 pub struct LobbyPort {
     /// The number that clients are told, other than 0: they send and expect it from then on.
     pub network: Network,
-    /// The router's node there.
+    /// The router's node there, other than FFFFFFFFFFFF.
     pub own: Node,
 }

@@ -103,7 +103,7 @@ fn responses_to_others(rt: HostRuntime) -> Result<(), Fail> {
 
 /// From network 99: not to the core, and as ever to clients; from 0 or the port's: to the core.
 #[test]
-fn from_another_network(rt: HostRuntime) -> Result<(), Fail> {
+fn packets_of_another_network(rt: HostRuntime) -> Result<(), Fail> {
     let mut lobby = Lobby::new(rt.alloc(), PORT, 64)?;
     register_all(&mut lobby);
     let dropped = Heard::Dropped(LobbyDrop::FromElsewhere(Network(0x99)));
