@@ -9,8 +9,8 @@ use Rattle.hex.proofs.HexLemmas.{decode_sized-ok}
 use Rattle.ipx_wire.specs.AddressText.{spelled_node}
 use Rattle.ipx_wire.specs.declared.address.Node.{Node}
 use Rattle.ipx_tool.specs.declared.words.Task.{Task}
-use Rattle.ipx_tool.specs.declared.words.Task.TheVariants.{Hop, Show, ShowFrames, Check, Sim, Udp, Route, CheckSite, Listen, CheckHost, Send}
-use Rattle.ipx_tool.specs.Words.{AskForOne, AsksFor, Finds, IsPlain, IsUdpPort, IsSame}
+use Rattle.ipx_tool.specs.declared.words.Task.TheVariants.{Hop, Show, ShowFrames, Check, Sim, Udp, Route, CheckSite, Listen, CheckHost, Send, Networks, Services, ServicesOf}
+use Rattle.ipx_tool.specs.Words.{AreTypeWords, AskForOne, AsksFor, Finds, IsOfType, IsPlain, IsUdpPort, IsSame}
 
 -- what begins with `-` is an option
 pub not_plain : (word rest : List ℕ) → word ≡ 45 ∷ rest → IsPlain word → ⊥
@@ -34,12 +34,30 @@ once_or_frame e = omega (arith, ap (λ (word : List ℕ). get_or word 2 0) e)
 check_or_frame : codes "--check" ≡ codes "--frame" → ⊥
 check_or_frame e = omega (arith, ap (λ (word : List ℕ). get_or word 2 0) e)
 
--- the second and the third of some words
+port_or_json : codes "--port" ≡ codes "--json" → ⊥
+port_or_json e = omega (arith, ap (λ (word : List ℕ). get_or word 2 0) e)
+
+once_or_json : codes "--once" ≡ codes "--json" → ⊥
+once_or_json e = omega (arith, ap (λ (word : List ℕ). get_or word 2 0) e)
+
+check_or_json : codes "--check" ≡ codes "--json" → ⊥
+check_or_json e = omega (arith, ap (λ (word : List ℕ). get_or word 2 0) e)
+
+frame_or_json : codes "--frame" ≡ codes "--json" → ⊥
+frame_or_json e = omega (arith, ap (λ (word : List ℕ). get_or word 2 0) e)
+
+-- the first of some words, and those behind it
+first : {words same : List (List ℕ)} → words ≡ same → get_or words 0 [] ≡ get_or same 0 []
+first e = ap (λ (ws : List (List ℕ)). get_or ws 0 []) e
+
 second : {words same : List (List ℕ)} → words ≡ same → get_or words 1 [] ≡ get_or same 1 []
 second e = ap (λ (ws : List (List ℕ)). get_or ws 1 []) e
 
 third : {words same : List (List ℕ)} → words ≡ same → get_or words 2 [] ≡ get_or same 2 []
 third e = ap (λ (ws : List (List ℕ)). get_or ws 2 []) e
+
+fourth : {words same : List (List ℕ)} → words ≡ same → get_or words 3 [] ≡ get_or same 3 []
+fourth e = ap (λ (ws : List (List ℕ)). get_or ws 3 []) e
 
 -- `--port` and a text ask for the same in one word and in two
 pub joined : (command text : List ℕ) (task : Task) → AsksFor (command ∷ codes "--port" ∷ text ∷ []) task
@@ -58,6 +76,17 @@ joined command text (CheckHost file) (inr e, plain) =
     let option : file.now ≡ codes "--port" = cc in absurd (not_plain file.now _ option plain)
 joined command text (ShowFrames node) (other, is, inl e) = absurd (port_or_frame (second e))
 joined command text (ShowFrames node) (other, is, inr e) = absurd (cc)
+joined command text (Networks file true) (inl e, plain) = absurd (port_or_json (second e))
+joined command text (Networks file true) (inr e, plain) =
+    let option : file.now ≡ codes "--port" = cc in absurd (not_plain file.now _ option plain)
+joined command text (Services file true) (inl e, plain) = absurd (port_or_json (second e))
+joined command text (Services file true) (inr e, plain) =
+    let option : file.now ≡ codes "--port" = cc in absurd (not_plain file.now _ option plain)
+joined command text (ServicesOf file kind false) (e, plain, also) =
+    let option : file.now ≡ codes "--port" = cc in absurd (not_plain file.now _ option plain)
+joined command text (ServicesOf file kind true) (inl e, plain, also) = absurd (cc)
+joined command text (ServicesOf file kind true) (inr (inl e), plain, also) = absurd (cc)
+joined command text (ServicesOf file kind true) (inr (inr e), plain, also) = absurd (cc)
 joined command text _ asks = absurd (cc)
 
 pub parted : (command text : List ℕ) (task : Task) → AsksFor (command ∷ (codes "--port=" ++ text) ∷ []) task
@@ -81,6 +110,18 @@ parted command text (CheckSite file) (inl e, plain) = absurd (cc)
 parted command text (CheckSite file) (inr e, plain) = absurd (cc)
 parted command text (CheckHost file) (inl e, plain) = absurd (cc)
 parted command text (CheckHost file) (inr e, plain) = absurd (cc)
+parted command text (Networks file false) (e, plain) =
+    let option : file.now ≡ codes "--port=" ++ text = cc in absurd (not_plain file.now _ option plain)
+parted command text (Networks file true) (inl e, plain) = absurd (cc)
+parted command text (Networks file true) (inr e, plain) = absurd (cc)
+parted command text (Services file false) (e, plain) =
+    let option : file.now ≡ codes "--port=" ++ text = cc in absurd (not_plain file.now _ option plain)
+parted command text (Services file true) (inl e, plain) = absurd (cc)
+parted command text (Services file true) (inr e, plain) = absurd (cc)
+parted command text (ServicesOf file kind false) (e, plain, also) = absurd (cc)
+parted command text (ServicesOf file kind true) (inl e, plain, also) = absurd (cc)
+parted command text (ServicesOf file kind true) (inr (inl e), plain, also) = absurd (cc)
+parted command text (ServicesOf file kind true) (inr (inr e), plain, also) = absurd (cc)
 parted command text _ asks = absurd (cc)
 
 -- what is left of a word without its front
@@ -112,6 +153,17 @@ frame_joined command text (CheckSite file) (inr e, plain) =
 frame_joined command text (CheckHost file) (inl e, plain) = absurd (check_or_frame (sym (second e)))
 frame_joined command text (CheckHost file) (inr e, plain) =
     let option : file.now ≡ codes "--frame" = cc in absurd (not_plain file.now _ option plain)
+frame_joined command text (Networks file true) (inl e, plain) = absurd (frame_or_json (second e))
+frame_joined command text (Networks file true) (inr e, plain) =
+    let option : file.now ≡ codes "--frame" = cc in absurd (not_plain file.now _ option plain)
+frame_joined command text (Services file true) (inl e, plain) = absurd (frame_or_json (second e))
+frame_joined command text (Services file true) (inr e, plain) =
+    let option : file.now ≡ codes "--frame" = cc in absurd (not_plain file.now _ option plain)
+frame_joined command text (ServicesOf file kind false) (e, plain, also) =
+    let option : file.now ≡ codes "--frame" = cc in absurd (not_plain file.now _ option plain)
+frame_joined command text (ServicesOf file kind true) (inl e, plain, also) = absurd (cc)
+frame_joined command text (ServicesOf file kind true) (inr (inl e), plain, also) = absurd (cc)
+frame_joined command text (ServicesOf file kind true) (inr (inr e), plain, also) = absurd (cc)
 frame_joined command text _ asks = absurd (cc)
 
 frame_parted : (command text : List ℕ) (task : Task) → AsksFor (command ∷ (codes "--frame=" ++ text) ∷ []) task
@@ -135,6 +187,18 @@ frame_parted command text (CheckSite file) (inl e, plain) = absurd (cc)
 frame_parted command text (CheckSite file) (inr e, plain) = absurd (cc)
 frame_parted command text (CheckHost file) (inl e, plain) = absurd (cc)
 frame_parted command text (CheckHost file) (inr e, plain) = absurd (cc)
+frame_parted command text (Networks file false) (e, plain) =
+    let option : file.now ≡ codes "--frame=" ++ text = cc in absurd (not_plain file.now _ option plain)
+frame_parted command text (Networks file true) (inl e, plain) = absurd (cc)
+frame_parted command text (Networks file true) (inr e, plain) = absurd (cc)
+frame_parted command text (Services file false) (e, plain) =
+    let option : file.now ≡ codes "--frame=" ++ text = cc in absurd (not_plain file.now _ option plain)
+frame_parted command text (Services file true) (inl e, plain) = absurd (cc)
+frame_parted command text (Services file true) (inr e, plain) = absurd (cc)
+frame_parted command text (ServicesOf file kind false) (e, plain, also) = absurd (cc)
+frame_parted command text (ServicesOf file kind true) (inl e, plain, also) = absurd (cc)
+frame_parted command text (ServicesOf file kind true) (inr (inl e), plain, also) = absurd (cc)
+frame_parted command text (ServicesOf file kind true) (inr (inr e), plain, also) = absurd (cc)
 frame_parted command text _ asks = absurd (cc)
 
 pub frame_found_joined : (command text word : List ℕ) (found : Option Task) → word ≡ codes "--frame=" ++ text
@@ -184,6 +248,17 @@ behind command file (CheckHost other) (inr e, plain) =
     let option : other.now ≡ codes "--once" = cc in absurd (not_plain other.now _ option plain)
 behind command file (ShowFrames node) (text, is, inl e) = absurd (once_or_frame (second e))
 behind command file (ShowFrames node) (text, is, inr e) = absurd (cc)
+behind command file (Networks other true) (inl e, plain) = absurd (once_or_json (second e))
+behind command file (Networks other true) (inr e, plain) =
+    let option : other.now ≡ codes "--once" = cc in absurd (not_plain other.now _ option plain)
+behind command file (Services other true) (inl e, plain) = absurd (once_or_json (second e))
+behind command file (Services other true) (inr e, plain) =
+    let option : other.now ≡ codes "--once" = cc in absurd (not_plain other.now _ option plain)
+behind command file (ServicesOf other kind false) (e, plain, also) =
+    let option : other.now ≡ codes "--once" = cc in absurd (not_plain other.now _ option plain)
+behind command file (ServicesOf other kind true) (inl e, plain, also) = absurd (cc)
+behind command file (ServicesOf other kind true) (inr (inl e), plain, also) = absurd (cc)
+behind command file (ServicesOf other kind true) (inr (inr e), plain, also) = absurd (cc)
 behind command file _ asks = absurd (cc)
 
 pub before : (command file : List ℕ) (task : Task) → AsksFor (command ∷ file ∷ codes "--once" ∷ []) task
@@ -203,6 +278,17 @@ before command file (CheckHost other) (inl e, plain) =
 before command file (CheckHost other) (inr e, plain) = absurd (once_or_check (third e))
 before command file (ShowFrames node) (text, is, inl e) = absurd (not_once_node text node (third e) is)
 before command file (ShowFrames node) (text, is, inr e) = absurd (cc)
+before command file (Networks other true) (inl e, plain) =
+    let option : other.now ≡ codes "--once" = cc in absurd (not_plain other.now _ option plain)
+before command file (Networks other true) (inr e, plain) = absurd (once_or_json (third e))
+before command file (Services other true) (inl e, plain) =
+    let option : other.now ≡ codes "--once" = cc in absurd (not_plain other.now _ option plain)
+before command file (Services other true) (inr e, plain) = absurd (once_or_json (third e))
+before command file (ServicesOf other kind false) (e, plain, also) =
+    let option : kind.now ≡ codes "--once" = cc in absurd (not_plain kind.now _ option also)
+before command file (ServicesOf other kind true) (inl e, plain, also) = absurd (cc)
+before command file (ServicesOf other kind true) (inr (inl e), plain, also) = absurd (cc)
+before command file (ServicesOf other kind true) (inr (inr e), plain, also) = absurd (cc)
 before command file _ asks = absurd (cc)
 
 pub found_behind : (command file : List ℕ) (found : Option Task) → Finds (AsksFor (command ∷ codes "--once" ∷ file ∷ [])) found
@@ -227,6 +313,17 @@ check_behind command file (CheckHost other) (inr e, plain) =
     let option : other.now ≡ codes "--check" = cc in absurd (not_plain other.now _ option plain)
 check_behind command file (ShowFrames node) (text, is, inl e) = absurd (check_or_frame (second e))
 check_behind command file (ShowFrames node) (text, is, inr e) = absurd (cc)
+check_behind command file (Networks other true) (inl e, plain) = absurd (check_or_json (second e))
+check_behind command file (Networks other true) (inr e, plain) =
+    let option : other.now ≡ codes "--check" = cc in absurd (not_plain other.now _ option plain)
+check_behind command file (Services other true) (inl e, plain) = absurd (check_or_json (second e))
+check_behind command file (Services other true) (inr e, plain) =
+    let option : other.now ≡ codes "--check" = cc in absurd (not_plain other.now _ option plain)
+check_behind command file (ServicesOf other kind false) (e, plain, also) =
+    let option : other.now ≡ codes "--check" = cc in absurd (not_plain other.now _ option plain)
+check_behind command file (ServicesOf other kind true) (inl e, plain, also) = absurd (cc)
+check_behind command file (ServicesOf other kind true) (inr (inl e), plain, also) = absurd (cc)
+check_behind command file (ServicesOf other kind true) (inr (inr e), plain, also) = absurd (cc)
 check_behind command file _ asks = absurd (cc)
 
 check_before : (command file : List ℕ) (task : Task) → AsksFor (command ∷ file ∷ codes "--check" ∷ []) task
@@ -246,6 +343,17 @@ check_before command file (CheckHost other) (inl e, plain) =
 check_before command file (CheckHost other) (inr e, plain) = (inl (cc), plain)
 check_before command file (ShowFrames node) (text, is, inl e) = absurd (not_check_node text node (third e) is)
 check_before command file (ShowFrames node) (text, is, inr e) = absurd (cc)
+check_before command file (Networks other true) (inl e, plain) =
+    let option : other.now ≡ codes "--check" = cc in absurd (not_plain other.now _ option plain)
+check_before command file (Networks other true) (inr e, plain) = absurd (check_or_json (third e))
+check_before command file (Services other true) (inl e, plain) =
+    let option : other.now ≡ codes "--check" = cc in absurd (not_plain other.now _ option plain)
+check_before command file (Services other true) (inr e, plain) = absurd (check_or_json (third e))
+check_before command file (ServicesOf other kind false) (e, plain, also) =
+    let option : kind.now ≡ codes "--check" = cc in absurd (not_plain kind.now _ option also)
+check_before command file (ServicesOf other kind true) (inl e, plain, also) = absurd (cc)
+check_before command file (ServicesOf other kind true) (inr (inl e), plain, also) = absurd (cc)
+check_before command file (ServicesOf other kind true) (inr (inr e), plain, also) = absurd (cc)
 check_before command file _ asks = absurd (cc)
 
 pub found_check : (command file : List ℕ) (found : Option Task) → Finds (AsksFor (command ∷ codes "--check" ∷ file ∷ [])) found
@@ -253,36 +361,256 @@ pub found_check : (command file : List ℕ) (found : Option Task) → Finds (Ask
 found_check command file None none = λ task asks. none task (check_before command file task asks)
 found_check command file (Some task) asks = check_behind command file task asks
 
+not_json_node : (text : List ℕ) (node : Node) → codes "--json" ≡ text → spelled_node text ≡ Some node → ⊥
+not_json_node text node e is = omega (arith, ap length e, spelled_length text node is)
+
+not_json : (port : ℕ) → IsUdpPort (codes "--json") port → ⊥
+not_json port is = let digit = is.0.1.0 in omega arith
+
+-- likewise `--json`
+json_behind : (command file : List ℕ) (task : Task) → AsksFor (command ∷ codes "--json" ∷ file ∷ []) task
+    → AsksFor (command ∷ file ∷ codes "--json" ∷ []) task
+json_behind command file (Udp port) (inl asks) = absurd (cc)
+json_behind command file (Udp port) (inr (text, is, inl e)) = absurd (port_or_json (sym (second e)))
+json_behind command file (Udp port) (inr (text, is, inr e)) = absurd (cc)
+json_behind command file (Listen other true) (inl e, plain) = absurd (once_or_json (sym (second e)))
+json_behind command file (Listen other true) (inr e, plain) =
+    let option : other.now ≡ codes "--json" = cc in absurd (not_plain other.now _ option plain)
+json_behind command file (CheckSite other) (inl e, plain) = absurd (check_or_json (sym (second e)))
+json_behind command file (CheckSite other) (inr e, plain) =
+    let option : other.now ≡ codes "--json" = cc in absurd (not_plain other.now _ option plain)
+json_behind command file (CheckHost other) (inl e, plain) = absurd (check_or_json (sym (second e)))
+json_behind command file (CheckHost other) (inr e, plain) =
+    let option : other.now ≡ codes "--json" = cc in absurd (not_plain other.now _ option plain)
+json_behind command file (ShowFrames node) (text, is, inl e) = absurd (frame_or_json (sym (second e)))
+json_behind command file (ShowFrames node) (text, is, inr e) = absurd (cc)
+json_behind command file (Networks other true) (inl e, plain) = (inr (cc), plain)
+json_behind command file (Networks other true) (inr e, plain) =
+    let option : other.now ≡ codes "--json" = cc in absurd (not_plain other.now _ option plain)
+json_behind command file (Services other true) (inl e, plain) = (inr (cc), plain)
+json_behind command file (Services other true) (inr e, plain) =
+    let option : other.now ≡ codes "--json" = cc in absurd (not_plain other.now _ option plain)
+json_behind command file (ServicesOf other kind false) (e, plain, also) =
+    let option : other.now ≡ codes "--json" = cc in absurd (not_plain other.now _ option plain)
+json_behind command file (ServicesOf other kind true) (inl e, plain, also) = absurd (cc)
+json_behind command file (ServicesOf other kind true) (inr (inl e), plain, also) = absurd (cc)
+json_behind command file (ServicesOf other kind true) (inr (inr e), plain, also) = absurd (cc)
+json_behind command file _ asks = absurd (cc)
+
+json_before : (command file : List ℕ) (task : Task) → AsksFor (command ∷ file ∷ codes "--json" ∷ []) task
+    → AsksFor (command ∷ codes "--json" ∷ file ∷ []) task
+json_before command file (Udp port) (inl asks) = absurd (cc)
+json_before command file (Udp port) (inr (text, is, inl e)) =
+    let json : text ≡ codes "--json" = cc in absurd (not_json port (subst (λ t. IsUdpPort t port) json is))
+json_before command file (Udp port) (inr (text, is, inr e)) = absurd (cc)
+json_before command file (Listen other true) (inl e, plain) =
+    let option : other.now ≡ codes "--json" = cc in absurd (not_plain other.now _ option plain)
+json_before command file (Listen other true) (inr e, plain) = absurd (once_or_json (sym (third e)))
+json_before command file (CheckSite other) (inl e, plain) =
+    let option : other.now ≡ codes "--json" = cc in absurd (not_plain other.now _ option plain)
+json_before command file (CheckSite other) (inr e, plain) = absurd (check_or_json (sym (third e)))
+json_before command file (CheckHost other) (inl e, plain) =
+    let option : other.now ≡ codes "--json" = cc in absurd (not_plain other.now _ option plain)
+json_before command file (CheckHost other) (inr e, plain) = absurd (check_or_json (sym (third e)))
+json_before command file (ShowFrames node) (text, is, inl e) = absurd (not_json_node text node (third e) is)
+json_before command file (ShowFrames node) (text, is, inr e) = absurd (cc)
+json_before command file (Networks other true) (inl e, plain) =
+    let option : other.now ≡ codes "--json" = cc in absurd (not_plain other.now _ option plain)
+json_before command file (Networks other true) (inr e, plain) = (inl (cc), plain)
+json_before command file (Services other true) (inl e, plain) =
+    let option : other.now ≡ codes "--json" = cc in absurd (not_plain other.now _ option plain)
+json_before command file (Services other true) (inr e, plain) = (inl (cc), plain)
+json_before command file (ServicesOf other kind false) (e, plain, also) =
+    let option : kind.now ≡ codes "--json" = cc in absurd (not_plain kind.now _ option also)
+json_before command file (ServicesOf other kind true) (inl e, plain, also) = absurd (cc)
+json_before command file (ServicesOf other kind true) (inr (inl e), plain, also) = absurd (cc)
+json_before command file (ServicesOf other kind true) (inr (inr e), plain, also) = absurd (cc)
+json_before command file _ asks = absurd (cc)
+
+pub found_json : (command file : List ℕ) (found : Option Task) → Finds (AsksFor (command ∷ codes "--json" ∷ file ∷ [])) found
+    → Finds (AsksFor (command ∷ file ∷ codes "--json" ∷ [])) found
+found_json command file None none = λ task asks. none task (json_before command file task asks)
+found_json command file (Some task) asks = json_behind command file task asks
+
+-- ---- a file and a type
+
+-- a command and two words that are none of these options ask for services of a type alone
+pub record NoOptions (file kind : List ℕ) : Type 0 where
+  pub port : file ≢ codes "--port"
+  pub once : file ≢ codes "--once"
+  pub check : file ≢ codes "--check"
+  pub json : file ≢ codes "--json"
+  pub frame : file ≢ codes "--frame"
+  pub once_behind : kind ≢ codes "--once"
+  pub check_behind : kind ≢ codes "--check"
+  pub json_behind : kind ≢ codes "--json"
+
+typed : (command file kind : List ℕ) (task : Task) → NoOptions file kind
+    → AsksFor (command ∷ file ∷ kind ∷ []) task → IsOfType command file kind false task
+typed command file kind (Udp port) none (inl asks) = absurd (cc)
+typed command file kind (Udp port) none (inr (text, is, inl e)) = absurd (none.port (second e))
+typed command file kind (Udp port) none (inr (text, is, inr e)) = absurd (cc)
+typed command file kind (Listen other true) none (inl e, plain) = absurd (none.once (second e))
+typed command file kind (Listen other true) none (inr e, plain) = absurd (none.once_behind (third e))
+typed command file kind (CheckSite other) none (inl e, plain) = absurd (none.check (second e))
+typed command file kind (CheckSite other) none (inr e, plain) = absurd (none.check_behind (third e))
+typed command file kind (CheckHost other) none (inl e, plain) = absurd (none.check (second e))
+typed command file kind (CheckHost other) none (inr e, plain) = absurd (none.check_behind (third e))
+typed command file kind (ShowFrames node) none (text, is, inl e) = absurd (none.frame (second e))
+typed command file kind (ShowFrames node) none (text, is, inr e) = absurd (cc)
+typed command file kind (Networks other true) none (inl e, plain) = absurd (none.json (second e))
+typed command file kind (Networks other true) none (inr e, plain) = absurd (none.json_behind (third e))
+typed command file kind (Services other true) none (inl e, plain) = absurd (none.json (second e))
+typed command file kind (Services other true) none (inr e, plain) = absurd (none.json_behind (third e))
+typed command file kind (ServicesOf other another false) none (e, plain, also) =
+    (first e, sym (second e), sym (third e), refl, subst IsPlain (sym (second e)) plain, subst IsPlain (sym (third e)) also)
+typed command file kind (ServicesOf other another true) none (inl e, plain, also) = absurd (cc)
+typed command file kind (ServicesOf other another true) none (inr (inl e), plain, also) = absurd (cc)
+typed command file kind (ServicesOf other another true) none (inr (inr e), plain, also) = absurd (cc)
+typed command file kind _ none asks = absurd (cc)
+
+of_type : (command file kind : List ℕ) (task : Task) → IsOfType command file kind false task → AsksFor (command ∷ file ∷ kind ∷ []) task
+of_type command file kind (ServicesOf other another false) (name, same, kinds, json, plain, also) =
+    ((λ i. name i ∷ sym same i ∷ sym kinds i ∷ []), subst IsPlain (sym same) plain, subst IsPlain (sym kinds) also)
+of_type command file kind (ServicesOf other another true) (name, same, kinds, json, plain, also) = absurd (true≢false json)
+of_type command file kind _ is = absurd is
+
+pub found_typed : (command file kind : List ℕ) (found : Option Task) → NoOptions file kind
+    → Finds (IsOfType command file kind false) found → Finds (AsksFor (command ∷ file ∷ kind ∷ [])) found
+found_typed command file kind None options none = λ task asks. none task (typed command file kind task options asks)
+found_typed command file kind (Some task) options is = of_type command file kind task is
+
+-- three words behind a command ask for the services of a type alone
+abbrev IsTyped : List (List ℕ) → Task → Type 0
+IsTyped words (ServicesOf file kind true) = AreTypeWords words (codes "services") file.now kind.now true
+    × IsPlain file.now × IsPlain kind.now
+IsTyped words task = ⊥
+
+of_four : (a b c d : List ℕ) (task : Task) → AsksFor (a ∷ b ∷ c ∷ d ∷ []) task → IsTyped (a ∷ b ∷ c ∷ d ∷ []) task
+of_four a b c d (ShowFrames node) (text, is, inl e) = absurd (cc)
+of_four a b c d (ShowFrames node) (text, is, inr e) = absurd (cc)
+of_four a b c d (Udp port) (inl asks) = absurd (cc)
+of_four a b c d (Udp port) (inr (text, is, inl e)) = absurd (cc)
+of_four a b c d (Udp port) (inr (text, is, inr e)) = absurd (cc)
+of_four a b c d (Listen file true) (inl e, plain) = absurd (cc)
+of_four a b c d (Listen file true) (inr e, plain) = absurd (cc)
+of_four a b c d (CheckSite file) (inl e, plain) = absurd (cc)
+of_four a b c d (CheckSite file) (inr e, plain) = absurd (cc)
+of_four a b c d (CheckHost file) (inl e, plain) = absurd (cc)
+of_four a b c d (CheckHost file) (inr e, plain) = absurd (cc)
+of_four a b c d (Networks file true) (inl e, plain) = absurd (cc)
+of_four a b c d (Networks file true) (inr e, plain) = absurd (cc)
+of_four a b c d (Services file true) (inl e, plain) = absurd (cc)
+of_four a b c d (Services file true) (inr e, plain) = absurd (cc)
+of_four a b c d (ServicesOf file kind true) asks = asks
+of_four a b c d _ asks = absurd (cc)
+
+json_first : (command file kind : List ℕ) (task : Task) → IsTyped (command ∷ codes "--json" ∷ file ∷ kind ∷ []) task → IsOfType command file kind true task
+json_first command file kind (ServicesOf other another true) (inl e, plain, also) =
+    (first e, sym (third e), sym (fourth e), refl, subst IsPlain (sym (third e)) plain, subst IsPlain (sym (fourth e)) also)
+json_first command file kind (ServicesOf other another true) (inr (inl e), plain, also) = absurd (not_plain other.now _ (sym (second e)) plain)
+json_first command file kind (ServicesOf other another true) (inr (inr e), plain, also) = absurd (not_plain other.now _ (sym (second e)) plain)
+json_first command file kind _ asks = absurd asks
+
+json_between : (command file kind : List ℕ) (task : Task) → IsTyped (command ∷ file ∷ codes "--json" ∷ kind ∷ []) task → IsOfType command file kind true task
+json_between command file kind (ServicesOf other another true) (inl e, plain, also) = absurd (not_plain other.now _ (sym (third e)) plain)
+json_between command file kind (ServicesOf other another true) (inr (inl e), plain, also) =
+    (first e, sym (second e), sym (fourth e), refl, subst IsPlain (sym (second e)) plain, subst IsPlain (sym (fourth e)) also)
+json_between command file kind (ServicesOf other another true) (inr (inr e), plain, also) = absurd (not_plain another.now _ (sym (third e)) also)
+json_between command file kind _ asks = absurd asks
+
+json_last : (command file kind : List ℕ) (task : Task) → IsTyped (command ∷ file ∷ kind ∷ codes "--json" ∷ []) task → IsOfType command file kind true task
+json_last command file kind (ServicesOf other another true) (inl e, plain, also) = absurd (not_plain another.now _ (sym (fourth e)) also)
+json_last command file kind (ServicesOf other another true) (inr (inl e), plain, also) = absurd (not_plain another.now _ (sym (fourth e)) also)
+json_last command file kind (ServicesOf other another true) (inr (inr e), plain, also) =
+    (first e, sym (second e), sym (third e), refl, subst IsPlain (sym (second e)) plain, subst IsPlain (sym (third e)) also)
+json_last command file kind _ asks = absurd asks
+
+of_first : (command file kind : List ℕ) (task : Task) → IsOfType command file kind true task → AsksFor (command ∷ codes "--json" ∷ file ∷ kind ∷ []) task
+of_first command file kind (ServicesOf other another true) (name, same, kinds, json, plain, also) =
+    (inl (λ i. name i ∷ codes "--json" ∷ sym same i ∷ sym kinds i ∷ []), subst IsPlain (sym same) plain, subst IsPlain (sym kinds) also)
+of_first command file kind (ServicesOf other another false) (name, same, kinds, json, plain, also) = absurd (true≢false (sym json))
+of_first command file kind _ is = absurd is
+
+of_between : (command file kind : List ℕ) (task : Task) → IsOfType command file kind true task → AsksFor (command ∷ file ∷ codes "--json" ∷ kind ∷ []) task
+of_between command file kind (ServicesOf other another true) (name, same, kinds, json, plain, also) =
+    (inr (inl (λ i. name i ∷ sym same i ∷ codes "--json" ∷ sym kinds i ∷ [])), subst IsPlain (sym same) plain, subst IsPlain (sym kinds) also)
+of_between command file kind (ServicesOf other another false) (name, same, kinds, json, plain, also) = absurd (true≢false (sym json))
+of_between command file kind _ is = absurd is
+
+of_last : (command file kind : List ℕ) (task : Task) → IsOfType command file kind true task → AsksFor (command ∷ file ∷ kind ∷ codes "--json" ∷ []) task
+of_last command file kind (ServicesOf other another true) (name, same, kinds, json, plain, also) =
+    (inr (inr (λ i. name i ∷ sym same i ∷ sym kinds i ∷ codes "--json" ∷ [])), subst IsPlain (sym same) plain, subst IsPlain (sym kinds) also)
+of_last command file kind (ServicesOf other another false) (name, same, kinds, json, plain, also) = absurd (true≢false (sym json))
+of_last command file kind _ is = absurd is
+
+pub found_first : (command file kind : List ℕ) (found : Option Task) → Finds (IsOfType command file kind true) found
+    → Finds (AsksFor (command ∷ codes "--json" ∷ file ∷ kind ∷ [])) found
+found_first command file kind None none = λ task asks. none task (json_first command file kind task (of_four command (codes "--json") file kind task asks))
+found_first command file kind (Some task) is = of_first command file kind task is
+
+pub found_between : (command file kind : List ℕ) (found : Option Task) → Finds (IsOfType command file kind true) found
+    → Finds (AsksFor (command ∷ file ∷ codes "--json" ∷ kind ∷ [])) found
+found_between command file kind None none = λ task asks. none task (json_between command file kind task (of_four command file (codes "--json") kind task asks))
+found_between command file kind (Some task) is = of_between command file kind task is
+
+pub found_last : (command file kind : List ℕ) (found : Option Task) → Finds (IsOfType command file kind true) found
+    → Finds (AsksFor (command ∷ file ∷ kind ∷ codes "--json" ∷ [])) found
+found_last command file kind None none = λ task asks. none task (json_last command file kind task (of_four command file kind (codes "--json") task asks))
+found_last command file kind (Some task) is = of_last command file kind task is
+
+-- one of the three is `--json`
+json_there : (a b c d : List ℕ) (task : Task) → b ≢ codes "--json" → c ≢ codes "--json" → d ≢ codes "--json"
+    → IsTyped (a ∷ b ∷ c ∷ d ∷ []) task → ⊥
+json_there a b c d (ServicesOf other another true) one two three (inl e, plain, also) = one (second e)
+json_there a b c d (ServicesOf other another true) one two three (inr (inl e), plain, also) = two (third e)
+json_there a b c d (ServicesOf other another true) one two three (inr (inr e), plain, also) = three (fourth e)
+json_there a b c d _ one two three asks = absurd asks
+
+pub none_of_four : (a b c d : List ℕ) → b ≢ codes "--json" → c ≢ codes "--json" → d ≢ codes "--json"
+    → (task : Task) → AsksFor (a ∷ b ∷ c ∷ d ∷ []) task → ⊥
+none_of_four a b c d one two three task asks = json_there a b c d task one two three (of_four a b c d task asks)
+
 -- the number of words
-none_so_many : (words : List (List ℕ)) → length words ≢ 2 → length words ≢ 3 → length words ≢ 4 → length words ≢ 6
+none_so_many : (words : List (List ℕ)) → length words ≢ 2 → length words ≢ 3 → length words ≢ 4 → length words ≢ 5 → length words ≢ 6
     → (task : Task) → AsksFor (drop 1 words) task → ⊥
-none_so_many words two three four six Hop asks = omega (arith, length-drop 1 words, ap length asks)
-none_so_many words two three four six (Show packet) (e, plain) = omega (arith, length-drop 1 words, ap length e)
-none_so_many words two three four six (ShowFrames node) (text, is, inl e) = omega (arith, length-drop 1 words, ap length e)
-none_so_many words two three four six (ShowFrames node) (text, is, inr e) = omega (arith, length-drop 1 words, ap length e)
-none_so_many words two three four six Check asks = omega (arith, length-drop 1 words, ap length asks)
-none_so_many words two three four six Sim asks = omega (arith, length-drop 1 words, ap length asks)
-none_so_many words two three four six (Udp port) (inl (e, is)) = omega (arith, length-drop 1 words, ap length e)
-none_so_many words two three four six (Udp port) (inr (text, is, inl e)) = omega (arith, length-drop 1 words, ap length e)
-none_so_many words two three four six (Udp port) (inr (text, is, inr e)) = omega (arith, length-drop 1 words, ap length e)
-none_so_many words two three four six (Route file) (e, plain) = omega (arith, length-drop 1 words, ap length e)
-none_so_many words two three four six (Listen file false) (e, plain) = omega (arith, length-drop 1 words, ap length e)
-none_so_many words two three four six (Listen file true) (inl e, plain) = omega (arith, length-drop 1 words, ap length e)
-none_so_many words two three four six (Listen file true) (inr e, plain) = omega (arith, length-drop 1 words, ap length e)
-none_so_many words two three four six (CheckSite file) (inl e, plain) = omega (arith, length-drop 1 words, ap length e)
-none_so_many words two three four six (CheckSite file) (inr e, plain) = omega (arith, length-drop 1 words, ap length e)
-none_so_many words two three four six (CheckHost file) (inl e, plain) = omega (arith, length-drop 1 words, ap length e)
-none_so_many words two three four six (CheckHost file) (inr e, plain) = omega (arith, length-drop 1 words, ap length e)
-none_so_many words two three four six (Send file target) asks = omega (arith, length-drop 1 words, ap length asks.0)
+none_so_many words two three four five six Hop asks = omega (arith, length-drop 1 words, ap length asks)
+none_so_many words two three four five six (Show packet) (e, plain) = omega (arith, length-drop 1 words, ap length e)
+none_so_many words two three four five six (ShowFrames node) (text, is, inl e) = omega (arith, length-drop 1 words, ap length e)
+none_so_many words two three four five six (ShowFrames node) (text, is, inr e) = omega (arith, length-drop 1 words, ap length e)
+none_so_many words two three four five six Check asks = omega (arith, length-drop 1 words, ap length asks)
+none_so_many words two three four five six Sim asks = omega (arith, length-drop 1 words, ap length asks)
+none_so_many words two three four five six (Udp port) (inl (e, is)) = omega (arith, length-drop 1 words, ap length e)
+none_so_many words two three four five six (Udp port) (inr (text, is, inl e)) = omega (arith, length-drop 1 words, ap length e)
+none_so_many words two three four five six (Udp port) (inr (text, is, inr e)) = omega (arith, length-drop 1 words, ap length e)
+none_so_many words two three four five six (Route file) (e, plain) = omega (arith, length-drop 1 words, ap length e)
+none_so_many words two three four five six (Listen file false) (e, plain) = omega (arith, length-drop 1 words, ap length e)
+none_so_many words two three four five six (Listen file true) (inl e, plain) = omega (arith, length-drop 1 words, ap length e)
+none_so_many words two three four five six (Listen file true) (inr e, plain) = omega (arith, length-drop 1 words, ap length e)
+none_so_many words two three four five six (CheckSite file) (inl e, plain) = omega (arith, length-drop 1 words, ap length e)
+none_so_many words two three four five six (CheckSite file) (inr e, plain) = omega (arith, length-drop 1 words, ap length e)
+none_so_many words two three four five six (CheckHost file) (inl e, plain) = omega (arith, length-drop 1 words, ap length e)
+none_so_many words two three four five six (CheckHost file) (inr e, plain) = omega (arith, length-drop 1 words, ap length e)
+none_so_many words two three four five six (Send file target) asks = omega (arith, length-drop 1 words, ap length asks.0)
+none_so_many words two three four five six (Networks file false) (e, plain) = omega (arith, length-drop 1 words, ap length e)
+none_so_many words two three four five six (Networks file true) (inl e, plain) = omega (arith, length-drop 1 words, ap length e)
+none_so_many words two three four five six (Networks file true) (inr e, plain) = omega (arith, length-drop 1 words, ap length e)
+none_so_many words two three four five six (Services file false) (e, plain) = omega (arith, length-drop 1 words, ap length e)
+none_so_many words two three four five six (Services file true) (inl e, plain) = omega (arith, length-drop 1 words, ap length e)
+none_so_many words two three four five six (Services file true) (inr e, plain) = omega (arith, length-drop 1 words, ap length e)
+none_so_many words two three four five six (ServicesOf file kind false) (e, plain, also) = omega (arith, length-drop 1 words, ap length e)
+none_so_many words two three four five six (ServicesOf file kind true) (inl e, plain, also) = omega (arith, length-drop 1 words, ap length e)
+none_so_many words two three four five six (ServicesOf file kind true) (inr (inl e), plain, also) = omega (arith, length-drop 1 words, ap length e)
+none_so_many words two three four five six (ServicesOf file kind true) (inr (inr e), plain, also) = omega (arith, length-drop 1 words, ap length e)
 
 -- ---- the words of a list, behind its first
 
 module _ {A : Type 0} (text : A → List ℕ) where
-  pub none_behind : (ws : List A) → length ws ≢ 2 → length ws ≢ 3 → length ws ≢ 4 → length ws ≢ 6
+  pub none_behind : (ws : List A) → length ws ≢ 2 → length ws ≢ 3 → length ws ≢ 4 → length ws ≢ 5 → length ws ≢ 6
       → (task : Task) → AsksFor (drop 1 (map text ws)) task → ⊥
-  none_behind ws two three four six =
+  none_behind ws two three four five six =
       let same = length-map ws text in
-      none_so_many (map text ws) (λ e. two (sym same ∙ e)) (λ e. three (sym same ∙ e)) (λ e. four (sym same ∙ e)) (λ e. six (sym same ∙ e))
+      none_so_many (map text ws) (λ e. two (sym same ∙ e)) (λ e. three (sym same ∙ e)) (λ e. four (sym same ∙ e)) (λ e. five (sym same ∙ e)) (λ e. six (sym same ∙ e))
 
   pub behind_two : (ws : List A) (b : A) → 2 ≤ length ws → length ws < 3 → b ≡ get_or ws 1 b → text b ∷ [] ≡ drop 1 (map text ws)
   behind_two (a ∷ x ∷ []) b most least second = λ i. text (second i) ∷ []
@@ -298,6 +626,12 @@ module _ {A : Type 0} (text : A → List ℕ) where
   behind_four (a ∷ x ∷ y ∷ z ∷ []) b c d most least second third fourth =
       λ i. text (second i) ∷ text (third i) ∷ text (fourth i) ∷ []
   behind_four _ b c d most least second third fourth = absurd (omega arith)
+
+  pub behind_five : (ws : List A) (b c d e : A) → 5 ≤ length ws → length ws < 6 → b ≡ get_or ws 1 b → c ≡ get_or ws 2 c
+      → d ≡ get_or ws 3 d → e ≡ get_or ws 4 e → text b ∷ text c ∷ text d ∷ text e ∷ [] ≡ drop 1 (map text ws)
+  behind_five (a ∷ w ∷ x ∷ y ∷ z ∷ []) b c d e most least second third fourth fifth =
+      λ i. text (second i) ∷ text (third i) ∷ text (fourth i) ∷ text (fifth i) ∷ []
+  behind_five _ b c d e most least second third fourth fifth = absurd (omega arith)
 
   pub behind_six : (ws : List A) (b c d e f : A) → 6 ≤ length ws → length ws < 7 → b ≡ get_or ws 1 b → c ≡ get_or ws 2 c
       → d ≡ get_or ws 3 d → e ≡ get_or ws 4 e → f ≡ get_or ws 5 f
@@ -324,10 +658,13 @@ name (CheckSite file) = codes "route"
 name (Listen file once) = codes "listen"
 name (CheckHost file) = codes "listen"
 name (Send file target) = codes "send"
+name (Networks file json) = codes "networks"
+name (Services file json) = codes "services"
+name (ServicesOf file kind json) = codes "services"
 
--- the first two letters tell the names apart
+-- the first three letters tell the names apart
 abbrev mark : List ℕ → ℕ
-mark word = get_or word 0 0 * 256 + get_or word 1 0
+mark word = (get_or word 0 0 * 256 + get_or word 1 0) * 256 + get_or word 2 0
 
 named : (words : List (List ℕ)) (task : Task) → AsksFor words task → get_or words 0 [] ≡ name task
 named words Hop asks = ap (λ ws. get_or ws 0 []) asks
@@ -348,6 +685,16 @@ named words (CheckSite file) (inr e, plain) = ap (λ ws. get_or ws 0 []) e
 named words (CheckHost file) (inl e, plain) = ap (λ ws. get_or ws 0 []) e
 named words (CheckHost file) (inr e, plain) = ap (λ ws. get_or ws 0 []) e
 named words (Send file target) asks = ap (λ ws. get_or ws 0 []) asks.0
+named words (Networks file false) (e, plain) = first e
+named words (Networks file true) (inl e, plain) = first e
+named words (Networks file true) (inr e, plain) = first e
+named words (Services file false) (e, plain) = first e
+named words (Services file true) (inl e, plain) = first e
+named words (Services file true) (inr e, plain) = first e
+named words (ServicesOf file kind false) (e, plain, also) = first e
+named words (ServicesOf file kind true) (inl e, plain, also) = first e
+named words (ServicesOf file kind true) (inr (inl e), plain, also) = first e
+named words (ServicesOf file kind true) (inr (inr e), plain, also) = first e
 
 one_value : (text next : List ℕ) (port other : ℕ) → text ≡ next → IsUdpPort text port → IsUdpPort next other → port ≡ other
 one_value text next port other same is too =
@@ -434,6 +781,78 @@ one_of_a_name words (CheckHost file) (Listen other true) same (inr e, plain) (in
 one_of_a_name words (Send file target) (Send other another) same asks too =
     let e = asks.0 in
     let f = too.0 in (cc, cc, cc, cc)
+one_of_a_name words (Networks file false) (Networks other false) same (e, plain) (f, also) = (cc, refl)
+one_of_a_name words (Networks file false) (Networks other true) same (e, plain) (inl f, also) = absurd (cc)
+one_of_a_name words (Networks file false) (Networks other true) same (e, plain) (inr f, also) = absurd (cc)
+one_of_a_name words (Networks file true) (Networks other false) same (inl e, plain) (f, also) = absurd (cc)
+one_of_a_name words (Networks file true) (Networks other false) same (inr e, plain) (f, also) = absurd (cc)
+one_of_a_name words (Networks file true) (Networks other true) same (inl e, plain) (inl f, also) = (cc, refl)
+one_of_a_name words (Networks file true) (Networks other true) same (inl e, plain) (inr f, also) =
+    let option : other.now ≡ codes "--json" = cc in absurd (not_plain other.now _ option also)
+one_of_a_name words (Networks file true) (Networks other true) same (inr e, plain) (inl f, also) =
+    let option : file.now ≡ codes "--json" = cc in absurd (not_plain file.now _ option plain)
+one_of_a_name words (Networks file true) (Networks other true) same (inr e, plain) (inr f, also) = (cc, refl)
+one_of_a_name words (Services file false) (Services other false) same (e, plain) (f, also) = (cc, refl)
+one_of_a_name words (Services file false) (Services other true) same (e, plain) (inl f, also) = absurd (cc)
+one_of_a_name words (Services file false) (Services other true) same (e, plain) (inr f, also) = absurd (cc)
+one_of_a_name words (Services file true) (Services other false) same (inl e, plain) (f, also) = absurd (cc)
+one_of_a_name words (Services file true) (Services other false) same (inr e, plain) (f, also) = absurd (cc)
+one_of_a_name words (Services file true) (Services other true) same (inl e, plain) (inl f, also) = (cc, refl)
+one_of_a_name words (Services file true) (Services other true) same (inl e, plain) (inr f, also) =
+    let option : other.now ≡ codes "--json" = cc in absurd (not_plain other.now _ option also)
+one_of_a_name words (Services file true) (Services other true) same (inr e, plain) (inl f, also) =
+    let option : file.now ≡ codes "--json" = cc in absurd (not_plain file.now _ option plain)
+one_of_a_name words (Services file true) (Services other true) same (inr e, plain) (inr f, also) = (cc, refl)
+one_of_a_name words (Services file false) (ServicesOf other kind false) same (e, plain) (f, also, more) = absurd (cc)
+one_of_a_name words (Services file false) (ServicesOf other kind true) same (e, plain) (inl f, also, more) = absurd (cc)
+one_of_a_name words (Services file false) (ServicesOf other kind true) same (e, plain) (inr (inl f), also, more) = absurd (cc)
+one_of_a_name words (Services file false) (ServicesOf other kind true) same (e, plain) (inr (inr f), also, more) = absurd (cc)
+one_of_a_name words (Services file true) (ServicesOf other kind false) same (inl e, plain) (f, also, more) =
+    let option : other.now ≡ codes "--json" = cc in absurd (not_plain other.now _ option also)
+one_of_a_name words (Services file true) (ServicesOf other kind false) same (inr e, plain) (f, also, more) =
+    let option : kind.now ≡ codes "--json" = cc in absurd (not_plain kind.now _ option more)
+one_of_a_name words (Services file true) (ServicesOf other kind true) same (inl e, plain) (inl f, also, more) = absurd (cc)
+one_of_a_name words (Services file true) (ServicesOf other kind true) same (inl e, plain) (inr (inl f), also, more) = absurd (cc)
+one_of_a_name words (Services file true) (ServicesOf other kind true) same (inl e, plain) (inr (inr f), also, more) = absurd (cc)
+one_of_a_name words (Services file true) (ServicesOf other kind true) same (inr e, plain) (inl f, also, more) = absurd (cc)
+one_of_a_name words (Services file true) (ServicesOf other kind true) same (inr e, plain) (inr (inl f), also, more) = absurd (cc)
+one_of_a_name words (Services file true) (ServicesOf other kind true) same (inr e, plain) (inr (inr f), also, more) = absurd (cc)
+one_of_a_name words (ServicesOf other kind false) (Services file false) same (f, also, more) (e, plain) = absurd (cc)
+one_of_a_name words (ServicesOf other kind true) (Services file false) same (inl f, also, more) (e, plain) = absurd (cc)
+one_of_a_name words (ServicesOf other kind true) (Services file false) same (inr (inl f), also, more) (e, plain) = absurd (cc)
+one_of_a_name words (ServicesOf other kind true) (Services file false) same (inr (inr f), also, more) (e, plain) = absurd (cc)
+one_of_a_name words (ServicesOf other kind false) (Services file true) same (f, also, more) (inl e, plain) =
+    let option : other.now ≡ codes "--json" = cc in absurd (not_plain other.now _ option also)
+one_of_a_name words (ServicesOf other kind false) (Services file true) same (f, also, more) (inr e, plain) =
+    let option : kind.now ≡ codes "--json" = cc in absurd (not_plain kind.now _ option more)
+one_of_a_name words (ServicesOf other kind true) (Services file true) same (inl f, also, more) (inl e, plain) = absurd (cc)
+one_of_a_name words (ServicesOf other kind true) (Services file true) same (inr (inl f), also, more) (inl e, plain) = absurd (cc)
+one_of_a_name words (ServicesOf other kind true) (Services file true) same (inr (inr f), also, more) (inl e, plain) = absurd (cc)
+one_of_a_name words (ServicesOf other kind true) (Services file true) same (inl f, also, more) (inr e, plain) = absurd (cc)
+one_of_a_name words (ServicesOf other kind true) (Services file true) same (inr (inl f), also, more) (inr e, plain) = absurd (cc)
+one_of_a_name words (ServicesOf other kind true) (Services file true) same (inr (inr f), also, more) (inr e, plain) = absurd (cc)
+one_of_a_name words (ServicesOf file kind false) (ServicesOf other another false) same (e, plain, more) (f, also, too) = (cc, cc, refl)
+one_of_a_name words (ServicesOf file kind false) (ServicesOf other another true) same (e, plain, more) (inl f, also, too) = absurd (cc)
+one_of_a_name words (ServicesOf file kind true) (ServicesOf other another false) same (inl e, plain, more) (f, also, too) = absurd (cc)
+one_of_a_name words (ServicesOf file kind false) (ServicesOf other another true) same (e, plain, more) (inr (inl f), also, too) = absurd (cc)
+one_of_a_name words (ServicesOf file kind true) (ServicesOf other another false) same (inr (inl e), plain, more) (f, also, too) = absurd (cc)
+one_of_a_name words (ServicesOf file kind false) (ServicesOf other another true) same (e, plain, more) (inr (inr f), also, too) = absurd (cc)
+one_of_a_name words (ServicesOf file kind true) (ServicesOf other another false) same (inr (inr e), plain, more) (f, also, too) = absurd (cc)
+one_of_a_name words (ServicesOf file kind true) (ServicesOf other another true) same (inl e, plain, more) (inl f, also, too) = (cc, cc, refl)
+one_of_a_name words (ServicesOf file kind true) (ServicesOf other another true) same (inl e, plain, more) (inr (inl f), also, too) =
+    let option : other.now ≡ codes "--json" = cc in absurd (not_plain other.now _ option also)
+one_of_a_name words (ServicesOf file kind true) (ServicesOf other another true) same (inl e, plain, more) (inr (inr f), also, too) =
+    let option : other.now ≡ codes "--json" = cc in absurd (not_plain other.now _ option also)
+one_of_a_name words (ServicesOf file kind true) (ServicesOf other another true) same (inr (inl e), plain, more) (inl f, also, too) =
+    let option : other.now ≡ codes "--json" = cc in absurd (not_plain other.now _ option also)
+one_of_a_name words (ServicesOf file kind true) (ServicesOf other another true) same (inr (inl e), plain, more) (inr (inl f), also, too) = (cc, cc, refl)
+one_of_a_name words (ServicesOf file kind true) (ServicesOf other another true) same (inr (inl e), plain, more) (inr (inr f), also, too) =
+    let option : another.now ≡ codes "--json" = cc in absurd (not_plain another.now _ option too)
+one_of_a_name words (ServicesOf file kind true) (ServicesOf other another true) same (inr (inr e), plain, more) (inl f, also, too) =
+    let option : another.now ≡ codes "--json" = cc in absurd (not_plain another.now _ option too)
+one_of_a_name words (ServicesOf file kind true) (ServicesOf other another true) same (inr (inr e), plain, more) (inr (inl f), also, too) =
+    let option : another.now ≡ codes "--json" = cc in absurd (not_plain another.now _ option too)
+one_of_a_name words (ServicesOf file kind true) (ServicesOf other another true) same (inr (inr e), plain, more) (inr (inr f), also, too) = (cc, cc, refl)
 one_of_a_name words _ _ same asks too = absurd (omega (arith, ap mark same))
 
 pub ask_for_one : AskForOne

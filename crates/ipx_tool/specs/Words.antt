@@ -1,11 +1,11 @@
 -- Which words ask for which command.
-use Rattle.std.specs.Prelude.{◌≡◌, ◌≤◌, ℕ, false, true, ◌⊎◌, List, [], ◌∷◌, ◌++◌, Option, Some, MatchOption, codes, nat_eq}
+use Rattle.std.specs.Prelude.{◌≡◌, ◌≤◌, ℕ, Bool, false, true, ◌⊎◌, List, [], ◌∷◌, ◌++◌, Option, Some, MatchOption, codes, nat_eq}
 use Rattle.std.specs.List.{starts_with}
 use Rattle.std.specs.Str.Parse.{IsNumeral, digits_value, without_leading_plus}
 use Rattle.ipx_wire.specs.AddressText.{spelled_node}
 use Rattle.ipx_carrier.specs.Mapping.{usual_port}
 use Rattle.ipx_tool.specs.declared.words.Task.{Task}
-use Rattle.ipx_tool.specs.declared.words.Task.TheVariants.{Hop, Show, ShowFrames, Check, Sim, Udp, Route, CheckSite, Listen, CheckHost, Send}
+use Rattle.ipx_tool.specs.declared.words.Task.TheVariants.{Hop, Show, ShowFrames, Check, Sim, Udp, Route, CheckSite, Listen, CheckHost, Send, Networks, Services, ServicesOf}
 
 -- a word that is no option: it does not begin with `-`
 abbrev pub IsPlain : List ℕ → Type 0
@@ -16,11 +16,19 @@ abbrev pub IsUdpPort : List ℕ → ℕ → Type 0
 IsUdpPort text port = IsNumeral 10 (without_leading_plus text)
     × (digits_value 10 (without_leading_plus text) ≡ port) × (1 ≤ port) × (port ≤ 65535)
 
+-- a command, a file and a type, with `--json` before, between or behind these two, or not at all
+abbrev pub AreTypeWords : List (List ℕ) → List ℕ → List ℕ → List ℕ → Bool → Type 0
+AreTypeWords words command file kind false = words ≡ command ∷ file ∷ kind ∷ []
+AreTypeWords words command file kind true = (words ≡ command ∷ codes "--json" ∷ file ∷ kind ∷ [])
+    ⊎ ((words ≡ command ∷ file ∷ codes "--json" ∷ kind ∷ [])
+    ⊎ (words ≡ command ∷ file ∷ kind ∷ codes "--json" ∷ []))
+
 -- the words behind the program's own name ask for this command. `udp` stands alone, and the port is
 -- the usual one then, or before `--port` and a text that writes the port, in two words or joined by `=`; so `show`
 -- stands before `--frame` and a text that spells a node. `listen`
 -- has `--once` before or behind its file, or not at all; `route` and `listen` with `--check` there
--- only check the file. A packet, a file and the three words of a target are no options
+-- only check the file; `networks` and `services` have `--json` anywhere behind them, or not at all. A
+-- packet, a file, a type and the three words of a target are no options
 abbrev pub AsksFor : List (List ℕ) → Task → Type 0
 AsksFor words Hop = words ≡ codes "hop" ∷ []
 AsksFor words (Show packet) = (words ≡ codes "show" ∷ packet.now ∷ []) × IsPlain packet.now
@@ -42,6 +50,14 @@ AsksFor words (CheckHost file) = ((words ≡ codes "listen" ∷ codes "--check" 
 AsksFor words (Send file target) =
     (words ≡ codes "send" ∷ file.now ∷ target.network.now ∷ target.node.now ∷ target.socket.now ∷ [])
     × IsPlain file.now × IsPlain target.network.now × IsPlain target.node.now × IsPlain target.socket.now
+AsksFor words (Networks file false) = (words ≡ codes "networks" ∷ file.now ∷ []) × IsPlain file.now
+AsksFor words (Networks file true) = ((words ≡ codes "networks" ∷ codes "--json" ∷ file.now ∷ [])
+    ⊎ (words ≡ codes "networks" ∷ file.now ∷ codes "--json" ∷ [])) × IsPlain file.now
+AsksFor words (Services file false) = (words ≡ codes "services" ∷ file.now ∷ []) × IsPlain file.now
+AsksFor words (Services file true) = ((words ≡ codes "services" ∷ codes "--json" ∷ file.now ∷ [])
+    ⊎ (words ≡ codes "services" ∷ file.now ∷ codes "--json" ∷ [])) × IsPlain file.now
+AsksFor words (ServicesOf file kind json) = AreTypeWords words (codes "services") file.now kind.now json
+    × IsPlain file.now × IsPlain kind.now
 
 -- what is found is so, and where nothing is found nothing is so
 abbrev pub Finds : {A : Type 0} → (A → Type 0) → Option A → Type 0
@@ -64,8 +80,20 @@ IsSame (CheckHost file) (CheckHost other) = file.now ≡ other.now
 IsSame (Send file target) (Send other another) = (file.now ≡ other.now)
     × (target.network.now ≡ another.network.now) × (target.node.now ≡ another.node.now)
     × (target.socket.now ≡ another.socket.now)
+IsSame (Networks file json) (Networks other too) = (file.now ≡ other.now) × (json ≡ too)
+IsSame (Services file json) (Services other too) = (file.now ≡ other.now) × (json ≡ too)
+IsSame (ServicesOf file kind json) (ServicesOf other another too) = (file.now ≡ other.now)
+    × (kind.now ≡ another.now) × (json ≡ too)
 IsSame task other = ⊥
 
 -- words ask for one command at most
 abbrev pub AskForOne : Type 0
 AskForOne = (words : List (List ℕ)) (task other : Task) → AsksFor words task → AsksFor words other → IsSame task other
+
+-- ---- a host that asks for the services of a type
+
+-- a command, a file and a type ask for it
+abbrev pub IsOfType : List ℕ → List ℕ → List ℕ → Bool → Task → Type 0
+IsOfType command file kind json (ServicesOf other another too) = (command ≡ codes "services")
+    × (other.now ≡ file) × (another.now ≡ kind) × (too ≡ json) × IsPlain file × IsPlain kind
+IsOfType command file kind json task = ⊥

@@ -8,6 +8,8 @@ pub struct WordShape {
     pub help: &'static str,
     /// The option that stands in place of it.
     pub unless: Option<&'static str>,
+    /// Whether it is wanted where that does not stand.
+    pub wanted: bool,
 }
 
 /// What stands behind an option.
@@ -28,7 +30,7 @@ pub struct OptionShape {
     pub help: &'static str,
 }
 
-/// A command. All its words are wanted, but where an option stands in place of one.
+/// A command. The words of it that are wanted stand before one that may be left out.
 pub struct CommandShape {
     pub name: &'static str,
     pub about: &'static str,
@@ -54,6 +56,10 @@ pub const LISTEN: &str = "listen";
 
 pub const SEND: &str = "send";
 
+pub const NETWORKS: &str = "networks";
+
+pub const SERVICES: &str = "services";
+
 pub const PORT_OPTION: &str = "--port";
 /// What stands before a port in one word with it.
 pub const PORT_IS: &str = "--port=";
@@ -67,16 +73,25 @@ pub const ONCE_OPTION: &str = "--once";
 
 pub const CHECK_OPTION: &str = "--check";
 
+pub const JSON_OPTION: &str = "--json";
+
 const HOST_FILE: WordShape = WordShape {
     name: "HOST",
     help: "The file of the host",
     unless: None,
+    wanted: true,
 };
 
 const CHECKS_FILE: OptionShape = OptionShape {
     name: "check",
     value: OptionValue::Nothing,
     help: "Says what stands in the file, and binds nothing",
+};
+
+const PRINTS_JSON: OptionShape = OptionShape {
+    name: "json",
+    value: OptionValue::Nothing,
+    help: "Prints a line of JSON for each, and nothing else",
 };
 
 /// All commands, in the order in which the help tells them.
@@ -98,6 +113,7 @@ const COMMANDS: &[CommandShape] = &[
             name: "HEX",
             help: "The packet, two hex digits a byte",
             unless: Some("frame"),
+            wanted: true,
         }],
         options: &[OptionShape {
             name: "frame",
@@ -142,6 +158,7 @@ const COMMANDS: &[CommandShape] = &[
             name: "SITE",
             help: "The file of the site",
             unless: None,
+            wanted: true,
         }],
         options: &[CHECKS_FILE],
     },
@@ -171,19 +188,46 @@ const COMMANDS: &[CommandShape] = &[
                 name: "NET",
                 help: "The network to dial, eight hex digits",
                 unless: None,
+                wanted: true,
             },
             WordShape {
                 name: "NODE",
                 help: "The node there, twelve hex digits",
                 unless: None,
+                wanted: true,
             },
             WordShape {
                 name: "SOCKET",
                 help: "Its socket, four hex digits",
                 unless: None,
+                wanted: true,
             },
         ],
         options: &[],
+    },
+    CommandShape {
+        name: NETWORKS,
+        about: "The networks that the routers of a host know",
+        long_about: texts::NETWORKS,
+        statuses: texts::NETWORKS_STATUSES,
+        words: &[HOST_FILE],
+        options: &[PRINTS_JSON],
+    },
+    CommandShape {
+        name: SERVICES,
+        about: "The services that the routers of a host know",
+        long_about: texts::SERVICES,
+        statuses: texts::SERVICES_STATUSES,
+        words: &[
+            HOST_FILE,
+            WordShape {
+                name: "TYPE",
+                help: "The type of the services, four hex digits; all where it is left out",
+                unless: None,
+                wanted: false,
+            },
+        ],
+        options: &[PRINTS_JSON],
     },
 ];
 

@@ -12,7 +12,7 @@ pub const VERSION: &str = "0.1.0";
 fn word_arg<'a>(alloc: Global, word: &WordShape) -> Result<Arg<'a>, AllocError> {
     let arg = Arg::new(alloc, word.name).help(word.help);
     match word.unless {
-        None => Ok(arg.required(true)),
+        None => Ok(arg.required(word.wanted)),
         Some(option) => arg.required_unless_present(option)?.conflicts_with(option),
     }
 }

@@ -8,6 +8,7 @@ mod words;
 
 use clap::error::ErrorKind;
 use ipx_commands::{do_check, do_hop, do_show, tell_no_memory};
+use ipx_operator::{do_networks, do_services};
 use ipx_shown_frames::do_show_frames;
 use ipx_sim::do_sim;
 use ipx_site::{check_site, do_route};
@@ -61,6 +62,14 @@ fn send(rt: &HostRuntime, file: &str, target: Target<'_>) -> u8 {
     do_send(rt, rt.alloc(), file, target, &mut rt.stdin(), shows)
 }
 
+fn networks(rt: &HostRuntime, file: &str, json: bool) -> u8 {
+    do_networks(rt, rt.alloc(), file, json, &mut io::writer(rt))
+}
+
+fn services(rt: &HostRuntime, file: &str, kind: Option<&str>, json: bool) -> u8 {
+    do_services(rt, rt.alloc(), file, kind, json, &mut io::writer(rt))
+}
+
 fn do_task(rt: &HostRuntime, task: Task<'_>) -> Result<u8, u8> {
     match task {
         Task::Hop => hop(rt),
@@ -76,6 +85,9 @@ fn do_task(rt: &HostRuntime, task: Task<'_>) -> Result<u8, u8> {
             Ok(do_listen(rt, rt.alloc(), file, once, &mut io::writer(rt)))
         }
         Task::Send(file, target) => Ok(send(rt, file, target)),
+        Task::Networks(file, json) => Ok(networks(rt, file, json)),
+        Task::Services(file, json) => Ok(services(rt, file, None, json)),
+        Task::ServicesOf(file, kind, json) => Ok(services(rt, file, Some(kind), json)),
     }
 }
 

@@ -212,3 +212,42 @@ There is no limit while one that is there has no room, and no wait once all is a
 
 Example:
   $ ipx send host.toml 00000033 00007f000104 4002 < file";
+
+pub const NETWORKS: &str = "\
+The networks that the routers of a host know, and how far they are
+
+Reads the file HOST as listen does, takes its address and its socket, and asks its router, and each
+of its routers, for all networks (RIP), straight, on the host's own network: again after one and
+after two seconds where one answered nothing. It prints a line for each network, the least by ticks
+and hops of those that were told, and by whom:
+  network   hops  ticks  by
+  00000022     2      8  00000a010001
+and behind them how many there are, who answered, and how soon. A router tells a host nothing that
+lies on the host's own network, or behind others of it.
+No listen or send of the same address may run meanwhile, since a router answers to its port alone.";
+
+pub const NETWORKS_STATUSES: &str = "\
+It is over where each answer came to its end and 200 ms passed without more, or after four seconds.
+Status 0: each router that was asked answered. 1: one did not, which a line on standard error tells,
+or knows nothing besides the host's own network, since then it sends nothing; or more was told than
+there is room for, writing failed, the socket can't be had, or memory ran out. 2: the file has a
+fault, which one line tells, and nothing was bound.
+
+Example:
+  $ ipx networks /etc/ipx/host.toml";
+
+pub const SERVICES: &str = "\
+The services that the routers of a host know, and where they are
+
+Asks as networks does for the services of TYPE, four hex digits, or for all (SAP). It prints a line
+for each service, the least by hops and address of those that were told, and by whom:
+  type  name      network   node          socket  hops  by
+  0004  HQ-FILES  00000a01  000000000001  0451       1  00000a010001
+and behind them how many there are, who answered, and how soon. Names print as show prints them. A
+router tells a host nothing that lies on the host's own network, or behind others of it.";
+
+pub const SERVICES_STATUSES: &str = "\
+It is over, and the status is, as of networks; 2 also where TYPE is not four hex digits.
+
+Example:
+  $ ipx services /etc/ipx/host.toml 0004";

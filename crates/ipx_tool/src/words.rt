@@ -2,11 +2,11 @@
 
 ghost use Rattle.std.specs.Prelude.{◌≡◌, ◌∷◌, [], codes, drop, map, nat_eq, string_bytes};
 ghost use Rattle.std.specs.List.{starts_with};
-ghost use Rattle.ipx_tool.specs.Words.{AskForOne, AsksFor, Finds, IsPlain, IsUdpPort};
+ghost use Rattle.ipx_tool.specs.Words.{AskForOne, AsksFor, Finds, IsOfType, IsPlain, IsUdpPort};
 
 use crate::commands::{
-    CHECK, CHECK_OPTION, FRAME_IS, FRAME_OPTION, HOP, LISTEN, ONCE_OPTION, PORT_IS, PORT_OPTION,
-    ROUTE, SEND, SHOW, SIM, UDP,
+    CHECK, CHECK_OPTION, FRAME_IS, FRAME_OPTION, HOP, JSON_OPTION, LISTEN, NETWORKS, ONCE_OPTION,
+    PORT_IS, PORT_OPTION, ROUTE, SEND, SERVICES, SHOW, SIM, UDP,
 };
 use crate::help::whole_command;
 use clap::Error;
@@ -36,12 +36,19 @@ pub enum Task<'a> {
     CheckHost(&'a str),
     /// The file of the host, and whom it dials.
     Send(&'a str, Target<'a>),
+    /// The file of the host that asks, and whether it prints JSON.
+    Networks(&'a str, bool),
+    /// The file of the host that asks, and whether it prints JSON.
+    Services(&'a str, bool),
+    /// The file of the host that asks, the type of the services, and whether it prints JSON.
+    ServicesOf(&'a str, &'a str, bool),
 }
 
 /// The command that the words ask for, the program's own name first: just `hop`, `check`, `sim` or
 /// `udp`; `show`, `route` or `listen` and one word that is no option; `listen` and such a word with
 /// `--once` before or behind it; `route` or `listen` and such a word with `--check` there; `send`
-/// and four words that are no options; `udp` and a port, as `--port P` or `--port=P`; or `show` and
+/// and four words that are no options; `networks` or `services` and such a word, or `services` and
+/// two, with `--json` anywhere behind the command or not at all; `udp` and a port, as `--port P` or `--port=P`; or `show` and
 /// a station, as `--frame NODE` or `--frame=NODE`. No other words ask for one.
 pub fn task_of(words: &[String]) -> Option<Task<'_>>
     ensures { Finds (AsksFor (drop 1 (map string_bytes words.now))) result }
@@ -51,6 +58,14 @@ pub fn task_of(words: &[String]) -> Option<Task<'_>>
         [_, command, word] => one_word_task(command.as_str(), word.as_str()),
         [_, command, option, value] => {
             option_task(command.as_str(), option.as_str(), value.as_str())
+        }
+        [_, command, first, second, third] => {
+            two_words_task(
+                command.as_str(),
+                first.as_str(),
+                second.as_str(),
+                third.as_str(),
+            )
         }
         [_, command, file, network, node, socket] => {
             let target = Target {
@@ -94,8 +109,55 @@ fn word_task<'a>(command: &str, word: &'a str) -> Option<Task<'a>>
         SHOW => Some(Task::Show(word)),
         ROUTE => Some(Task::Route(word)),
         LISTEN => Some(Task::Listen(word, false)),
+        NETWORKS => Some(Task::Networks(word, false)),
+        SERVICES => Some(Task::Services(word, false)),
         _ => None,
     }
+}
+
+/// A host that asks, and prints JSON.
+fn json_task<'a>(command: &str, path: &'a str) -> Option<Task<'a>>
+    ensures { Finds (AsksFor (command.now ∷ codes "--json" ∷ path.now ∷ [])) result }
+{
+    if is_option(path) {
+        return None;
+    }
+    match command {
+        NETWORKS => Some(Task::Networks(path, true)),
+        SERVICES => Some(Task::Services(path, true)),
+        _ => None,
+    }
+}
+
+/// A host that asks for the services of a type.
+fn type_task<'a>(command: &str, file: &'a str, kind: &'a str, json: bool) -> Option<Task<'a>>
+    ensures { Finds (IsOfType command.now file.now kind.now json) result }
+{
+    if command != SERVICES || is_option(file) || is_option(kind) {
+        return None;
+    }
+    Some(Task::ServicesOf(file, kind, json))
+}
+
+/// A command with three words more: a file, a type and `--json`.
+fn two_words_task<'a>(
+    command: &str,
+    first: &'a str,
+    second: &'a str,
+    third: &'a str,
+) -> Option<Task<'a>>
+    ensures { Finds (AsksFor (command.now ∷ first.now ∷ second.now ∷ third.now ∷ [])) result }
+{
+    if first == JSON_OPTION {
+        return type_task(command, second, third, true);
+    }
+    if second == JSON_OPTION {
+        return type_task(command, first, third, true);
+    }
+    if third == JSON_OPTION {
+        return type_task(command, first, second, true);
+    }
+    None
 }
 
 /// A host that listens until the end of one connection.
@@ -179,8 +241,8 @@ fn one_word_task<'a>(command: &str, word: &'a str) -> Option<Task<'a>>
     word_task(command, word)
 }
 
-/// A command with two words more: the port of `udp`, the station of `show`, or a file and `--once`
-/// or `--check`.
+/// A command with two words more: the port of `udp`, the station of `show`, a file and `--once`,
+/// `--check` or `--json`, or a file and a type.
 fn option_task<'a>(command: &str, first: &'a str, second: &'a str) -> Option<Task<'a>>
     ensures { Finds (AsksFor (command.now ∷ first.now ∷ second.now ∷ [])) result }
 {
@@ -199,10 +261,16 @@ fn option_task<'a>(command: &str, first: &'a str, second: &'a str) -> Option<Tas
     if second == CHECK_OPTION {
         return check_task(command, first);
     }
+    if first == JSON_OPTION {
+        return json_task(command, second);
+    }
+    if second == JSON_OPTION {
+        return json_task(command, first);
+    }
     if first == FRAME_OPTION {
         return frames_task(command, second);
     }
-    None
+    type_task(command, first, second, false)
 }
 
 /// No words ask for two commands.

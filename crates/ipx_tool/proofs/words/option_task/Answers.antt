@@ -1,6 +1,6 @@
-use Rattle.std.proofs.Common.{◌≡◌, ℕ, List, [], ◌∷◌, codes, rules, subst, sym}
+use Rattle.std.proofs.Common.{◌≡◌, ◌≢◌, ℕ, List, [], ◌∷◌, codes, rules, subst, sym}
 use Rattle.ipx_tool.specs.Words.{AsksFor, Finds}
-use Rattle.ipx_tool.proofs.AskedWords.{found_behind, found_check}
+use Rattle.ipx_tool.proofs.AskedWords.{NoOptions, found_behind, found_check, found_json, found_typed}
 use Rattle.ipx_tool.proofs.words.option_task.Goals as goal
 
 pub returns-then-eq : goal.returns-then-eq
@@ -34,5 +34,32 @@ returns-then-eq-5 c =
 
 pub returns-then-eq-6 : goal.returns-then-eq-6
 returns-then-eq-6 c =
+    let json : c.args.first.now ≡ codes "--json" = search rules in
+    subst (λ (w : List ℕ). Finds (AsksFor (c.args.command.now ∷ w ∷ c.args.second.now ∷ [])) c.json_task.result) (sym json) c.json_task.ensures
+
+pub returns-then-eq-7 : goal.returns-then-eq-7
+returns-then-eq-7 c =
+    let json : c.args.second.now ≡ codes "--json" = search rules in
+    let r = c.json_task-then-eq-7.result in
+    subst (λ (w : List ℕ). Finds (AsksFor (c.args.command.now ∷ c.args.first.now ∷ w ∷ [])) r) (sym json)
+    (found_json c.args.command.now c.args.first.now r c.json_task-then-eq-7.ensures)
+
+pub returns-then-eq-8 : goal.returns-then-eq-8
+returns-then-eq-8 c =
     let frame : c.args.first.now ≡ codes "--frame" = search rules in
     subst (λ (w : List ℕ). Finds (AsksFor (c.args.command.now ∷ w ∷ c.args.second.now ∷ [])) c.frames_task.result) (sym frame) c.frames_task.ensures
+
+pub returns : goal.returns
+returns c =
+    let first = c.args.first.now in
+    let second = c.args.second.now in
+    let port : first ≢ codes "--port" = search rules in
+    let once : first ≢ codes "--once" = search rules in
+    let check : first ≢ codes "--check" = search rules in
+    let json : first ≢ codes "--json" = search rules in
+    let frame : first ≢ codes "--frame" = search rules in
+    let once_behind : second ≢ codes "--once" = search rules in
+    let check_behind : second ≢ codes "--check" = search rules in
+    let json_behind : second ≢ codes "--json" = search rules in
+    let none : NoOptions first second = record { port = port; once = once; check = check; json = json; frame = frame; once_behind = once_behind; check_behind = check_behind; json_behind = json_behind } in
+    found_typed c.args.command.now first second c.type_task.result none c.type_task.ensures

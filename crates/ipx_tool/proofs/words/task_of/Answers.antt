@@ -1,8 +1,8 @@
 use Rattle.std.proofs.Common.{◌<◌, ◌≤◌, [], ◌∷◌, length, string_bytes, ap, arith, ◌∙◌}
 use Rattle.std.proofs.lemmas.Bool.{ltb-true, ltb-false}
-use Rattle.ipx_tool.proofs.AskedWords.{behind_two, behind_three, behind_four, behind_six, found_for, none_behind}
+use Rattle.ipx_tool.proofs.AskedWords.{behind_two, behind_three, behind_four, behind_five, behind_six, found_for, none_behind}
 use Rattle.ipx_tool.proofs.words.task_of.Goals as goal
-use Rattle.ipx_tool.proofs.words.task_of.Goals.{in_default-via-then-words-lt2, in_default-via-else-words-lt2+else-words-lt3+else-words-lt4+else-words-lt5+then-words-lt6, in_default-via-else-words-lt2+else-words-lt3+else-words-lt4+else-words-lt5+else-words-lt6+else-words-lt7}
+use Rattle.ipx_tool.proofs.words.task_of.Goals.{in_default-via-then-words-lt2, in_default-via-else-words-lt2+else-words-lt3+else-words-lt4+else-words-lt5+else-words-lt6+else-words-lt7}
 
 pub returns-in-len2 : goal.returns-in-len2
 returns-in-len2 c =
@@ -24,6 +24,13 @@ returns-in-len4 c =
     ∙ behind_four string_bytes c.args.words.now _ _ _ c.in-len4.len_at_least c.in-len4.len_below c.command-item-then-words-lt5.is c.option-item.is c.value-item.is)
     c.option_task.ensures
 
+pub returns-in-len5 : goal.returns-in-len5
+returns-in-len5 c =
+    found_for c.two_words_task.result
+    ((λ i. c.as_str-in-len5.ensures.value i ∷ c.as_str-in-len5-2.ensures.value i ∷ c.as_str-in-len5-3.ensures.value i ∷ c.as_str-in-len5-4.ensures.value i ∷ [])
+    ∙ behind_five string_bytes c.args.words.now _ _ _ _ c.in-len5.len_at_least c.in-len5.len_below c.command-item-then-words-lt6.is c.first-item.is c.second-item.is c.third-item.is)
+    c.two_words_task.ensures
+
 pub returns-in-len6 : goal.returns-in-len6
 returns-in-len6 c =
     found_for c.send_task.result
@@ -39,12 +46,8 @@ returns-in_default c =
     elim c.in_default.branch [
       | in_default-via-then-words-lt2 w ↦
           let most : n < 2 = ltb-true n 2 w.if-words-lt2-1.true in
-          none_behind string_bytes c.args.words.now (λ e. omega arith) (λ e. omega arith) (λ e. omega arith) (λ e. omega arith)
-      | in_default-via-else-words-lt2+else-words-lt3+else-words-lt4+else-words-lt5+then-words-lt6 w ↦
-          let least : 5 ≤ n = ltb-false n 5 w.if-words-lt5-1.false in
-          let most : n < 6 = ltb-true n 6 w.if-words-lt6-1.true in
-          none_behind string_bytes c.args.words.now (λ e. omega arith) (λ e. omega arith) (λ e. omega arith) (λ e. omega arith)
+          none_behind string_bytes c.args.words.now (λ e. omega arith) (λ e. omega arith) (λ e. omega arith) (λ e. omega arith) (λ e. omega arith)
       | in_default-via-else-words-lt2+else-words-lt3+else-words-lt4+else-words-lt5+else-words-lt6+else-words-lt7 w ↦
           let least : 7 ≤ n = ltb-false n 7 w.if-words-lt7-1.false in
-          none_behind string_bytes c.args.words.now (λ e. omega arith) (λ e. omega arith) (λ e. omega arith) (λ e. omega arith)
+          none_behind string_bytes c.args.words.now (λ e. omega arith) (λ e. omega arith) (λ e. omega arith) (λ e. omega arith) (λ e. omega arith)
     ]

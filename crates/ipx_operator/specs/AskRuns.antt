@@ -1,0 +1,28 @@
+-- How the host of an operator asks: turn by turn, until it is over. All of it is own.
+-- The entry point is `HasAsked`.
+use Rattle.std.specs.Prelude.{◌≡◌, ℕ, List, [], ◌∷◌, Bool, true}
+use Rattle.ipx_carrier.specs.Turns.{Given, Turn, Turns}
+use Rattle.ipx_asking.specs.AskAnswers.{AskHears}
+use Rattle.ipx_asking.specs.AskEnds.{is_ask_over}
+use Rattle.ipx_asking.specs.AskQueries.{AskGives}
+use Rattle.ipx_asking.specs.AskView.{AskView, IsNewAsk}
+use Rattle.ipx_asking.specs.declared.question.Question.{Question}
+use Rattle.ipx_site.specs.declared.host.HostFile.{HostFile}
+use Rattle.ipx_operator.specs.WhoIsAsked.{asked_nodes, asker_address}
+
+-- of its one port it hears what comes, and gives queries
+abbrev pub hears_answer : AskView → ℕ → List ℕ → ℕ → AskView → Type 0
+hears_answer old port bytes now new = AskHears old bytes now new
+
+-- it was asked turn by turn, in these turns
+abbrev pub AsksOn : List Turn → AskView → AskView → Type 0
+AsksOn turns old new = Turns hears_answer AskGives 1 turns old new
+
+-- the host of a file asked its routers a question, from nothing, turn by turn, until at this moment it was
+-- over
+pub record HasAsked (file : HostFile) (question : Question) (ask : AskView) (now : ℕ) : Type 0 where
+  pub fresh : AskView
+  pub turns : List Turn
+  pub begins : IsNewAsk (asker_address file) question (asked_nodes file) fresh
+  pub asks : AsksOn turns fresh ask
+  pub over : is_ask_over ask now ≡ true

@@ -1,0 +1,4 @@
+pub mod AskRuns
+pub mod Listed
+pub mod OperatorLines
+pub mod WhoIsAsked

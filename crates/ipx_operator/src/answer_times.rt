@@ -1,0 +1,96 @@
+//! How long it took until routers answered.
+
+ghost use Rattle.std.specs.Prelude.{◌≡◌, IfOk, map};
+ghost use Rattle.ipx_operator.specs.OperatorLines.{answering_nodes};
+
+use ipx_asking::AskedRouter;
+use ipx_wire::Node;
+use std::alloc::{AllocError, Global};
+use std::rt::Clock;
+use std::time::Instant;
+
+/// How many nanoseconds a tenth of a millisecond has.
+const TENTH: u128 = 100_000;
+
+/// A router that answered, and after how many tenths of a millisecond.
+#[derive(Clone, Copy, Debug, PartialEq, Eq)]
+pub struct AnswerTime {
+    pub node: Node,
+    pub tenths: u64,
+}
+
+/// When routers answered first, by the system's clock, in the order in which they are asked. Nothing
+/// is proved of the times.
+#[derive(Drop)]
+pub struct AnswerTimes<'a, R: Clock> {
+    system: &'a R,
+    start: Option<Instant>,
+    tenths: Vec<Option<u64>>,
+}
+
+impl<'a, R: Clock> AnswerTimes<'a, R> {
+    /// The times of so many routers, from now.
+    pub fn new(
+        system: &'a R,
+        alloc: Global,
+        count: usize,
+    ) -> Result<AnswerTimes<'a, R>, AllocError> {
+        let mut tenths = Vec::new(alloc);
+        for _router in 0..count {
+            tenths.push(None)?;
+        }
+        Ok(AnswerTimes {
+            system,
+            start: Instant::now(system).ok(),
+            tenths,
+        })
+    }
+
+    /// How many tenths of a millisecond have passed; 0 where the system tells no time.
+    fn passed(&self) -> u64 {
+        let Some(start) = self.start else {
+            return 0;
+        };
+        match start.elapsed(self.system) {
+            Ok(passed) => u64::try_from(passed.as_nanos() / TENTH).unwrap_or(u64::MAX),
+            Err(_) => 0,
+        }
+    }
+
+    /// Notes who answered by now.
+    pub fn note(&mut self, routers: &[AskedRouter]) {
+        let now = self.passed();
+        for (time, router) in self.tenths.iter_mut().zip(routers.iter()) {
+            if router.answered && time.is_none() {
+                *time = Some(now);
+            }
+        }
+    }
+
+    /// After how many tenths the router at a place answered.
+    fn at(&self, place: usize) -> u64 {
+        match self.tenths.get(place) {
+            Some(Some(tenths)) => *tenths,
+            _ => 0,
+        }
+    }
+
+    /// Those of the routers that answered, in their order.
+    pub fn answers(
+        &self,
+        alloc: Global,
+        routers: &[AskedRouter],
+    ) -> Result<Vec<AnswerTime>, AllocError>
+        ensures { IfOk result (λ v. map (λ a. a.node) v.items ≡ answering_nodes routers.now) }
+    {
+        let mut answers = Vec::new(alloc);
+        for (place, router) in routers.iter().enumerate() {
+            if router.answered {
+                let node = router.node;
+                let tenths = self.at(place);
+                answers.push(AnswerTime { node, tenths })?;
+            }
+        }
+        Ok(answers)
+    }
+}

@@ -1,0 +1,55 @@
+//! A question, asked by the host of a file until it is over.
+
+ghost use Rattle.std.specs.Prelude.{◌≡◌, ◌⊎◌, ℕ, List, IfErr, IfOk};
+ghost use Rattle.ipx_site.specs.Host.{IsHostText};
+ghost use Rattle.ipx_site.specs.Loading.{IsFileText};
+ghost use Rattle.ipx_site.specs.declared.host.HostFile.{HostFile as AHostFile};
+ghost use Rattle.ipx_operator.specs.AskRuns.{HasAsked};
+
+use crate::asking_host::AskingHost;
+use crate::fault::{AskFault, tell_fault};
+use ipx_asking::Question;
+use ipx_site::{HostFile, load_host};
+use std::alloc::Global;
+use std::net::Net;
+use std::rt::{Clock, Files};
+
+/// A host that asked, and the moment at which that was over, in milliseconds.
+#[derive(Drop)]
+pub struct Asked<'a, R: Clock> {
+    pub host: AskingHost<'a, R>,
+    pub over: u64,
+}
+
+/// Asks a question by the host of a file.
+fn ask_by<'a, R: Net + Clock>(
+    rt: &'a R,
+    alloc: Global,
+    file: &HostFile,
+    question: Question,
+) -> Result<Asked<'a, R>, AskFault>
+    ensures { IfOk result (λ a. HasAsked file.now question a.host.core a.over) }
+{
+    let mut host = AskingHost::open(rt, alloc, file, question)?;
+    let over = host.ask(alloc)?;
+    Ok(Asked { host, over })
+}
+
+/// Asks a question by the host of the file at a path. What is wrong is told, and the status
+/// answered: 2 for a fault of the file, else 1.
+pub fn ask<'a, R: Net + Files + Clock + Eprint>(
+    rt: &'a R,
+    alloc: Global,
+    path: &str,
+    question: Question,
+) -> Result<Asked<'a, R>, u8>
+    ensures asked { IfOk result (λ a. (text : List ℕ) × (file : AHostFile)
+        × IsFileText text × IsHostText text file × HasAsked file question a.host.core a.over) }
+    ensures fault { IfErr result (λ status. (status ≡ 1) ⊎ (status ≡ 2)) }
+{
+    let file = load_host(rt, alloc, path)?;
+    match ask_by(rt, alloc, &file, question) {
+        Ok(asked) => Ok(asked),
+        Err(fault) => Err(tell_fault(rt, path, fault)),
+    }
+}

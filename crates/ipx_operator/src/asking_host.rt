@@ -1,0 +1,202 @@
+//! The host of a file that asks its routers, over its socket.
+
+ghost use Rattle.std.specs.Prelude.{◌≡◌, ◌∷◌, [], IfOk, IfSome, List, OnOk, length, map, true};
+ghost use Rattle.ipx_carrier.specs.Turns.{Turn, peers_of};
+ghost use Rattle.ipx_site.specs.SitePorts.{access_by};
+ghost use Rattle.ipx_asking.specs.AskEnds.{is_ask_over};
+ghost use Rattle.ipx_asking.specs.AskView.{IsNewAsk};
+ghost use Rattle.ipx_operator.specs.AskRuns.{AsksOn};
+ghost use Rattle.ipx_operator.specs.OperatorLines.{answering_nodes};
+ghost use Rattle.ipx_operator.specs.WhoIsAsked.{asked_ips, asked_nodes, asker_address, guarded_asker};
+
+use crate::answer_times::{AnswerTime, AnswerTimes};
+use crate::fault::AskFault;
+use crate::whom::{asked_ips, asker_address, guard_of, nodes_of};
+use ipx_asking::{AskCore, Question};
+use ipx_carrier::{Clock as Moments, KeepsBack, Report, turn};
+use ipx_site::{Guard, HostFile, PeersOnly, Readiness, SiteSockets, SteadyClock};
+use std::alloc::{AllocError, Global};
+use std::net::Net;
+use std::rt::Clock;
+
+/// For how many milliseconds it waits at most before it looks again whether it is over.
+const LOOK: u64 = 20;
+
+/// The socket of a host that asks, with its guard. No broadcast goes anywhere.
+#[derive(Drop)]
+struct AskingWire {
+    device: PeersOnly<SiteSockets>,
+    peers: Vec<Vec<[u8; 4]>>,
+    ghost one_socket: { length device.device.sockets.items ≡ 1 },
+    ghost one_list: { length peers.items ≡ 1 },
+}
+
+/// A host that asks.
+#[derive(Drop)]
+pub struct AskingHost<'a, R: Clock> {
+    pub core: AskCore,
+    wire: AskingWire,
+    clock: SteadyClock<'a, R>,
+    readiness: Readiness,
+    times: AnswerTimes<'a, R>,
+}
+
+impl AskingWire {
+    /// One socket with its guard, and one list of nobody.
+    fn new(sockets: SiteSockets, guards: Vec<Guard>, peers: Vec<Vec<[u8; 4]>>) -> AskingWire
+        requires one_socket { length sockets.sockets.items ≡ 1 }
+        requires one_list { length peers.items ≡ 1 }
+        ensures sockets { result.device.device ≡ sockets }
+        ensures guards { result.device.guards.items ≡ guards.items }
+        ensures peers { result.peers ≡ peers }
+    {
+        AskingWire {
+            device: PeersOnly::new(sockets, guards),
+            peers,
+        }
+    }
+
+    /// The socket of the host of a file that asks at these IP addresses, bound, with what waits for
+    /// it.
+    fn open<R: Net>(
+        rt: &R,
+        alloc: Global,
+        file: &HostFile,
+        ips: &[[u8; 4]],
+    ) -> Result<(AskingWire, Readiness), AskFault>
+        ensures peers { IfOk result (λ r. peers_of r.0.peers.items ≡ [] ∷ []) }
+        ensures udp_port { IfOk result (λ r.
+            map (λ s. s.udp_port) r.0.device.device.sockets.items ≡ file.now.udp_port ∷ []) }
+        ensures guard { IfOk result (λ r. ips.now ≡ asked_ips file.now
+            → map access_by r.0.device.guards.items ≡ guarded_asker file.now ∷ []) }
+    {
+        let peers = vec![in alloc; Vec::new(alloc)]?;
+        let guards = vec![in alloc; guard_of(alloc, file, ips)?]?;
+        let sockets = SiteSockets::bind_one(rt, alloc, file.address, file.udp_port)?;
+        let readiness = Readiness::new(rt, alloc, &sockets)?;
+        Ok((AskingWire::new(sockets, guards, peers), readiness))
+    }
+}
+
+/// The core of the host of a file that asks at these IP addresses.
+fn core_of(
+    alloc: Global,
+    file: &HostFile,
+    question: Question,
+    ips: &[[u8; 4]],
+) -> Result<AskCore, AskFault>
+    ensures { IfOk result (λ c. ips.now ≡ asked_ips file.now
+        → IsNewAsk (asker_address file.now) question (asked_nodes file.now) c) }
+{
+    let nodes = nodes_of(alloc, ips)?;
+    Ok(AskCore::new(alloc, asker_address(file), question, &nodes)?)
+}
+
+/// Whether a turn heard or sent anything.
+fn is_active(report: Report) -> bool {
+    report.heard > 0 || report.sent > 0
+}
+
+impl<'a, R: Net + Clock> AskingHost<'a, R> {
+    /// A host that is bound as its file says, and asks its routers a question.
+    pub fn open(
+        rt: &'a R,
+        alloc: Global,
+        file: &HostFile,
+        question: Question,
+    ) -> Result<AskingHost<'a, R>, AskFault>
+        ensures fresh { IfOk result (λ h.
+            IsNewAsk (asker_address file.now) question (asked_nodes file.now) h.core) }
+        ensures udp_port { IfOk result (λ h.
+            map (λ s. s.udp_port) h.wire.device.device.sockets.items ≡ file.now.udp_port ∷ []) }
+        // Those alone are sent to and heard that it asks.
+        ensures guard { IfOk result (λ h.
+            map access_by h.wire.device.guards.items ≡ guarded_asker file.now ∷ []) }
+    {
+        let ips = asked_ips(alloc, file)?;
+        let core = core_of(alloc, file, question, &ips)?;
+        let times = AnswerTimes::new(rt, alloc, ips.len())?;
+        let (wire, readiness) = AskingWire::open(rt, alloc, file, &ips)?;
+        Ok(AskingHost {
+            core,
+            wire,
+            clock: SteadyClock::new(rt),
+            readiness,
+            times,
+        })
+    }
+
+    /// Takes one turn. It answers whether there may be more to do at once.
+    fn turn(&mut self, alloc: Global) -> Result<bool, AskFault>
+        ensures asks { OnOk result ((turns : List Turn) × AsksOn turns self.old.core self.new.core) }
+    {
+        let before = self.wire.device.kept_back();
+        let ran = turn(
+            alloc,
+            &mut self.core,
+            &mut self.wire.device,
+            &self.wire.peers,
+            &mut self.clock,
+        );
+        let Ok(report) = ran else {
+            return Err(AskFault::OutOfMemory);
+        };
+        self.times.note(self.core.routers());
+        Ok(is_active(report) || self.wire.device.kept_back() > before)
+    }
+
+    /// Takes one turn, and waits where there is nothing to do. It answers the moment, in
+    /// milliseconds, where it is over.
+    fn step(&mut self, alloc: Global) -> Result<Option<u64>, AskFault>
+        ensures asks { OnOk result ((turns : List Turn) × AsksOn turns self.old.core self.new.core) }
+        ensures over { IfOk result (λ moment.
+            IfSome moment (λ now. is_ask_over self.new.core now ≡ true)) }
+    {
+        let active = self.turn(alloc)?;
+        let now = self.clock.now();
+        if self.core.is_over(now) {
+            return Ok(Some(now));
+        }
+        if !active {
+            self.readiness.wait(LOOK)?;
+        }
+        Ok(None)
+    }
+
+    /// Asks, turn by turn, until it is over. It answers that moment, in milliseconds.
+    pub fn ask(&mut self, alloc: Global) -> Result<u64, AskFault>
+        ensures asks { OnOk result ((turns : List Turn) × AsksOn turns self.old.core self.new.core) }
+        ensures over { IfOk result (λ now. is_ask_over self.new.core now ≡ true) }
+    {
+        for _ in 0..u64::MAX {
+            if let Some(now) = self.step(alloc)? {
+                return Ok(now);
+            }
+        }
+        Err(AskFault::Wait)
+    }
+
+    /// Those of its routers that answered, and after which time.
+    pub fn answers(&self, alloc: Global) -> Result<Vec<AnswerTime>, AllocError>
+        ensures { IfOk result (λ v.
+            map (λ a. a.node) v.items ≡ answering_nodes self.now.core.routers) }
+    {
+        self.times.answers(alloc, self.core.routers())
+    }
+
+    /// Tells on standard error which routers did not answer, and whether there was no room for all
+    /// that was told.
+    pub fn tell<P: Eprint>(&self, rt: &P) {
+        for router in self.core.routers() {
+            if !router.answered {
+                let node = router.node;
+                let _ = eprintln!(rt;
+                    "no answer from {node}, or it knows nothing besides this network"
+                );
+            }
+        }
+        if self.core.is_cut() {
+            let _ = eprintln!(rt; "more was told than there is room for");
+        }
+    }
+}

@@ -1,0 +1,65 @@
+//! Why an asking does not come to its end.
+
+ghost use Rattle.std.specs.Prelude.{◌≡◌};
+
+use ipx_site::{BindFault, Obstacle, WaitFault};
+use ipx_wire::OutOfMemory;
+use std::alloc::{AllocError, AllocFailed};
+
+/// Why an asking does not come to its end.
+#[derive(Clone, Copy, Debug, PartialEq, Eq)]
+pub enum AskFault {
+    OutOfMemory,
+    /// Its socket can't be had.
+    Bind(Obstacle),
+    /// The system has no way to wait.
+    Wait,
+}
+
+impl From<OutOfMemory> for AskFault {
+    fn from(_error: OutOfMemory) -> AskFault {
+        AskFault::OutOfMemory
+    }
+}
+
+impl From<AllocError> for AskFault {
+    fn from(_error: AllocError) -> AskFault {
+        AskFault::OutOfMemory
+    }
+}
+
+impl<T: Drop> From<AllocFailed<T>> for AskFault {
+    fn from(_error: AllocFailed<T>) -> AskFault {
+        AskFault::OutOfMemory
+    }
+}
+
+impl From<BindFault> for AskFault {
+    fn from(fault: BindFault) -> AskFault {
+        match fault {
+            BindFault::OutOfMemory => AskFault::OutOfMemory,
+            BindFault::Port(_, obstacle) => AskFault::Bind(obstacle),
+        }
+    }
+}
+
+impl From<WaitFault> for AskFault {
+    fn from(fault: WaitFault) -> AskFault {
+        match fault {
+            WaitFault::OutOfMemory => AskFault::OutOfMemory,
+            WaitFault::System => AskFault::Wait,
+        }
+    }
+}
+
+/// Prints why the asking of a file's host does not come to its end, and answers the status 1.
+pub fn tell_fault<R: Eprint>(rt: &R, path: &str, fault: AskFault) -> u8
+    ensures { result ≡ 1 }
+{
+    let _ = match fault {
+        AskFault::OutOfMemory => eprintln!(rt; "{path}: out of memory"),
+        AskFault::Bind(obstacle) => eprintln!(rt; "{path}: {obstacle}"),
+        AskFault::Wait => eprintln!(rt; "{path}: the system can't wait for the socket"),
+    };
+    1
+}

@@ -1,0 +1,93 @@
+//! The command `networks`: which networks the routers of a host know.
+
+ghost use Rattle.std.specs.Prelude.{◌≡◌, ◌≤◌, ℕ, List, Bool, IfOk, map, string_bytes};
+ghost use Rattle.std.specs.Io.KnownBytes.{Appends};
+ghost use Rattle.ipx_asking.specs.AskEnds.{ask_status};
+ghost use Rattle.ipx_asking.specs.AskView.{AskView};
+ghost use Rattle.ipx_asking.specs.declared.question.Question.TheVariants.{Networks};
+ghost use Rattle.ipx_operator.specs.AskRuns.{HasAsked};
+ghost use Rattle.ipx_operator.specs.Listed.{ListsNetworks};
+ghost use Rattle.ipx_site.specs.Host.{IsHostText};
+ghost use Rattle.ipx_site.specs.Loading.{IsFileText};
+ghost use Rattle.ipx_site.specs.declared.host.HostFile.{HostFile as AHostFile};
+
+use crate::asked::{Asked, ask};
+use crate::network_lines::networks_to_text;
+use ipx_asking::Question;
+use ipx_site::write_checked;
+use std::alloc::{AllocError, Global};
+use std::io::Write;
+use std::net::Net;
+use std::rt::{Clock, Files};
+
+/// All that is printed of what a host was told.
+fn asked_to_text<R: Net + Clock>(
+    alloc: Global,
+    json: bool,
+    asked: &Asked<'_, R>,
+) -> Result<String, AllocError>
+    ensures { IfOk result (λ t. ListsNetworks json asked.now.host.core asked.now.over (string_bytes t)) }
+{
+    let Ok(listed) = asked.host.core.networks(alloc, asked.over) else {
+        return Err(AllocError);
+    };
+    let answers = asked.host.answers(alloc)?;
+    networks_to_text(alloc, json, &listed, &answers)
+}
+
+/// Prints what a host was told, tells who did not answer, and answers the status.
+fn print_asked<R: Net + Clock + Eprint, W: Write>(
+    rt: &R,
+    alloc: Global,
+    path: &str,
+    json: bool,
+    asked: &Asked<'_, R>,
+    writer: &mut W,
+) -> u8
+    ensures listed { result ≡ 0 → (text : List ℕ)
+        × ListsNetworks json asked.now.host.core asked.now.over text
+        × Appends (W.contents writer.old) (W.contents writer.new) text }
+    ensures status { result ≡ 0 → ask_status asked.now.host.core ≡ 0 }
+    ensures few { result ≤ 1 }
+{
+    let lines = asked_to_text(alloc, json, asked);
+    let written = write_checked(rt, path, lines, writer);
+    asked.host.tell(rt);
+    if written == 0 {
+        asked.host.core.status()
+    } else {
+        1
+    }
+}
+
+/// The command `networks`: asks the router of a host's file, and the routers that it names, which
+/// networks they know, and writes each with the least of what they told: a table, or with `json` a
+/// line of JSON for each. The host's address and socket are taken meanwhile. It takes up to four
+/// seconds.
+///
+/// The answer is the status: 0 where each router that was asked answered, and all is written; 1
+/// where one did not, more was told than there is room for, the writer fails, the socket can't be
+/// had or memory is refused; 2 for a fault of the file. What is wrong is a line on standard error.
+pub fn do_networks<R: Net + Files + Clock + Eprint, W: Write>(
+    rt: &R,
+    alloc: Global,
+    path: &str,
+    json: bool,
+    writer: &mut W,
+) -> u8
+    ensures few { result ≤ 2 }
+    // Where it ends well, the host of some text of a file has asked, each router answered, and what
+    // is written is the listing of what they told.
+    ensures listed { result ≡ 0 → (text : List ℕ) × (file : AHostFile) × (ask : AskView)
+        × (over : ℕ) × (lines : List ℕ) × IsFileText text × IsHostText text file
+        × HasAsked file Networks ask over × (ask_status ask ≡ 0)
+        × ListsNetworks json ask over lines
+        × Appends (W.contents writer.old) (W.contents writer.new) lines }
+    // For a fault of the file nothing is written.
+    ensures untouched { result ≡ 2 → writer.new ≡ writer.old }
+{
+    match ask(rt, alloc, path, Question::Networks) {
+        Ok(asked) => print_asked(rt, alloc, path, json, &asked, writer),
+        Err(status) => status,
+    }
+}

@@ -1,0 +1,6 @@
+//! Tests of what an operator is shown, with literal values. They call what `ipx_operator` makes
+//! public, and no crate stands on this one.
+#![tactic(auto)]
+
+#[cfg(test)]
+mod lines;

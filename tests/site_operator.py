@@ -1,0 +1,210 @@
+"""What an operator's host is told by routers, `ipx networks` and `ipx services`, for tests/sites."""
+import json
+import random
+import struct
+import threading
+import time
+
+from site_packets import ipx, rip_response
+from site_world import bound, listed, node, port_table, until
+
+# Three routers in a chain, with a host and a server at each end; and one that knows as much as it may.
+NEAR, FAR, MUCH = "127.0.1.180", "127.0.1.187", "127.0.1.188"
+NEAR_SERVER, FAR_SERVER, TELLER = "127.0.1.190", "127.0.1.191", "127.0.1.192"
+NEAR_HOST, FAR_HOST, MUCH_HOST = "127.0.1.193", "127.0.1.194", "127.0.1.195"
+SILENT, HALF, RANDOM = "127.0.1.196", "127.0.1.197", "127.0.1.198"
+ASKING = {SILENT: "127.0.1.200", HALF: "127.0.1.201", RANDOM: "127.0.1.202"}
+CHAIN = {
+    "o1": [("00000071", NEAR, [NEAR_HOST, NEAR_SERVER], 1), ("00000072", "127.0.1.181", ["127.0.1.182"], 6)],
+    "o2": [("00000072", "127.0.1.182", ["127.0.1.181"], 5), ("00000073", "127.0.1.183", ["127.0.1.184"], 3)],
+    "o3": [("00000073", "127.0.1.184", ["127.0.1.183"], 4), ("00000074", FAR, [FAR_HOST, FAR_SERVER], 2)],
+    "o4": [("00000075", MUCH, [MUCH_HOST], 1), ("00000076", "127.0.1.189", [TELLER], 1)],
+}
+OPERATED = sorted({address for ports in CHAIN.values() for _, address, _, _ in ports} | {*ASKING, *ASKING.values()}
+                  | {NEAR_SERVER, FAR_SERVER, TELLER, NEAR_HOST, FAR_HOST, MUCH_HOST})
+EVERY_NODE = "f" * 12
+# A router holds as many; one network more it has itself.
+MOST_TOLD, MOST_SERVICES = 1023, 4096
+
+# Each direct network is 0 hops and 0 ticks away, and each router that tells adds one hop, and the cost of the
+# port that it tells on. So at the near end: 72 by o1 (0 + 1); 73 by o2 (0 + 5) and o1 (+ 1); 74 by o3 (0 + 4), o2
+# (+ 5) and o1 (+ 1). At the far end: 73 by o3 (0 + 2); 72 by o2 (0 + 3) and o3 (+ 2); 71 by o1 (0 + 6), o2 (+ 3)
+# and o3 (+ 2).
+NEAR_NETWORKS = [("00000072", 1, 1), ("00000073", 2, 6), ("00000074", 3, 10)]
+FAR_NETWORKS = [("00000071", 3, 11), ("00000072", 2, 5), ("00000073", 1, 2)]
+# A server is one hop away from the router that it tells. What o1 is told on network 71 it does not tell there.
+NEAR_SERVICES = [("0640", r'a\x20"b\x5cc', 0xb02, 4)]
+FAR_SERVICES = [("0004", "HQ-FILES", 0xa01, 4), ("0640", "BACKUP", 0xa02, 4)]
+
+
+def sap_response(network, source, services):
+    """A SAP response from a node of a network; services are type, name, network and hops, at socket 0451 of node 1."""
+    body = struct.pack(">H", 2) + b"".join(
+        struct.pack(">H48sIHIHH", kind, name, place, 0, 1, 0x451, hops) for kind, name, place, hops in services)
+    return ipx(4, (network, EVERY_NODE, "0452"), (network, source, "0452"), body)
+
+
+def network_rows(networks, by):
+    return "".join(f"{network}  {hops:4}  {ticks:5}  {by}\n" for network, hops, ticks in networks)
+
+
+def service_rows(services, by):
+    wide = max([4, *(len(name) for _, name, _, _ in services)])
+    return "".join(f"{kind}  {name.ljust(wide)}  {place:08x}  000000000001  0451    {hops:4}  {by}\n"
+                   for kind, name, place, hops in services)
+
+
+def ask(sites, name, command, *words):
+    """The status of a command by the file of a host, and the process."""
+    process = sites.world.start(f"{name}-{command}", command, sites.world.path(f"{name}.toml"), *words)
+    return process.status(6), process
+
+
+def start_operator(sites):
+    """The routers, of which the middle one is the last; and what the servers and the teller say to theirs."""
+    for name, ports in CHAIN.items():
+        sites.world.write(f"{name}.toml", "".join(port_table(network, address, sites.port, peers) + f"cost = {cost}\n"
+                                                  for network, address, peers, cost in ports))
+    for name, network, address, router in (("near-asker", "00000071", NEAR_HOST, NEAR), ("far-asker", "00000074", FAR_HOST, FAR),
+                                           ("much-asker", "00000075", MUCH_HOST, MUCH)):
+        sites.host(name, network, address, router, "4003")
+    for name in ("o1", "o3", "o4"):
+        sites.start_router(name)
+        until(lambda: len(sites.routers[name].said()) >= 2, 10)  # pylint: disable=cell-var-from-loop
+    ends = {ip: bound(ip, sites.port) for ip in (NEAR_SERVER, FAR_SERVER, TELLER)}
+    ends[NEAR_SERVER].sendto(sap_response("00000071", node(NEAR_SERVER), [
+        (4, b"HQ-FILES", 0xa01, 1), (0x640, b"BACKUP", 0xa02, 1)]), (NEAR, sites.port))
+    ends[FAR_SERVER].sendto(sap_response("00000074", node(FAR_SERVER), [(0x640, b'a "b\\c', 0xb02, 1)]), (FAR, sites.port))
+    time.sleep(0.2)
+    sites.start_router("o2")
+    port = ("127.0.1.189", sites.port)
+    for first in range(0, MOST_TOLD, 50):
+        routes = [(0x1000 + place, 2, 3) for place in range(first, min(first + 50, MOST_TOLD))]
+        ends[TELLER].sendto(rip_response("00000076", node(TELLER), routes), port)
+    for first in range(0, MOST_SERVICES, 7):
+        services = [(4, b"S%04d" % place, 0x99, 1) for place in range(first, min(first + 7, MOST_SERVICES))]
+        ends[TELLER].sendto(sap_response("00000076", node(TELLER), services), port)
+        time.sleep(0.0005)
+    return ends
+
+
+def answer_badly(sites, address, one, over):
+    """A router that answers half, or with random bytes."""
+    rng = random.Random(sites.seed)
+    while not over.is_set():
+        try:
+            packet, (ip, _) = one.recvfrom(2000)
+        except BlockingIOError:
+            time.sleep(0.01)
+            continue
+        to = ("00000077", packet[22:28].hex(), packet[28:30].hex())
+        body = struct.pack(">H", 2) + b"".join(struct.pack(">IHH", 0x2000 + n, 1, 2) for n in range(50))
+        half = ipx(1, to, ("00000077", node(address), "0453"), body)
+        for datagram in [half] if address == HALF else [rng.randbytes(rng.randrange(600)) for _ in range(50)]:
+            one.sendto(datagram, (ip, sites.port))
+
+
+def start_bad(sites):
+    """Routers that answer nothing, half, and random bytes; and hosts that ask them, all at once."""
+    over = threading.Event()
+    ends = {address: bound(address, sites.port) for address in ASKING}
+    for address in (HALF, RANDOM):
+        threading.Thread(target=answer_badly, args=(sites, address, ends[address], over), daemon=True).start()
+    asking = {}
+    for address, host in ASKING.items():
+        name = f"asks-{address}"
+        sites.host(name, "00000077", host, address, "4003")
+        asking[address] = sites.world.start(name, "networks", sites.world.path(f"{name}.toml"))
+    return over, ends, asking
+
+
+def check_bad(sites, over, ends, asking):
+    """The statuses and lines of those, within five seconds of their start."""
+    wanted = {
+        SILENT: (1, "network   hops  ticks  by\n0 networks\n"),
+        HALF: (0, "network   hops  ticks  by\n"
+               + network_rows([(f"{0x2000 + n:08x}", 1, 2) for n in range(50)], node(HALF)) + "50 networks, "),
+        RANDOM: (1, "network   hops  ticks  by\n0 networks\n"),
+    }
+    for address, process in asking.items():
+        status = process.status(8)
+        took = (process.last_byte or time.monotonic()) - process.started
+        out, said = process.out.decode(), process.said()
+        lines = [] if address == HALF else [f"no answer from {node(address)}, or it knows nothing besides this network"]
+        what = {SILENT: "answers nothing", HALF: "answers half", RANDOM: "answers with random bytes"}[address]
+        sites.check(f"a router that {what}: status, lines and time",
+                    (status, said) == (wanted[address][0], lines) and out.startswith(wanted[address][1]) and took < 5,
+                    f"status {status}, {took:.1f} s" if status == wanted[address][0] else f"{status}, {said}, {out[-200:]}")
+    over.set()
+    for one in ends.values():
+        one.close()
+
+
+def check_table(sites, name, command, words, rows, count, by):
+    """A table of a command is these rows, and who answered is told, at the latest ten seconds after the routers started."""
+    head = {"networks": "network   hops  ticks  by\n", "services": None}[command]
+    end = time.monotonic() + 12
+    while True:
+        status, process = ask(sites, name, command, *words)
+        out = process.out.decode()
+        body, _, last = out[:-1].rpartition("\n")
+        good = (status == 0 and body.partition("\n")[2] + "\n" == rows and (head is None or out.startswith(head))
+                and last.startswith(f"{count}, {by} answered in ") and last.endswith(" ms"))
+        if good or time.monotonic() > end:
+            break
+        time.sleep(0.5)
+    sites.check(f"ipx {command} of {name}: all of it, with hops and ticks as computed by hand", good,
+                last if good else f"{status}, {process.said()}, {out}")
+
+
+def check_json(sites, name, command, words, wanted):
+    """What Python reads of the lines of JSON."""
+    status, process = ask(sites, name, command, *words, "--json")
+    out = process.out.decode()
+    try:
+        got = [json.loads(line) for line in out.splitlines()]
+    except ValueError as error:
+        got = str(error)
+    sites.check(f"ipx {command} of {name} as JSON", (status, got) == (0, wanted), "" if got == wanted else f"{status} {out}")
+
+
+def check_much(sites, has_room):
+    """As many networks and services as a router may know. Without room at their sockets a part of it is lost."""
+    for command, count in (("networks", MOST_TOLD + 1), ("services", MOST_SERVICES)):
+        start = time.monotonic()
+        status, process = ask(sites, "much-asker", command, "--json")
+        got = {line for line in process.out.decode().splitlines() if json.loads(line)}
+        least = count if has_room else count // 4
+        sites.check(f"{count} {command} of one router", status == 0 and least <= len(got) <= count,
+                    f"{len(got)}, status {status}, {time.monotonic() - start:.1f} s, {process.said()}")
+
+
+def check_operator(sites, ends, has_room):
+    """Tables, JSON, and one of two routers that does not answer."""
+    near, far = node(NEAR), node(FAR)
+    check_table(sites, "near-asker", "networks", [], network_rows(NEAR_NETWORKS, near), "3 networks", near)
+    check_table(sites, "far-asker", "networks", [], network_rows(FAR_NETWORKS, far), "3 networks", far)
+    check_table(sites, "near-asker", "services", [], service_rows(NEAR_SERVICES, near), "1 service", near)
+    check_table(sites, "far-asker", "services", [], service_rows(FAR_SERVICES, far), "2 services", far)
+    check_table(sites, "far-asker", "services", ["0004"], service_rows(FAR_SERVICES[:1], far), "1 service", far)
+    check_json(sites, "near-asker", "networks", [], [
+        {"network": network, "hops": hops, "ticks": ticks, "by": near} for network, hops, ticks in NEAR_NETWORKS])
+    check_json(sites, "near-asker", "services", ["0640"], [
+        {"type": kind, "name": name, "network": f"{place:08x}", "node": "000000000001", "socket": "0451", "hops": hops, "by": near}
+        for kind, name, place, hops in NEAR_SERVICES])
+    status, process = ask(sites, "far-asker", "services", "0ff0")
+    sites.check("a type that no service has: nobody answers", status == 1
+                and process.said() == [f"no answer from {far}, or it knows nothing besides this network"],
+                f"{status}, {process.said()}")
+    status, process = ask(sites, "far-asker", "services", "004")
+    sites.check("a type that is not four hex digits", (status, process.said(), process.out)
+                == (2, ["TYPE is to be four hex digits, as 0004"], b""), f"{status}, {process.said()}")
+    sites.host("two-asker", "00000071", NEAR_HOST, NEAR, "4003", listed("peers", [SILENT]) + listed("routers", [SILENT]))
+    status, process = ask(sites, "two-asker", "networks", "--json")
+    sites.check("of two routers one does not answer: what the other tells, and status 1",
+                status == 1 and len(process.out.splitlines()) == 3
+                and process.said() == [f"no answer from {node(SILENT)}, or it knows nothing besides this network"],
+                f"{status}, {process.said()}")
+    check_much(sites, has_room)
+    for one in ends.values():
+        one.close()
