@@ -194,7 +194,7 @@ def check_operator(sites, ends, has_room):
         for kind, name, place, hops in NEAR_SERVICES])
     status, process = ask(sites, "far-asker", "services", "0ff0")
     sites.check("a type that no service has: nobody answers", status == 1
-                and process.said() == [f"no answer from {far}, or it knows nothing besides this network"],
+                and process.said() == [f"no answer from {far}, or it knows no such service"],
                 f"{status}, {process.said()}")
     status, process = ask(sites, "far-asker", "services", "004")
     sites.check("a type that is not four hex digits", (status, process.said(), process.out)

@@ -1,16 +1,20 @@
--- What grows by one more: rows of a text, IP addresses, who answered, the width of a column, and turns.
-use Rattle.std.proofs.Common.{◌≡◌, ◌<◌, ℕ, ◌+◌, Bool, true, false, List, ◌++◌, [], ◌∷◌, length, map, max, take, get_or, sym, subst, ap, ◌∙◌, refl, arith, if◌then◌else◌}
+-- What grows by one more: rows of a text, IP addresses, who answered, the width of a column, and turns. And
+-- what a status of 0 comes of.
+use Rattle.std.proofs.Common.{◌≡◌, ◌≤◌, ◌<◌, ◌⊎◌, inl, inr, ℕ, ◌+◌, Bool, true, false, List, ◌++◌, [], ◌∷◌, length, map, max, take, get_or, sym, subst, ap, ◌∙◌, refl, arith, if◌then◌else◌}
 use Rattle.std.specs.Prelude.{filter}
 use Rattle.std.specs.List.{flat_map}
-use Rattle.std.proofs.lemmas.List.{append-nil, append_assoc, flat_map_more, take_more}
+use Rattle.std.proofs.lemmas.List.{append-nil, append_assoc, flat_map_more, map-append, take_more}
 use Rattle.ipx_wire.specs.declared.address.Node.{Node}
-use Rattle.ipx_carrier.specs.Turns.{Turn, Turns}
+use Rattle.ipx_carrier.specs.Device.{TellsMoments}
+use Rattle.ipx_carrier.specs.Turns.{Turn, Turns, moments_of}
 use Rattle.ipx_commands.specs.ShowLine.{name_text}
 use Rattle.ipx_asking.specs.AskQueries.{AskGives}
 use Rattle.ipx_asking.specs.AskView.{AskView}
 use Rattle.ipx_asking.specs.declared.asked_router.AskedRouter.{AskedRouter}
 use Rattle.ipx_site.specs.SitePeers.{is_peer}
-use Rattle.ipx_operator.specs.AskRuns.{AsksOn, hears_answer}
+use Rattle.ipx_site.specs.Steady.{NeverGoesBack}
+use Rattle.ipx_site.specs.declared.clock.SteadyClock.{SteadyClock}
+use Rattle.ipx_operator.specs.AskRuns.{AsksOn, PassBetween, hears_answer}
 use Rattle.ipx_operator.specs.OperatorLines.{ToldService, answering_nodes, name_width}
 use Rattle.ipx_operator.specs.WhoIsAsked.{new_ips}
 
@@ -67,7 +71,34 @@ pub width_more : (xs : List ToldService) (i : ℕ) (d : ToldService) (old wide :
 width_more xs i d old wide lt was is =
     rw (was, is) (sym (wide_more (take i xs) (get_or xs i d)) ∙ ap name_width (sym (take_more xs i d lt)))
 
--- turns, and more turns
-pub turns_on : (ts us : List Turn) (a b c : AskView) → AsksOn ts a b → AsksOn us b c → AsksOn (ts ++ us) a c
-turns_on [] us a b c h k = subst (λ a. AsksOn us a c) h k
-turns_on (t ∷ ts) us a b c h k = (h.0, h.1, turns_on ts us h.0 b c h.2 k)
+-- moments, and later ones
+between_on : (from : ℕ) (ms ns : List ℕ) (mid to : ℕ) → PassBetween from ms mid → PassBetween mid ns to → PassBetween from (ms ++ ns) to
+between_on from [] [] mid to h k = omega (arith, h, k)
+between_on from [] (n ∷ ns) mid to h k = (omega (arith, h, k.0), k.1)
+between_on from (m ∷ ms) ns mid to h k = (h.0, between_on m ms ns mid to h.1 k)
+
+pub between_later : (from : ℕ) (ms : List ℕ) (mid to : ℕ) → PassBetween from ms mid → mid ≤ to → PassBetween from ms to
+between_later from [] mid to h k = omega (arith, h, k)
+between_later from (m ∷ ms) mid to h k = (h.0, between_later m ms mid to h.1 k)
+
+-- what a clock told passed between what it told before and last
+pub told_between : {R : Type 0} (old new : SteadyClock R) (ms : List ℕ) → TellsMoments NeverGoesBack old new ms → PassBetween old.last ms new.last
+told_between {R} old new [] h = omega (arith, ap (λ (c : SteadyClock R). c.last) h)
+told_between old new (m ∷ ms) h = (h.1.0, subst (λ (from : ℕ). PassBetween from ms new.last) h.1.1 (told_between h.0 new ms h.2))
+
+-- turns, and more turns; and a moment behind them
+turns_after : (ts us : List Turn) (a b c : AskView) → Turns hears_answer AskGives 1 ts a b → Turns hears_answer AskGives 1 us b c → Turns hears_answer AskGives 1 (ts ++ us) a c
+turns_after [] us a b c h k = subst (λ a. Turns hears_answer AskGives 1 us a c) h k
+turns_after (t ∷ ts) us a b c h k = (h.0, h.1, turns_after ts us h.0 b c h.2 k)
+
+pub turns_on : (ts us : List Turn) (from mid to : ℕ) (a b c : AskView) → AsksOn ts from mid a b → AsksOn us mid to b c → AsksOn (ts ++ us) from to a c
+turns_on ts us from mid to a b c h k =
+    (turns_after ts us a b c h.0 k.0, subst (λ (ms : List ℕ). PassBetween from ms to) (sym (map-append (λ (t : Turn). t.moment) ts us)) (between_on from (moments_of ts) (moments_of us) mid to h.1 k.1))
+
+pub turns_later : (ts : List Turn) (from mid to : ℕ) (a b : AskView) → AsksOn ts from mid a b → mid ≤ to → AsksOn ts from to a b
+turns_later ts from mid to a b h k = (h.0, between_later from (moments_of ts) mid to h.1 k)
+
+-- what ends well ends as the host that asked
+pub status_of_host : (result status : ℕ) → (result ≡ 1) ⊎ (result ≡ status) → result ≡ 0 → status ≡ 0
+status_of_host result status (inl one) zero = absurd (omega (arith, one, zero))
+status_of_host result status (inr is) zero = sym is ∙ zero

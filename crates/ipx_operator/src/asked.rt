@@ -5,10 +5,11 @@ ghost use Rattle.ipx_site.specs.Host.{IsHostText};
 ghost use Rattle.ipx_site.specs.Loading.{IsFileText};
 ghost use Rattle.ipx_site.specs.declared.host.HostFile.{HostFile as AHostFile};
 ghost use Rattle.ipx_operator.specs.AskRuns.{HasAsked};
+ghost use Rattle.ipx_operator.specs.Listed.{printed_status};
 
 use crate::asking_host::AskingHost;
 use crate::fault::{AskFault, tell_fault};
-use ipx_asking::Question;
+use ipx_asking::{AskCore, Question};
 use ipx_site::{HostFile, load_host};
 use std::alloc::Global;
 use std::net::Net;
@@ -52,4 +53,11 @@ pub fn ask<'a, R: Net + Files + Clock + Eprint>(
         Ok(asked) => Ok(asked),
         Err(fault) => Err(tell_fault(rt, path, fault)),
     }
+}
+
+/// The status of a host that asked, where writing what it was told ended with this one.
+pub fn status_of(written: u8, core: &AskCore) -> u8
+    ensures { result ≡ printed_status written core.now }
+{
+    if written == 0 { core.status() } else { 1 }
 }

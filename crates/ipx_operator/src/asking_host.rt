@@ -109,14 +109,15 @@ impl<'a, R: Net + Clock> AskingHost<'a, R> {
             IsNewAsk (asker_address file.now) question (asked_nodes file.now) h.core) }
         ensures udp_port { IfOk result (λ h.
             map (λ s. s.udp_port) h.wire.device.device.sockets.items ≡ file.now.udp_port ∷ []) }
+        ensures clock { IfOk result (λ h. h.clock.last ≡ 0) }
         // Those alone are sent to and heard that it asks.
         ensures guard { IfOk result (λ h.
             map access_by h.wire.device.guards.items ≡ guarded_asker file.now ∷ []) }
     {
         let ips = asked_ips(alloc, file)?;
         let core = core_of(alloc, file, question, &ips)?;
-        let times = AnswerTimes::new(rt, alloc, ips.len())?;
         let (wire, readiness) = AskingWire::open(rt, alloc, file, &ips)?;
+        let times = AnswerTimes::new(rt, alloc, ips.len())?;
         Ok(AskingHost {
             core,
             wire,
@@ -128,7 +129,8 @@ impl<'a, R: Net + Clock> AskingHost<'a, R> {
 
     /// Takes one turn. It answers whether there may be more to do at once.
     fn turn(&mut self, alloc: Global) -> Result<bool, AskFault>
-        ensures asks { OnOk result ((turns : List Turn) × AsksOn turns self.old.core self.new.core) }
+        ensures asks { OnOk result ((turns : List Turn)
+            × AsksOn turns self.old.clock.last self.new.clock.last self.old.core self.new.core) }
     {
         let before = self.wire.device.kept_back();
         let ran = turn(
@@ -147,10 +149,13 @@ impl<'a, R: Net + Clock> AskingHost<'a, R> {
 
     /// Takes one turn, and waits where there is nothing to do. It answers the moment, in
     /// milliseconds, where it is over.
+    #[tactic(auto, using(crate::proofs::Rows::between_later, crate::proofs::Rows::turns_later))]
     fn step(&mut self, alloc: Global) -> Result<Option<u64>, AskFault>
-        ensures asks { OnOk result ((turns : List Turn) × AsksOn turns self.old.core self.new.core) }
+        ensures asks { OnOk result ((turns : List Turn)
+            × AsksOn turns self.old.clock.last self.new.clock.last self.old.core self.new.core) }
         ensures over { IfOk result (λ moment.
-            IfSome moment (λ now. is_ask_over self.new.core now ≡ true)) }
+            IfSome moment (λ now.
+            (now ≡ self.new.clock.last) × (is_ask_over self.new.core now ≡ true))) }
     {
         let active = self.turn(alloc)?;
         let now = self.clock.now();
@@ -165,8 +170,10 @@ impl<'a, R: Net + Clock> AskingHost<'a, R> {
 
     /// Asks, turn by turn, until it is over. It answers that moment, in milliseconds.
     pub fn ask(&mut self, alloc: Global) -> Result<u64, AskFault>
-        ensures asks { OnOk result ((turns : List Turn) × AsksOn turns self.old.core self.new.core) }
-        ensures over { IfOk result (λ now. is_ask_over self.new.core now ≡ true) }
+        ensures asks { OnOk result ((turns : List Turn)
+            × AsksOn turns self.old.clock.last self.new.clock.last self.old.core self.new.core) }
+        ensures over { IfOk result (λ now.
+            (now ≡ self.new.clock.last) × (is_ask_over self.new.core now ≡ true)) }
     {
         for _ in 0..u64::MAX {
             if let Some(now) = self.step(alloc)? {
@@ -184,15 +191,13 @@ impl<'a, R: Net + Clock> AskingHost<'a, R> {
         self.times.answers(alloc, self.core.routers())
     }
 
-    /// Tells on standard error which routers did not answer, and whether there was no room for all
-    /// that was told.
-    pub fn tell<P: Eprint>(&self, rt: &P) {
+    /// Tells on standard error which routers did not answer, or know nothing of what was asked for,
+    /// and whether there was no room for all that was told.
+    pub fn tell<P: Eprint>(&self, rt: &P, knows_nothing: &str) {
         for router in self.core.routers() {
             if !router.answered {
                 let node = router.node;
-                let _ = eprintln!(rt;
-                    "no answer from {node}, or it knows nothing besides this network"
-                );
+                let _ = eprintln!(rt; "no answer from {node}, or it knows {knows_nothing}");
             }
         }
         if self.core.is_cut() {

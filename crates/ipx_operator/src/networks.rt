@@ -1,6 +1,6 @@
 //! The command `networks`: which networks the routers of a host know.
 
-ghost use Rattle.std.specs.Prelude.{◌≡◌, ◌≤◌, ℕ, List, Bool, IfOk, map, string_bytes};
+ghost use Rattle.std.specs.Prelude.{◌≡◌, ◌≤◌, ◌⊎◌, ℕ, List, Bool, IfOk, map, string_bytes};
 ghost use Rattle.std.specs.Io.KnownBytes.{Appends};
 ghost use Rattle.ipx_asking.specs.AskEnds.{ask_status};
 ghost use Rattle.ipx_asking.specs.AskView.{AskView};
@@ -11,7 +11,7 @@ ghost use Rattle.ipx_site.specs.Host.{IsHostText};
 ghost use Rattle.ipx_site.specs.Loading.{IsFileText};
 ghost use Rattle.ipx_site.specs.declared.host.HostFile.{HostFile as AHostFile};
 
-use crate::asked::{Asked, ask};
+use crate::asked::{Asked, ask, status_of};
 use crate::network_lines::networks_to_text;
 use ipx_asking::Question;
 use ipx_site::write_checked;
@@ -47,17 +47,13 @@ fn print_asked<R: Net + Clock + Eprint, W: Write>(
     ensures listed { result ≡ 0 → (text : List ℕ)
         × ListsNetworks json asked.now.host.core asked.now.over text
         × Appends (W.contents writer.old) (W.contents writer.new) text }
-    ensures status { result ≡ 0 → ask_status asked.now.host.core ≡ 0 }
+    ensures status { (result ≡ 1) ⊎ (result ≡ ask_status asked.now.host.core) }
     ensures few { result ≤ 1 }
 {
     let lines = asked_to_text(alloc, json, asked);
     let written = write_checked(rt, path, lines, writer);
-    asked.host.tell(rt);
-    if written == 0 {
-        asked.host.core.status()
-    } else {
-        1
-    }
+    asked.host.tell(rt, "nothing besides this network");
+    status_of(written, &asked.host.core)
 }
 
 /// The command `networks`: asks the router of a host's file, and the routers that it names, which

@@ -1,6 +1,6 @@
 //! The command `services`: which services the routers of a host know.
 
-ghost use Rattle.std.specs.Prelude.{◌≡◌, ◌≤◌, ℕ, List, IfOk, IfSome, None, string_bytes};
+ghost use Rattle.std.specs.Prelude.{◌≡◌, ◌≤◌, ◌⊎◌, ℕ, List, IfOk, IfSome, None, string_bytes};
 ghost use Rattle.std.specs.Option.{option_map};
 ghost use Rattle.std.specs.Io.KnownBytes.{Appends};
 ghost use Rattle.ipx_asking.specs.AskEnds.{ask_status};
@@ -12,7 +12,7 @@ ghost use Rattle.ipx_site.specs.Host.{IsHostText};
 ghost use Rattle.ipx_site.specs.Loading.{IsFileText};
 ghost use Rattle.ipx_site.specs.declared.host.HostFile.{HostFile as AHostFile};
 
-use crate::asked::{Asked, ask};
+use crate::asked::{Asked, ask, status_of};
 use crate::service_lines::services_to_text;
 use ipx_asking::Question;
 use ipx_site::write_checked;
@@ -66,17 +66,13 @@ fn print_asked<R: Net + Clock + Eprint, W: Write>(
     ensures listed { result ≡ 0 → (text : List ℕ)
         × ListsServices json asked.now.host.core asked.now.over text
         × Appends (W.contents writer.old) (W.contents writer.new) text }
-    ensures status { result ≡ 0 → ask_status asked.now.host.core ≡ 0 }
+    ensures status { (result ≡ 1) ⊎ (result ≡ ask_status asked.now.host.core) }
     ensures few { result ≤ 1 }
 {
     let lines = asked_to_text(alloc, json, asked);
     let written = write_checked(rt, path, lines, writer);
-    asked.host.tell(rt);
-    if written == 0 {
-        asked.host.core.status()
-    } else {
-        1
-    }
+    asked.host.tell(rt, "no such service");
+    status_of(written, &asked.host.core)
 }
 
 /// Asks for the services of a type by the host of the file at a path, and prints them.

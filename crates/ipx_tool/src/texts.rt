@@ -247,7 +247,8 @@ and behind them how many there are, who answered, and how soon. Names print as s
 router tells a host nothing that lies on the host's own network, or behind others of it.";
 
 pub const SERVICES_STATUSES: &str = "\
-It is over, and the status is, as of networks; 2 also where TYPE is not four hex digits.
+It is over, and the status is, as of networks: 1 too where a router knows no service of the type,
+since then it sends nothing; 2 also where TYPE is not four hex digits.
 
 Example:
   $ ipx services /etc/ipx/host.toml 0004";

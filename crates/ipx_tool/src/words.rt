@@ -48,8 +48,9 @@ pub enum Task<'a> {
 /// `udp`; `show`, `route` or `listen` and one word that is no option; `listen` and such a word with
 /// `--once` before or behind it; `route` or `listen` and such a word with `--check` there; `send`
 /// and four words that are no options; `networks` or `services` and such a word, or `services` and
-/// two, with `--json` anywhere behind the command or not at all; `udp` and a port, as `--port P` or `--port=P`; or `show` and
-/// a station, as `--frame NODE` or `--frame=NODE`. No other words ask for one.
+/// two, with `--json` anywhere behind the command or not at all; `udp` and a port, as `--port P` or
+/// `--port=P`; or `show` and a station, as `--frame NODE` or `--frame=NODE`. No other words ask for
+/// one.
 pub fn task_of(words: &[String]) -> Option<Task<'_>>
     ensures { Finds (AsksFor (drop 1 (map string_bytes words.now))) result }
 {

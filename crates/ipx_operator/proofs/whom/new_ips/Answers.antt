@@ -2,7 +2,7 @@ use Rattle.std.proofs.Common.{◌≡◌, ◌∙◌, ◌++◌, ◌∷◌, [], tru
 use Rattle.std.specs.Prelude.{slice_index_or}
 use Rattle.std.proofs.lemmas.List.{append-nil}
 use Rattle.ipx_site.specs.SitePeers.{is_peer}
-use Rattle.ipx_operator.proofs.Rows.{if_new, ips_more}
+use Rattle.ipx_operator.proofs.Rows.{ips_more}
 use Rattle.ipx_operator.proofs.whom.new_ips.Goals.{then-not-contains+in_ok-push, else-not-contains}
 use Rattle.ipx_operator.proofs.whom.new_ips.Goals as goal
 

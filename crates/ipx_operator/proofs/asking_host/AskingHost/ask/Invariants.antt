@@ -5,4 +5,4 @@ use Rattle.ipx_operator.proofs.asking_host.AskingHost.ask.Given as goal
 
 -- it was asked turn by turn so far
 abbrev pub invariant-loop : goal.invariant-loop
-invariant-loop g l = (turns : List Turn) × AsksOn turns l.fn.self.core l.self.core
+invariant-loop g l = (turns : List Turn) × AsksOn turns l.fn.self.clock.last l.self.clock.last l.fn.self.core l.self.core
