@@ -1,0 +1,49 @@
+# What bash completes behind `ipx`: commands, their options, and files in TOML. ./install puts it where bash-completion
+# looks for it; else `. contrib/ipx.bash` takes it into a shell.
+
+_ipx_commands='hop show check sim udp route listen send networks services help'
+
+# _ipx_options COMMAND: its options. It knows as many as `ipx COMMAND --help` tells, which a test compares.
+_ipx_options() {
+  case $1 in
+    show) echo '--frame --help' ;;
+    udp) echo '--port --help' ;;
+    route) echo '--check --help' ;;
+    listen) echo '--once --check --help' ;;
+    networks | services) echo '--json --help' ;;
+    hop | check | sim | send) echo '--help' ;;
+    '') echo '--help --version' ;;
+  esac
+}
+
+# _ipx_files WORD: the files in TOML, and the folders, that the word begins.
+_ipx_files() {
+  local found
+  # (bash writes names of files as its words, and a slash behind a folder)
+  compopt -o filenames 2> /dev/null || true
+  while IFS= read -r found; do
+    if [ -d "$found" ] || [[ $found == *.toml ]]; then COMPREPLY+=("$found"); fi
+  done < <(compgen -f -- "$1")
+}
+
+_ipx() {
+  local word=${COMP_WORDS[COMP_CWORD]} command='' place
+  COMPREPLY=()
+  [ "$COMP_CWORD" = 1 ] || command=${COMP_WORDS[1]}
+  if [[ $word == -* ]]; then
+    mapfile -t COMPREPLY < <(compgen -W "$(_ipx_options "$command")" -- "$word")
+    return
+  fi
+  case $command in
+    '' | help) mapfile -t COMPREPLY < <(compgen -W "$_ipx_commands" -- "$word") ;;
+    route | listen | send | networks | services)
+      # (the file is the first word that is no option)
+      for ((place = 2; place < COMP_CWORD; place++)); do
+        [[ ${COMP_WORDS[place]} == -* ]] || return
+      done
+      _ipx_files "$word"
+      ;;
+  esac
+}
+
+complete -F _ipx ipx
