@@ -1,5 +1,5 @@
-//! What is measured: calls of both routers, of both pairs of links and of both pairs of hosts on the
-//! same inputs.
+//! What is measured: calls of both routers, of both pairs of links and of both pairs of hosts on
+//! the same inputs.
 
 use crate::inputs::{
     AT_ONCE, FIRST_LEARNED, LEAD, PORT_NETWORKS, Pace, Records, asking, fifty_of, others, packets,
@@ -368,8 +368,8 @@ pub fn check_links() {
     println!("same answers: links, {calls} calls, {count} bytes");
 }
 
-/// Stops the program unless both pairs of hosts say the same bytes: as datagrams come, and where each
-/// comes altered first.
+/// Stops the program unless both pairs of hosts say the same bytes: as datagrams come, and where
+/// each comes altered first.
 pub fn check_hosts() {
     let data = bytes(4 * MOST_BYTES);
     let mut count = 0;

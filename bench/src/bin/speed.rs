@@ -5,9 +5,9 @@
 use ipx_bench::rows::{Row, all, check_answers, check_hosts, check_links, check_row};
 use std::time::{Duration, Instant};
 
-/// How long the calls of one repetition take at least (and no less than what comes before them), how
-/// long the repetitions of a row, and how often all rows are gone through. Many short repetitions, some of them much later than others,
-/// find a moment at which nothing else runs.
+/// How long the calls of one repetition take at least (and no less than what comes before them),
+/// how long the repetitions of a row, and how often all rows are gone through. Many short
+/// repetitions, some of them much later than others, find a moment at which nothing else runs.
 const REPETITION: Duration = Duration::from_millis(2);
 const ROW: Duration = Duration::from_millis(600);
 const TIMES: u32 = 4;

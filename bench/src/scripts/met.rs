@@ -25,7 +25,7 @@ impl Met {
     pub fn add_unit(&mut self, stream: u8, mark: u8) {
         let kind = match stream {
             0 => 0,
-            ..=LAST_STREAM => 2,
+            1..=LAST_STREAM => 2,
             _ => 4,
         };
         self.taken[kind + usize::from(mark)] += 1;

@@ -44,7 +44,7 @@ fn pour(
     end: Instant,
     received: &AtomicU64,
 ) -> io::Result<u64> {
-    let (mut sent, mut lost, mut last) = (0, 0, 0);
+    let (mut sent, mut lost, mut last) = (0_u64, 0, 0);
     let mut moved = Instant::now();
     while Instant::now() < end {
         let came = received.load(Ordering::Acquire);
@@ -52,11 +52,12 @@ fn pour(
             last = came;
             moved = Instant::now();
         }
-        if sent - lost - came < WINDOW {
+        // What was given up may come after all.
+        if sent.saturating_sub(lost + came) < WINDOW {
             socket.send_to(bytes, to)?;
             sent += 1;
         } else if moved.elapsed() > SILENCE {
-            lost = sent - came;
+            lost = sent.saturating_sub(came);
             moved = Instant::now();
         } else {
             thread::yield_now();
@@ -87,8 +88,8 @@ struct Ends {
 /// The ports of a router between the hosts.
 fn ports() -> [Port; 2] {
     [
-        Port::new("00000011", "127.0.2.1", SENDER),
-        Port::new("00000022", "127.0.2.2", RECEIVER),
+        Port::new(0x11, "127.0.2.1", [SENDER]),
+        Port::new(0x22, "127.0.2.2", [RECEIVER]),
     ]
 }
 
@@ -156,7 +157,7 @@ fn print_rows(world: &World, ports: &[Port], loads: &[Load; 3]) -> io::Result<()
 }
 
 /// Prints a row for each size, of packets and of frames.
-pub fn print(world: &mut World) {
+pub fn print(world: &World) {
     println!(
         "{:<36} {:>12} {:>12} {:>12} {:>12} {:>8}",
         "packets a second, by processes", "ours, k", "plain, k", "ours us", "plain us", "ratio"

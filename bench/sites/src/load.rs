@@ -1,13 +1,13 @@
 //! What goes through one process: datagrams that are packets, or frames with a packet in them.
 
-use crate::world::node;
+use crate::ipx::{EXCHANGE, HEADER, Place, node, packet, read};
 
 pub const SENDER: &str = "127.0.2.20";
 pub const RECEIVER: &str = "127.0.2.30";
 /// The stations of a router on the wires of its ports.
 pub const STATIONS: [[u8; 6]; 2] = [[2, 0, 0, 0, 0, 0x11], [2, 0, 0, 0, 0, 0x22]];
 /// The socket of the receiver's host.
-const SOCKET: [u8; 2] = [0x40, 0];
+const SOCKET: u16 = 0x4000;
 /// The bytes of a frame in 802.2 before its packet, and of the least frame.
 const FRAME_HEADER: usize = 17;
 const LEAST_FRAME: usize = 60;
@@ -24,7 +24,7 @@ impl Load {
     pub fn packet(size: usize) -> Load {
         Load {
             name: format!("one router, {size} bytes"),
-            bytes: packet(size),
+            bytes: of_size(size),
             packet_at: 0,
         }
     }
@@ -36,7 +36,7 @@ impl Load {
         bytes.extend(node(SENDER));
         bytes.extend((size as u16 + 3).to_be_bytes());
         bytes.extend([0xe0, 0xe0, 3]);
-        bytes.extend(packet(size));
+        bytes.extend(of_size(size));
         bytes.resize(bytes.len().max(LEAST_FRAME), 0);
         Load {
             name: format!("one router, frames of {} bytes", bytes.len()),
@@ -47,21 +47,14 @@ impl Load {
 
     /// Whether this came of it: as long, and to the receiver's socket.
     pub fn is_come_as(&self, datagram: &[u8]) -> bool {
-        datagram.len() == self.bytes.len() && datagram[self.packet_at + 16..].starts_with(&SOCKET)
+        datagram.len() == self.bytes.len()
+            && read(&datagram[self.packet_at..]).is_some_and(|(socket, _)| socket == SOCKET)
     }
 }
 
 /// A packet from the sender's host to the receiver's, of so many bytes.
-fn packet(size: usize) -> Vec<u8> {
-    let mut bytes = vec![0; size];
-    bytes[..2].copy_from_slice(&[0xff, 0xff]);
-    bytes[2..4].copy_from_slice(&(size as u16).to_be_bytes());
-    bytes[5] = 4;
-    bytes[6..10].copy_from_slice(&[0, 0, 0, 0x22]);
-    bytes[10..16].copy_from_slice(&node(RECEIVER));
-    bytes[16..18].copy_from_slice(&SOCKET);
-    bytes[18..22].copy_from_slice(&[0, 0, 0, 0x11]);
-    bytes[22..28].copy_from_slice(&node(SENDER));
-    bytes[28..30].copy_from_slice(&[0x50, 0]);
-    bytes
+fn of_size(size: usize) -> Vec<u8> {
+    let to = Place::new(0x22, RECEIVER, SOCKET);
+    let from = Place::new(0x11, SENDER, 0x5000);
+    packet(EXCHANGE, to, from, &vec![0; size - HEADER])
 }

@@ -6,34 +6,25 @@ use std::net::{Ipv4Addr, UdpSocket};
 use std::path::PathBuf;
 use std::process::{Child, Command, Stdio};
 
-/// All addresses of a run.
-const ADDRESSES: [&str; 10] = [
-    "127.0.2.1",
-    "127.0.2.2",
-    "127.0.2.3",
-    "127.0.2.4",
-    "127.0.2.5",
-    "127.0.2.6",
-    "127.0.2.7",
-    "127.0.2.20",
-    "127.0.2.21",
-    "127.0.2.30",
-];
-
-/// A port of a router, with one peer; or of frames, with one end, where the router is that station.
+/// A port of a router, with its peers; or of frames, with its ends, where the router is that
+/// station.
 pub struct Port {
-    network: &'static str,
-    address: &'static str,
-    peer: &'static str,
+    network: u32,
+    address: String,
+    peers: Vec<String>,
     station: Option<[u8; 6]>,
 }
 
 impl Port {
-    pub fn new(network: &'static str, address: &'static str, peer: &'static str) -> Port {
+    pub fn new(
+        network: u32,
+        address: impl Into<String>,
+        peers: impl IntoIterator<Item = impl Into<String>>,
+    ) -> Port {
         Port {
             network,
-            address,
-            peer,
+            address: address.into(),
+            peers: peers.into_iter().map(Into::into).collect(),
             station: None,
         }
     }
@@ -49,23 +40,63 @@ impl Port {
     /// Its table in the router's file.
     fn table(&self, udp_port: u16) -> String {
         let place = format!(
-            "[[port]]\nnetwork = \"{}\"\naddress = \"{}\"\nudp_port = {udp_port}\n",
+            "[[port]]\nnetwork = \"{:08x}\"\naddress = \"{}\"\nudp_port = {udp_port}\n",
             self.network, self.address
         );
         let Some(station) = self.station else {
-            return format!("{place}peers = [\"{}\"]\n", self.peer);
+            return format!("{place}peers = {:?}\n", self.peers);
         };
         let node = station.map(|byte| format!("{byte:02x}")).join(":");
+        let ends = self.peers.iter().map(|peer| format!("{peer}:{udp_port}"));
         format!(
-            "{place}kind = \"frames\"\nframe = \"802.2\"\nnode = \"{node}\"\n\
-             ends = [\"{}:{udp_port}\"]\n",
-            self.peer
+            "{place}kind = \"frames\"\nframe = \"802.2\"\nnode = \"{node}\"\nends = {:?}\n",
+            ends.collect::<Vec<_>>()
         )
     }
 }
 
+/// A host: its network and address, whom it hears (its router, and peers), and its buffers.
+#[derive(Clone, Copy)]
+pub struct Host<'a> {
+    pub network: &'a str,
+    pub address: &'a str,
+    pub router: &'a str,
+    pub peers: &'a [&'a str],
+    pub buffers: u16,
+}
+
 /// A process that is ended as this value goes.
 pub struct Process(pub Child);
+
+/// What a process had of processors so far: nanoseconds in which it ran, and in which it could have
+/// run and had none; and how often it waited for something else.
+pub struct Taken {
+    pub ran: u64,
+    pub held: u64,
+    pub waits: u64,
+}
+
+impl Process {
+    /// What it had so far. It has one thread.
+    pub fn taken(&self) -> io::Result<Taken> {
+        let folder = format!("/proc/{}", self.0.id());
+        let times = fs::read_to_string(format!("{folder}/schedstat"))?;
+        let status = fs::read_to_string(format!("{folder}/status"))?;
+        let waits = status
+            .lines()
+            .find_map(|line| line.strip_prefix("voluntary_ctxt_switches:"));
+        let number = |text: Option<&str>| {
+            let text = text.unwrap_or_default().trim();
+            text.parse::<u64>().map_err(io::Error::other)
+        };
+        let mut times = times.split(' ');
+        Ok(Taken {
+            ran: number(times.next())?,
+            held: number(times.next())?,
+            waits: number(waits)?,
+        })
+    }
+}
 
 impl Drop for Process {
     fn drop(&mut self) {
@@ -87,19 +118,9 @@ impl Drop for World {
     }
 }
 
+/// Whether no socket of this machine has the port, at any address.
 fn is_free(port: u16) -> bool {
-    let bound = |address: &&str| UdpSocket::bind((*address, port)).ok();
-    ADDRESSES
-        .iter()
-        .map(bound)
-        .collect::<Option<Vec<_>>>()
-        .is_some()
-}
-
-/// The node of an IP address: two zero bytes and the four of it.
-pub fn node(address: &str) -> [u8; 6] {
-    let ip = address.parse::<Ipv4Addr>().expect("an IP address").octets();
-    [0, 0, ip[0], ip[1], ip[2], ip[3]]
+    UdpSocket::bind((Ipv4Addr::UNSPECIFIED, port)).is_ok()
 }
 
 impl World {
@@ -143,18 +164,12 @@ impl World {
     }
 
     /// The file of a host.
-    pub fn host(
-        &self,
-        network: &str,
-        address: &str,
-        router: &str,
-        buffers: u16,
-    ) -> io::Result<String> {
+    pub fn host(&self, host: &Host) -> io::Result<String> {
         let text = format!(
-            "network = \"{network}\"\naddress = \"{address}\"\nrouter = \"{router}\"\nudp_port = {}\n\
-             socket = \"4002\"\nbuffers = {buffers}\n",
-            self.port
+            "network = \"{}\"\naddress = \"{}\"\nrouter = \"{}\"\npeers = {:?}\n\
+             udp_port = {}\nsocket = \"4002\"\nbuffers = {}\n",
+            host.network, host.address, host.router, host.peers, self.port, host.buffers
         );
-        self.write(&format!("host-{address}"), &text)
+        self.write(&format!("host-{}", host.address), &text)
     }
 }

@@ -1,8 +1,9 @@
 //! A transfer from `ipx send` to `ipx listen`.
 
+use crate::ipx::node;
 use crate::or_say;
-use crate::sites;
-use crate::world::{Process, World, node};
+use crate::world::{Host, Process, World};
+use crate::{far_host, near_host, sites};
 use std::io::{self, Read, Write};
 use std::process::ChildStdout;
 use std::thread;
@@ -41,8 +42,8 @@ fn data(count: usize) -> Vec<u8> {
         .collect()
 }
 
-/// Reads what a listener writes: the moments of its first byte and of its last, and whether it is what
-/// was sent.
+/// Reads what a listener writes: the moments of its first byte and of its last, and whether it is
+/// what was sent.
 fn read(mut out: ChildStdout, sent: &[u8]) -> io::Result<(Instant, Instant, bool)> {
     let mut room = vec![0; 1 << 16];
     let (mut at, mut same, mut first) = (0, true, None);
@@ -107,9 +108,21 @@ fn row(name: &str, measured: Option<(f64, usize)>) {
 
 /// From host to host on one network.
 fn direct(world: &World, buffers: u16) -> io::Result<(f64, usize)> {
+    let listener = Host {
+        network: "00000033",
+        address: "127.0.2.6",
+        router: "127.0.2.5",
+        peers: &["127.0.2.7"],
+        buffers,
+    };
+    let sender = Host {
+        address: "127.0.2.7",
+        peers: &[],
+        ..listener
+    };
     let way = Way {
-        listener: &world.host("00000033", "127.0.2.6", "127.0.2.5", buffers)?,
-        sender: &world.host("00000033", "127.0.2.7", "127.0.2.5", buffers)?,
+        listener: &world.host(&listener)?,
+        sender: &world.host(&sender)?,
         network: "00000033",
         node: hex(&node("127.0.2.6")),
     };
@@ -122,8 +135,8 @@ fn routed(world: &World, buffers: u16) -> io::Result<(f64, usize)> {
     let _routers = routers.into_iter().collect::<io::Result<Vec<_>>>()?;
     thread::sleep(Duration::from_secs(4));
     let way = Way {
-        listener: &world.host("00000022", "127.0.2.30", "127.0.2.4", buffers)?,
-        sender: &world.host("00000011", "127.0.2.20", "127.0.2.1", buffers)?,
+        listener: &world.host(&far_host(buffers))?,
+        sender: &world.host(&near_host(buffers))?,
         network: "00000022",
         node: hex(&node("127.0.2.30")),
     };
@@ -131,7 +144,7 @@ fn routed(world: &World, buffers: u16) -> io::Result<(f64, usize)> {
 }
 
 /// Prints a row for each way and number of buffers.
-pub fn print(world: &mut World) {
+pub fn print(world: &World) {
     println!(
         "{:<36} {:>12} {:>12}",
         "a transfer, by processes", "MB a second", "MB"
