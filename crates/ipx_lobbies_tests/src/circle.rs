@@ -2,13 +2,12 @@
 //! what is for it.
 
 use crate::fixture::{
-    ANSWER, CAME, FIRST, FIRST_NODE, PORT, REGISTRATION, SECOND, STRANGER, THIRD, lobbies, packet,
-    registrations, went_behind,
+    ANSWER, CAME, FIRST, PORT, REGISTRATION, SECOND, STRANGER, THIRD, behind_registrations,
+    lobbies, packet, went_behind,
 };
 use ipx_carrier::{Segments, SegmentsKeepBack};
-use ipx_lobbies::{Lobbies, MemoryPlaces};
+use ipx_lobbies::MemoryPlaces;
 use ipx_wire::Node;
-use std::alloc::Global;
 use std::test::Fail;
 
 /// A ping of the first player, and what the router answers it.
@@ -21,19 +20,6 @@ const PONG: [u8; 30] = [
     0xff, 0xff, 0, 0x1e, 0, 0, 0, 0, 0, 0, 0x7f, 0, 0, 1, 0xbc, 0x47, 0, 2, 0, 0, 0, 0, 2, 0, 0, 0,
     0xd0, 0x5b, 0, 2,
 ];
-
-/// The port, whose three players registered and were answered, and behind them these bytes of the first
-/// one.
-fn behind_registrations(alloc: Global, bytes: &[u8]) -> Result<Lobbies<MemoryPlaces>, Fail> {
-    let mut sockets = registrations(alloc)?;
-    sockets.put(0, FIRST, bytes)?;
-    let mut lobbies = lobbies(alloc, sockets)?;
-    let mut room = [0; 1536];
-    for _player in 0..3_u32 {
-        lobbies.receive(0, &mut room)?;
-    }
-    Ok(lobbies)
-}
 
 /// A registration is answered, byte by byte, and the core gets nothing of it.
 #[test]
@@ -149,6 +135,5 @@ fn a_stranger(rt: HostRuntime) -> Result<(), Fail> {
     assert_eq!(rt; lobbies.lobbies()[0].counts().unregistered, 2);
     assert_eq!(rt; lobbies.lobbies()[0].counts().malformed, 1);
     assert_eq!(rt; lobbies.kept_back(), 5);
-    assert_eq!(rt; FIRST.node(), FIRST_NODE);
     Ok(())
 }

@@ -1,7 +1,8 @@
 //! A player that can't be reached: the others get theirs, and so does the core.
 
 use crate::fixture::{
-    CAME, FIRST, SECOND, SECOND_NODE, THIRD, lobbies, packet, registrations, went_behind,
+    CAME, FIRST, REGISTRATION, SECOND, SECOND_NODE, STRANGER, THIRD, lobbies, packet,
+    registrations, went_behind,
 };
 use ipx_carrier::{PacketSent, Segments};
 use ipx_lobbies::PlaceSockets;
@@ -38,6 +39,32 @@ fn a_player_that_fails(rt: HostRuntime) -> Result<(), Fail> {
     assert!(rt; matches!(sent, Ok(PacketSent::Copies(1))));
     assert_eq!(rt; lobbies.sockets().went().len(), 5);
     assert_eq!(rt; lobbies.sockets().failures(), 4);
+    assert_eq!(rt; lobbies.failures(), 0);
+    Ok(())
+}
+
+/// Of three others the one in the middle fails: those before and behind it get theirs, in order.
+#[test]
+fn a_player_in_the_middle_that_fails(rt: HostRuntime) -> Result<(), Fail> {
+    let alloc = rt.alloc();
+    let bytes = packet(Node::BROADCAST);
+    let mut sockets = registrations(alloc)?;
+    sockets.put(0, STRANGER, &REGISTRATION)?;
+    sockets.put(0, FIRST, &bytes)?;
+    sockets.break_place(THIRD);
+    let mut lobbies = lobbies(alloc, sockets)?;
+    let mut room = [0; 1536];
+    for _player in 0..4_u32 {
+        assert!(rt; matches!(lobbies.receive(0, &mut room), Ok(None)));
+    }
+    // Three were answered.
+    assert_eq!(rt; lobbies.sockets().went().len(), 3);
+    let sent = lobbies.send(0, Node::BROADCAST, &CAME);
+    assert!(rt; matches!(sent, Ok(PacketSent::Copies(1))));
+    assert!(rt; went_behind(lobbies.sockets(), 3, &[FIRST, SECOND, STRANGER], &CAME));
+    assert!(rt; matches!(lobbies.receive(0, &mut room), Ok(None)));
+    assert!(rt; went_behind(lobbies.sockets(), 6, &[SECOND, STRANGER], &bytes));
+    assert_eq!(rt; lobbies.sockets().failures(), 3);
     assert_eq!(rt; lobbies.failures(), 0);
     Ok(())
 }

@@ -1,5 +1,6 @@
 //! A port, three players at their places, and what they send.
 
+use ipx_carrier::Segments;
 use ipx_lobbies::{Lobbies, MemoryDatagram, MemoryPlaces, PlaceSockets};
 use ipx_lobby::{Lobby, LobbyPort, Place};
 use ipx_wire::{Network, Node};
@@ -12,7 +13,7 @@ pub const PORT: LobbyPort = LobbyPort {
     own: Node([2, 0, 0, 0, 0xd0, 0x5b]),
 };
 
-/// Three players, the nodes of two of them, and one that does not register.
+/// Three players, the node of one of them, and one that does not register.
 pub const FIRST: Place = Place {
     ip: [127, 0, 0, 1],
     udp_port: 48199,
@@ -33,8 +34,6 @@ pub const STRANGER: Place = Place {
     udp_port: 214,
 };
 
-pub const FIRST_NODE: Node = Node([0x7f, 0, 0, 1, 0xbc, 0x47]);
-
 pub const SECOND_NODE: Node = Node([0x7f, 0, 0, 1, 0xbc, 0x48]);
 
 /// What `ipxnet connect` sends.
@@ -47,6 +46,17 @@ pub const REGISTRATION: [u8; 30] = [
 pub const ANSWER: [u8; 30] = [
     0xff, 0xff, 0, 0x1e, 0, 0, 0, 0, 0xd0, 0x5b, 0x7f, 0, 0, 1, 0xbc, 0x47, 0, 2, 0, 0, 0xd0, 0x5b,
     2, 0, 0, 0, 0xd0, 0x5b, 0, 2,
+];
+
+/// What the second and the third one are.
+pub const SECOND_ANSWER: [u8; 30] = [
+    0xff, 0xff, 0, 0x1e, 0, 0, 0, 0, 0xd0, 0x5b, 0x7f, 0, 0, 1, 0xbc, 0x48, 0, 2, 0, 0, 0xd0, 0x5b,
+    2, 0, 0, 0, 0xd0, 0x5b, 0, 2,
+];
+
+pub const THIRD_ANSWER: [u8; 30] = [
+    0xff, 0xff, 0, 0x1e, 0, 0, 0, 0, 0xd0, 0x5b, 10, 0, 0, 9, 0, 0xd5, 0, 2, 0, 0, 0xd0, 0x5b, 2,
+    0, 0, 0, 0xd0, 0x5b, 0, 2,
 ];
 
 /// A packet of 34 bytes from the first player to socket 4001 of the second, as its driver sends it:
@@ -86,6 +96,19 @@ pub fn registrations(alloc: Global) -> Result<MemoryPlaces, Fail> {
         sockets.put(0, place, &REGISTRATION)?;
     }
     Ok(sockets)
+}
+
+/// The port, whose three players registered and were answered, and behind them these bytes of the first
+/// one.
+pub fn behind_registrations(alloc: Global, bytes: &[u8]) -> Result<Lobbies<MemoryPlaces>, Fail> {
+    let mut sockets = registrations(alloc)?;
+    sockets.put(0, FIRST, bytes)?;
+    let mut lobbies = lobbies(alloc, sockets)?;
+    let mut room = [0; 1536];
+    for _player in 0..3_u32 {
+        lobbies.receive(0, &mut room)?;
+    }
+    Ok(lobbies)
 }
 
 /// Whether all that was sent behind so many datagrams went to these places, in this order, and is these

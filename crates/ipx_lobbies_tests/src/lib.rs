@@ -9,6 +9,10 @@ mod failing;
 #[cfg(test)]
 mod fixture;
 #[cfg(test)]
+mod long;
+#[cfg(test)]
+mod moments;
+#[cfg(test)]
 mod refused;
 #[cfg(test)]
 mod running;

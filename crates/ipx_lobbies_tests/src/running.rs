@@ -1,7 +1,9 @@
 //! A router with two lobbies: what a player asks it, and what goes from one lobby to the other.
 
-use crate::fixture::{FIRST, PORT, REGISTRATION, SECOND};
-use ipx_carrier::{RouterCore, SegmentsKeepBack, SteppedClock, burst_segments, turn_segments};
+use crate::fixture::{ANSWER, FIRST, PORT, REGISTRATION, SECOND, lobby};
+use ipx_carrier::{
+    RouterCore, Segments, SegmentsKeepBack, SteppedClock, burst_segments, turn_segments,
+};
 use ipx_lobbies::{Lobbies, MemoryDatagram, MemoryPlaces};
 use ipx_lobby::{Lobby, LobbyPort, Place};
 use ipx_router::{Port, Router};
@@ -35,6 +37,46 @@ const ACROSS: [u8; 34] = [
 const ARRIVES: [u8; 34] = [
     0xff, 0xff, 0, 0x22, 1, 4, 0, 0, 0, 0x99, 0x7f, 0, 0, 1, 0xbc, 0x48, 0x40, 1, 0, 0, 0xd0, 0x5b,
     0x7f, 0, 0, 1, 0xbc, 0x47, 0x40, 1, 1, 2, 3, 4,
+];
+
+/// What the second player is answered, at the other port.
+const OTHER_ANSWER: [u8; 30] = [
+    0xff, 0xff, 0, 0x1e, 0, 0, 0, 0, 0, 0x99, 0x7f, 0, 0, 1, 0xbc, 0x48, 0, 2, 0, 0, 0, 0x99, 2, 0,
+    0, 0, 0, 0x99, 0, 2,
+];
+
+/// What the router sends to all at its start by the first port: it asks for all routes and for all
+/// services, and tells the other network, 1 hop and 1 tick.
+const ROUTES_ASKED: [u8; 40] = [
+    0xff, 0xff, 0, 0x28, 0, 1, 0, 0, 0xd0, 0x5b, 0xff, 0xff, 0xff, 0xff, 0xff, 0xff, 4, 0x53, 0, 0,
+    0xd0, 0x5b, 2, 0, 0, 0, 0xd0, 0x5b, 4, 0x53, 0, 1, 0xff, 0xff, 0xff, 0xff, 0xff, 0xff, 0xff,
+    0xff,
+];
+
+const SERVICES_ASKED: [u8; 34] = [
+    0xff, 0xff, 0, 0x22, 0, 4, 0, 0, 0xd0, 0x5b, 0xff, 0xff, 0xff, 0xff, 0xff, 0xff, 4, 0x52, 0, 0,
+    0xd0, 0x5b, 2, 0, 0, 0, 0xd0, 0x5b, 4, 0x52, 0, 1, 0xff, 0xff,
+];
+
+const ROUTE_TOLD: [u8; 40] = [
+    0xff, 0xff, 0, 0x28, 0, 1, 0, 0, 0xd0, 0x5b, 0xff, 0xff, 0xff, 0xff, 0xff, 0xff, 4, 0x53, 0, 0,
+    0xd0, 0x5b, 2, 0, 0, 0, 0xd0, 0x5b, 4, 0x53, 0, 2, 0, 0, 0, 0x99, 0, 1, 0, 1,
+];
+
+/// And by the other port.
+const OTHER_ROUTES_ASKED: [u8; 40] = [
+    0xff, 0xff, 0, 0x28, 0, 1, 0, 0, 0, 0x99, 0xff, 0xff, 0xff, 0xff, 0xff, 0xff, 4, 0x53, 0, 0, 0,
+    0x99, 2, 0, 0, 0, 0, 0x99, 4, 0x53, 0, 1, 0xff, 0xff, 0xff, 0xff, 0xff, 0xff, 0xff, 0xff,
+];
+
+const OTHER_SERVICES_ASKED: [u8; 34] = [
+    0xff, 0xff, 0, 0x22, 0, 4, 0, 0, 0, 0x99, 0xff, 0xff, 0xff, 0xff, 0xff, 0xff, 4, 0x52, 0, 0, 0,
+    0x99, 2, 0, 0, 0, 0, 0x99, 4, 0x52, 0, 1, 0xff, 0xff,
+];
+
+const OTHER_ROUTE_TOLD: [u8; 40] = [
+    0xff, 0xff, 0, 0x28, 0, 1, 0, 0, 0, 0x99, 0xff, 0xff, 0xff, 0xff, 0xff, 0xff, 4, 0x53, 0, 0, 0,
+    0x99, 2, 0, 0, 0, 0, 0x99, 4, 0x53, 0, 2, 0, 0, 0xd0, 0x5b, 0, 1, 0, 1,
 ];
 
 /// A router of both ports.
@@ -72,6 +114,37 @@ fn is_for(datagram: Option<&MemoryDatagram>, port: usize, place: Place, bytes: &
     }
 }
 
+/// Whether these went by a port to a place, in this order, and nothing else by it.
+fn went_by(sockets: &MemoryPlaces, port: usize, place: Place, all: &[&[u8]]) -> bool {
+    let count = sockets.went().iter().filter(|it| it.port == port).count();
+    count == all.len()
+        && sockets
+            .went()
+            .iter()
+            .filter(|it| it.port == port)
+            .zip(all.iter())
+            .all(|(it, bytes)| it.place == place && it.bytes.as_slice() == *bytes)
+}
+
+/// Of more sockets than lobbies, or fewer, there are as many ports as both are for.
+#[test]
+fn numbers_that_differ(rt: HostRuntime) -> Result<(), Fail> {
+    let alloc = rt.alloc();
+    for (sockets, ports) in [(0, 0), (1, 1), (2, 1)] {
+        let lobbies = Lobbies::new(MemoryPlaces::new(alloc, sockets), lobby(alloc)?);
+        assert_eq!(rt; lobbies.ports(), ports);
+    }
+    for (sockets, ports) in [(0, 0), (1, 1), (2, 2), (3, 2)] {
+        let mut both = lobby(alloc)?;
+        both.push(Lobby::new(alloc, OTHER, 64)?)?;
+        let lobbies = Lobbies::new(MemoryPlaces::new(alloc, sockets), both);
+        assert_eq!(rt; lobbies.ports(), ports);
+    }
+    let lobbies = Lobbies::new(MemoryPlaces::new(alloc, 2), Vec::new(alloc));
+    assert_eq!(rt; lobbies.ports(), 0);
+    Ok(())
+}
+
 #[test]
 fn a_router_of_two_lobbies(rt: HostRuntime) -> Result<(), Fail> {
     let alloc = rt.alloc();
@@ -82,7 +155,19 @@ fn a_router_of_two_lobbies(rt: HostRuntime) -> Result<(), Fail> {
     // router asks, twice, and the route to the other lobby.
     let first = turn_segments(alloc, &mut core, &mut lobbies, &mut clock)?;
     assert_eq!(rt; (first.heard, first.sent, first.unmapped), (0, 6, 0));
-    assert_eq!(rt; lobbies.sockets().went().len(), 8);
+    let went = lobbies.sockets().went();
+    assert_eq!(rt; went.len(), 8);
+    assert!(rt; is_for(went.first(), 0, FIRST, &ANSWER));
+    assert!(rt; is_for(went.get(1), 1, SECOND, &OTHER_ANSWER));
+    let by_first: [&[u8]; 4] = [&ANSWER, &ROUTES_ASKED, &SERVICES_ASKED, &ROUTE_TOLD];
+    assert!(rt; went_by(lobbies.sockets(), 0, FIRST, &by_first));
+    let by_other: [&[u8]; 4] = [
+        &OTHER_ANSWER,
+        &OTHER_ROUTES_ASKED,
+        &OTHER_SERVICES_ASKED,
+        &OTHER_ROUTE_TOLD,
+    ];
+    assert!(rt; went_by(lobbies.sockets(), 1, SECOND, &by_other));
     // What the first player asks is answered, to that one alone.
     let second = turn_segments(alloc, &mut core, &mut lobbies, &mut clock)?;
     assert_eq!(rt; (second.heard, second.sent, second.unmapped), (1, 1, 0));

@@ -61,13 +61,27 @@ fn next_datagram(
     sockets: &mut LobbySockets,
     room: &mut [u8],
 ) -> Result<Option<DatagramCame>, DeviceFault> {
+    next_by(sockets, 0, room)
+}
+
+/// The same of another port.
+fn next_by(
+    sockets: &mut LobbySockets,
+    port: usize,
+    room: &mut [u8],
+) -> Result<Option<DatagramCame>, DeviceFault> {
     for _ in 0..100_000_u32 {
-        let came = sockets.receive(0, room)?;
+        let came = sockets.receive(port, room)?;
         if came.is_some() {
             return Ok(came);
         }
     }
     Ok(None)
+}
+
+/// So many bytes of a place.
+fn came_from(from: Place, size: usize) -> Option<DatagramCame> {
+    Some(DatagramCame { from, size })
 }
 
 /// Asks the port until something comes for its core, or is kept from it.
@@ -104,8 +118,10 @@ fn players_over_sockets(rt: HostRuntime) -> Result<(), Fail> {
     // Both players register, and each is answered.
     assert!(rt; first.send(0, AT, &REGISTRATION).is_ok());
     assert!(rt; next_packet(&mut lobbies, &mut room)? == None);
+    assert_eq!(rt; lobbies.kept_back(), 1);
     assert!(rt; second.send(0, AT, &REGISTRATION).is_ok());
     assert!(rt; next_packet(&mut lobbies, &mut room)? == None);
+    assert_eq!(rt; lobbies.kept_back(), 2);
     let answer = next_datagram(&mut first, &mut room)?;
     assert!(rt; came(answer, &room, &ANSWER));
     let answer = next_datagram(&mut second, &mut room)?;
@@ -114,8 +130,10 @@ fn players_over_sockets(rt: HostRuntime) -> Result<(), Fail> {
     // What the first one sends to all comes to the second, and what a stranger sends to nobody.
     assert!(rt; stranger.send(0, AT, &TO_ALL).is_ok());
     assert!(rt; next_packet(&mut lobbies, &mut room)? == None);
+    assert_eq!(rt; lobbies.kept_back(), 3);
     assert!(rt; first.send(0, AT, &TO_ALL).is_ok());
     assert!(rt; next_packet(&mut lobbies, &mut room)? == None);
+    assert_eq!(rt; lobbies.kept_back(), 4);
     let all = next_datagram(&mut second, &mut room)?;
     assert!(rt; came(all, &room, &TO_ALL));
     assert_eq!(rt; lobbies.lobbies()[0].counts().unregistered, 1);
@@ -139,6 +157,48 @@ fn players_over_sockets(rt: HostRuntime) -> Result<(), Fail> {
     assert_eq!(rt; lobbies.sockets().failures(), 0);
     assert_eq!(rt; lobbies.sockets().faults(), 0);
     assert_eq!(rt; lobbies.sockets().from_nowhere(), 0);
+    Ok(())
+}
+
+/// Two ports, bound in order: each has its own place and descriptor, hears what comes there, and sends
+/// from there. The one that was bound first has the lower number of the system, which gives the lowest
+/// that is free.
+#[test]
+fn two_ports_of_lobbies(rt: HostRuntime) -> Result<(), Fail> {
+    let alloc = rt.alloc();
+    let (at, other) = (place(20_940), place(20_941));
+    let mut player = bound(&rt, alloc, place(20_942))?;
+    let mut sockets = bound(&rt, alloc, at)?;
+    sockets.bind(&rt, other)?;
+    assert_eq!(rt; sockets.ports(), 2);
+    let descriptors = (sockets.descriptor(0), sockets.descriptor(1));
+    let in_order = match descriptors {
+        (Some(first), Some(second)) => first < second,
+        _ => false,
+    };
+    assert!(rt; in_order);
+    assert!(rt; sockets.descriptor(2).is_none());
+    let mut room = [0; 1536];
+    // What goes to the second place comes by the second port, and by no other.
+    assert!(rt; player.send(0, other, b"second").is_ok());
+    assert!(rt; next_by(&mut sockets, 1, &mut room)? == came_from(place(20_942), 6));
+    assert_eq!(rt; &room[..6], b"second".as_slice());
+    assert!(rt; sockets.receive(0, &mut room)? == None);
+    assert!(rt; player.send(0, at, b"first").is_ok());
+    assert!(rt; next_by(&mut sockets, 0, &mut room)? == came_from(place(20_942), 5));
+    assert_eq!(rt; &room[..5], b"first".as_slice());
+    assert!(rt; sockets.receive(1, &mut room)? == None);
+    // What a port sends comes from its place.
+    assert!(rt; sockets.send(1, place(20_942), b"by second").is_ok());
+    assert!(rt; next_by(&mut player, 0, &mut room)? == came_from(other, 9));
+    assert!(rt; sockets.send(0, place(20_942), b"by first").is_ok());
+    assert!(rt; next_by(&mut player, 0, &mut room)? == came_from(at, 8));
+    // What was counted stays as one more port is bound.
+    sockets.bind(&rt, place(20_943))?;
+    assert_eq!(rt;
+        (sockets.ports(), sockets.sent(), sockets.failures()),
+        (3, 2, 0)
+    );
     Ok(())
 }
 
