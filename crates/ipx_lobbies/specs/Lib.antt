@@ -1,0 +1,4 @@
+pub mod PlaceTraffic
+pub mod OnLobbies
+pub mod LobbyAddresses
+pub mod PlacesMemory

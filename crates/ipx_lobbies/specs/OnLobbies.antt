@@ -1,0 +1,144 @@
+-- What ports for clients of ipxnet do with what comes from a place, and with the packets of their core.
+-- All of it is own; what a lobby makes of bytes stands with it.
+use Rattle.std.specs.Prelude.{◌≡◌, ◌≤◌, ◌⊎◌, ℕ, List, [], ◌∷◌, ◌++◌, All, Bool, true, false, Option, Some, None, IfSome, Result, Ok, Err, filter, is_some, length, map, nat_lt, slice_get, slice_set, take, if◌then◌else◌}
+use Rattle.ipx_wire.specs.declared.address.Node.{Node}
+use Rattle.ipx_wire.specs.declared.ipx.fault.IpxFault.{IpxFault}
+use Rattle.ipx_wire.specs.Ipx.{BeginsWith, PacketView, ipx_fault}
+use Rattle.ipx_lobby.specs.declared.clients.Client.{Client}
+use Rattle.ipx_lobby.specs.declared.drops.LobbyDrop.{LobbyDrop}
+use Rattle.ipx_lobby.specs.declared.drops.LobbyDrop.TheVariants.{Malformed}
+use Rattle.ipx_lobby.specs.declared.heard.Heard.{Heard}
+use Rattle.ipx_lobby.specs.declared.heard.Heard.TheVariants.{Dropped}
+use Rattle.ipx_lobby.specs.declared.place.Place.{Place}
+use Rattle.ipx_lobby.specs.declared.port.LobbyPort.{LobbyPort}
+use Rattle.ipx_lobby.specs.declared.takers.Takers.{Takers}
+use Rattle.ipx_lobby.specs.declared.takers.Takers.TheVariants.{Nobody}
+use Rattle.ipx_lobby.specs.LobbyClients.{EachClientOnce, client_at}
+use Rattle.ipx_lobby.specs.LobbyHears.{IsAnswer, LobbyView, answer_of, goes_to_core, is_taker, lobby_aged, lobby_gives, lobby_giving, lobby_hearing, lobby_hears, most_client_bytes, takers_of, takers_reach}
+use Rattle.ipx_carrier.specs.declared.segments.PacketSent.{PacketSent}
+use Rattle.ipx_carrier.specs.declared.segments.PacketSent.TheVariants.{Unmapped, Copies}
+use Rattle.ipx_carrier.specs.Counting.{raised}
+use Rattle.ipx_carrier.specs.Turns.{Given, Ways}
+use Rattle.ipx_lobbies.specs.PlaceTraffic.{HandsOver, PlaceDatagram, PlaceTraffic, PlacesPass, place_datagram}
+
+-- each packet of the core is handed to the lobby of its port once, and one that is too long for clients
+-- is not. Who the clients are, and so where it goes, changes with what comes
+abbrev pub by_lobbies : Ways Given
+by_lobbies p = if nat_lt most_client_bytes (length p.bytes) then None else Some (p ∷ [])
+
+-- what of lobbies no call changes: the port of each, and how many clients it may have
+abbrev pub lobby_ports : List LobbyView → List (LobbyPort × ℕ)
+lobby_ports lobbies = map (λ l. (l.port, l.most)) lobbies
+
+-- the clients that takers reach, in the order in which the lobby has them
+abbrev pub clients_reached : LobbyView → Takers → List Client
+clients_reached l takers = filter (λ c. takers_reach l takers c.place) l.clients
+
+-- the same bytes for each of them
+abbrev pub relayed_to : ℕ → List ℕ → List Client → List PlaceDatagram
+relayed_to port bytes clients = map (λ c. place_datagram port bytes c.place) clients
+
+-- an answer to a place, if there is one
+abbrev pub answer_for : ℕ → Place → Option (List ℕ) → List PlaceDatagram
+answer_for port place None = []
+answer_for port place (Some answer) = place_datagram port answer place ∷ []
+
+-- what a lobby sends of bytes that it heard, with this answer: first that, if there is one, to the place
+-- that they came from, and then the bytes, as they came, to each of the clients that get them
+abbrev pub lobby_sends : LobbyView → Heard → PlaceDatagram → Option (List ℕ) → List PlaceDatagram
+lobby_sends l heard d answer = answer_for d.port d.place answer
+    ++ relayed_to d.port d.bytes (clients_reached l (takers_of heard))
+
+-- each of these is for a place where a client is known
+abbrev pub AreForClients : LobbyView → List PlaceDatagram → Type 0
+AreForClients l datagrams = All (λ d. is_some (client_at d.place l.clients) ≡ true) datagrams
+
+-- what a lobby makes of bytes from a place: of those of no packet, and of those that begin with one
+pub record HearsBytes (l : LobbyView) (from : Place) (bytes : List ℕ) (now : ℕ) (heard : Heard) : Type 0 where
+  pub malformed : (f : IpxFault) → ipx_fault bytes ≡ Some f → heard ≡ Dropped (Malformed f)
+  pub packet : (p : PacketView) → BeginsWith bytes p
+      → heard ≡ lobby_hears (lobby_aged now l) from p (length bytes) now
+
+-- bytes that a lobby heard go on, behind what came: all that it sends is handed to the sockets, with the
+-- answer that is theirs, if they have one. Its clients are each at one place, and those that get the bytes
+-- are not at the one that they came from
+pub record GivesOn (l : LobbyView) (heard : Heard) (d : PlaceDatagram) (came : List PlaceDatagram) (old new : Option PlaceTraffic) (failed failed_after : ℕ) : Type 0 where
+  pub answer : Option (List ℕ)
+  pub answered : is_some answer ≡ is_some (answer_of heard)
+  pub is_it : IfSome answer (λ bytes. IsAnswer heard bytes)
+  pub gone : HandsOver (lobby_sends l heard d answer) came old new failed failed_after
+  pub once : EachClientOnce l.clients
+  pub back : is_taker (takers_of heard) d.place ≡ false
+
+-- the core gets bytes, as far as its room takes them, where it is to have them; else it gets nothing
+abbrev pub TakesBytes : Bool → List ℕ → ℕ → List ℕ → Option ℕ → Type 0
+TakesBytes gets bytes most room (Some n) = (gets ≡ true) × (take n room ≡ take most bytes)
+TakesBytes gets bytes most room None = gets ≡ false
+
+-- the count of what the core did not get
+abbrev pub kept_count : Option ℕ → ℕ → ℕ
+kept_count None kept = raised kept
+kept_count (Some n) kept = kept
+
+-- ports for clients, but for what their sockets are: their lobbies, how much was kept from the core, what
+-- passed through the sockets, and how often those failed
+pub record LobbiesView : Type 0 where
+  pub lobbies : List LobbyView
+  pub kept : ℕ
+  pub traffic : Option PlaceTraffic
+  pub failed : ℕ
+
+abbrev pub lobbies_view : List LobbyView → ℕ → Option PlaceTraffic → ℕ → LobbiesView
+lobbies_view lobbies kept traffic failed =
+    record { lobbies = lobbies; kept = kept; traffic = traffic; failed = failed }
+
+-- bytes are heard that came from a place to the port of a lobby, and behind them nothing but these: they
+-- are answered, and go on to clients, as the lobby says, and the core gets them where it is to. Nothing
+-- goes where no client is known then, and an answer has no more bytes than it answers
+pub record HearsAtLobby (now most : ℕ) (d : PlaceDatagram) (came : List PlaceDatagram) (room : List ℕ) (up : Option ℕ) (old new : LobbiesView) : Type 0 where
+  pub lobby : LobbyView
+  pub after : LobbyView
+  pub heard : Heard
+  pub at_port : slice_get old.lobbies d.port ≡ Some lobby
+  pub hears : HearsBytes lobby d.place d.bytes now heard
+  pub becomes : after ≡ lobby_hearing heard d.place now (lobby_aged now lobby)
+  pub onward : GivesOn after heard d came old.traffic new.traffic old.failed new.failed
+  pub known : AreForClients after (lobby_sends after heard d onward.answer)
+  pub no_longer : (answer : List ℕ) → IsAnswer heard answer → length answer ≤ length d.bytes
+  pub core : TakesBytes (goes_to_core heard) d.bytes most room up
+  pub lobbies : new.lobbies ≡ slice_set old.lobbies d.port after
+  pub counted : new.kept ≡ kept_count up old.kept
+
+-- the same of what the sockets say, which may be that nothing came, or that they failed, which they count
+abbrev pub ReceivesAtLobby : ℕ → ℕ → Option PlaceDatagram → List ℕ → Option ℕ → LobbiesView → LobbiesView → Type 0
+ReceivesAtLobby now most None room up old new = (up ≡ None) × (new.lobbies ≡ old.lobbies)
+    × (new.kept ≡ old.kept) × PlacesPass old.traffic new.traffic [] []
+    × ((new.failed ≡ old.failed) ⊎ (new.failed ≡ raised old.failed))
+ReceivesAtLobby now most (Some d) room up old new =
+    HearsAtLobby now most d (d ∷ []) room up old new
+
+-- the clients that a packet of the core goes to
+abbrev pub takers_given : Result Takers LobbyDrop → Takers
+takers_given (Ok takers) = takers
+takers_given (Err drop) = Nobody
+
+-- what is said of one of so many bytes
+abbrev pub packet_said : ℕ → PacketSent
+packet_said size = if nat_lt most_client_bytes size then Unmapped else Copies 1
+
+-- a packet of the core for a node goes, as it is, to each of the clients that the lobby of its port says,
+-- who are each at one place; and what the lobby refuses is counted there
+pub record SendsThroughLobby (now port : ℕ) (node : Node) (packet : List ℕ) (sent : PacketSent) (old new : LobbiesView) : Type 0 where
+  pub lobby : LobbyView
+  pub after : LobbyView
+  pub given : Result Takers LobbyDrop
+  pub at_port : slice_get old.lobbies port ≡ Some lobby
+  pub gives : given ≡ lobby_gives (lobby_aged now lobby) node (length packet)
+  pub becomes : after ≡ lobby_giving given (lobby_aged now lobby)
+  pub gone : HandsOver (relayed_to port packet (clients_reached after (takers_given given))) []
+      old.traffic new.traffic old.failed new.failed
+  pub once : EachClientOnce after.clients
+  pub known : AreForClients after (relayed_to port packet (clients_reached after (takers_given given)))
+  pub said : sent ≡ packet_said (length packet)
+  pub lobbies : new.lobbies ≡ slice_set old.lobbies port after
+  pub counted : new.kept ≡ old.kept

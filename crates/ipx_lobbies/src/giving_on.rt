@@ -1,0 +1,80 @@
+//! What a lobby sends to places.
+
+ghost use Rattle.std.specs.Prelude.{◌≡◌, ◌<◌, [], false};
+ghost use Rattle.ipx_lobby.specs.LobbyClients.{EachClientOnce};
+ghost use Rattle.ipx_lobby.specs.LobbyHears.{is_taker, takers_of};
+ghost use Rattle.ipx_lobbies.specs.OnLobbies.{GivesOn, answer_for, clients_reached, relayed_to};
+ghost use Rattle.ipx_lobbies.specs.PlaceTraffic.{HandsOver, place_datagram};
+
+use crate::place_sockets::PlaceSockets;
+use ipx_lobby::{Heard, Lobby, Place, Takers};
+use ipx_wire::IPX_HEADER_SIZE;
+
+/// Sends bytes by a port to each client of its lobby that takers reach, in order. Where that fails at
+/// one, the others get them still.
+pub fn send_to_clients<D: PlaceSockets>(
+    sockets: &mut D,
+    port: usize,
+    lobby: &Lobby,
+    takers: Takers,
+    bytes: &[u8],
+)
+    requires { port < D.port_count sockets.old }
+    ensures gone { HandsOver (relayed_to port bytes.now (clients_reached lobby.now takers)) []
+        (D.traffic sockets.old) (D.traffic sockets.new)
+        (D.failed sockets.old) (D.failed sockets.new) }
+    ensures once { EachClientOnce lobby.now.clients }
+    ensures ports { D.port_count sockets.new ≡ D.port_count sockets.old }
+    ensures kept_back { D.kept_back sockets.new ≡ D.kept_back sockets.old }
+{
+    let clients = lobby.clients();
+    for client in clients {
+        if lobby.reaches(takers, client.place) {
+            let _ = sockets.send(port, client.place, bytes);
+        }
+    }
+}
+
+/// Sends an answer by a port to a place, if there is one.
+fn send_answer<D: PlaceSockets>(
+    sockets: &mut D,
+    port: usize,
+    place: Place,
+    answer: Option<[u8; IPX_HEADER_SIZE]>,
+)
+    requires { port < D.port_count sockets.old }
+    ensures gone { HandsOver (answer_for port place answer) []
+        (D.traffic sockets.old) (D.traffic sockets.new)
+        (D.failed sockets.old) (D.failed sockets.new) }
+    ensures ports { D.port_count sockets.new ≡ D.port_count sockets.old }
+    ensures kept_back { D.kept_back sockets.new ≡ D.kept_back sockets.old }
+{
+    if let Some(answer) = answer {
+        let _ = sockets.send(port, place, &answer);
+    }
+}
+
+/// Sends by a port what its lobby has to send of bytes that came from a place and that it heard: the
+/// answer first, since a client takes the first datagram that it gets for it, and then the bytes, as
+/// they came, to the clients that get them.
+///
+/// The caller owes that these are not at that place.
+pub fn give_on<D: PlaceSockets>(
+    sockets: &mut D,
+    port: usize,
+    lobby: &Lobby,
+    heard: Heard,
+    from: Place,
+    bytes: &[u8],
+)
+    requires there { port < D.port_count sockets.old }
+    requires back { is_taker (takers_of heard) from ≡ false }
+    ensures gone { GivesOn lobby.now heard (place_datagram port bytes.now from) []
+        (D.traffic sockets.old) (D.traffic sockets.new)
+        (D.failed sockets.old) (D.failed sockets.new) }
+    ensures ports { D.port_count sockets.new ≡ D.port_count sockets.old }
+    ensures kept_back { D.kept_back sockets.new ≡ D.kept_back sockets.old }
+{
+    send_answer(sockets, port, from, heard.answer());
+    send_to_clients(sockets, port, lobby, heard.takers(), bytes);
+}

@@ -1,0 +1,172 @@
+//! Sockets of UDP as those of lobbies.
+
+ghost use Rattle.std.specs.Prelude.{◌≡◌, ◌<◌, ◌≤◌, ◌↔◌, ◌+◌, [], IfOk, IfSome, IsSome, OnErr, OnOk, length};
+ghost use Rattle.ipx_carrier.specs.Counting.{raised};
+ghost use Rattle.ipx_lobbies.specs.LobbyAddresses.{place_behind};
+ghost use Rattle.ipx_lobbies.specs.PlaceTraffic.{failures_with};
+
+use crate::place_sockets::{DatagramCame, PlaceSockets};
+use ipx_carrier::{DeviceFault, bound_socket, place_of, raise};
+use ipx_lobby::Place;
+use std::alloc::Global;
+use std::io;
+use std::io::ErrorKind;
+use std::net::{Net, SocketAddr, UdpSocket};
+use std::os::fd::{AsRawFd, RawFd};
+
+/// Sockets that have one of UDP for each port. Datagrams come from whatever place and go to whatever
+/// place: who is a client is the lobby's to say. What comes over IPv6 is from nowhere, and kept back.
+///
+/// Which datagrams come and which arrive is the network's. What the system doesn't take is a failure of
+/// sending; receiving never fails.
+#[derive(Drop)]
+pub struct LobbySockets {
+    sockets: Vec<UdpSocket>,
+    sent: u64,
+    failures: u64,
+    faults: u64,
+    nowhere: u64,
+}
+
+/// How often a port is asked again for a datagram where the system fails.
+const TRIES: u32 = 8;
+
+/// The place that a datagram came from.
+fn place_at(from: SocketAddr) -> Option<Place>
+    ensures { result ≡ place_behind from }
+{
+    match from {
+        SocketAddr::V4(from) => Some(Place {
+            ip: from.ip().octets(),
+            udp_port: from.port(),
+        }),
+        SocketAddr::V6(_) => None,
+    }
+}
+
+impl LobbySockets {
+    /// Sockets without a port.
+    pub fn new(alloc: Global) -> LobbySockets
+        ensures none { result.sockets.items ≡ [] }
+        ensures fresh { (result.sent ≡ 0) × (result.failures ≡ 0) × (result.faults ≡ 0)
+            × (result.nowhere ≡ 0) }
+    {
+        LobbySockets {
+            sockets: Vec::new(alloc),
+            sent: 0,
+            failures: 0,
+            faults: 0,
+            nowhere: 0,
+        }
+    }
+
+    /// Binds one more port at a place. The error is the system's, or want of memory, and then the ports
+    /// are those before.
+    pub fn bind<R: Net>(&mut self, rt: &R, at: Place) -> io::Result<()>
+        ensures bound { OnOk result (length self.new.sockets.items
+            ≡ length self.old.sockets.items + 1) }
+        ensures refused { OnErr result (self.new.sockets.items ≡ self.old.sockets.items) }
+    {
+        let socket = bound_socket(rt, at.ip, at.udp_port)?;
+        if self.sockets.push(socket).is_err() {
+            return Err(io::Error::from(ErrorKind::OutOfMemory));
+        }
+        Ok(())
+    }
+
+    /// How many datagrams the system took to be sent. It stays at the greatest u64.
+    pub fn sent(&self) -> u64
+        ensures { result ≡ self.now.sent }
+    {
+        self.sent
+    }
+
+    /// How often the system failed as a port was asked. It stays at the greatest u64.
+    pub fn faults(&self) -> u64
+        ensures { result ≡ self.now.faults }
+    {
+        self.faults
+    }
+
+    /// The descriptor of the socket of a port, to wait for it. The first port is 0.
+    pub fn descriptor(&self, port: usize) -> Option<RawFd>
+        ensures { IsSome result ↔ port < length self.now.sockets.items }
+    {
+        let socket = self.sockets.get(port)?;
+        Some(socket.as_raw_fd())
+    }
+}
+
+impl PlaceSockets for LobbySockets {
+    ghost use Rattle.std.specs.Prelude.{None};
+
+    ghost port_count = { λ s. length s.sockets.items };
+
+    ghost failed = { λ s. s.failures };
+
+    // What passes is the system's.
+    ghost traffic = { λ s. None };
+
+    ghost kept_back = { λ s. s.nowhere };
+
+    fn ports(&self) -> usize {
+        self.sockets.len()
+    }
+
+    fn failures(&self) -> u64 {
+        self.failures
+    }
+
+    fn from_nowhere(&self) -> u64 {
+        self.nowhere
+    }
+
+    fn send(&mut self, port: usize, place: Place, bytes: &[u8]) -> Result<(), DeviceFault>
+        requires { port < length self.old.sockets.items }
+        // The system took it or refused it, and that is counted.
+        ensures sent { OnOk result (self.new.sent ≡ raised self.old.sent) }
+        ensures refused { OnErr result (self.new.sent ≡ self.old.sent) }
+        ensures failures { self.new.failures ≡ failures_with result self.old.failures }
+        ensures rest { (self.new.sockets ≡ self.old.sockets) × (self.new.faults ≡ self.old.faults)
+            × (self.new.nowhere ≡ self.old.nowhere) }
+    {
+        match self.sockets[port].send_to(bytes, place_of(place.ip, place.udp_port)) {
+            Ok(count) if count == bytes.len() => {
+                raise(&mut self.sent);
+                Ok(())
+            }
+            _ => {
+                raise(&mut self.failures);
+                Err(DeviceFault)
+            }
+        }
+    }
+
+    fn receive(&mut self, port: usize, room: &mut [u8]) -> Result<Option<DatagramCame>, DeviceFault>
+        requires { port < length self.old.sockets.items }
+        // What came from a place is answered, and what came from nowhere is counted.
+        ensures within { IfOk result (λ came. IfSome came (λ c. c.size ≤ length room.old)) }
+        ensures answered { IfOk result (λ came. IsSome came
+            → self.new.nowhere ≡ self.old.nowhere) }
+        ensures kept_back { self.old.nowhere ≤ self.new.nowhere }
+        ensures goes_on { OnErr result ⊥ }
+        ensures faults { self.old.faults ≤ self.new.faults }
+        ensures rest { (self.new.sockets ≡ self.old.sockets) × (self.new.sent ≡ self.old.sent)
+            × (self.new.failures ≡ self.old.failures) }
+    {
+        for _try in 0..TRIES {
+            match self.sockets[port].recv_from(room) {
+                Ok((size, from)) => {
+                    let Some(from) = place_at(from) else {
+                        raise(&mut self.nowhere);
+                        return Ok(None);
+                    };
+                    return Ok(Some(DatagramCame { from, size }));
+                }
+                Err(error) if error.kind() == ErrorKind::WouldBlock => return Ok(None),
+                Err(_) => raise(&mut self.faults),
+            }
+        }
+        Ok(None)
+    }
+}

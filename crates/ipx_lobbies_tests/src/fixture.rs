@@ -1,0 +1,101 @@
+//! A port, three players at their places, and what they send.
+
+use ipx_lobbies::{Lobbies, MemoryDatagram, MemoryPlaces, PlaceSockets};
+use ipx_lobby::{Lobby, LobbyPort, Place};
+use ipx_wire::{Network, Node};
+use std::alloc::{AllocError, Global};
+use std::test::Fail;
+
+/// The port, which tells players the network 0000d05b.
+pub const PORT: LobbyPort = LobbyPort {
+    network: Network(0xd05b),
+    own: Node([2, 0, 0, 0, 0xd0, 0x5b]),
+};
+
+/// Three players, the nodes of two of them, and one that does not register.
+pub const FIRST: Place = Place {
+    ip: [127, 0, 0, 1],
+    udp_port: 48199,
+};
+
+pub const SECOND: Place = Place {
+    ip: [127, 0, 0, 1],
+    udp_port: 48200,
+};
+
+pub const THIRD: Place = Place {
+    ip: [10, 0, 0, 9],
+    udp_port: 213,
+};
+
+pub const STRANGER: Place = Place {
+    ip: [10, 0, 0, 9],
+    udp_port: 214,
+};
+
+pub const FIRST_NODE: Node = Node([0x7f, 0, 0, 1, 0xbc, 0x47]);
+
+pub const SECOND_NODE: Node = Node([0x7f, 0, 0, 1, 0xbc, 0x48]);
+
+/// What `ipxnet connect` sends.
+pub const REGISTRATION: [u8; 30] = [
+    0xff, 0xff, 0, 0x1e, 0, 0, 0, 0, 0, 0, 0, 0, 0, 0, 0, 0, 0, 2, 0, 0, 0, 0, 0, 0, 0, 0, 0, 0, 0,
+    2,
+];
+
+/// What the first player is answered.
+pub const ANSWER: [u8; 30] = [
+    0xff, 0xff, 0, 0x1e, 0, 0, 0, 0, 0xd0, 0x5b, 0x7f, 0, 0, 1, 0xbc, 0x47, 0, 2, 0, 0, 0xd0, 0x5b,
+    2, 0, 0, 0, 0xd0, 0x5b, 0, 2,
+];
+
+/// A packet of 34 bytes from the first player to socket 4001 of the second, as its driver sends it:
+/// both networks are the one that it was told.
+pub const CAME: [u8; 34] = [
+    0xff, 0xff, 0, 0x22, 0, 4, 0, 0, 0xd0, 0x5b, 0x7f, 0, 0, 1, 0xbc, 0x48, 0x40, 1, 0, 0, 0xd0,
+    0x5b, 0x7f, 0, 0, 1, 0xbc, 0x47, 0x40, 1, 1, 2, 3, 4,
+];
+
+/// The same packet to another node.
+pub fn packet(to: Node) -> [u8; 34] {
+    let mut bytes = CAME;
+    bytes[10..16].copy_from_slice(&to.0);
+    bytes
+}
+
+/// The lobby of the port.
+pub fn lobby(alloc: Global) -> Result<Vec<Lobby>, AllocError> {
+    let lobby = Lobby::new(alloc, PORT, 64)?;
+    let mut lobbies = Vec::new(alloc);
+    lobbies.push(lobby)?;
+    Ok(lobbies)
+}
+
+/// The port over these sockets.
+pub fn lobbies<D: PlaceSockets + Drop>(
+    alloc: Global,
+    sockets: D,
+) -> Result<Lobbies<D>, AllocError> {
+    Ok(Lobbies::new(sockets, lobby(alloc)?))
+}
+
+/// Sockets in memory to which the three players sent their registrations.
+pub fn registrations(alloc: Global) -> Result<MemoryPlaces, Fail> {
+    let mut sockets = MemoryPlaces::new(alloc, 1);
+    for place in [FIRST, SECOND, THIRD] {
+        sockets.put(0, place, &REGISTRATION)?;
+    }
+    Ok(sockets)
+}
+
+/// Whether all that was sent behind so many datagrams went to these places, in this order, and is these
+/// bytes.
+pub fn went_behind(sockets: &MemoryPlaces, before: usize, places: &[Place], bytes: &[u8]) -> bool {
+    let sent = sockets.went();
+    if sent.len() != before + places.len() {
+        return false;
+    }
+    let last: &[MemoryDatagram] = &sent[before..];
+    last.iter().zip(places.iter()).all(|(sent, place)| sent.place == *place
+        && sent.bytes.as_slice() == bytes)
+}

@@ -1,0 +1,72 @@
+//! Packets of the core, and the players that they go to.
+
+use crate::fixture::{
+    CAME, FIRST, SECOND, SECOND_NODE, STRANGER, THIRD, lobbies, registrations, went_behind,
+};
+use ipx_carrier::{PacketSent, Segments, SegmentsKeepBack};
+use ipx_lobbies::{Lobbies, MemoryPlaces};
+use ipx_wire::Node;
+use std::alloc::Global;
+use std::test::Fail;
+
+/// The port, whose three players registered at the moment 5.
+fn three_players(alloc: Global) -> Result<Lobbies<MemoryPlaces>, Fail> {
+    let mut lobbies = lobbies(alloc, registrations(alloc)?)?;
+    lobbies.set_moment(5);
+    let mut room = [0; 1536];
+    for _player in 0..3_u32 {
+        lobbies.receive(0, &mut room)?;
+    }
+    Ok(lobbies)
+}
+
+/// To a player's node: to that one, until it was silent for a day. To all nodes: to each.
+#[test]
+fn packets_to_players(rt: HostRuntime) -> Result<(), Fail> {
+    let mut lobbies = three_players(rt.alloc())?;
+    let sent = lobbies.send(0, SECOND_NODE, &CAME);
+    assert!(rt; matches!(sent, Ok(PacketSent::Copies(1))));
+    assert!(rt; went_behind(lobbies.sockets(), 3, &[SECOND], &CAME));
+    let sent = lobbies.send(0, Node::BROADCAST, &CAME);
+    assert!(rt; matches!(sent, Ok(PacketSent::Copies(1))));
+    assert!(rt; went_behind(lobbies.sockets(), 4, &[FIRST, SECOND, THIRD], &CAME));
+    lobbies.set_moment(86_400_004);
+    lobbies.send(0, SECOND_NODE, &CAME)?;
+    assert!(rt; went_behind(lobbies.sockets(), 7, &[SECOND], &CAME));
+    lobbies.set_moment(86_400_005);
+    let sent = lobbies.send(0, SECOND_NODE, &CAME);
+    assert!(rt; matches!(sent, Ok(PacketSent::Copies(1))));
+    assert_eq!(rt; lobbies.sockets().went().len(), 8);
+    assert_eq!(rt; lobbies.lobbies()[0].counts().no_such_node, 1);
+    assert_eq!(rt; lobbies.kept_back(), 3);
+    Ok(())
+}
+
+/// To a node that is nobody's: the lobby gets it, and nobody else.
+#[test]
+fn packets_to_nobody(rt: HostRuntime) -> Result<(), Fail> {
+    let mut lobbies = three_players(rt.alloc())?;
+    let sent = lobbies.send(0, STRANGER.node(), &CAME);
+    assert!(rt; matches!(sent, Ok(PacketSent::Copies(1))));
+    assert_eq!(rt; lobbies.sockets().went().len(), 3);
+    assert_eq!(rt; lobbies.lobbies()[0].counts().no_such_node, 1);
+    Ok(())
+}
+
+/// 1,424 bytes go to a player, and one more does not.
+#[test]
+fn packets_that_are_too_long(rt: HostRuntime) -> Result<(), Fail> {
+    let mut lobbies = three_players(rt.alloc())?;
+    let bytes = [0x55; 1425];
+    let sent = lobbies.send(0, SECOND_NODE, &bytes[..1424]);
+    assert!(rt; matches!(sent, Ok(PacketSent::Copies(1))));
+    assert!(rt; went_behind(lobbies.sockets(), 3, &[SECOND], &bytes[..1424]));
+    let sent = lobbies.send(0, SECOND_NODE, &bytes);
+    assert!(rt; matches!(sent, Ok(PacketSent::Unmapped)));
+    let sent = lobbies.send(0, Node::BROADCAST, &bytes);
+    assert!(rt; matches!(sent, Ok(PacketSent::Unmapped)));
+    assert_eq!(rt; lobbies.sockets().went().len(), 4);
+    assert_eq!(rt; lobbies.lobbies()[0].counts().too_long, 2);
+    assert_eq!(rt; lobbies.failures(), 0);
+    Ok(())
+}

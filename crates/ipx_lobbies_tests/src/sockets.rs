@@ -1,0 +1,179 @@
+//! Sockets of this machine: a port, two players, and one that does not register.
+
+use crate::fixture::{PORT, REGISTRATION, lobbies};
+use ipx_carrier::{DeviceFault, PacketSent, Segments, SegmentsKeepBack};
+use ipx_lobbies::{DatagramCame, Lobbies, LobbySockets, PlaceSockets};
+use ipx_lobby::Place;
+use ipx_wire::Node;
+use std::alloc::Global;
+use std::io;
+use std::net::Net;
+use std::process::Abort;
+use std::test::Fail;
+
+/// Places that no one else uses: the port's, two players', and that of one who does not register.
+const AT: Place = Place {
+    ip: [127, 0, 0, 44],
+    udp_port: 0x51c2,
+};
+
+const FIRST: Place = Place {
+    udp_port: 0x51c3,
+    ..AT
+};
+
+const SECOND: Place = Place {
+    udp_port: 0x51c4,
+    ..AT
+};
+
+const STRANGER: Place = Place {
+    udp_port: 0x51c5,
+    ..AT
+};
+
+/// Another one there.
+fn place(udp_port: u16) -> Place {
+    Place { udp_port, ..AT }
+}
+
+/// What the first player is answered, whose node is 7f00002c51c3.
+const ANSWER: [u8; 30] = [
+    0xff, 0xff, 0, 0x1e, 0, 0, 0, 0, 0xd0, 0x5b, 0x7f, 0, 0, 0x2c, 0x51, 0xc3, 0, 2, 0, 0, 0xd0,
+    0x5b, 2, 0, 0, 0, 0xd0, 0x5b, 0, 2,
+];
+
+/// A packet of the first player to socket 4001 of all nodes.
+const TO_ALL: [u8; 34] = [
+    0xff, 0xff, 0, 0x22, 0, 4, 0, 0, 0xd0, 0x5b, 0xff, 0xff, 0xff, 0xff, 0xff, 0xff, 0x40, 1, 0, 0,
+    0xd0, 0x5b, 0x7f, 0, 0, 0x2c, 0x51, 0xc3, 0x40, 1, 1, 2, 3, 4,
+];
+
+/// Sockets of one port.
+fn bound<R: Net>(rt: &R, alloc: Global, at: Place) -> io::Result<LobbySockets> {
+    let mut sockets = LobbySockets::new(alloc);
+    sockets.bind(rt, at)?;
+    Ok(sockets)
+}
+
+/// Asks sockets until a datagram comes, or often enough.
+fn next_datagram(
+    sockets: &mut LobbySockets,
+    room: &mut [u8],
+) -> Result<Option<DatagramCame>, DeviceFault> {
+    for _ in 0..100_000_u32 {
+        let came = sockets.receive(0, room)?;
+        if came.is_some() {
+            return Ok(came);
+        }
+    }
+    Ok(None)
+}
+
+/// Asks the port until something comes for its core, or is kept from it.
+fn next_packet(
+    lobbies: &mut Lobbies<LobbySockets>,
+    room: &mut [u8],
+) -> Result<Option<usize>, DeviceFault> {
+    let kept_back = lobbies.kept_back();
+    for _ in 0..100_000_u32 {
+        let came = lobbies.receive(0, room)?;
+        if came.is_some() || lobbies.kept_back() != kept_back {
+            return Ok(came);
+        }
+    }
+    Ok(None)
+}
+
+/// Whether a datagram came from the port, and is these bytes.
+fn came(came: Option<DatagramCame>, room: &[u8], bytes: &[u8]) -> bool {
+    came == Some(DatagramCame {
+        from: AT,
+        size: bytes.len(),
+    }) && &room[..bytes.len()] == bytes
+}
+
+#[test]
+fn players_over_sockets(rt: HostRuntime) -> Result<(), Fail> {
+    let alloc = rt.alloc();
+    let mut first = bound(&rt, alloc, FIRST)?;
+    let mut second = bound(&rt, alloc, SECOND)?;
+    let mut stranger = bound(&rt, alloc, STRANGER)?;
+    let mut lobbies = lobbies(alloc, bound(&rt, alloc, AT)?)?;
+    let mut room = [0; 1536];
+    // Both players register, and each is answered.
+    assert!(rt; first.send(0, AT, &REGISTRATION).is_ok());
+    assert!(rt; next_packet(&mut lobbies, &mut room)? == None);
+    assert!(rt; second.send(0, AT, &REGISTRATION).is_ok());
+    assert!(rt; next_packet(&mut lobbies, &mut room)? == None);
+    let answer = next_datagram(&mut first, &mut room)?;
+    assert!(rt; came(answer, &room, &ANSWER));
+    let answer = next_datagram(&mut second, &mut room)?;
+    assert!(rt; answer == Some(DatagramCame { from: AT, size: 30 }));
+    assert_eq!(rt; &room[10..16], [0x7f, 0, 0, 0x2c, 0x51, 0xc4].as_slice());
+    // What the first one sends to all comes to the second, and what a stranger sends to nobody.
+    assert!(rt; stranger.send(0, AT, &TO_ALL).is_ok());
+    assert!(rt; next_packet(&mut lobbies, &mut room)? == None);
+    assert!(rt; first.send(0, AT, &TO_ALL).is_ok());
+    assert!(rt; next_packet(&mut lobbies, &mut room)? == None);
+    let all = next_datagram(&mut second, &mut room)?;
+    assert!(rt; came(all, &room, &TO_ALL));
+    assert_eq!(rt; lobbies.lobbies()[0].counts().unregistered, 1);
+    // To the router's node: to the core.
+    let mut bytes = TO_ALL;
+    bytes[10..16].copy_from_slice(&PORT.own.0);
+    assert!(rt; first.send(0, AT, &bytes).is_ok());
+    assert!(rt; next_packet(&mut lobbies, &mut room)? == Some(34));
+    assert_eq!(rt; &room[..34], bytes.as_slice());
+    // A packet of the core goes to the player of its node.
+    let sent = lobbies.send(0, Node([0x7f, 0, 0, 0x2c, 0x51, 0xc3]), &bytes);
+    assert!(rt; matches!(sent, Ok(PacketSent::Copies(1))));
+    let packet = next_datagram(&mut first, &mut room)?;
+    assert!(rt; came(packet, &room, &bytes));
+    // Nothing else came to anybody.
+    assert!(rt; first.receive(0, &mut room)? == None);
+    assert!(rt; second.receive(0, &mut room)? == None);
+    assert!(rt; stranger.receive(0, &mut room)? == None);
+    assert_eq!(rt; lobbies.kept_back(), 4);
+    assert_eq!(rt; lobbies.sockets().sent(), 4);
+    assert_eq!(rt; lobbies.sockets().failures(), 0);
+    assert_eq!(rt; lobbies.sockets().faults(), 0);
+    assert_eq!(rt; lobbies.sockets().from_nowhere(), 0);
+    Ok(())
+}
+
+/// What no datagram of UDP can hold is refused by the system, which is counted.
+#[test]
+fn a_datagram_that_the_system_refuses(rt: HostRuntime) -> Result<(), Fail> {
+    let alloc = rt.alloc();
+    let mut sockets = bound(&rt, alloc, place(20_934))?;
+    let bytes = vec![in alloc; 0; 70_000]?;
+    assert!(rt; matches!(sockets.send(0, AT, &bytes), Err(DeviceFault)));
+    assert_eq!(rt; sockets.failures(), 1);
+    assert_eq!(rt; sockets.sent(), 0);
+    Ok(())
+}
+
+#[test]
+fn a_lobbys_place_in_use_is_refused(rt: HostRuntime) -> Result<(), Fail> {
+    let alloc = rt.alloc();
+    let mut sockets = bound(&rt, alloc, place(20_936))?;
+    assert!(rt; sockets.bind(&rt, place(20_936)).is_err());
+    assert_eq!(rt; sockets.ports(), 1);
+    assert!(rt; sockets.descriptor(0).is_some());
+    assert!(rt; sockets.descriptor(1).is_none());
+    Ok(())
+}
+
+/// Memory that is refused as a port is bound: no socket is left over.
+#[test]
+fn refused_lobby_port(rt: HostRuntime) -> Result<(), Fail> {
+    let alloc = rt.alloc();
+    let mut sockets = match bound(&rt, alloc, place(20_937)) {
+        Ok(sockets) => sockets,
+        Err(_) => bound(&rt, alloc, place(20_937))?,
+    };
+    assert_eq!(rt; sockets.ports(), 1);
+    assert!(rt; sockets.send(0, place(20_938), b"abc").is_ok());
+    Ok(())
+}
