@@ -1,5 +1,5 @@
-//! Worked rows of the two orders in which a table keeps its offers: by key, and by the moment
-//! heard.
+//! Worked rows of what a table keeps for how long, how few offers are read for the best, and what
+//! wants no memory.
 
 use crate::metrics::route;
 use ipx_tables::{RouteTable, Source, TableFault, route_table};
@@ -116,5 +116,35 @@ fn all_heard_again(alloc: Global, table: &mut RouteTable, last: u32) -> bool {
 fn refused_memory_of_a_full_table(rt: HostRuntime) -> Result<(), Fail> {
     let mut table = networks_to(rt.alloc(), 1024)?;
     assert!(rt; all_heard_again(rt.alloc(), &mut table, 1024));
+    Ok(())
+}
+
+/// Whether the networks from 1,025 to 2,048 are learned, and one more finds the table full.
+fn others_fill(alloc: Global, table: &mut RouteTable, now: u64) -> bool {
+    let mut all = true;
+    for network in 1_025..=2_048u32 {
+        all &= hear(alloc, table, Network(network), now).is_ok();
+    }
+    all && hear(alloc, table, Network(2_049), now) == Err(TableFault::Full)
+}
+
+/// A full table that grew old learns as many others. Run with each request for memory refused, it
+/// shows that none is made by then: what goes leaves its room.
+#[test]
+fn refused_memory_of_a_table_that_grew_old(rt: HostRuntime) -> Result<(), Fail> {
+    let mut table = networks_to(rt.alloc(), 1024)?;
+    table.age(180_000);
+    assert!(rt; others_fill(rt.alloc(), &mut table, 180_000));
+    Ok(())
+}
+
+/// A full table whose offers were all taken back learns as many others, in the same way.
+#[test]
+fn refused_memory_of_a_table_that_was_emptied(rt: HostRuntime) -> Result<(), Fail> {
+    let mut table = networks_to(rt.alloc(), 1024)?;
+    for network in 1..=1024u32 {
+        table.hear(rt.alloc(), Network(network), SOURCE, route(2, 16), 0)?;
+    }
+    assert!(rt; others_fill(rt.alloc(), &mut table, 0));
     Ok(())
 }

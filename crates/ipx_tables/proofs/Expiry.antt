@@ -1,16 +1,17 @@
 -- Until when offers count, and what ageing before that moment leaves.
-use Rattle.std.proofs.Common.{◌≡◌, ℕ, zero, suc, ◌+◌, ◌-◌, ◌^◌, ◌<◌, ◌≤◌, min, Bool, true, false, cond, List, [], ◌∷◌, set, take, drop, length, get_or, None, refl, sym, ap, ◌∙◌, arith}
+use Rattle.std.proofs.Common.{◌≡◌, ℕ, suc, ◌+◌, ◌-◌, ◌^◌, ◌<◌, ◌≤◌, min, true, cond, List, [], ◌∷◌, set, take, drop, length, get_or, None, refl, sym, ap, ◌∙◌, inl, inr, arith}
 use Rattle.std.specs.List.{insert, remove, filter, count_by}
 use Rattle.std.specs.Option.{is_some}
 use Rattle.std.specs.Cmp.{IsTotalOrder}
 use Rattle.std.specs.declared.cmp.Ordering.{Ordering}
-use Rattle.std.proofs.lemmas.Bool.{lt-ltb, ltb-true}
+use Rattle.std.proofs.lemmas.Bool.{cases_lt, lt-ltb}
+use Rattle.std.proofs.lemmas.List.{get_or_default}
 use Rattle.std.proofs.lemmas.List.Elements.{All-append, All-take, All-drop, All-tail, All-set, All-cons}
 use Rattle.std.proofs.lemmas.List.Sums.{length-filter}
 use Rattle.ipx_tables.specs.declared.source.Source.{Source}
 use Rattle.ipx_tables.specs.declared.offer.Offer.{Offer}
 use Rattle.ipx_tables.specs.Content.{IsApart, is_young, still, is_same, content, heard_key}
-use Rattle.ipx_tables.specs.Expiry.{IsOldest, NoneOldBefore}
+use Rattle.ipx_tables.specs.Expiry.{NoneOldBefore}
 use Rattle.ipx_tables.proofs.Lists.{same_equiv, found_filter, told_filter}
 
 least_left : (s a b : ℕ) → s ≡ min a b → s ≤ a
@@ -63,29 +64,19 @@ module _ {K M : Type 0} {cmp : K → K → Ordering} (o : IsTotalOrder cmp) (os 
   pub many_none : length os ≡ count_by (λ o. is_young now o.heard) os
   many_none = ap length (sym (filter_none_old os moment now none lt)) ∙ length-filter (λ o. is_young now o.heard) os
 
--- what is kept where an old offer goes is what was kept before
-filter_removed : {X : Type 0} (p : X → Bool) (xs : List X) (i : ℕ) → i < length xs → ((d : X) → p (get_or xs i d) ≡ false) → filter p (remove xs i) ≡ filter p xs
-filter_removed p [] i within old = absurd (omega (arith, within))
-filter_removed p (x ∷ xs) zero within old = sym (ap (λ b. cond b (x ∷ filter p xs) (filter p xs)) (old x))
-filter_removed p (x ∷ xs) (suc i) within old = ap (λ l. cond (p x) (x ∷ l) l) (filter_removed p xs i (omega (arith, within)) old)
+-- one more offer that counts, as a loop over them goes on
+module _ {K M : Type 0} (os : List (Offer K M)) (i : ℕ) (x : Offer K M) (within : i < length os) (read : x ≡ get_or os i x) (until ends next : ℕ) (is : ends ≡ min (x.heard + 180000) (2 ^ 64 - 1)) (least : next ≡ min until ends) where
+  heard_at : (d : Offer K M) → (get_or os i d).heard ≡ x.heard
+  heard_at d = ap (λ (o : Offer K M). o.heard) (get_or_default os i d x within ∙ sym read)
 
--- where all are kept the list stays
-pub filter_all : {X : Type 0} (p : X → Bool) (xs : List X) → ((j : ℕ) (d : X) → j < length xs → p (get_or xs j d) ≡ true) → filter p xs ≡ xs
-filter_all p [] all = refl
-filter_all p (x ∷ xs) all = ap (λ b. cond b (x ∷ filter p xs) (filter p xs)) (all 0 x (omega arith)) ∙ ap (λ l. x ∷ l) (filter_all p xs (λ j d lt. all (suc j) d (omega (arith, lt))))
+  pub count_more : ((j : ℕ) (d : Offer K M) → j < i → until ≤ (get_or os j d).heard + 180000) → (j : ℕ) (d : Offer K M) → j < i + 1 → next ≤ (get_or os j d).heard + 180000
+  count_more before j d lt = elim (cases_lt j i) [
+    | inl low ↦ omega (arith, before j d low, least)
+    | inr high ↦
+        let same : j ≡ i = omega (arith, lt, high) in
+        rw same (omega (arith, heard_at d, is, least))
+  ]
 
-module _ {K M : Type 0} (os : List (Offer K M)) (i moment now : ℕ) (oldest : IsOldest os i moment) where
-  -- where the first that was heard counts all do
-  pub all_young : is_young now moment ≡ true → filter (λ o. is_young now o.heard) os ≡ os
-  all_young young = filter_all (λ o. is_young now o.heard) os (λ j d lt.
-      lt-ltb (now - (get_or os j d).heard) 180000 (omega (arith, oldest.first j d lt, ltb-true (now - moment) 180000 young)))
-
-  -- an old one that goes was not to be kept
-  pub old_goes : is_young now moment ≡ false → filter (λ o. is_young now o.heard) (remove os i) ≡ filter (λ o. is_young now o.heard) os
-  old_goes old = filter_removed (λ o. is_young now o.heard) os i oldest.in_range (λ d. ap (is_young now) (oldest.heard d) ∙ old)
-
-  pub no_later_than_oldest : (ends until : ℕ) → ends ≡ min (moment + 180000) (2 ^ 64 - 1) → until < 2 ^ 64 → NoneOldBefore until os → until ≤ ends
-  no_later_than_oldest ends until is fits none = elim os as (λ l. IsOldest l i moment → NoneOldBefore until l → until ≤ ends) [
-    | [] ↦ λ old all. absurd (omega (arith, old.in_range))
-    | x ∷ xs ↦ λ old all. omega (arith, is, fits, all i x old.in_range, old.heard x)
-  ] oldest none
+  pub no_longer_more : ((moment : ℕ) → moment < 2 ^ 64 → ((j : ℕ) (d : Offer K M) → j < i → moment ≤ (get_or os j d).heard + 180000) → moment ≤ until) → (moment : ℕ) → moment < 2 ^ 64 → ((j : ℕ) (d : Offer K M) → j < i + 1 → moment ≤ (get_or os j d).heard + 180000) → moment ≤ next
+  no_longer_more before moment fits all =
+      omega (arith, before moment fits (λ j d lt. all j d (omega (arith, lt))), all i x (omega arith), heard_at x, is, least, fits)

@@ -1,15 +1,13 @@
 pub mod Lists
 pub mod Places
-pub mod Held
-pub mod Outcomes
 pub mod Ordered
-pub mod Pairing
 pub mod Walks
 pub mod Halving
 pub mod Best
 pub mod Listed
 pub mod LastWord
 pub mod Expiry
-pub mod Racks
 pub mod Unique
 pub mod Counting
+pub mod Trays
+pub mod Sought

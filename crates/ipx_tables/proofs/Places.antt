@@ -1,66 +1,17 @@
--- Places in lists that rise by a key: searches, and edits that keep the order.
-use Rattle.std.proofs.Common.{◌≡◌, ◌≢◌, ℕ, ◌+◌, ◌-◌, ◌<◌, ◌≤◌, List, length, get_or, set, Result, Ok, Err, IfOk, IfErr, sym, ap, ◌∙◌, subst, inl, inr, arith}
+-- Edits that keep the order of a list that rises by a key.
+use Rattle.std.proofs.Common.{◌≡◌, ◌≢◌, ℕ, ◌+◌, ◌-◌, ◌<◌, ◌≤◌, List, length, get_or, set, sym, ap, ◌∙◌, subst, inl, inr, arith}
 use Rattle.std.specs.List.{insert, remove}
-use Rattle.std.specs.List.Sorted.{IsSearchInRange, IsBinarySearchResult, IsSortedBy}
 use Rattle.std.specs.Cmp.{IsTotalOrder}
-use Rattle.std.specs.Ordering.{is_lt, ordering_reverse}
+use Rattle.std.specs.Ordering.{ordering_reverse}
 use Rattle.std.specs.declared.cmp.Ordering.{Ordering}
-use Rattle.std.specs.declared.cmp.Ordering.TheVariants.{Less, Equal, Greater}
+use Rattle.std.specs.declared.cmp.Ordering.TheVariants.{Less, Equal}
 use Rattle.std.proofs.lemmas.Cmp.{alike_right}
-use Rattle.std.proofs.lemmas.List.{get_or_default, get_or-set_same, get_or-set_other, length-set}
-use Rattle.std.proofs.lemmas.List.Sorted.{searchable_from_sorted}
+use Rattle.std.proofs.lemmas.List.{get_or-set_same, get_or-set_other, length-set}
 use Rattle.std.proofs.lemmas.List.Edits.{length-insert, get_or-insert_below, get_or-insert_at, get_or-insert_above, length-remove, get_or-remove_below, get_or-remove_above}
 use Rattle.std.proofs.lemmas.Bool.{cases_lt}
 use Rattle.ipx_tables.specs.Sorted.{IsRising, IsAtKey, IsGapFor}
 
 module _ {X K : Type 0} {cmp : K → K → Ordering} (o : IsTotalOrder cmp) (key_of : X → K) (xs : List X) where
-  rising_sorted : IsRising cmp key_of xs → IsSortedBy (λ a b. is_lt (cmp (key_of a) (key_of b))) xs
-  rising_sorted rising k d low high = ap is_lt (o.antisymm _ _ ∙ ap ordering_reverse (rising k (k + 1) d (omega arith) high))
-
-  -- what a binary search by the key gives
-  pub searched : IsRising cmp key_of xs → (key : K) (r : Result ℕ ℕ) → IsSearchInRange r (length xs) → IsBinarySearchResult (λ x. cmp (key_of x) key) xs r → IfOk r (IsAtKey cmp key_of xs key) × IfErr r (IsGapFor cmp key_of xs key)
-  searched rising key (Ok i) within equal = (record { in_range = within; ties = equal }, tt)
-  searched rising key (Err i) within parted =
-      let at = parted (searchable_from_sorted o key_of xs key (rising_sorted rising)) in
-      (tt, record { in_range = within; below = λ j d lt. at.0 j d (omega arith) lt; above = λ j d le lt. at.1 j d le lt })
-
-  -- an item that was read ties with the key
-  pub at_read : (i : ℕ) (x : X) (key : K) → i < length xs → x ≡ get_or xs i x → cmp (key_of x) key ≡ Equal → IsAtKey cmp key_of xs key i
-  at_read i x key within read ties = record { in_range = within; ties = λ d. ap (λ (v : X). cmp (key_of v) key) (get_or_default xs i d x within ∙ sym read) ∙ ties }
-
-  -- what is above the last item goes behind it
-  pub gap_behind : IsRising cmp key_of xs → (i : ℕ) (x : X) (key : K) → i + 1 ≡ length xs → x ≡ get_or xs i x → cmp (key_of x) key ≡ Less → IsGapFor cmp key_of xs key (i + 1)
-  gap_behind rising i x key last read less =
-      let v : X → ℕ → K = λ d k. key_of (get_or xs k d) in
-      let here : (d : X) → v d i ≡ key_of x = λ d. ap key_of (get_or_default xs i d x (omega arith) ∙ sym read) in
-      let at_last : (d : X) → cmp (v d i) key ≡ Less = λ d. rw (here d) less in
-      record {
-        in_range = omega arith;
-        below = λ j d lt. elim (cases_lt j i) [
-          | inl low ↦ o.trans _ _ _ (rising j i d low (omega arith)) (at_last d)
-          | inr high ↦ let same : j ≡ i = omega arith in rw same (at_last d)
-        ];
-        above = λ j d le lt. absurd (omega arith);
-      }
-
-  -- what is below the first item goes before it
-  pub gap_before : IsRising cmp key_of xs → (x : X) (key : K) → 0 < length xs → x ≡ get_or xs 0 x → cmp (key_of x) key ≡ Greater → IsGapFor cmp key_of xs key 0
-  gap_before rising x key some read greater =
-      let v : X → ℕ → K = λ d k. key_of (get_or xs k d) in
-      let here : (d : X) → v d 0 ≡ key_of x = λ d. ap key_of (get_or_default xs 0 d x some ∙ sym read) in
-      let over : (d : X) → cmp (v d 0) key ≡ Greater = λ d. rw (here d) greater in
-      let less : (d : X) → cmp key (v d 0) ≡ Less = λ d. o.antisymm _ _ ∙ ap ordering_reverse (over d) in
-      record {
-        in_range = omega arith;
-        below = λ j d lt. absurd (omega arith);
-        above = λ j d le lt.
-            let up : cmp key (v d j) ≡ Less = elim (cases_lt 0 j) [
-              | inl later ↦ o.trans _ _ _ (less d) (rising 0 j d later lt)
-              | inr first ↦ let same : j ≡ 0 = omega arith in rw same (less d)
-            ] in
-            o.antisymm _ _ ∙ ap ordering_reverse up;
-      }
-
   -- a new item in the gap keeps the order
   pub insert_rising : IsRising cmp key_of xs → (x : X) (at : ℕ) → IsGapFor cmp key_of xs (key_of x) at → IsRising cmp key_of (insert xs at x)
   insert_rising rising x at gap i j d lt in_range =

@@ -9,6 +9,5 @@ pub mod Sorted
 pub mod Listing
 pub mod OfferScan
 pub mod Walk
-pub mod ExpiryKeys
 pub mod Expiry
-pub mod Late
+pub mod Tray

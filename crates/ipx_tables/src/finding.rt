@@ -8,7 +8,7 @@ ghost use Rattle.ipx_tables.specs.OfferScan.{best_from, better_of, is_candidate,
 use crate::metric::Metric;
 use crate::moments::counts;
 use crate::offer::Offer;
-use crate::rack::Rack;
+use crate::shelf::Shelf;
 use crate::source::Source;
 use std::cmp::Ordering;
 
@@ -51,7 +51,7 @@ pub fn better_one<K: Copy, M: Metric + Copy>(
 }
 
 /// The first place whose key is not below this one. Each offer that is read halves what is left.
-fn first_of<K: Ord + Copy, M: Copy>(shelf: &Rack<K, M>, key: K, steps: &mut usize) -> usize
+fn first_of<K: Ord + Copy, M: Copy>(shelf: &Shelf<K, M>, key: K, steps: &mut usize) -> usize
     requires { steps.old + 65 < 2 ^ 64 }
     ensures within { result ≤ length shelf.now }
     ensures below { (j : ℕ) (o : Offer K M) → j < result
@@ -76,7 +76,7 @@ fn first_of<K: Ord + Copy, M: Copy>(shelf: &Rack<K, M>, key: K, steps: &mut usiz
 
 /// The best of the offers of a key that count, and how many offers were read.
 pub fn best_in<K: Ord + Copy, M: Metric + Copy>(
-    shelf: &Rack<K, M>,
+    shelf: &Shelf<K, M>,
     key: K,
     now: u64,
 ) -> (Option<Offer<K, M>>, usize)

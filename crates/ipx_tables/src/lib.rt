@@ -8,21 +8,18 @@
 #![tactic(auto)]
 
 mod ageing;
-mod expiry_key;
 mod fault;
 mod finding;
-mod heard;
 mod laws;
-mod marks;
 mod metric;
 mod moments;
 mod offer;
 mod offers;
-mod rack;
 mod route;
 mod service;
 mod shelf;
 mod source;
+mod tray;
 mod walk;
 
 pub use fault::TableFault;

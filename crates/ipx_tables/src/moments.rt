@@ -1,10 +1,20 @@
 //! How long offers count.
 
-ghost use Rattle.std.specs.Prelude.{◌≡◌, ◌+◌, ◌-◌, ◌^◌, min};
+ghost use Rattle.std.specs.Prelude.{◌≡◌, ℕ, ◌+◌, ◌-◌, ◌^◌, min};
 ghost use Rattle.ipx_tables.specs.Content.{is_young};
 
 /// How long an offer counts after it was heard, in milliseconds.
 const LIFE: u64 = 180_000;
+
+/// What was heard at a moment.
+pub trait Timed {
+    /// When that was.
+    ghost moment: { Self → ℕ };
+
+    /// When that was.
+    fn moment(&self) -> u64
+        ensures { result ≡ moment self.now };
+}
 
 /// Whether an offer of this moment counts.
 pub fn counts(now: u64, moment: u64) -> bool

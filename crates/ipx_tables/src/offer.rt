@@ -1,5 +1,6 @@
 //! One offer of a table.
 
+use crate::moments::Timed;
 use crate::source::Source;
 
 /// A way to a key, from whom and when it was heard last, and how good it is.
@@ -9,4 +10,12 @@ pub struct Offer<K, M> {
     pub source: Source,
     pub metric: M,
     pub heard: u64,
+}
+
+impl<K: Copy, M: Copy> Timed for Offer<K, M> {
+    ghost moment = { λ o. o.heard };
+
+    fn moment(&self) -> u64 {
+        self.heard
+    }
 }

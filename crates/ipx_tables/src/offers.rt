@@ -13,7 +13,7 @@ use crate::finding::best_in;
 use crate::metric::Metric;
 use crate::moments::expiry;
 use crate::offer::Offer;
-use crate::rack::Rack;
+use crate::shelf::Shelf;
 use crate::source::Source;
 use crate::walk::{Bests, bests_on};
 use std::alloc::Global;
@@ -25,9 +25,9 @@ use std::marker::Model;
 #[derive(Drop)]
 pub struct Offers<K: Ord + Copy, M: Metric + Copy> {
     most: usize,
-    /// No offer is old before this moment. It may be too early, which costs one look at the oldest.
+    /// No offer is old before this moment. It may be too early, which costs one pass over them.
     none_old_before: u64,
-    shelf: Rack<K, M>,
+    shelf: Shelf<K, M>,
 }
 
 impl<K: Ord + Copy, M: Metric + Copy> Model for Offers<K, M> {
@@ -51,7 +51,7 @@ impl<K: Ord + Copy, M: Metric + Copy> Offers<K, M> {
         Offers {
             most,
             none_old_before: u64::MAX,
-            shelf: Rack::new(alloc),
+            shelf: Shelf::new(alloc),
         }
     }
 

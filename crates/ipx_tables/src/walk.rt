@@ -8,14 +8,14 @@ use crate::finding::better_one;
 use crate::metric::Metric;
 use crate::moments::counts;
 use crate::offer::Offer;
-use crate::rack::Rack;
+use crate::shelf::Shelf;
 use crate::source::Source;
 use std::marker::Model;
 
 /// Each key that has a best, with its best, by key. It takes no memory.
 #[derive(Drop)]
 pub struct Bests<'a, K: Ord + Copy, M: Metric + Copy> {
-    shelf: &'a Rack<K, M>,
+    shelf: &'a Shelf<K, M>,
     at: usize,
     now: u64,
 }
@@ -31,7 +31,7 @@ impl<'a, K: Ord + Copy, M: Metric + Copy> Model for Bests<'a, K, M> {
 }
 
 /// The best of each key of the shelf.
-pub fn bests_on<K: Ord + Copy, M: Metric + Copy>(shelf: &Rack<K, M>, now: u64) -> Bests<'_, K, M>
+pub fn bests_on<K: Ord + Copy, M: Metric + Copy>(shelf: &Shelf<K, M>, now: u64) -> Bests<'_, K, M>
     ensures { result ≡ bests_of K.cmp M.before now shelf.now }
 {
     Bests { shelf, at: 0, now }
@@ -59,7 +59,7 @@ impl<'a, K: Ord + Copy, M: Metric + Copy> Iterator for Bests<'a, K, M> {
 }
 
 /// An offer, read for a walk: what a walk reads is not counted.
-fn offer_at<K: Ord + Copy, M: Copy>(shelf: &Rack<K, M>, at: usize) -> Offer<K, M>
+fn offer_at<K: Ord + Copy, M: Copy>(shelf: &Shelf<K, M>, at: usize) -> Offer<K, M>
     requires { at < length shelf.now }
     ensures { result ≡ slice_index_or shelf.now at result }
 {
@@ -69,11 +69,11 @@ fn offer_at<K: Ord + Copy, M: Copy>(shelf: &Rack<K, M>, at: usize) -> Offer<K, M
 
 /// Whether the offer at a place counts, and the next one is of another key.
 #[inline]
-fn is_lone<K: Ord + Copy, M: Copy>(shelf: &Rack<K, M>, at: usize, now: u64) -> bool
+fn is_lone<K: Ord + Copy, M: Copy>(shelf: &Shelf<K, M>, at: usize, now: u64) -> bool
     ensures { result ≡ true → IsLone K.cmp now shelf.now at }
 {
     let end = shelf.len();
-    if at >= end || !counts(now, shelf.moment_at(at)) {
+    if at >= end || !counts(now, shelf.get(at).heard) {
         return false;
     }
     at + 1 == end || !shelf.tie(at, at + 1)
@@ -83,7 +83,7 @@ fn is_lone<K: Ord + Copy, M: Copy>(shelf: &Rack<K, M>, at: usize, now: u64) -> b
 /// offer, and then nothing else is looked at.
 #[inline]
 fn lone_at<K: Ord + Copy, M: Metric + Copy>(
-    shelf: &Rack<K, M>,
+    shelf: &Shelf<K, M>,
     at: usize,
     now: u64,
 ) -> Option<Offer<K, M>>
@@ -112,7 +112,7 @@ fn is_past<K: Ord + Copy, M: Copy>(held: Option<Offer<K, M>>, key: K) -> bool
 /// that key.
 #[inline(never)] // so that a walk over lone offers has only these in line
 fn next_best<K: Ord + Copy, M: Metric + Copy>(
-    shelf: &Rack<K, M>,
+    shelf: &Shelf<K, M>,
     from: usize,
     now: u64,
 ) -> (Option<Offer<K, M>>, usize)

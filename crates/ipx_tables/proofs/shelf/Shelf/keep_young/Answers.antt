@@ -1,15 +1,12 @@
-use Rattle.std.proofs.Common.{rules}
-use Rattle.std.proofs.lemmas.Fn.{filter_same}
-use Rattle.ipx_tables.specs.Content.{is_young}
-use Rattle.ipx_tables.proofs.Pairing.{paired_young}
+use Rattle.std.proofs.Common.{◌≡◌}
+use Rattle.std.specs.declared.cmp.Ordering.TheVariants.{Less}
+use Rattle.std.proofs.lemmas.List.Kept.{AllPairs-filter}
+use Rattle.ipx_tables.specs.Content.{is_young, pair_cmp, pair_of}
 use Rattle.ipx_tables.proofs.shelf.Shelf.keep_young.Goals as goal
 
 pub invariant_of-self : goal.invariant_of-self
 invariant_of-self g c =
-    let offers = filter_same _ (λ x. is_young c.args.now x.heard) _ (λ x b f' k. search rules) _ _ c.retain.ensures.filtered in
-    let marks = filter_same _ (λ x. is_young c.args.now x.moment) _ (λ x b f' k. search rules) _ _ c.retain-2.ensures.filtered in
-    rw (offers, marks) (paired_young g.met.K.Ord.total _ _ c.self.invariant c.args.now)
+    rw c.keep_young.ensures.items (AllPairs-filter (λ a b. pair_cmp g.K.Ord.cmp (pair_of a) (pair_of b) ≡ Less) (λ x. is_young c.args.now x.heard) c.self.inside.offers.items c.self.invariant)
 
 pub returns : goal.returns
-returns g c =
-    rw (← c.self.view_is) (filter_same _ (λ x. is_young c.args.now x.heard) _ (λ x b f' k. search rules) _ _ c.retain.ensures.filtered)
+returns g c = rw (← c.self.view_is) c.keep_young.ensures.items

@@ -1,0 +1,35 @@
+use Rattle.std.proofs.Common.{◌<◌, length, refl, arith}
+use Rattle.ipx_tables.proofs.Trays.{many_lying, moved_slots, number_freed, number_real, read_lying, removed_lying, used_real}
+use Rattle.ipx_tables.proofs.tray.Tray.take_out.Goals as goal
+
+pub index-requires : goal.index-requires
+index-requires g c =
+    let slots = c.self.inside.slots.items in
+    let used = c.self.inside.used.items in
+    let real = used_real slots used c.self.inside.free.items _ _ c.self.invariant in
+    let long = rw (← c.self.view_is) at c.requires in
+    let within : c.args.at < length used = omega (arith, long, many_lying slots used real) in
+    omega (arith, c.self.inside.slots.ok.0, number_real slots used real c.args.at c.remove-number.result within c.remove-number.ensures.value)
+
+pub invariant_of-self : goal.invariant_of-self
+invariant_of-self g c =
+    let slots = c.self.inside.slots.items in
+    let used = c.self.inside.used.items in
+    let free = c.self.inside.free.items in
+    let real = used_real slots used free _ _ c.self.invariant in
+    let long = rw (← c.self.view_is) at c.requires in
+    let within : c.args.at < length used = omega (arith, long, many_lying slots used real) in
+    rw (c.remove-number.ensures.items, c.push_reserved.ensures.items) (moved_slots slots used free _ _ c.self.invariant _ _ slots _ _ (number_freed used free c.args.at c.remove-number.result within c.remove-number.ensures.value) refl (omega (arith, c.remove-number.ensures.capacity)) (omega (arith, c.push_reserved.ensures.capacity)))
+
+pub returns-clause-item : goal.returns-clause-item
+returns-clause-item g c =
+    let slots = c.self.inside.slots.items in
+    let used = c.self.inside.used.items in
+    let real = used_real slots used c.self.inside.free.items _ _ c.self.invariant in
+    let long = rw (← c.self.view_is) at c.requires in
+    let within : c.args.at < length used = omega (arith, long, many_lying slots used real) in
+    rw (← c.self.view_is) (read_lying slots used real c.args.at c.remove-number.result c.index.result.now within c.remove-number.ensures.value c.index.ensures)
+
+pub returns-clause-items : goal.returns-clause-items
+returns-clause-items g c =
+    rw (c.remove-number.ensures.items, ← c.self.view_is) (removed_lying c.self.inside.slots.items c.self.inside.used.items c.args.at)
