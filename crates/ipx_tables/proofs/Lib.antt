@@ -11,3 +11,4 @@ pub mod Unique
 pub mod Counting
 pub mod Trays
 pub mod Sought
+pub mod Words

@@ -11,3 +11,4 @@ pub mod OfferScan
 pub mod Walk
 pub mod Expiry
 pub mod Tray
+pub mod Spelled

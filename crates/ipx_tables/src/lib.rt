@@ -8,6 +8,7 @@
 #![tactic(auto)]
 
 mod ageing;
+mod by_number;
 mod fault;
 mod finding;
 mod laws;
