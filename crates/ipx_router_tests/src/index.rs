@@ -1,5 +1,5 @@
-//! Worked rows of what a table keeps for how long, how few offers are read for the best, and what
-//! wants no memory.
+//! Worked rows of the two orders in which a table keeps its offers, by key and by the moment heard,
+//! and of what wants no memory.
 
 use crate::metrics::route;
 use ipx_tables::{RouteTable, Source, TableFault, route_table};

@@ -1,17 +1,17 @@
 -- Until when offers count, and what ageing before that moment leaves.
-use Rattle.std.proofs.Common.{◌≡◌, ℕ, suc, ◌+◌, ◌-◌, ◌^◌, ◌<◌, ◌≤◌, min, true, cond, List, [], ◌∷◌, set, take, drop, length, get_or, None, refl, sym, ap, ◌∙◌, inl, inr, arith}
+use Rattle.std.proofs.Common.{◌≡◌, ℕ, suc, ◌+◌, ◌-◌, ◌^◌, ◌<◌, ◌≤◌, min, true, cond, List, [], ◌∷◌, set, take, drop, length, get_or, Option, Some, None, IfSome, refl, sym, ap, ◌∙◌, arith}
 use Rattle.std.specs.List.{insert, remove, filter, count_by}
 use Rattle.std.specs.Option.{is_some}
 use Rattle.std.specs.Cmp.{IsTotalOrder}
 use Rattle.std.specs.declared.cmp.Ordering.{Ordering}
-use Rattle.std.proofs.lemmas.Bool.{cases_lt, lt-ltb}
-use Rattle.std.proofs.lemmas.List.{get_or_default}
+use Rattle.std.proofs.lemmas.Bool.{lt-ltb}
 use Rattle.std.proofs.lemmas.List.Elements.{All-append, All-take, All-drop, All-tail, All-set, All-cons}
 use Rattle.std.proofs.lemmas.List.Sums.{length-filter}
 use Rattle.ipx_tables.specs.declared.source.Source.{Source}
 use Rattle.ipx_tables.specs.declared.offer.Offer.{Offer}
 use Rattle.ipx_tables.specs.Content.{IsApart, is_young, still, is_same, content, heard_key}
-use Rattle.ipx_tables.specs.Expiry.{NoneOldBefore}
+use Rattle.ipx_tables.specs.Expiry.{IsOldest, NoneOldBefore}
+use Rattle.ipx_tables.specs.Marks.{IsEarliest}
 use Rattle.ipx_tables.proofs.Lists.{same_equiv, found_filter, told_filter}
 
 least_left : (s a b : ℕ) → s ≡ min a b → s ≤ a
@@ -64,19 +64,12 @@ module _ {K M : Type 0} {cmp : K → K → Ordering} (o : IsTotalOrder cmp) (os 
   pub many_none : length os ≡ count_by (λ o. is_young now o.heard) os
   many_none = ap length (sym (filter_none_old os moment now none lt)) ∙ length-filter (λ o. is_young now o.heard) os
 
--- one more offer that counts, as a loop over them goes on
-module _ {K M : Type 0} (os : List (Offer K M)) (i : ℕ) (x : Offer K M) (within : i < length os) (read : x ≡ get_or os i x) (until ends next : ℕ) (is : ends ≡ min (x.heard + 180000) (2 ^ 64 - 1)) (least : next ≡ min until ends) where
-  heard_at : (d : Offer K M) → (get_or os i d).heard ≡ x.heard
-  heard_at d = ap (λ (o : Offer K M). o.heard) (get_or_default os i d x within ∙ sym read)
+-- offers are no longer all young than the oldest of them
+pub no_later_than_oldest : {K M : Type 0} (os : List (Offer K M)) (i moment : ℕ) → IsOldest os i moment → (ends until : ℕ) → ends ≡ min (moment + 180000) (2 ^ 64 - 1) → until < 2 ^ 64 → NoneOldBefore until os → until ≤ ends
+no_later_than_oldest [] i moment oldest ends until is fits none = absurd (omega (arith, oldest.in_range))
+no_later_than_oldest (x ∷ xs) i moment oldest ends until is fits none = omega (arith, is, fits, none i x oldest.in_range, oldest.heard x)
 
-  pub count_more : ((j : ℕ) (d : Offer K M) → j < i → until ≤ (get_or os j d).heard + 180000) → (j : ℕ) (d : Offer K M) → j < i + 1 → next ≤ (get_or os j d).heard + 180000
-  count_more before j d lt = elim (cases_lt j i) [
-    | inl low ↦ omega (arith, before j d low, least)
-    | inr high ↦
-        let same : j ≡ i = omega (arith, lt, high) in
-        rw same (omega (arith, heard_at d, is, least))
-  ]
-
-  pub no_longer_more : ((moment : ℕ) → moment < 2 ^ 64 → ((j : ℕ) (d : Offer K M) → j < i → moment ≤ (get_or os j d).heard + 180000) → moment ≤ until) → (moment : ℕ) → moment < 2 ^ 64 → ((j : ℕ) (d : Offer K M) → j < i + 1 → moment ≤ (get_or os j d).heard + 180000) → moment ≤ next
-  no_longer_more before moment fits all =
-      omega (arith, before moment fits (λ j d lt. all j d (omega (arith, lt))), all i x (omega arith), heard_at x, is, least, fits)
+-- the earliest of offers is the oldest
+pub oldest_is_earliest : {K M : Type 0} (os : List (Offer K M)) (r : Option (ℕ × ℕ)) → IfSome r (λ o. IsEarliest (λ (x : Offer K M). x.heard) os o.0 o.1) → IfSome r (λ o. IsOldest os o.0 o.1)
+oldest_is_earliest os None h = h
+oldest_is_earliest os (Some a) h = record { in_range = h.in_range; heard = h.is; first = h.first }

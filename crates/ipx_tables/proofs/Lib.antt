@@ -10,5 +10,8 @@ pub mod Expiry
 pub mod Unique
 pub mod Counting
 pub mod Trays
+pub mod Permuted
+pub mod Marked
+pub mod Marking
 pub mod Sought
 pub mod Words

@@ -25,7 +25,7 @@ map_alike f g [] h = refl
 map_alike f g (x ∷ xs) h = ap (λ y. y ∷ map f xs) (h 0 x (omega arith)) ∙ ap (λ l. g x ∷ l) (map_alike f g xs (λ j e lt. h (suc j) e (omega (arith, lt))))
 
 -- a filter before a map keeps what one behind it keeps, where their tests agree on the items
-filter_map_alike : {A B : Type 0} (f : A → B) (p : A → Bool) (q : B → Bool) (xs : List A) → ((j : ℕ) (e : A) → j < length xs → p (get_or xs j e) ≡ q (f (get_or xs j e))) → map f (filter p xs) ≡ filter q (map f xs)
+pub filter_map_alike : {A B : Type 0} (f : A → B) (p : A → Bool) (q : B → Bool) (xs : List A) → ((j : ℕ) (e : A) → j < length xs → p (get_or xs j e) ≡ q (f (get_or xs j e))) → map f (filter p xs) ≡ filter q (map f xs)
 filter_map_alike f p q [] h = refl
 filter_map_alike f p q (x ∷ xs) h =
     let rest = filter_map_alike f p q xs (λ j e lt. h (suc j) e (omega (arith, lt))) in
@@ -47,7 +47,7 @@ module _ {X : Type 0} where
   AreReal slots numbers = All (λ n. n < length slots) numbers
 
   -- with any item in place of what is not there
-  lying_is : (slots : List X) (numbers : List ℕ) (d : X) → AreReal slots numbers → lying_in slots numbers ≡ map (λ n. get_or slots n d) numbers
+  pub lying_is : (slots : List X) (numbers : List ℕ) (d : X) → AreReal slots numbers → lying_in slots numbers ≡ map (λ n. get_or slots n d) numbers
   lying_is [] [] d real = refl
   lying_is [] (n ∷ ns) d real = absurd (omega (arith, real 0 n (omega arith)))
   lying_is (x ∷ xs) numbers d real = map_alike (λ n. get_or (x ∷ xs) n x) (λ n. get_or (x ∷ xs) n d) numbers (λ j e lt. get_or_default (x ∷ xs) (get_or numbers j e) x d (real j e lt))
@@ -136,6 +136,13 @@ module _ {X : Type 0} where
 module _ {X : Type 0} (slots : List X) (used free : List ℕ) (used_room free_room : ℕ) (are : AreSlots slots used free used_room free_room) where
   pub used_real : AreReal slots used
   used_real = All-front (λ n. n < length slots) used free are.real
+
+  -- no number in use is used twice
+  pub used_distinct : IsDistinct eqb used
+  used_distinct = IsDistinct-from_apart eqb used (λ i j d lt within.
+      ap (λ n. eqb n (get_or used j d)) (sym (get_or_append_left used free d i (omega (arith, lt, within))))
+      ∙ ap (eqb (get_or (used ++ free) i d)) (sym (get_or_append_left used free d j within))
+      ∙ apart_from_distinct eqb (used ++ free) i j d are.once lt (omega (arith, within, length-append used free)))
 
   -- a number in use is used once
   pub used_once : (i j : ℕ) (e : ℕ) → i < length used → j < length used → (j ≡ i → ⊥) → get_or used j e ≡ get_or used i e → ⊥

@@ -10,5 +10,6 @@ pub mod Listing
 pub mod OfferScan
 pub mod Walk
 pub mod Expiry
+pub mod Marks
 pub mod Tray
 pub mod Spelled

@@ -8,7 +8,7 @@ ghost use Rattle.ipx_tables.specs.Expiry.{NoneOldBefore};
 use crate::moments::expiry;
 use crate::shelf::Shelf;
 
-/// Takes out each offer that counts no more, in one pass. The result is the moment until which all
+/// Takes out each offer that counts no more, all together. The result is the moment until which all
 /// others do.
 #[inline(never)] // so that whoever ages a table has only the comparison in line
 pub fn keep_young<K: Ord + Copy, M: Copy>(shelf: &mut Shelf<K, M>, now: u64) -> u64
@@ -18,18 +18,8 @@ pub fn keep_young<K: Ord + Copy, M: Copy>(shelf: &mut Shelf<K, M>, now: u64) -> 
         → moment ≤ result }
 {
     shelf.keep_young(now);
-    all_count_until(shelf)
-}
-
-/// The moment until which all offers count.
-fn all_count_until<K: Ord + Copy, M: Copy>(shelf: &Shelf<K, M>) -> u64
-    ensures until { NoneOldBefore result shelf.now }
-    ensures no_later { (moment : ℕ) → moment < 2 ^ 64 → NoneOldBefore moment shelf.now
-        → moment ≤ result }
-{
-    let mut until = u64::MAX;
-    for at in 0..shelf.len() {
-        until = until.min(expiry(shelf.get(at).heard));
+    match shelf.oldest() {
+        None => u64::MAX,
+        Some((_, moment)) => expiry(moment),
     }
-    until
 }

@@ -12,6 +12,7 @@ mod by_number;
 mod fault;
 mod finding;
 mod laws;
+mod marks;
 mod metric;
 mod moments;
 mod offer;

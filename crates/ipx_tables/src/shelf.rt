@@ -1,9 +1,10 @@
 //! Offers in the order of key and source.
 
-ghost use Rattle.std.specs.Prelude.{◌≡◌, ◌+◌, ◌^◌, ◌<◌, [], List, length, IfOk, IfErr, OnOk, OnErr, insert, remove, slice_index_or, slice_set};
+ghost use Rattle.std.specs.Prelude.{◌≡◌, ◌+◌, ◌^◌, ◌<◌, [], List, length, IfNone, IfSome, IfOk, IfErr, OnOk, OnErr, insert, remove, slice_index_or, slice_set};
 ghost use Rattle.std.specs.List.{filter};
 ghost use Rattle.std.specs.Ordering.{is_eq};
 ghost use Rattle.ipx_tables.specs.Content.{is_young, pair_cmp, pair_of};
+ghost use Rattle.ipx_tables.specs.Expiry.{IsOldest};
 ghost use Rattle.ipx_tables.specs.Sorted.{IsAtKey, IsGapFor, IsRising};
 
 use crate::offer::Offer;
@@ -93,6 +94,15 @@ impl<K: Ord + Copy, M: Copy> Shelf<K, M> {
         ensures absent { IfErr result (IsGapFor (pair_cmp K.cmp) pair_of self.now (key, source)) }
     {
         place_in(&self.offers, self.next, key, source)
+    }
+
+    /// An offer that was heard first, and when that was.
+    pub fn oldest(&mut self) -> Option<(usize, u64)>
+        ensures oldest { IfSome result (λ o. IsOldest self.old o.0 o.1) }
+        ensures none { IfNone result (self.old ≡ []) }
+        ensures same { self.new ≡ self.old }
+    {
+        self.offers.oldest()
     }
 
     /// Takes an offer out.

@@ -1,28 +1,34 @@
 //! Items in an order that lie still: the numbers of their slots move.
 
-ghost use Rattle.std.specs.Prelude.{◌≡◌, ◌+◌, ◌≤◌, ◌<◌, ◌^◌, ◌++◌, [], not, length, OnOk, insert, remove, slice_index_or, slice_set};
+ghost use Rattle.std.specs.Prelude.{◌≡◌, ℕ, ◌+◌, ◌≤◌, ◌<◌, ◌^◌, ◌++◌, [], not, length, IfNone, IfSome, OnOk, insert, remove, slice_index_or, slice_set};
 ghost use Rattle.std.specs.List.{filter};
 ghost use Rattle.std.specs.Vec.{vec_capacity, vec_len};
 ghost use Rattle.ipx_tables.specs.Content.{is_young};
+ghost use Rattle.ipx_tables.specs.Marks.{IsEarliest};
 ghost use Rattle.ipx_tables.specs.Tray.{is_young_in};
 
+use crate::marks::{Mark, put_mark, settle_first, unmark, unmark_old};
 use crate::moments::{Timed, counts};
 use std::alloc::{AllocError, Global};
 use std::marker::Model;
 
 /// Items in an order. Each lies in a slot, and stays there while others come and go.
 #[derive(Drop)]
-pub struct Tray<T: Copy> {
+pub struct Tray<T: Timed + Copy> {
     slots: Vec<T>,
     /// The numbers of the slots in use, in the order of the items.
     used: Vec<u32>,
     /// The numbers of the other slots. There is room for all, so that none is lost.
     free: Vec<u32>,
+    /// A mark of each slot in use, by the moment. An item of a later moment leaves its mark where it
+    /// is: ageing puts it right.
+    marks: Vec<Mark>,
 }
 
-impl<T: Copy> Model for Tray<T> {
+impl<T: Timed + Copy> Model for Tray<T> {
     ghost use Rattle.std.specs.Prelude.{length};
     ghost use Rattle.std.specs.Vec.{vec_capacity};
+    ghost use Rattle.ipx_tables.specs.Marks.{AreMarked};
     ghost use Rattle.ipx_tables.specs.Tray.{TrayView, AreSlots, lying_in};
 
     ghost Value = { TrayView T };
@@ -33,10 +39,11 @@ impl<T: Copy> Model for Tray<T> {
     } };
 
     ghost invariant = { λ t. AreSlots t.slots.items t.used.items t.free.items
-        (vec_capacity t.used) (vec_capacity t.free) };
+        (vec_capacity t.used) (vec_capacity t.free)
+        × AreMarked T.moment t.slots.items t.used.items t.marks.items (vec_capacity t.marks) };
 }
 
-impl<T: Copy> Tray<T> {
+impl<T: Timed + Copy> Tray<T> {
     /// No items, and no memory yet.
     pub fn new(alloc: Global) -> Self
         ensures { result.items ≡ [] }
@@ -45,6 +52,7 @@ impl<T: Copy> Tray<T> {
             slots: Vec::new(alloc),
             used: Vec::new(alloc),
             free: Vec::new(alloc),
+            marks: Vec::new(alloc),
         }
     }
 
@@ -66,14 +74,26 @@ impl<T: Copy> Tray<T> {
         &self.slots[self.used[at] as usize]
     }
 
-    /// Puts an item over another.
+    /// Puts an item over another. Its mark stays, unless it would be later than the item.
     pub fn set(&mut self, at: usize, item: T)
         requires { at < length self.old.items }
         ensures items { self.new.items ≡ slice_set self.old.items at item }
         ensures room { self.new.room ≡ self.old.room }
     {
         let number = self.used[at];
+        let before = self.slots[number as usize].moment();
         self.slots[number as usize] = item;
+        let moment = item.moment();
+        if moment < before {
+            unmark(&mut self.marks, number);
+            put_mark(
+                &mut self.marks,
+                Mark {
+                    moment,
+                    place: number,
+                },
+            );
+        }
     }
 
     /// Makes a slot, where none is free. What lies in it until it is used does not matter.
@@ -89,6 +109,7 @@ impl<T: Copy> Tray<T> {
         };
         self.used.reserve(1)?;
         self.free.reserve(self.slots.len() + 1)?;
+        self.marks.reserve(1)?;
         self.slots.push(item)?;
         self.free.push_reserved(number);
         Ok(())
@@ -104,6 +125,13 @@ impl<T: Copy> Tray<T> {
         if let Some(number) = self.free.pop() {
             self.slots[number as usize] = item;
             let _put = self.used.insert(at, number);
+            put_mark(
+                &mut self.marks,
+                Mark {
+                    moment: item.moment(),
+                    place: number,
+                },
+            );
         }
     }
 
@@ -117,19 +145,41 @@ impl<T: Copy> Tray<T> {
     {
         let number = self.used.remove(at);
         self.free.push_reserved(number);
+        unmark(&mut self.marks, number);
         self.slots[number as usize]
     }
-}
 
-impl<T: Timed + Copy> Tray<T> {
+    /// An item of the earliest moment, and that moment.
+    pub fn oldest(&mut self) -> Option<(usize, u64)>
+        ensures oldest { IfSome result (λ o. IsEarliest T.moment self.old.items o.0 o.1) }
+        ensures none { IfNone result (self.old.items ≡ []) }
+        ensures items { self.new.items ≡ self.old.items }
+    {
+        settle_first(&mut self.marks, &self.slots);
+        let mark = self.marks.first()?;
+        let at = place_of_number(&self.used, mark.place)?;
+        Some((at, mark.moment))
+    }
+
     /// Takes out each item that counts no more at a moment.
     pub fn keep_young(&mut self, now: u64)
         ensures items { self.new.items ≡ filter (λ x. is_young now (T.moment x)) self.old.items }
         ensures room { self.new.room ≡ self.old.room }
     {
+        unmark_old(&mut self.marks, &self.slots, now);
         free_old(&self.slots, &self.used, &mut self.free, now);
         use_young(&self.slots, &mut self.used, now);
     }
+}
+
+/// Where the number of a slot stands.
+fn place_of_number(used: &[u32], number: u32) -> Option<usize>
+    ensures there { IfSome result (λ i. i < length used.now) }
+    ensures is { IfSome result (λ i. (d : ℕ) → slice_index_or used.now i d ≡ number) }
+    ensures absent { IfNone result ((i d : ℕ) → i < length used.now
+        → slice_index_or used.now i d ≡ number → ⊥) }
+{
+    used.iter().position(|other| *other == number)
 }
 
 /// Whether what lies in a slot counts.
