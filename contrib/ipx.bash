@@ -1,7 +1,7 @@
 # What bash completes behind `ipx`: commands, their options, and files in TOML. ./install puts it where bash-completion
 # looks for it; else `. contrib/ipx.bash` takes it into a shell.
 
-_ipx_commands='hop show check sim udp route listen send networks services help'
+_ipx_commands='hop show check sim udp route listen send networks services ping help'
 
 # _ipx_options COMMAND: its options. It knows as many as `ipx COMMAND --help` tells, which a test compares.
 _ipx_options() {
@@ -11,6 +11,7 @@ _ipx_options() {
     route) echo '--check --help' ;;
     listen) echo '--once --check --help' ;;
     networks | services) echo '--json --help' ;;
+    ping) echo '-c --help' ;;
     hop | check | sim | send) echo '--help' ;;
     '') echo '--help --version' ;;
   esac
@@ -36,7 +37,7 @@ _ipx() {
   fi
   case $command in
     '' | help) mapfile -t COMPREPLY < <(compgen -W "$_ipx_commands" -- "$word") ;;
-    route | listen | send | networks | services)
+    route | listen | send | networks | services | ping)
       # (the file is the first word that is no option)
       for ((place = 2; place < COMP_CWORD; place++)); do
         [[ ${COMP_WORDS[place]} == -* ]] || return

@@ -40,11 +40,12 @@ IsPingAnswer p bytes answer = MatchOption (ipx_fault bytes)
     × MatchBool (is_from_pinged p d.header) (ReadsPing p d answer) (answer ≡ None))
     (λ f. answer ≡ None)
 
--- the first answer since the latest request was sent is counted, for that one
+-- the first answer since the latest request was sent is counted, for that one, and how many routers it
+-- passed is kept
 abbrev pub ping_heard : Option ℕ → PingCore → PingCore
 ping_heard None p = p
 ping_heard (Some routers) p = if nat_lt 0 p.sent && is_none p.hops
-    then record p { answered = raised p.answered; hops = Some routers } else p
+    then record p { answered = raised p.answered; hops = Some routers; passed = routers } else p
 
 -- what it is once it heard bytes: what is no answer changes nothing
 abbrev pub PingHears : PingCore → List ℕ → PingCore → Type 0

@@ -16,6 +16,7 @@ new_ping own router to id count = record {
   sent_at = 0;
   answered = 0;
   hops = None;
+  passed = 0;
 }
 
 -- it is over where all requests were sent, and the last was answered or two seconds passed since

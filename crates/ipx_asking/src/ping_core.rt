@@ -39,6 +39,7 @@ pub struct PingCore {
     sent_at: u64,
     answered: u64,
     hops: Option<u8>,
+    passed: u8,
 }
 
 /// Whether a network is the one at hand, or the host's own.
@@ -81,6 +82,7 @@ impl PingCore {
             sent_at: 0,
             answered: 0,
             hops: None,
+            passed: 0,
         }
     }
 
@@ -103,6 +105,14 @@ impl PingCore {
         ensures { result ≡ self.now.hops }
     {
         self.hops
+    }
+
+    /// How many routers the answer that came last passed, whichever request it counted for; 0 where
+    /// none came.
+    pub fn passed(&self) -> u8
+        ensures { result ≡ self.now.passed }
+    {
+        self.passed
     }
 
     /// Whether it is over at a moment, in milliseconds.
@@ -187,10 +197,14 @@ impl PingCore {
     fn note(&mut self, answer: Option<u8>)
         ensures { self.new ≡ ping_heard answer self.old }
     {
-        if answer.is_some() && self.sent > 0 && self.hops.is_none() {
+        let Some(routers) = answer else {
+            return;
+        };
+        if self.sent > 0 && self.hops.is_none() {
             raise(&mut self.answered);
             *self = PingCore {
-                hops: answer,
+                hops: Some(routers),
+                passed: routers,
                 ..*self
             };
         }

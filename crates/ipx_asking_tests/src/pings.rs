@@ -119,9 +119,11 @@ fn answers_count(rt: HostRuntime) -> Result<(), Fail> {
     assert!(rt; !core.is_over(900));
     assert!(rt; asks(alloc, &mut core, 1000, ROUTER)?);
     stands(&rt, &core, 2, 1, None);
+    assert_eq!(rt; core.passed(), 2);
     assert!(rt; !core.is_over(1000));
     hear(alloc, &mut core, LATER)?;
     stands(&rt, &core, 2, 2, Some(3));
+    assert_eq!(rt; core.passed(), 3);
     assert!(rt; core.is_over(1000));
     assert_eq!(rt; core.status(), 0);
     Ok(())

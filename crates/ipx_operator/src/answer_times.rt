@@ -3,14 +3,11 @@
 ghost use Rattle.std.specs.Prelude.{◌≡◌, IfOk, map};
 ghost use Rattle.ipx_operator.specs.OperatorLines.{answering_nodes};
 
+use crate::stop_watch::StopWatch;
 use ipx_asking::AskedRouter;
 use ipx_wire::Node;
 use std::alloc::{AllocError, Global};
 use std::rt::Clock;
-use std::time::Instant;
-
-/// How many nanoseconds a tenth of a millisecond has.
-const TENTH: u128 = 100_000;
 
 /// A router that answered, and after how many tenths of a millisecond.
 #[derive(Clone, Copy, Debug, PartialEq, Eq)]
@@ -23,8 +20,7 @@ pub struct AnswerTime {
 /// is proved of the times.
 #[derive(Drop)]
 pub struct AnswerTimes<'a, R: Clock> {
-    system: &'a R,
-    start: Option<Instant>,
+    watch: StopWatch<'a, R>,
     tenths: Vec<Option<u64>>,
 }
 
@@ -40,26 +36,14 @@ impl<'a, R: Clock> AnswerTimes<'a, R> {
             tenths.push(None)?;
         }
         Ok(AnswerTimes {
-            system,
-            start: Instant::now(system).ok(),
+            watch: StopWatch::new(system),
             tenths,
         })
     }
 
-    /// How many tenths of a millisecond have passed; 0 where the system tells no time.
-    fn passed(&self) -> u64 {
-        let Some(start) = self.start else {
-            return 0;
-        };
-        match start.elapsed(self.system) {
-            Ok(passed) => u64::try_from(passed.as_nanos() / TENTH).unwrap_or(u64::MAX),
-            Err(_) => 0,
-        }
-    }
-
     /// Notes who answered by now.
     pub fn note(&mut self, routers: &[AskedRouter]) {
-        let now = self.passed();
+        let now = self.watch.tenths();
         for (time, router) in self.tenths.iter_mut().zip(routers.iter()) {
             if router.answered && time.is_none() {
                 *time = Some(now);

@@ -1,7 +1,7 @@
 //! The host of a file that asks its routers, over its socket.
 
-ghost use Rattle.std.specs.Prelude.{◌≡◌, ◌∷◌, [], IfOk, IfSome, List, OnOk, length, map, true};
-ghost use Rattle.ipx_carrier.specs.Turns.{Turn, peers_of};
+ghost use Rattle.std.specs.Prelude.{◌≡◌, ◌∷◌, [], IfOk, IfSome, List, OnOk, map, true};
+ghost use Rattle.ipx_carrier.specs.Turns.{Turn};
 ghost use Rattle.ipx_site.specs.SitePorts.{access_by};
 ghost use Rattle.ipx_asking.specs.AskEnds.{is_ask_over};
 ghost use Rattle.ipx_asking.specs.AskView.{IsNewAsk};
@@ -10,26 +10,18 @@ ghost use Rattle.ipx_operator.specs.OperatorLines.{answering_nodes};
 ghost use Rattle.ipx_operator.specs.WhoIsAsked.{asked_ips, asked_nodes, asker_address, guarded_asker};
 
 use crate::answer_times::{AnswerTime, AnswerTimes};
+use crate::asking_wire::AskingWire;
 use crate::fault::AskFault;
 use crate::whom::{asked_ips, asker_address, guard_of, nodes_of};
 use ipx_asking::{AskCore, Question};
-use ipx_carrier::{Clock as Moments, KeepsBack, Report, turn};
-use ipx_site::{Guard, HostFile, PeersOnly, Readiness, SiteSockets, SteadyClock};
+use ipx_carrier::Clock as Moments;
+use ipx_site::{HostFile, Readiness, SteadyClock};
 use std::alloc::{AllocError, Global};
 use std::net::Net;
 use std::rt::Clock;
 
 /// For how many milliseconds it waits at most before it looks again whether it is over.
-const LOOK: u64 = 20;
-
-/// The socket of a host that asks, with its guard. No broadcast goes anywhere.
-#[derive(Drop)]
-struct AskingWire {
-    device: PeersOnly<SiteSockets>,
-    peers: Vec<Vec<[u8; 4]>>,
-    ghost one_socket: { length device.device.sockets.items ≡ 1 },
-    ghost one_list: { length peers.items ≡ 1 },
-}
+pub const LOOK: u64 = 20;
 
 /// A host that asks.
 #[derive(Drop)]
@@ -39,43 +31,6 @@ pub struct AskingHost<'a, R: Clock> {
     clock: SteadyClock<'a, R>,
     readiness: Readiness,
     times: AnswerTimes<'a, R>,
-}
-
-impl AskingWire {
-    /// One socket with its guard, and one list of nobody.
-    fn new(sockets: SiteSockets, guards: Vec<Guard>, peers: Vec<Vec<[u8; 4]>>) -> AskingWire
-        requires one_socket { length sockets.sockets.items ≡ 1 }
-        requires one_list { length peers.items ≡ 1 }
-        ensures sockets { result.device.device ≡ sockets }
-        ensures guards { result.device.guards.items ≡ guards.items }
-        ensures peers { result.peers ≡ peers }
-    {
-        AskingWire {
-            device: PeersOnly::new(sockets, guards),
-            peers,
-        }
-    }
-
-    /// The socket of the host of a file that asks at these IP addresses, bound, with what waits for
-    /// it.
-    fn open<R: Net>(
-        rt: &R,
-        alloc: Global,
-        file: &HostFile,
-        ips: &[[u8; 4]],
-    ) -> Result<(AskingWire, Readiness), AskFault>
-        ensures peers { IfOk result (λ r. peers_of r.0.peers.items ≡ [] ∷ []) }
-        ensures udp_port { IfOk result (λ r.
-            map (λ s. s.udp_port) r.0.device.device.sockets.items ≡ file.now.udp_port ∷ []) }
-        ensures guard { IfOk result (λ r. ips.now ≡ asked_ips file.now
-            → map access_by r.0.device.guards.items ≡ guarded_asker file.now ∷ []) }
-    {
-        let peers = vec![in alloc; Vec::new(alloc)]?;
-        let guards = vec![in alloc; guard_of(alloc, file, ips)?]?;
-        let sockets = SiteSockets::bind_one(rt, alloc, file.address, file.udp_port)?;
-        let readiness = Readiness::new(rt, alloc, &sockets)?;
-        Ok((AskingWire::new(sockets, guards, peers), readiness))
-    }
 }
 
 /// The core of the host of a file that asks at these IP addresses.
@@ -90,11 +45,6 @@ fn core_of(
 {
     let nodes = nodes_of(alloc, ips)?;
     Ok(AskCore::new(alloc, asker_address(file), question, &nodes)?)
-}
-
-/// Whether a turn heard or sent anything.
-fn is_active(report: Report) -> bool {
-    report.heard > 0 || report.sent > 0
 }
 
 impl<'a, R: Net + Clock> AskingHost<'a, R> {
@@ -116,7 +66,8 @@ impl<'a, R: Net + Clock> AskingHost<'a, R> {
     {
         let ips = asked_ips(alloc, file)?;
         let core = core_of(alloc, file, question, &ips)?;
-        let (wire, readiness) = AskingWire::open(rt, alloc, file, &ips)?;
+        let guard = guard_of(alloc, file, &ips)?;
+        let (wire, readiness) = AskingWire::open(rt, alloc, file, guard)?;
         let times = AnswerTimes::new(rt, alloc, ips.len())?;
         Ok(AskingHost {
             core,
@@ -132,19 +83,9 @@ impl<'a, R: Net + Clock> AskingHost<'a, R> {
         ensures asks { OnOk result ((turns : List Turn)
             × AsksOn turns self.old.clock.last self.new.clock.last self.old.core self.new.core) }
     {
-        let before = self.wire.device.kept_back();
-        let ran = turn(
-            alloc,
-            &mut self.core,
-            &mut self.wire.device,
-            &self.wire.peers,
-            &mut self.clock,
-        );
-        let Ok(report) = ran else {
-            return Err(AskFault::OutOfMemory);
-        };
+        let active = self.wire.turn(alloc, &mut self.core, &mut self.clock)?;
         self.times.note(self.core.routers());
-        Ok(is_active(report) || self.wire.device.kept_back() > before)
+        Ok(active)
     }
 
     /// Takes one turn, and waits where there is nothing to do. It answers the moment, in

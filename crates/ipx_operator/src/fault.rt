@@ -14,6 +14,8 @@ pub enum AskFault {
     Bind(Obstacle),
     /// The system has no way to wait.
     Wait,
+    /// The writer fails.
+    Unwritten,
 }
 
 impl From<OutOfMemory> for AskFault {
@@ -60,6 +62,7 @@ pub fn tell_fault<R: Eprint>(rt: &R, path: &str, fault: AskFault) -> u8
         AskFault::OutOfMemory => eprintln!(rt; "{path}: out of memory"),
         AskFault::Bind(obstacle) => eprintln!(rt; "{path}: {obstacle}"),
         AskFault::Wait => eprintln!(rt; "{path}: the system can't wait for the socket"),
+        AskFault::Unwritten => eprintln!(rt; "standard output can't be written"),
     };
     1
 }

@@ -8,7 +8,8 @@ use crate::answer_times::AnswerTime;
 use crate::columns::node_to_digits;
 use std::alloc::{AllocError, Global};
 
-fn tenths_to_text(alloc: Global, tenths: u64) -> Result<String, AllocError>
+/// A time of so many tenths of a millisecond.
+pub fn tenths_to_text(alloc: Global, tenths: u128) -> Result<String, AllocError>
     ensures { IfOk result (λ t. string_bytes t ≡ tenths_text tenths) }
 {
     let whole = tenths / 10;
@@ -20,7 +21,7 @@ fn answer_to_text(alloc: Global, answer: AnswerTime) -> Result<String, AllocErro
     ensures { IfOk result (λ t. string_bytes t ≡ answered_text answer) }
 {
     let node = node_to_digits(alloc, answer.node)?;
-    let time = tenths_to_text(alloc, answer.tenths)?;
+    let time = tenths_to_text(alloc, u128::from(answer.tenths))?;
     format!(in alloc; ", {node} answered in {time}")
 }
 

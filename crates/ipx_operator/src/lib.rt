@@ -1,24 +1,35 @@
-//! What an operator types: a host asks the routers of its file which networks or services they know.
+//! What an operator types: a host asks the routers of its file which networks or services they know,
+//! or a listener whether it is there.
 //!
-//! [`do_networks`] is the command `ipx networks`, and [`do_services`] `ipx services`. Each runs by the
-//! file of a host, and prints a table, or lines of JSON.
+//! [`do_networks`] is the command `ipx networks`, and [`do_services`] `ipx services`; they print a
+//! table, or lines of JSON. [`do_ping`] is `ipx ping`. Each runs by the file of a host.
 #![tactic(auto)]
 
 mod answer_times;
 mod asked;
 mod asking_host;
+mod asking_wire;
 mod columns;
 mod fault;
 mod last_line;
 mod names;
 mod network_lines;
 mod networks;
+mod ping_lines;
+mod ping_news;
+mod pinged;
+mod pinging_host;
+mod pings;
 mod service_lines;
 mod services;
+mod stop_watch;
 mod whom;
 
 pub use answer_times::AnswerTime;
 pub use network_lines::networks_to_text;
 pub use networks::do_networks;
+pub use ping_lines::{news_to_text, totals_to_line};
+pub use ping_news::{PingAnswer, PingNews};
+pub use pings::do_ping;
 pub use service_lines::services_to_text;
 pub use services::do_services;

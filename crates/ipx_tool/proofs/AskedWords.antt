@@ -1,6 +1,6 @@
 -- What words ask for in more than one form, and that they ask for one command at most.
 use Rattle.std.proofs.Common.{◌≡◌, ◌≢◌, ◌≤◌, ◌<◌, ℕ, ◌+◌, ◌*◌, true, false, true≢false, inl, inr, List, [], ◌∷◌, ◌++◌, length, map, drop, get_or, length-drop, Option, Some, None, option_map, Result, Ok, Err, codes, arith, ap, sym, subst, refl, ◌∙◌}
-use Rattle.std.proofs.lemmas.List.{length-map}
+use Rattle.std.proofs.lemmas.List.{length-append, length-map}
 use Rattle.std.specs.Str.Parse.{digits_value, without_leading_plus}
 use Rattle.std.specs.Str.Pattern.{FindsTextPrefix, StripsPrefix}
 use Rattle.std.specs.Result.{result_ok}
@@ -8,9 +8,10 @@ use Rattle.hex.specs.Hex.{decode_sized}
 use Rattle.hex.proofs.HexLemmas.{decode_sized-ok}
 use Rattle.ipx_wire.specs.AddressText.{spelled_node}
 use Rattle.ipx_wire.specs.declared.address.Node.{Node}
+use Rattle.ipx_transfer.specs.declared.target.Target.{Target}
 use Rattle.ipx_tool.specs.declared.words.Task.{Task}
-use Rattle.ipx_tool.specs.declared.words.Task.TheVariants.{Hop, Show, ShowFrames, Check, Sim, Udp, Route, CheckSite, Listen, CheckHost, Send, Networks, Services, ServicesOf}
-use Rattle.ipx_tool.specs.Words.{AreTypeWords, AskForOne, AsksFor, Finds, IsOfType, IsPlain, IsUdpPort, IsSame}
+use Rattle.ipx_tool.specs.declared.words.Task.TheVariants.{Hop, Show, ShowFrames, Check, Sim, Udp, Route, CheckSite, Listen, CheckHost, Send, Networks, Services, ServicesOf, Ping, PingTimes}
+use Rattle.ipx_tool.specs.Words.{ArePlain, AreTypeWords, AskForOne, AsksFor, Finds, IsOfType, IsPingTimes, IsPlain, WritesNumber, IsSame, StandsAmong, target_words}
 
 -- what begins with `-` is an option
 pub not_plain : (word rest : List ℕ) → word ≡ 45 ∷ rest → IsPlain word → ⊥
@@ -58,6 +59,9 @@ third e = ap (λ (ws : List (List ℕ)). get_or ws 2 []) e
 
 fourth : {words same : List (List ℕ)} → words ≡ same → get_or words 3 [] ≡ get_or same 3 []
 fourth e = ap (λ (ws : List (List ℕ)). get_or ws 3 []) e
+
+fifth : {words same : List (List ℕ)} → words ≡ same → get_or words 4 [] ≡ get_or same 4 []
+fifth e = ap (λ (ws : List (List ℕ)). get_or ws 4 []) e
 
 -- `--port` and a text ask for the same in one word and in two
 pub joined : (command text : List ℕ) (task : Task) → AsksFor (command ∷ codes "--port" ∷ text ∷ []) task
@@ -225,10 +229,10 @@ not_check_node : (text : List ℕ) (node : Node) → codes "--check" ≡ text �
 not_check_node text node e is = omega (arith, ap length e, spelled_length text node is)
 
 -- no port is written `--once`
-not_once : (port : ℕ) → IsUdpPort (codes "--once") port → ⊥
+not_once : (port : ℕ) → WritesNumber (codes "--once") port → ⊥
 not_once port is = let digit = is.0.1.0 in omega arith
 
-not_check : (port : ℕ) → IsUdpPort (codes "--check") port → ⊥
+not_check : (port : ℕ) → WritesNumber (codes "--check") port → ⊥
 not_check port is = let digit = is.0.1.0 in omega arith
 
 -- before the word or behind it `--once` asks for the same
@@ -265,7 +269,7 @@ pub before : (command file : List ℕ) (task : Task) → AsksFor (command ∷ fi
     → AsksFor (command ∷ codes "--once" ∷ file ∷ []) task
 before command file (Udp port) (inl asks) = absurd (cc)
 before command file (Udp port) (inr (text, is, inl e)) =
-    let once : text ≡ codes "--once" = cc in absurd (not_once port (subst (λ t. IsUdpPort t port) once is))
+    let once : text ≡ codes "--once" = cc in absurd (not_once port (subst (λ t. WritesNumber t port) once is))
 before command file (Udp port) (inr (text, is, inr e)) = absurd (cc)
 before command file (Listen other true) (inl e, plain) =
     let option : other.now ≡ codes "--once" = cc in absurd (not_plain other.now _ option plain)
@@ -330,7 +334,7 @@ check_before : (command file : List ℕ) (task : Task) → AsksFor (command ∷ 
     → AsksFor (command ∷ codes "--check" ∷ file ∷ []) task
 check_before command file (Udp port) (inl asks) = absurd (cc)
 check_before command file (Udp port) (inr (text, is, inl e)) =
-    let check : text ≡ codes "--check" = cc in absurd (not_check port (subst (λ t. IsUdpPort t port) check is))
+    let check : text ≡ codes "--check" = cc in absurd (not_check port (subst (λ t. WritesNumber t port) check is))
 check_before command file (Udp port) (inr (text, is, inr e)) = absurd (cc)
 check_before command file (Listen other true) (inl e, plain) =
     let option : other.now ≡ codes "--check" = cc in absurd (not_plain other.now _ option plain)
@@ -364,7 +368,7 @@ found_check command file (Some task) asks = check_behind command file task asks
 not_json_node : (text : List ℕ) (node : Node) → codes "--json" ≡ text → spelled_node text ≡ Some node → ⊥
 not_json_node text node e is = omega (arith, ap length e, spelled_length text node is)
 
-not_json : (port : ℕ) → IsUdpPort (codes "--json") port → ⊥
+not_json : (port : ℕ) → WritesNumber (codes "--json") port → ⊥
 not_json port is = let digit = is.0.1.0 in omega arith
 
 -- likewise `--json`
@@ -401,7 +405,7 @@ json_before : (command file : List ℕ) (task : Task) → AsksFor (command ∷ f
     → AsksFor (command ∷ codes "--json" ∷ file ∷ []) task
 json_before command file (Udp port) (inl asks) = absurd (cc)
 json_before command file (Udp port) (inr (text, is, inl e)) =
-    let json : text ≡ codes "--json" = cc in absurd (not_json port (subst (λ t. IsUdpPort t port) json is))
+    let json : text ≡ codes "--json" = cc in absurd (not_json port (subst (λ t. WritesNumber t port) json is))
 json_before command file (Udp port) (inr (text, is, inr e)) = absurd (cc)
 json_before command file (Listen other true) (inl e, plain) =
     let option : other.now ≡ codes "--json" = cc in absurd (not_plain other.now _ option plain)
@@ -571,46 +575,189 @@ pub none_of_four : (a b c d : List ℕ) → b ≢ codes "--json" → c ≢ codes
     → (task : Task) → AsksFor (a ∷ b ∷ c ∷ d ∷ []) task → ⊥
 none_of_four a b c d one two three task asks = json_there a b c d task one two three (of_four a b c d task asks)
 
+-- ---- pings, and a number among the words
+
+-- none of these words is that one
+abbrev pub Without : List ℕ → List (List ℕ) → Type 0
+Without word [] = Unit {0}
+Without word (w ∷ ws) = (w ≢ word) × Without word ws
+
+plain_without : (ws : List (List ℕ)) → ArePlain ws → Without (codes "-c") ws
+plain_without [] plain = tt
+plain_without (w ∷ ws) plain = (λ e. not_plain w _ e plain.0, plain_without ws plain.1)
+
+plain_front : (front back : List (List ℕ)) → ArePlain (front ++ back) → ArePlain front
+plain_front [] back plain = tt
+plain_front (w ∷ front) back plain = (plain.0, plain_front front back plain.1)
+
+-- a word stands at one place alone, where none before it is that word
+same_place : (o t u : List ℕ) (xs ys vs ws : List (List ℕ)) → Without o xs → Without o vs → xs ++ o ∷ t ∷ ys ≡ vs ++ o ∷ u ∷ ws
+    → (xs ≡ vs) × (t ≡ u) × (ys ≡ ws)
+same_place o t u [] ys [] ws none free e = (refl, second e, ap (drop 2) e)
+same_place o t u [] ys (v ∷ vs) ws none free e = absurd (free.0 (sym (first e)))
+same_place o t u (x ∷ xs) ys [] ws none free e = absurd (none.0 (first e))
+same_place o t u (x ∷ xs) ys (v ∷ vs) ws none free e =
+    let rest = same_place o t u xs ys vs ws none.1 free.1 (ap (drop 1) e) in (λ i. first e i ∷ rest.0 i, rest.1, rest.2)
+
+same_others : (text told : List ℕ) (others these rest left : List (List ℕ)) → StandsAmong (codes "-c") text others rest → StandsAmong (codes "-c") told these left
+    → ArePlain others → ArePlain these → rest ≡ left → (others ≡ these) × (text ≡ told)
+same_others text told others these rest left (front, back, o, w) (before, after, p, v) plain also same =
+    let none = plain_without front (plain_front front back (subst ArePlain o plain)) in
+    let free = plain_without before (plain_front before after (subst ArePlain p also)) in
+    let one = same_place (codes "-c") text told front back before after none free (sym w ∙ same ∙ v) in
+    (o ∙ (λ i. one.0 i ++ one.2 i) ∙ sym p, one.1)
+
+-- as many words ask for pings by a number alone
+abbrev IsTimed : List (List ℕ) → Task → Type 0
+IsTimed words (PingTimes file target count) = AsksFor words (PingTimes file target count)
+IsTimed words task = ⊥
+
+-- what five words and more ask for
+abbrev IsLong : List (List ℕ) → Task → Type 0
+IsLong words (Send file target) = AsksFor words (Send file target)
+IsLong words (Ping file target) = AsksFor words (Ping file target)
+IsLong words (PingTimes file target count) = AsksFor words (PingTimes file target count)
+IsLong words task = ⊥
+
+long : (words : List (List ℕ)) (task : Task) → 5 ≤ length words → AsksFor words task → IsLong words task
+long words (PingTimes file target count) many asks = asks
+long words Hop many asks = absurd (omega (arith, many, ap length asks))
+long words (Show packet) many (e, plain) = absurd (omega (arith, many, ap length e))
+long words (ShowFrames node) many (text, is, inl e) = absurd (omega (arith, many, ap length e))
+long words (ShowFrames node) many (text, is, inr e) = absurd (omega (arith, many, ap length e))
+long words Check many asks = absurd (omega (arith, many, ap length asks))
+long words Sim many asks = absurd (omega (arith, many, ap length asks))
+long words (Udp port) many (inl (e, is)) = absurd (omega (arith, many, ap length e))
+long words (Udp port) many (inr (text, is, inl e)) = absurd (omega (arith, many, ap length e))
+long words (Udp port) many (inr (text, is, inr e)) = absurd (omega (arith, many, ap length e))
+long words (Route file) many (e, plain) = absurd (omega (arith, many, ap length e))
+long words (Listen file false) many (e, plain) = absurd (omega (arith, many, ap length e))
+long words (Listen file true) many (inl e, plain) = absurd (omega (arith, many, ap length e))
+long words (Listen file true) many (inr e, plain) = absurd (omega (arith, many, ap length e))
+long words (CheckSite file) many (inl e, plain) = absurd (omega (arith, many, ap length e))
+long words (CheckSite file) many (inr e, plain) = absurd (omega (arith, many, ap length e))
+long words (CheckHost file) many (inl e, plain) = absurd (omega (arith, many, ap length e))
+long words (CheckHost file) many (inr e, plain) = absurd (omega (arith, many, ap length e))
+long words (Send file target) many asks = asks
+long words (Networks file false) many (e, plain) = absurd (omega (arith, many, ap length e))
+long words (Networks file true) many (inl e, plain) = absurd (omega (arith, many, ap length e))
+long words (Networks file true) many (inr e, plain) = absurd (omega (arith, many, ap length e))
+long words (Services file false) many (e, plain) = absurd (omega (arith, many, ap length e))
+long words (Services file true) many (inl e, plain) = absurd (omega (arith, many, ap length e))
+long words (Services file true) many (inr e, plain) = absurd (omega (arith, many, ap length e))
+long words (ServicesOf file kind false) many (e, plain, also) = absurd (omega (arith, many, ap length e))
+long words (ServicesOf file kind true) many (inl e, plain, also) = absurd (omega (arith, many, ap length e))
+long words (ServicesOf file kind true) many (inr (inl e), plain, also) = absurd (omega (arith, many, ap length e))
+long words (ServicesOf file kind true) many (inr (inr e), plain, also) = absurd (omega (arith, many, ap length e))
+long words (Ping file target) many asks = asks
+
+long_timed : (words : List (List ℕ)) (task : Task) → 6 ≤ length words → IsLong words task → IsTimed words task
+long_timed words (Send file target) many asks = absurd (omega (arith, many, ap length asks.0))
+long_timed words (Ping file target) many asks = absurd (omega (arith, many, ap length asks.0))
+long_timed words (PingTimes file target count) many asks = asks
+long_timed words _ many asks = absurd asks
+
+timed : (words : List (List ℕ)) (task : Task) → 6 ≤ length words → AsksFor words task → IsTimed words task
+timed words task many asks = long_timed words task many (long words task (omega (arith, many)) asks)
+
+-- of five words that ask for anything, those behind the command are no options
+plain_long : (command file : List ℕ) (to : Target) (task : Task) → IsLong (command ∷ file ∷ target_words to) task → IsPlain file × ArePlain (target_words to)
+plain_long command file to (Send other another) (e, p, q, r, s) =
+    (subst IsPlain (sym (second e)) p, (subst IsPlain (sym (third e)) q, (subst IsPlain (sym (fourth e)) r, (subst IsPlain (sym (fifth e)) s, tt))))
+plain_long command file to (Ping other another) (e, p, q) = (subst IsPlain (sym (second e)) p, subst ArePlain (sym (ap (drop 2) e)) q)
+plain_long command file to (PingTimes other another count) (u, v, w, x, y, z, e, said, is, among, also) = absurd (omega (arith, ap length e))
+plain_long command file to _ asks = absurd asks
+
+pub plain_dialing : (command file : List ℕ) (to : Target) (task : Task) → AsksFor (command ∷ file ∷ target_words to) task → IsPlain file × ArePlain (target_words to)
+plain_dialing command file to task asks = plain_long command file to task (long (command ∷ file ∷ target_words to) task (omega arith) asks)
+
+-- a number somewhere among the words of a file and a target, where `-c` stands nowhere before
+module _ (command a b c d e f text : List ℕ) (front back others : List (List ℕ)) where
+  abbrev pub six : List (List ℕ)
+  six = a ∷ b ∷ c ∷ d ∷ e ∷ f ∷ []
+
+  times_of : (task : Task) → six ≡ front ++ codes "-c" ∷ text ∷ back → others ≡ front ++ back → Without (codes "-c") front
+      → IsTimed (command ∷ six) task → IsPingTimes command others text task
+  times_of (PingTimes file target count) shape is none (u, v, w, x, y, z, same, said, writes, (before, after, p, q), plain) =
+      let free = plain_without before (plain_front before after (subst ArePlain p plain)) in
+      let one = same_place (codes "-c") text said front back before after none free (sym shape ∙ ap (drop 1) same ∙ q) in
+      let those : file.now ∷ target_words target ≡ others = p ∙ (λ i. sym one.0 i ++ sym one.2 i) ∙ sym is in
+      (first same, those, subst (λ t. WritesNumber t count) (sym one.1) writes, subst ArePlain those plain)
+  times_of _ shape is none asks = absurd asks
+
+  of_times : (task : Task) → six ≡ front ++ codes "-c" ∷ text ∷ back → others ≡ front ++ back → IsPingTimes command others text task → AsksFor (command ∷ six) task
+  of_times (PingTimes file target count) shape is (name, same, writes, plain) =
+      (a, b, c, d, e, f, (λ i. name i ∷ six), text, writes, (front, back, same ∙ is, shape), subst ArePlain (sym same) plain)
+  of_times _ shape is asks = absurd asks
+
+  pub found_times : (found : Option Task) → six ≡ front ++ codes "-c" ∷ text ∷ back → others ≡ front ++ back → Without (codes "-c") front
+      → Finds (IsPingTimes command others text) found → Finds (AsksFor (command ∷ a ∷ b ∷ c ∷ d ∷ e ∷ f ∷ [])) found
+  found_times None shape is none nothing = λ task asks. nothing task (times_of task shape is none (timed (command ∷ six) task (omega arith) asks))
+  found_times (Some task) shape is none found = of_times task shape is found
+
+-- one of the first five is `-c`
+no_place : (a b c d e f text : List ℕ) (front back : List (List ℕ)) → a ≢ codes "-c" → b ≢ codes "-c" → c ≢ codes "-c" → d ≢ codes "-c" → e ≢ codes "-c"
+    → length front ≤ 4 → a ∷ b ∷ c ∷ d ∷ e ∷ f ∷ [] ≡ front ++ codes "-c" ∷ text ∷ back → ⊥
+no_place a b c d e f text [] back na nb nc nd ne few is = na (first is)
+no_place a b c d e f text (u ∷ []) back na nb nc nd ne few is = nb (second is)
+no_place a b c d e f text (u ∷ v ∷ []) back na nb nc nd ne few is = nc (third is)
+no_place a b c d e f text (u ∷ v ∷ w ∷ []) back na nb nc nd ne few is = nd (fourth is)
+no_place a b c d e f text (u ∷ v ∷ w ∷ x ∷ []) back na nb nc nd ne few is = ne (fifth is)
+no_place a b c d e f text (u ∷ v ∷ w ∷ x ∷ y ∷ front) back na nb nc nd ne few is = omega (arith, few)
+
+none_timed : (command a b c d e f : List ℕ) → a ≢ codes "-c" → b ≢ codes "-c" → c ≢ codes "-c" → d ≢ codes "-c" → e ≢ codes "-c"
+    → (task : Task) → IsTimed (command ∷ a ∷ b ∷ c ∷ d ∷ e ∷ f ∷ []) task → ⊥
+none_timed command a b c d e f na nb nc nd ne (PingTimes file target count) (u, v, w, x, y, z, same, text, writes, (front, back, o, q), plain) =
+    no_place a b c d e f text front back na nb nc nd ne (omega (arith, ap length o, length-append front back)) (ap (drop 1) same ∙ q)
+none_timed command a b c d e f na nb nc nd ne _ asks = absurd asks
+
+pub none_of_seven : (command a b c d e f : List ℕ) → a ≢ codes "-c" → b ≢ codes "-c" → c ≢ codes "-c" → d ≢ codes "-c" → e ≢ codes "-c"
+    → (task : Task) → AsksFor (command ∷ a ∷ b ∷ c ∷ d ∷ e ∷ f ∷ []) task → ⊥
+none_of_seven command a b c d e f na nb nc nd ne task asks =
+    none_timed command a b c d e f na nb nc nd ne task (timed (command ∷ a ∷ b ∷ c ∷ d ∷ e ∷ f ∷ []) task (omega arith) asks)
+
 -- the number of words
-none_so_many : (words : List (List ℕ)) → length words ≢ 2 → length words ≢ 3 → length words ≢ 4 → length words ≢ 5 → length words ≢ 6
+none_so_many : (words : List (List ℕ)) → length words ≢ 2 → length words ≢ 3 → length words ≢ 4 → length words ≢ 5 → length words ≢ 6 → length words ≢ 8
     → (task : Task) → AsksFor (drop 1 words) task → ⊥
-none_so_many words two three four five six Hop asks = omega (arith, length-drop 1 words, ap length asks)
-none_so_many words two three four five six (Show packet) (e, plain) = omega (arith, length-drop 1 words, ap length e)
-none_so_many words two three four five six (ShowFrames node) (text, is, inl e) = omega (arith, length-drop 1 words, ap length e)
-none_so_many words two three four five six (ShowFrames node) (text, is, inr e) = omega (arith, length-drop 1 words, ap length e)
-none_so_many words two three four five six Check asks = omega (arith, length-drop 1 words, ap length asks)
-none_so_many words two three four five six Sim asks = omega (arith, length-drop 1 words, ap length asks)
-none_so_many words two three four five six (Udp port) (inl (e, is)) = omega (arith, length-drop 1 words, ap length e)
-none_so_many words two three four five six (Udp port) (inr (text, is, inl e)) = omega (arith, length-drop 1 words, ap length e)
-none_so_many words two three four five six (Udp port) (inr (text, is, inr e)) = omega (arith, length-drop 1 words, ap length e)
-none_so_many words two three four five six (Route file) (e, plain) = omega (arith, length-drop 1 words, ap length e)
-none_so_many words two three four five six (Listen file false) (e, plain) = omega (arith, length-drop 1 words, ap length e)
-none_so_many words two three four five six (Listen file true) (inl e, plain) = omega (arith, length-drop 1 words, ap length e)
-none_so_many words two three four five six (Listen file true) (inr e, plain) = omega (arith, length-drop 1 words, ap length e)
-none_so_many words two three four five six (CheckSite file) (inl e, plain) = omega (arith, length-drop 1 words, ap length e)
-none_so_many words two three four five six (CheckSite file) (inr e, plain) = omega (arith, length-drop 1 words, ap length e)
-none_so_many words two three four five six (CheckHost file) (inl e, plain) = omega (arith, length-drop 1 words, ap length e)
-none_so_many words two three four five six (CheckHost file) (inr e, plain) = omega (arith, length-drop 1 words, ap length e)
-none_so_many words two three four five six (Send file target) asks = omega (arith, length-drop 1 words, ap length asks.0)
-none_so_many words two three four five six (Networks file false) (e, plain) = omega (arith, length-drop 1 words, ap length e)
-none_so_many words two three four five six (Networks file true) (inl e, plain) = omega (arith, length-drop 1 words, ap length e)
-none_so_many words two three four five six (Networks file true) (inr e, plain) = omega (arith, length-drop 1 words, ap length e)
-none_so_many words two three four five six (Services file false) (e, plain) = omega (arith, length-drop 1 words, ap length e)
-none_so_many words two three four five six (Services file true) (inl e, plain) = omega (arith, length-drop 1 words, ap length e)
-none_so_many words two three four five six (Services file true) (inr e, plain) = omega (arith, length-drop 1 words, ap length e)
-none_so_many words two three four five six (ServicesOf file kind false) (e, plain, also) = omega (arith, length-drop 1 words, ap length e)
-none_so_many words two three four five six (ServicesOf file kind true) (inl e, plain, also) = omega (arith, length-drop 1 words, ap length e)
-none_so_many words two three four five six (ServicesOf file kind true) (inr (inl e), plain, also) = omega (arith, length-drop 1 words, ap length e)
-none_so_many words two three four five six (ServicesOf file kind true) (inr (inr e), plain, also) = omega (arith, length-drop 1 words, ap length e)
+none_so_many words two three four five six eight Hop asks = omega (arith, length-drop 1 words, ap length asks)
+none_so_many words two three four five six eight (Show packet) (e, plain) = omega (arith, length-drop 1 words, ap length e)
+none_so_many words two three four five six eight (ShowFrames node) (text, is, inl e) = omega (arith, length-drop 1 words, ap length e)
+none_so_many words two three four five six eight (ShowFrames node) (text, is, inr e) = omega (arith, length-drop 1 words, ap length e)
+none_so_many words two three four five six eight Check asks = omega (arith, length-drop 1 words, ap length asks)
+none_so_many words two three four five six eight Sim asks = omega (arith, length-drop 1 words, ap length asks)
+none_so_many words two three four five six eight (Udp port) (inl (e, is)) = omega (arith, length-drop 1 words, ap length e)
+none_so_many words two three four five six eight (Udp port) (inr (text, is, inl e)) = omega (arith, length-drop 1 words, ap length e)
+none_so_many words two three four five six eight (Udp port) (inr (text, is, inr e)) = omega (arith, length-drop 1 words, ap length e)
+none_so_many words two three four five six eight (Route file) (e, plain) = omega (arith, length-drop 1 words, ap length e)
+none_so_many words two three four five six eight (Listen file false) (e, plain) = omega (arith, length-drop 1 words, ap length e)
+none_so_many words two three four five six eight (Listen file true) (inl e, plain) = omega (arith, length-drop 1 words, ap length e)
+none_so_many words two three four five six eight (Listen file true) (inr e, plain) = omega (arith, length-drop 1 words, ap length e)
+none_so_many words two three four five six eight (CheckSite file) (inl e, plain) = omega (arith, length-drop 1 words, ap length e)
+none_so_many words two three four five six eight (CheckSite file) (inr e, plain) = omega (arith, length-drop 1 words, ap length e)
+none_so_many words two three four five six eight (CheckHost file) (inl e, plain) = omega (arith, length-drop 1 words, ap length e)
+none_so_many words two three four five six eight (CheckHost file) (inr e, plain) = omega (arith, length-drop 1 words, ap length e)
+none_so_many words two three four five six eight (Send file target) asks = omega (arith, length-drop 1 words, ap length asks.0)
+none_so_many words two three four five six eight (Networks file false) (e, plain) = omega (arith, length-drop 1 words, ap length e)
+none_so_many words two three four five six eight (Networks file true) (inl e, plain) = omega (arith, length-drop 1 words, ap length e)
+none_so_many words two three four five six eight (Networks file true) (inr e, plain) = omega (arith, length-drop 1 words, ap length e)
+none_so_many words two three four five six eight (Services file false) (e, plain) = omega (arith, length-drop 1 words, ap length e)
+none_so_many words two three four five six eight (Services file true) (inl e, plain) = omega (arith, length-drop 1 words, ap length e)
+none_so_many words two three four five six eight (Services file true) (inr e, plain) = omega (arith, length-drop 1 words, ap length e)
+none_so_many words two three four five six eight (ServicesOf file kind false) (e, plain, also) = omega (arith, length-drop 1 words, ap length e)
+none_so_many words two three four five six eight (ServicesOf file kind true) (inl e, plain, also) = omega (arith, length-drop 1 words, ap length e)
+none_so_many words two three four five six eight (ServicesOf file kind true) (inr (inl e), plain, also) = omega (arith, length-drop 1 words, ap length e)
+none_so_many words two three four five six eight (ServicesOf file kind true) (inr (inr e), plain, also) = omega (arith, length-drop 1 words, ap length e)
+none_so_many words two three four five six eight (Ping file target) (e, plain, also) = omega (arith, length-drop 1 words, ap length e)
+none_so_many words two three four five six eight (PingTimes file target count) (u, v, w, x, y, z, e, said, is, among, also) = omega (arith, length-drop 1 words, ap length e)
 
 -- ---- the words of a list, behind its first
 
 module _ {A : Type 0} (text : A → List ℕ) where
-  pub none_behind : (ws : List A) → length ws ≢ 2 → length ws ≢ 3 → length ws ≢ 4 → length ws ≢ 5 → length ws ≢ 6
+  pub none_behind : (ws : List A) → length ws ≢ 2 → length ws ≢ 3 → length ws ≢ 4 → length ws ≢ 5 → length ws ≢ 6 → length ws ≢ 8
       → (task : Task) → AsksFor (drop 1 (map text ws)) task → ⊥
-  none_behind ws two three four five six =
+  none_behind ws two three four five six eight =
       let same = length-map ws text in
-      none_so_many (map text ws) (λ e. two (sym same ∙ e)) (λ e. three (sym same ∙ e)) (λ e. four (sym same ∙ e)) (λ e. five (sym same ∙ e)) (λ e. six (sym same ∙ e))
+      none_so_many (map text ws) (λ e. two (sym same ∙ e)) (λ e. three (sym same ∙ e)) (λ e. four (sym same ∙ e)) (λ e. five (sym same ∙ e)) (λ e. six (sym same ∙ e)) (λ e. eight (sym same ∙ e))
 
   pub behind_two : (ws : List A) (b : A) → 2 ≤ length ws → length ws < 3 → b ≡ get_or ws 1 b → text b ∷ [] ≡ drop 1 (map text ws)
   behind_two (a ∷ x ∷ []) b most least second = λ i. text (second i) ∷ []
@@ -640,6 +787,13 @@ module _ {A : Type 0} (text : A → List ℕ) where
       λ i. text (second i) ∷ text (third i) ∷ text (fourth i) ∷ text (fifth i) ∷ text (sixth i) ∷ []
   behind_six _ b c d e f most least second third fourth fifth sixth = absurd (omega arith)
 
+  pub behind_eight : (ws : List A) (b c d e f g h : A) → 8 ≤ length ws → length ws < 9 → b ≡ get_or ws 1 b → c ≡ get_or ws 2 c
+      → d ≡ get_or ws 3 d → e ≡ get_or ws 4 e → f ≡ get_or ws 5 f → g ≡ get_or ws 6 g → h ≡ get_or ws 7 h
+      → text b ∷ text c ∷ text d ∷ text e ∷ text f ∷ text g ∷ text h ∷ [] ≡ drop 1 (map text ws)
+  behind_eight (a ∷ t ∷ u ∷ v ∷ w ∷ x ∷ y ∷ z ∷ []) b c d e f g h most least second third fourth fifth sixth seventh eighth =
+      λ i. text (second i) ∷ text (third i) ∷ text (fourth i) ∷ text (fifth i) ∷ text (sixth i) ∷ text (seventh i) ∷ text (eighth i) ∷ []
+  behind_eight _ b c d e f g h most least second third fourth fifth sixth seventh eighth = absurd (omega arith)
+
 -- what is found for words is found for the same words
 pub found_for : {words same : List (List ℕ)} (found : Option Task) → words ≡ same → Finds (AsksFor words) found → Finds (AsksFor same) found
 found_for found are finds = subst (λ (ws : List (List ℕ)). Finds (AsksFor ws) found) are finds
@@ -661,6 +815,8 @@ name (Send file target) = codes "send"
 name (Networks file json) = codes "networks"
 name (Services file json) = codes "services"
 name (ServicesOf file kind json) = codes "services"
+name (Ping file target) = codes "ping"
+name (PingTimes file target count) = codes "ping"
 
 -- the first three letters tell the names apart
 abbrev mark : List ℕ → ℕ
@@ -695,8 +851,10 @@ named words (ServicesOf file kind false) (e, plain, also) = first e
 named words (ServicesOf file kind true) (inl e, plain, also) = first e
 named words (ServicesOf file kind true) (inr (inl e), plain, also) = first e
 named words (ServicesOf file kind true) (inr (inr e), plain, also) = first e
+named words (Ping file target) (e, plain, also) = first e
+named words (PingTimes file target count) (u, v, w, x, y, z, e, said, is, among, also) = first e
 
-one_value : (text next : List ℕ) (port other : ℕ) → text ≡ next → IsUdpPort text port → IsUdpPort next other → port ≡ other
+one_value : (text next : List ℕ) (port other : ℕ) → text ≡ next → WritesNumber text port → WritesNumber next other → port ≡ other
 one_value text next port other same is too =
     sym is.1 ∙ ap (λ t. digits_value 10 (without_leading_plus t)) same ∙ too.1
 
@@ -853,6 +1011,13 @@ one_of_a_name words (ServicesOf file kind true) (ServicesOf other another true) 
 one_of_a_name words (ServicesOf file kind true) (ServicesOf other another true) same (inr (inr e), plain, more) (inr (inl f), also, too) =
     let option : another.now ≡ codes "--json" = cc in absurd (not_plain another.now _ option too)
 one_of_a_name words (ServicesOf file kind true) (ServicesOf other another true) same (inr (inr e), plain, more) (inr (inr f), also, too) = (cc, cc, refl)
+one_of_a_name words (Ping file target) (Ping other another) same (e, plain, also) (f, too, more) =
+    let both = sym e ∙ f in (second both, ap (drop 2) both)
+one_of_a_name words (Ping file target) (PingTimes other another count) same (e, plain, also) (u, v, w, x, y, z, f, said, is, among, more) = absurd (cc)
+one_of_a_name words (PingTimes other another count) (Ping file target) same (u, v, w, x, y, z, f, said, is, among, more) (e, plain, also) = absurd (cc)
+one_of_a_name words (PingTimes file target count) (PingTimes other another again) same (u, v, w, x, y, z, e, said, is, among, plain) (g, h, j, k, l, m, f, told, too, amid, also) =
+    let both = same_others said told (file.now ∷ target_words target) (other.now ∷ target_words another) (u ∷ v ∷ w ∷ x ∷ y ∷ z ∷ []) (g ∷ h ∷ j ∷ k ∷ l ∷ m ∷ []) among amid plain also (ap (drop 1) (sym e ∙ f)) in
+    (first both.0, ap (drop 1) both.0, one_value said told count again both.1 is too)
 one_of_a_name words _ _ same asks too = absurd (omega (arith, ap mark same))
 
 pub ask_for_one : AskForOne

@@ -4,17 +4,31 @@ use Rattle.std.specs.List.{starts_with}
 use Rattle.std.specs.Str.Parse.{IsNumeral, digits_value, without_leading_plus}
 use Rattle.ipx_wire.specs.AddressText.{spelled_node}
 use Rattle.ipx_carrier.specs.Mapping.{usual_port}
+use Rattle.ipx_transfer.specs.declared.target.Target.{Target}
 use Rattle.ipx_tool.specs.declared.words.Task.{Task}
-use Rattle.ipx_tool.specs.declared.words.Task.TheVariants.{Hop, Show, ShowFrames, Check, Sim, Udp, Route, CheckSite, Listen, CheckHost, Send, Networks, Services, ServicesOf}
+use Rattle.ipx_tool.specs.declared.words.Task.TheVariants.{Hop, Show, ShowFrames, Check, Sim, Udp, Route, CheckSite, Listen, CheckHost, Send, Networks, Services, ServicesOf, Ping, PingTimes}
 
 -- a word that is no option: it does not begin with `-`
 abbrev pub IsPlain : List ℕ → Type 0
 IsPlain word = starts_with nat_eq word (codes "-") ≡ false
 
--- a text writes a port from 1 to 65,535: decimal digits, maybe behind a `+`
-abbrev pub IsUdpPort : List ℕ → ℕ → Type 0
-IsUdpPort text port = IsNumeral 10 (without_leading_plus text)
-    × (digits_value 10 (without_leading_plus text) ≡ port) × (1 ≤ port) × (port ≤ 65535)
+-- a text writes a number from 1 to 65,535: decimal digits, maybe behind a `+`
+abbrev pub WritesNumber : List ℕ → ℕ → Type 0
+WritesNumber text number = IsNumeral 10 (without_leading_plus text)
+    × (digits_value 10 (without_leading_plus text) ≡ number) × (1 ≤ number) × (number ≤ 65535)
+
+abbrev pub ArePlain : List (List ℕ) → Type 0
+ArePlain [] = Unit {0}
+ArePlain (word ∷ words) = IsPlain word × ArePlain words
+
+-- the three words of a target
+abbrev pub target_words : Target → List (List ℕ)
+target_words to = to.network.now ∷ to.node.now ∷ to.socket.now ∷ []
+
+-- among other words stand an option and the word that belongs to it, one behind the other
+abbrev pub StandsAmong : List ℕ → List ℕ → List (List ℕ) → List (List ℕ) → Type 0
+StandsAmong option value others words = (front : List (List ℕ)) × (back : List (List ℕ))
+    × (others ≡ front ++ back) × (words ≡ front ++ option ∷ value ∷ back)
 
 -- a command, a file and a type, with `--json` before, between or behind these two, or not at all
 abbrev pub AreTypeWords : List (List ℕ) → List ℕ → List ℕ → List ℕ → Bool → Type 0
@@ -27,8 +41,9 @@ AreTypeWords words command file kind true = (words ≡ command ∷ codes "--json
 -- the usual one then, or before `--port` and a text that writes the port, in two words or joined by `=`; so `show`
 -- stands before `--frame` and a text that spells a node. `listen`
 -- has `--once` before or behind its file, or not at all; `route` and `listen` with `--check` there
--- only check the file; `networks` and `services` have `--json` anywhere behind them, or not at all. A
--- packet, a file, a type and the three words of a target are no options
+-- only check the file; `networks` and `services` have `--json` anywhere behind them, or not at all, and
+-- `ping` so has `-c` and a text that writes how many requests. A packet, a file, a type and the three
+-- words of a target are no options
 abbrev pub AsksFor : List (List ℕ) → Task → Type 0
 AsksFor words Hop = words ≡ codes "hop" ∷ []
 AsksFor words (Show packet) = (words ≡ codes "show" ∷ packet.now ∷ []) × IsPlain packet.now
@@ -37,7 +52,7 @@ AsksFor words (ShowFrames node) = (text : List ℕ) × (spelled_node text ≡ So
 AsksFor words Check = words ≡ codes "check" ∷ []
 AsksFor words Sim = words ≡ codes "sim" ∷ []
 AsksFor words (Udp port) = ((words ≡ codes "udp" ∷ []) × (port ≡ usual_port))
-    ⊎ ((text : List ℕ) × IsUdpPort text port
+    ⊎ ((text : List ℕ) × WritesNumber text port
     × ((words ≡ codes "udp" ∷ codes "--port" ∷ text ∷ []) ⊎ (words ≡ codes "udp" ∷ (codes "--port=" ++ text) ∷ [])))
 AsksFor words (Route file) = (words ≡ codes "route" ∷ file.now ∷ []) × IsPlain file.now
 AsksFor words (CheckSite file) = ((words ≡ codes "route" ∷ codes "--check" ∷ file.now ∷ [])
@@ -58,6 +73,13 @@ AsksFor words (Services file true) = ((words ≡ codes "services" ∷ codes "--j
     ⊎ (words ≡ codes "services" ∷ file.now ∷ codes "--json" ∷ [])) × IsPlain file.now
 AsksFor words (ServicesOf file kind json) = AreTypeWords words (codes "services") file.now kind.now json
     × IsPlain file.now × IsPlain kind.now
+AsksFor words (Ping file target) = (words ≡ codes "ping" ∷ file.now ∷ target_words target)
+    × IsPlain file.now × ArePlain (target_words target)
+AsksFor words (PingTimes file target count) = (a : List ℕ) × (b : List ℕ) × (c : List ℕ)
+    × (d : List ℕ) × (e : List ℕ) × (f : List ℕ)
+    × (words ≡ codes "ping" ∷ a ∷ b ∷ c ∷ d ∷ e ∷ f ∷ []) × (text : List ℕ) × WritesNumber text count
+    × StandsAmong (codes "-c") text (file.now ∷ target_words target) (a ∷ b ∷ c ∷ d ∷ e ∷ f ∷ [])
+    × ArePlain (file.now ∷ target_words target)
 
 -- what is found is so, and where nothing is found nothing is so
 abbrev pub Finds : {A : Type 0} → (A → Type 0) → Option A → Type 0
@@ -84,6 +106,10 @@ IsSame (Networks file json) (Networks other too) = (file.now ≡ other.now) × (
 IsSame (Services file json) (Services other too) = (file.now ≡ other.now) × (json ≡ too)
 IsSame (ServicesOf file kind json) (ServicesOf other another too) = (file.now ≡ other.now)
     × (kind.now ≡ another.now) × (json ≡ too)
+IsSame (Ping file target) (Ping other another) = (file.now ≡ other.now)
+    × (target_words target ≡ target_words another)
+IsSame (PingTimes file target count) (PingTimes other another again) = (file.now ≡ other.now)
+    × (target_words target ≡ target_words another) × (count ≡ again)
 IsSame task other = ⊥
 
 -- words ask for one command at most
@@ -97,3 +123,11 @@ abbrev pub IsOfType : List ℕ → List ℕ → List ℕ → Bool → Task → T
 IsOfType command file kind json (ServicesOf other another too) = (command ≡ codes "services")
     × (other.now ≡ file) × (another.now ≡ kind) × (too ≡ json) × IsPlain file × IsPlain kind
 IsOfType command file kind json task = ⊥
+
+-- ---- a host that pings by so many requests as a text says
+
+-- a command, a file with a target, and that text ask for it
+abbrev pub IsPingTimes : List ℕ → List (List ℕ) → List ℕ → Task → Type 0
+IsPingTimes command others text (PingTimes file target count) = (command ≡ codes "ping")
+    × (file.now ∷ target_words target ≡ others) × WritesNumber text count × ArePlain others
+IsPingTimes command others text task = ⊥

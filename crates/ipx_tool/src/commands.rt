@@ -20,10 +20,12 @@ pub enum OptionValue {
     Port,
     /// The address of a station.
     Node,
+    /// A number of requests, which the help calls `N`.
+    Count,
 }
 
-/// An option of a command, by its word without the dashes before it. Of the options of a command
-/// one at most is given.
+/// An option of a command, by its word without the dashes before it: one, where it is one letter,
+/// and else two. Of the options of a command one at most is given.
 pub struct OptionShape {
     pub name: &'static str,
     pub value: OptionValue,
@@ -60,6 +62,8 @@ pub const NETWORKS: &str = "networks";
 
 pub const SERVICES: &str = "services";
 
+pub const PING: &str = "ping";
+
 pub const PORT_OPTION: &str = "--port";
 /// What stands before a port in one word with it.
 pub const PORT_IS: &str = "--port=";
@@ -75,9 +79,32 @@ pub const CHECK_OPTION: &str = "--check";
 
 pub const JSON_OPTION: &str = "--json";
 
+pub const COUNT_OPTION: &str = "-c";
+
 const HOST_FILE: WordShape = WordShape {
     name: "HOST",
     help: "The file of the host",
+    unless: None,
+    wanted: true,
+};
+
+const NET: WordShape = WordShape {
+    name: "NET",
+    help: "The network to dial, eight hex digits",
+    unless: None,
+    wanted: true,
+};
+
+const NODE: WordShape = WordShape {
+    name: "NODE",
+    help: "The node there, twelve hex digits",
+    unless: None,
+    wanted: true,
+};
+
+const SOCKET: WordShape = WordShape {
+    name: "SOCKET",
+    help: "Its socket, four hex digits",
     unless: None,
     wanted: true,
 };
@@ -182,27 +209,7 @@ const COMMANDS: &[CommandShape] = &[
         about: "A host that asks for a connection, and sends its input",
         long_about: texts::SEND,
         statuses: texts::SEND_STATUSES,
-        words: &[
-            HOST_FILE,
-            WordShape {
-                name: "NET",
-                help: "The network to dial, eight hex digits",
-                unless: None,
-                wanted: true,
-            },
-            WordShape {
-                name: "NODE",
-                help: "The node there, twelve hex digits",
-                unless: None,
-                wanted: true,
-            },
-            WordShape {
-                name: "SOCKET",
-                help: "Its socket, four hex digits",
-                unless: None,
-                wanted: true,
-            },
-        ],
+        words: &[HOST_FILE, NET, NODE, SOCKET],
         options: &[],
     },
     CommandShape {
@@ -228,6 +235,18 @@ const COMMANDS: &[CommandShape] = &[
             },
         ],
         options: &[PRINTS_JSON],
+    },
+    CommandShape {
+        name: PING,
+        about: "Whether a listener is there, and how far",
+        long_about: texts::PING,
+        statuses: texts::PING_STATUSES,
+        words: &[HOST_FILE, NET, NODE, SOCKET],
+        options: &[OptionShape {
+            name: "c",
+            value: OptionValue::Count,
+            help: "How many requests, 1 to 65535; 4 where it is left out",
+        }],
     },
 ];
 

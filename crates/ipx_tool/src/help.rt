@@ -18,15 +18,20 @@ fn word_arg<'a>(alloc: Global, word: &WordShape) -> Result<Arg<'a>, AllocError> 
 }
 
 fn option_arg<'a>(alloc: Global, option: &OptionShape) -> Arg<'a> {
-    let arg = Arg::new(alloc, option.name)
-        .long(option.name)
-        .help(option.help);
+    let arg = Arg::new(alloc, option.name).help(option.help);
+    let arg = match option.value {
+        OptionValue::Count => arg.short('c'),
+        _ => arg.long(option.name),
+    };
     match option.value {
         OptionValue::Nothing => arg.action(ArgAction::SetTrue),
         OptionValue::Port => arg
             .value_name("P")
             .value_parser(ValueParser::unsigned(1, 65_535)),
         OptionValue::Node => arg.value_name("NODE"),
+        OptionValue::Count => arg
+            .value_name("N")
+            .value_parser(ValueParser::unsigned(1, 65_535)),
     }
 }
 

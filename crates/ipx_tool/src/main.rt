@@ -8,7 +8,7 @@ mod words;
 
 use clap::error::ErrorKind;
 use ipx_commands::{do_check, do_hop, do_show, tell_no_memory};
-use ipx_operator::{do_networks, do_services};
+use ipx_operator::{do_networks, do_ping, do_services};
 use ipx_shown_frames::do_show_frames;
 use ipx_sim::do_sim;
 use ipx_site::{check_site, do_route};
@@ -19,6 +19,9 @@ use std::io::IsTerminal;
 use std::process::ExitCode;
 use std::{env, io};
 use words::{Task, fault_of, task_of};
+
+/// How many requests a ping has where no number is given.
+const USUAL_COUNT: u16 = 4;
 
 /// The words of the command line, or the status with which the program ends without them.
 fn given_words(rt: &HostRuntime) -> Result<Vec<String>, u8> {
@@ -70,6 +73,10 @@ fn services(rt: &HostRuntime, file: &str, kind: Option<&str>, json: bool) -> u8 
     do_services(rt, rt.alloc(), file, kind, json, &mut io::writer(rt))
 }
 
+fn ping(rt: &HostRuntime, file: &str, target: Target<'_>, count: u16) -> u8 {
+    do_ping(rt, rt.alloc(), file, target, count, &mut io::writer(rt))
+}
+
 fn do_task(rt: &HostRuntime, task: Task<'_>) -> Result<u8, u8> {
     match task {
         Task::Hop => hop(rt),
@@ -88,6 +95,8 @@ fn do_task(rt: &HostRuntime, task: Task<'_>) -> Result<u8, u8> {
         Task::Networks(file, json) => Ok(networks(rt, file, json)),
         Task::Services(file, json) => Ok(services(rt, file, None, json)),
         Task::ServicesOf(file, kind, json) => Ok(services(rt, file, Some(kind), json)),
+        Task::Ping(file, target) => Ok(ping(rt, file, target, USUAL_COUNT)),
+        Task::PingTimes(file, target, count) => Ok(ping(rt, file, target, count)),
     }
 }
 

@@ -252,3 +252,26 @@ since then it sends nothing; 2 also where TYPE is not four hex digits.
 
 Example:
   $ ipx services /etc/ipx/host.toml 0004";
+
+pub const PING: &str = "\
+Whether a listener is there, and how far
+
+Reads the file HOST as listen does, takes its address and its socket, and asks the listener at NET
+NODE SOCKET for a connection, once a second, by way of its router where NET is another network than
+the host's own, which 00000000 is too. It prints a line as an answer comes, or as the next request
+goes and none has come:
+  00000022 00000a02001e 4002: answer 1 in 31.2 ms, 2 routers
+  00000022 00000a02001e 4002: no answer 3
+and behind them how many were sent and answered, and in which times. An answer that comes after the
+next request was sent counts for that one. Silent are a socket that nobody listens at, and a host
+that is full, or does not let this one connect. A listener keeps one place for all of the requests,
+which goes as that of a caller that never speaks.
+No listen or send of the same address may run meanwhile.";
+
+pub const PING_STATUSES: &str = "\
+It is over where the last request is answered, or two seconds after it.
+Status 0: one was answered. 1: none was, writing failed, the socket can't be had, or memory ran out.
+2: a word or the file has a fault, which one line tells, and nothing was bound.
+
+Example:
+  $ ipx ping -c 1 /etc/ipx/host.toml 00000022 00000a02001e 4002";

@@ -1,12 +1,12 @@
 //! What the words of the command line ask for.
 
-ghost use Rattle.std.specs.Prelude.{◌≡◌, ◌∷◌, [], codes, drop, map, nat_eq, string_bytes};
+ghost use Rattle.std.specs.Prelude.{◌≡◌, ◌↔◌, ◌∷◌, [], IsFalse, codes, drop, map, nat_eq, string_bytes};
 ghost use Rattle.std.specs.List.{starts_with};
-ghost use Rattle.ipx_tool.specs.Words.{AskForOne, AsksFor, Finds, IsOfType, IsPlain, IsUdpPort};
+ghost use Rattle.ipx_tool.specs.Words.{ArePlain, AskForOne, AsksFor, Finds, IsOfType, IsPingTimes, IsPlain, WritesNumber, target_words};
 
 use crate::commands::{
-    CHECK, CHECK_OPTION, FRAME_IS, FRAME_OPTION, HOP, JSON_OPTION, LISTEN, NETWORKS, ONCE_OPTION,
-    PORT_IS, PORT_OPTION, ROUTE, SEND, SERVICES, SHOW, SIM, UDP,
+    CHECK, CHECK_OPTION, COUNT_OPTION, FRAME_IS, FRAME_OPTION, HOP, JSON_OPTION, LISTEN, NETWORKS,
+    ONCE_OPTION, PING, PORT_IS, PORT_OPTION, ROUTE, SEND, SERVICES, SHOW, SIM, UDP,
 };
 use crate::help::whole_command;
 use clap::Error;
@@ -42,13 +42,18 @@ pub enum Task<'a> {
     Services(&'a str, bool),
     /// The file of the host that asks, the type of the services, and whether it prints JSON.
     ServicesOf(&'a str, &'a str, bool),
+    /// The file of the host that pings, and whom.
+    Ping(&'a str, Target<'a>),
+    /// The file of the host that pings, whom, and by how many requests.
+    PingTimes(&'a str, Target<'a>, u16),
 }
 
 /// The command that the words ask for, the program's own name first: just `hop`, `check`, `sim` or
 /// `udp`; `show`, `route` or `listen` and one word that is no option; `listen` and such a word with
 /// `--once` before or behind it; `route` or `listen` and such a word with `--check` there; `send`
-/// and four words that are no options; `networks` or `services` and such a word, or `services` and
-/// two, with `--json` anywhere behind the command or not at all; `udp` and a port, as `--port P` or
+/// or `ping` and four words that are no options, and `ping` with `-c` and a number behind it
+/// anywhere among these; `networks` or `services` and such a word, or `services` and two, with
+/// `--json` anywhere behind the command or not at all; `udp` and a port, as `--port P` or
 /// `--port=P`; or `show` and a station, as `--frame NODE` or `--frame=NODE`. No other words ask for
 /// one.
 pub fn task_of(words: &[String]) -> Option<Task<'_>>
@@ -69,12 +74,19 @@ pub fn task_of(words: &[String]) -> Option<Task<'_>>
             )
         }
         [_, command, file, network, node, socket] => {
-            let target = Target {
-                network: network.as_str(),
-                node: node.as_str(),
-                socket: socket.as_str(),
-            };
-            send_task(command.as_str(), file.as_str(), target)
+            let target = target_of(network.as_str(), node.as_str(), socket.as_str());
+            dialing_task(command.as_str(), file.as_str(), target)
+        }
+        [_, command, first, second, third, fourth, fifth, sixth] => {
+            counted_task(
+                command.as_str(),
+                first.as_str(),
+                second.as_str(),
+                third.as_str(),
+                fourth.as_str(),
+                fifth.as_str(),
+                sixth.as_str(),
+            )
         }
         _ => None,
     }
@@ -185,27 +197,85 @@ fn check_task<'a>(command: &str, file: &'a str) -> Option<Task<'a>>
     }
 }
 
-/// A host that sends.
-fn send_task<'a>(command: &str, file: &'a str, target: Target<'a>) -> Option<Task<'a>>
-    ensures { let to = target.entry in
-        Finds (AsksFor (command.now ∷ file.now ∷ to.network.now ∷ to.node.now ∷ to.socket.now ∷ []))
-        result }
+/// The target that three words name.
+fn target_of<'a>(network: &'a str, node: &'a str, socket: &'a str) -> Target<'a>
+    ensures { target_words result ≡ network.now ∷ node.now ∷ socket.now ∷ [] }
 {
-    if command != SEND || is_option(file) {
-        return None;
+    Target {
+        network,
+        node,
+        socket,
     }
-    if is_option(target.network) || is_option(target.node) || is_option(target.socket) {
-        return None;
-    }
-    Some(Task::Send(file, target))
 }
 
-/// A port from 1 to 65,535 in decimal digits.
-fn port_of(text: &str) -> Option<u16>
-    ensures { Finds (IsUdpPort text.now) result }
+/// Whether a word of a target is an option.
+fn has_option(target: Target<'_>) -> bool
+    ensures { IsFalse result ↔ ArePlain (target_words target.entry) }
 {
-    let port = text.parse::<u16>().ok()?;
-    if port == 0 { None } else { Some(port) }
+    is_option(target.network) || is_option(target.node) || is_option(target.socket)
+}
+
+/// A host that sends, or pings.
+fn dialing_task<'a>(command: &str, file: &'a str, target: Target<'a>) -> Option<Task<'a>>
+    ensures { Finds (AsksFor (command.now ∷ file.now ∷ target_words target.entry)) result }
+{
+    if is_option(file) || has_option(target) {
+        return None;
+    }
+    match command {
+        SEND => Some(Task::Send(file, target)),
+        PING => Some(Task::Ping(file, target)),
+        _ => None,
+    }
+}
+
+/// A host that pings by as many requests as a text says.
+fn times_task<'a>(command: &str, file: &'a str, target: Target<'a>, text: &str) -> Option<Task<'a>>
+    ensures { Finds (IsPingTimes command.now (file.now ∷ target_words target.entry) text.now) result }
+{
+    if command != PING || is_option(file) || has_option(target) {
+        return None;
+    }
+    Some(Task::PingTimes(file, target, number_of(text)?))
+}
+
+/// A host that pings, with `-c` and a number somewhere among its file and its target.
+fn counted_task<'a>(
+    command: &str,
+    first: &'a str,
+    second: &'a str,
+    third: &'a str,
+    fourth: &'a str,
+    fifth: &'a str,
+    sixth: &'a str,
+) -> Option<Task<'a>>
+    ensures { Finds (AsksFor (command.now ∷ first.now ∷ second.now ∷ third.now ∷ fourth.now
+        ∷ fifth.now ∷ sixth.now ∷ [])) result }
+{
+    if first == COUNT_OPTION {
+        return times_task(command, third, target_of(fourth, fifth, sixth), second);
+    }
+    if second == COUNT_OPTION {
+        return times_task(command, first, target_of(fourth, fifth, sixth), third);
+    }
+    if third == COUNT_OPTION {
+        return times_task(command, first, target_of(second, fifth, sixth), fourth);
+    }
+    if fourth == COUNT_OPTION {
+        return times_task(command, first, target_of(second, third, sixth), fifth);
+    }
+    if fifth == COUNT_OPTION {
+        return times_task(command, first, target_of(second, third, fourth), sixth);
+    }
+    None
+}
+
+/// A number from 1 to 65,535 in decimal digits.
+fn number_of(text: &str) -> Option<u16>
+    ensures { Finds (WritesNumber text.now) result }
+{
+    let number = text.parse::<u16>().ok()?;
+    if number == 0 { None } else { Some(number) }
 }
 
 /// A script over UDP, at the port that a text writes.
@@ -215,7 +285,7 @@ fn udp_task<'a>(command: &str, text: &str) -> Option<Task<'a>>
     if command != UDP {
         return None;
     }
-    Some(Task::Udp(port_of(text)?))
+    Some(Task::Udp(number_of(text)?))
 }
 
 /// Frames that are shown, as the station hears them that a text spells.
@@ -295,6 +365,8 @@ fn usage_of(alloc: Global, words: &[String]) -> Result<Error, Error> {
             ErrorKind::UnknownArgument,
             "a word too many: '--' has no place here",
         )?
+    } else if words.iter().any(|word| word.as_bytes().starts_with(b"-c")) {
+        command.error(ErrorKind::ValueValidation, "-c and N are to be two words")?
     } else {
         command.error(
             ErrorKind::ValueValidation,

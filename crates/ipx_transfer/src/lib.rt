@@ -36,4 +36,4 @@ mod tending;
 pub use checking::check_host;
 pub use listen::do_listen;
 pub use send::do_send;
-pub use target::Target;
+pub use target::{Target, TargetFault};

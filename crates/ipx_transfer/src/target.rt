@@ -35,7 +35,7 @@ impl fmt::Display for TargetFault {
 
 impl Target<'_> {
     /// The address: eight, twelve and four hex digits, and nothing else.
-    pub(crate) fn address(&self) -> Result<Address, TargetFault>
+    pub fn address(&self) -> Result<Address, TargetFault>
         ensures named { IfOk result (NamesAddress self.now) }
         ensures fault { IfErr result (IsTargetFault self.now) }
     {

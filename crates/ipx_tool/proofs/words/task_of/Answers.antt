@@ -1,8 +1,8 @@
-use Rattle.std.proofs.Common.{◌<◌, ◌≤◌, [], ◌∷◌, length, string_bytes, ap, arith, ◌∙◌}
+use Rattle.std.proofs.Common.{◌<◌, ◌≤◌, ℕ, List, [], ◌∷◌, length, string_bytes, ap, arith, ◌∙◌}
 use Rattle.std.proofs.lemmas.Bool.{ltb-true, ltb-false}
-use Rattle.ipx_tool.proofs.AskedWords.{behind_two, behind_three, behind_four, behind_five, behind_six, found_for, none_behind}
+use Rattle.ipx_tool.proofs.AskedWords.{behind_two, behind_three, behind_four, behind_five, behind_six, behind_eight, found_for, none_behind}
 use Rattle.ipx_tool.proofs.words.task_of.Goals as goal
-use Rattle.ipx_tool.proofs.words.task_of.Goals.{in_default-via-then-words-lt2, in_default-via-else-words-lt2+else-words-lt3+else-words-lt4+else-words-lt5+else-words-lt6+else-words-lt7}
+use Rattle.ipx_tool.proofs.words.task_of.Goals.{in_default-via-then-words-lt2, in_default-via-else-words-lt2+else-words-lt3+else-words-lt4+else-words-lt5+else-words-lt6+else-words-lt7+then-words-lt8, in_default-via-else-words-lt2+else-words-lt3+else-words-lt4+else-words-lt5+else-words-lt6+else-words-lt7+else-words-lt8+else-words-lt9}
 
 pub returns-in-len2 : goal.returns-in-len2
 returns-in-len2 c =
@@ -33,12 +33,22 @@ returns-in-len5 c =
 
 pub returns-in-len6 : goal.returns-in-len6
 returns-in-len6 c =
-    found_for c.send_task.result
-    ((λ i. c.as_str-in-len6-4.ensures.value i ∷ c.as_str-in-len6-5.ensures.value i ∷ c.as_str-in-len6.ensures.value i
+    found_for c.dialing_task.result
+    (ap (λ (ws : List (List ℕ)). c.as_str-in-len6-4.result.now ∷ c.as_str-in-len6-5.result.now ∷ ws) c.target_of-target.ensures
+    ∙ (λ i. c.as_str-in-len6-4.ensures.value i ∷ c.as_str-in-len6-5.ensures.value i ∷ c.as_str-in-len6.ensures.value i
     ∷ c.as_str-in-len6-2.ensures.value i ∷ c.as_str-in-len6-3.ensures.value i ∷ [])
     ∙ behind_six string_bytes c.args.words.now _ _ _ _ _ c.in-len6.len_at_least c.in-len6.len_below c.command-item-then-words-lt7.is
     c.file-item.is c.network-item.is c.node-item.is c.socket-item.is)
-    c.send_task.ensures
+    c.dialing_task.ensures
+
+pub returns-in-len8 : goal.returns-in-len8
+returns-in-len8 c =
+    found_for c.counted_task.result
+    ((λ i. c.as_str-in-len8.ensures.value i ∷ c.as_str-in-len8-2.ensures.value i ∷ c.as_str-in-len8-3.ensures.value i ∷ c.as_str-in-len8-4.ensures.value i
+    ∷ c.as_str-in-len8-5.ensures.value i ∷ c.as_str-in-len8-6.ensures.value i ∷ c.as_str-in-len8-7.ensures.value i ∷ [])
+    ∙ behind_eight string_bytes c.args.words.now _ _ _ _ _ _ _ c.in-len8.len_at_least c.in-len8.len_below c.command-item-then-words-lt9.is
+    c.first-item-then-words-lt9.is c.second-item-then-words-lt9.is c.third-item-then-words-lt9.is c.fourth-item.is c.fifth-item.is c.sixth-item.is)
+    c.counted_task.ensures
 
 pub returns-in_default : goal.returns-in_default
 returns-in_default c =
@@ -46,8 +56,12 @@ returns-in_default c =
     elim c.in_default.branch [
       | in_default-via-then-words-lt2 w ↦
           let most : n < 2 = ltb-true n 2 w.if-words-lt2-1.true in
-          none_behind string_bytes c.args.words.now (λ e. omega arith) (λ e. omega arith) (λ e. omega arith) (λ e. omega arith) (λ e. omega arith)
-      | in_default-via-else-words-lt2+else-words-lt3+else-words-lt4+else-words-lt5+else-words-lt6+else-words-lt7 w ↦
+          none_behind string_bytes c.args.words.now (λ e. omega arith) (λ e. omega arith) (λ e. omega arith) (λ e. omega arith) (λ e. omega arith) (λ e. omega arith)
+      | in_default-via-else-words-lt2+else-words-lt3+else-words-lt4+else-words-lt5+else-words-lt6+else-words-lt7+then-words-lt8 w ↦
           let least : 7 ≤ n = ltb-false n 7 w.if-words-lt7-1.false in
-          none_behind string_bytes c.args.words.now (λ e. omega arith) (λ e. omega arith) (λ e. omega arith) (λ e. omega arith) (λ e. omega arith)
+          let most : n < 8 = ltb-true n 8 w.if-words-lt8-1.true in
+          none_behind string_bytes c.args.words.now (λ e. omega arith) (λ e. omega arith) (λ e. omega arith) (λ e. omega arith) (λ e. omega arith) (λ e. omega arith)
+      | in_default-via-else-words-lt2+else-words-lt3+else-words-lt4+else-words-lt5+else-words-lt6+else-words-lt7+else-words-lt8+else-words-lt9 w ↦
+          let least : 9 ≤ n = ltb-false n 9 w.if-words-lt9-1.false in
+          none_behind string_bytes c.args.words.now (λ e. omega arith) (λ e. omega arith) (λ e. omega arith) (λ e. omega arith) (λ e. omega arith) (λ e. omega arith)
     ]

@@ -1,0 +1,15 @@
+use Rattle.std.proofs.Common.{◌∙◌, subst, sym}
+use Rattle.std.specs.Io.KnownBytes.{Appends}
+use Rattle.ipx_wire.specs.declared.address.Address.{Address}
+use Rattle.ipx_operator.specs.PingRuns.{HasPinged, pinged_lines}
+use Rattle.ipx_operator.proofs.pings.ping_at.Goals as goal
+
+pub returns-in-Ok-ping_by-clause-pinged : goal.returns-in-Ok-ping_by-clause-pinged
+returns-in-Ok-ping_by-clause-pinged g c = λ zero.
+    let file = c.in-Ok.file in
+    let text = c.in-Ok.ensures.host in
+    let p = c.in-Ok-ping_by.ensures.pinged in
+    let same = c.pinged_address-to.ensures in
+    let has = subst (λ (to : Address). HasPinged file to p.0 c.args.count p.1 p.2 p.3) same p.5 in
+    let lines = subst (λ (to : Address). Appends (g.W.Write.contents c.args.writer.now) (g.W.Write.contents c.ping_by.new.writer) (pinged_lines to p.1 p.2)) same p.7 in
+    (text.0, file, p.0, p.1, p.2, p.3, text.1, text.2, p.4, has, sym p.6 ∙ zero, lines)

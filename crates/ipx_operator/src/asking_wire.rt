@@ -1,0 +1,79 @@
+//! The socket of a host that asks, with its guard.
+
+ghost use Rattle.std.specs.Prelude.{◌≡◌, ◌∷◌, [], IfOk, OnOk, length, map};
+ghost use Rattle.ipx_carrier.specs.Turns.{IsTurn, Turn, peers_of};
+ghost use Rattle.ipx_site.specs.SitePorts.{access_by};
+
+use crate::fault::AskFault;
+use ipx_carrier::{Clock, Core, KeepsBack, Report, turn};
+use ipx_site::{Guard, HostFile, PeersOnly, Readiness, SiteSockets};
+use std::alloc::Global;
+use std::net::Net;
+
+/// The socket of a host that asks, with its guard. No broadcast goes anywhere.
+#[derive(Drop)]
+pub struct AskingWire {
+    device: PeersOnly<SiteSockets>,
+    peers: Vec<Vec<[u8; 4]>>,
+    ghost one_socket: { length device.device.sockets.items ≡ 1 },
+    ghost one_list: { length peers.items ≡ 1 },
+}
+
+/// Whether a turn heard or sent anything.
+fn is_active(report: Report) -> bool {
+    report.heard > 0 || report.sent > 0
+}
+
+impl AskingWire {
+    /// One socket with its guard, and one list of nobody.
+    fn new(sockets: SiteSockets, guards: Vec<Guard>, peers: Vec<Vec<[u8; 4]>>) -> AskingWire
+        requires one_socket { length sockets.sockets.items ≡ 1 }
+        requires one_list { length peers.items ≡ 1 }
+        ensures sockets { result.device.device ≡ sockets }
+        ensures guards { result.device.guards.items ≡ guards.items }
+        ensures peers { result.peers ≡ peers }
+    {
+        AskingWire {
+            device: PeersOnly::new(sockets, guards),
+            peers,
+        }
+    }
+
+    /// The socket of the host of a file with this guard, bound, with what waits for it.
+    pub fn open<R: Net>(
+        rt: &R,
+        alloc: Global,
+        file: &HostFile,
+        guard: Guard,
+    ) -> Result<(AskingWire, Readiness), AskFault>
+        ensures peers { IfOk result (λ r. peers_of r.0.peers.items ≡ [] ∷ []) }
+        ensures udp_port { IfOk result (λ r.
+            map (λ s. s.udp_port) r.0.device.device.sockets.items ≡ file.now.udp_port ∷ []) }
+        ensures guard { IfOk result (λ r.
+            map access_by r.0.device.guards.items ≡ access_by guard ∷ []) }
+    {
+        let peers = vec![in alloc; Vec::new(alloc)]?;
+        let guards = vec![in alloc; guard]?;
+        let sockets = SiteSockets::bind_one(rt, alloc, file.address, file.udp_port)?;
+        let readiness = Readiness::new(rt, alloc, &sockets)?;
+        Ok((AskingWire::new(sockets, guards, peers), readiness))
+    }
+
+    /// Takes one turn of a core over it. It answers whether there may be more to do at once.
+    pub fn turn<C: Core, K: Clock>(
+        &mut self,
+        alloc: Global,
+        core: &mut C,
+        clock: &mut K,
+    ) -> Result<bool, AskFault>
+        ensures turn { OnOk result ((turn : Turn)
+            × IsTurn C.hears C.gives (C.port_count core.old) turn core.old core.new
+            × K.tells clock.old turn.moment clock.new) }
+    {
+        let before = self.device.kept_back();
+        let Ok(report) = turn(alloc, core, &mut self.device, &self.peers, clock) else {
+            return Err(AskFault::OutOfMemory);
+        };
+        Ok(is_active(report) || self.device.kept_back() > before)
+    }
+}

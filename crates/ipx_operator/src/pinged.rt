@@ -1,0 +1,108 @@
+//! Whom the host of a file pings, and who may speak to it.
+
+ghost use Rattle.std.specs.Prelude.{◌≡◌, IfOk};
+ghost use Rattle.ipx_carrier.specs.Mapping.{ip_at};
+ghost use Rattle.ipx_site.specs.SitePorts.{access_by};
+ghost use Rattle.ipx_operator.specs.PingRuns.{IsPingId};
+ghost use Rattle.ipx_operator.specs.WhoIsPinged.{guarded_pinger, ips_of_node, is_pinged_straight, ping_carriers, ping_way, pinged_address};
+
+use crate::whom::asked_ips;
+use ipx_carrier::ip_of;
+use ipx_site::{Guard, HostFile};
+use ipx_wire::{Address, Network, Node};
+use std::alloc::{AllocError, Global};
+use std::rt::Clock;
+use std::time::SystemTime;
+
+/// How many ids there are.
+const IDS: u128 = 65_534;
+
+/// The address that is pinged: network 0 is the host's own.
+pub fn pinged_address(file: &HostFile, to: Address) -> Address
+    ensures { result ≡ pinged_address file.now to }
+{
+    if to.network == Network::LOCAL {
+        Address {
+            network: file.network,
+            ..to
+        }
+    } else {
+        to
+    }
+}
+
+/// Whether a listener is on the host's own network.
+fn is_straight(file: &HostFile, to: Address) -> bool
+    ensures { result ≡ is_pinged_straight file.now to }
+{
+    to.network == file.network || to.network == Network::LOCAL
+}
+
+/// The IP address of a node, if it has one.
+fn ips_of(alloc: Global, node: Node) -> Result<Vec<[u8; 4]>, AllocError>
+    ensures { IfOk result (λ v. v.items ≡ ips_of_node (ip_at node)) }
+{
+    match ip_of(node) {
+        Ok(ip) => Ok(vec![in alloc; ip]?),
+        Err(_) => Ok(Vec::new(alloc)),
+    }
+}
+
+/// Where requests go first.
+fn way_of(alloc: Global, file: &HostFile, to: Address) -> Result<Vec<[u8; 4]>, AllocError>
+    ensures { IfOk result (λ v. v.items ≡ ping_way file.now to) }
+{
+    if is_straight(file, to) {
+        ips_of(alloc, to.node)
+    } else {
+        Ok(vec![in alloc; file.router]?)
+    }
+}
+
+/// Who may bring an answer.
+fn carriers_of(alloc: Global, file: &HostFile, to: Address) -> Result<Vec<[u8; 4]>, AllocError>
+    ensures { IfOk result (λ v. v.items ≡ ping_carriers file.now to) }
+{
+    if is_straight(file, to) {
+        ips_of(alloc, to.node)
+    } else {
+        asked_ips(alloc, file)
+    }
+}
+
+/// The guard of a host that pings: it sends to the first on the way, and hears who may bring an
+/// answer.
+pub fn guard_of(alloc: Global, file: &HostFile, to: Address) -> Result<Guard, AllocError>
+    ensures { IfOk result (λ g. access_by g ≡ guarded_pinger file.now to) }
+{
+    let sends = way_of(alloc, file, to)?;
+    let hears = carriers_of(alloc, file, to)?;
+    let routers = asked_ips(alloc, file)?;
+    Ok(Guard {
+        network: file.network,
+        sends: Some(sends),
+        hears: Some(hears),
+        routers: Some(routers),
+    })
+}
+
+/// The id of the requests of this run: the milliseconds of the day's clock tell it, so that two
+/// runs within a minute have different ids.
+pub fn ping_id<R: Clock>(rt: &R) -> u16
+    ensures { IsPingId result }
+{
+    let Ok(now) = SystemTime::now(rt) else {
+        return 1;
+    };
+    let Ok(since) = now.duration_since(SystemTime::UNIX_EPOCH) else {
+        return 1;
+    };
+    id_at(since.as_millis())
+}
+
+/// The id at a moment, in milliseconds.
+fn id_at(moment: u128) -> u16
+    ensures { IsPingId result }
+{
+    u16::try_from(moment % IDS + 1).unwrap_or(1)
+}
