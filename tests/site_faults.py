@@ -20,6 +20,12 @@ address = "127.0.1.1"
 udp_port = 20999
 ends = ["127.0.1.3:20998"]
 """
+PLAYERS = """[[port]]
+kind = "ipxnet"
+network = "0000d05b"
+address = "127.0.1.1"
+udp_port = 20999
+"""
 HOST = """network = "00000011"
 address = "127.0.1.20"
 router = "127.0.1.1"
@@ -29,9 +35,10 @@ socket = "4002"
 KEYS = ("a router has status and port, a host network, address, router, udp_port, socket, buffers, peers, routers, from and "
         "accept")
 PORT_KEYS = ('the keys are kind, network, address, udp_port, cost, for kind = "rfc1234" also peers, routers and accept, '
-             'for kind = "frames" frame, ends, node and hub')
+             'for kind = "frames" frame, ends, node and hub, for kind = "ipxnet" node, clients, accept and peers')
 RFC1234_KEYS = "its keys are kind, network, address, udp_port, cost, peers, routers, accept"
 FRAMES_KEYS = "its keys are kind, network, frame, address, udp_port, cost, ends, node, hub"
+IPXNET_KEYS = "its keys are kind, network, address, udp_port, cost, node, clients, accept, peers"
 NETWORK = 'eight hex digits, neither all 0 nor all f, as "00000011"'
 ADDRESS = 'an IP address of this machine, as "192.0.2.10"'
 NUMBER = "a number from 1 to 65535, as 213"
@@ -46,7 +53,7 @@ FROM = ('a list of at most 256 networks, each alone or with a node behind it, as
 FEW_PEERS = 'a list of at most 256 IP addresses, as ["198.51.100.7", "203.0.113.9"]'
 ROUTERS = "a list of at most 256 IP addresses among peers"
 ACCEPT = '"peers" or "any"'
-KIND = '"rfc1234" or "frames"'
+KIND = '"rfc1234", "frames" or "ipxnet"'
 FRAME = '"802.3", "802.2", "snap" or "ethernet-ii"'
 ENDS = 'a list of 1 to 256 places, as ["127.0.0.1:24001"]'
 STATION = 'the address of one station, as "02:00:00:00:00:22"'
@@ -114,9 +121,12 @@ ROUTER_FILES = [
     (PORT + "accept = \"all\"\n", 'port 1: accept is to be "peers" or "any"'),
     (PORT + SECOND.replace("00000022", "00000011"), "port 2: network 00000011 is already that of port 1"),
     (PORT + WIRE.replace("00000022", "00000011"), "port 2: network 00000011 is already that of port 1"),
-    (PORT + "kind = \"ipxnet\"\npeer = []\n", f"port 1: kind is to be {KIND}"),
+    (PORT + "kind = \"dosbox\"\npeer = []\n", f"port 1: kind is to be {KIND}"),
     (PORT + "kind = 1\n", f"port 1: kind is to be {KIND}"),
     (PORT + "hub = true\n", f'port 1: hub is no key of kind "rfc1234": {RFC1234_KEYS}'),
+    (PLAYERS, f"port 1: peers is missing: it is to be {PEERS}"),
+    (PLAYERS + 'accept = "any"\nclients = 151\n', "port 1: clients is to be a number from 1 to 150, as 64"),
+    (PLAYERS + 'accept = "any"\nrouters = []\n', f'port 1: routers is no key of kind "ipxnet": {IPXNET_KEYS}'),
     (PORT + "kind = \"rfc1234\"\nends = []\n", f'port 1: ends is no key of kind "rfc1234": {RFC1234_KEYS}'),
     (WIRE + "accept = \"any\"\n", f'port 1: accept is no key of kind "frames": {FRAMES_KEYS}'),
     (PORT + WIRE + "routers = []\n", f'port 2: routers is no key of kind "frames": {FRAMES_KEYS}'),
@@ -292,6 +302,23 @@ cost = 6
 ends = ["192.0.2.10:258"]
 hub = false
 """
+OPEN = """[[port]]
+kind = "ipxnet"
+network = "0000d05b"
+address = "192.0.2.10"
+udp_port = 2130
+peers = ["198.51.100.7", "203.0.113.9"]
+
+[[port]]
+kind = "ipxnet"
+network = "0000d05c"
+address = "127.0.0.1"
+udp_port = 24002
+cost = 6
+node = "02:00:00:00:00:22"
+clients = 8
+accept = "any"
+"""
 PORT_11 = "port 1 network 00000011 node 00000a010001 udp 10.1.0.1:213 cost 1 peers 4"
 REMARKS = ["port 1: peer 10.1.0.1 is its own address", "port 1: peer 10.1.0.20 stands twice"]
 CHECKED = [
@@ -307,6 +334,9 @@ CHECKED = [
                       "port 2 network 00000033 node 7e0000015dc2 frames ethernet-ii udp 127.0.0.1:24002 cost 6"
                       " ends 192.0.2.10:258 apart",
                       "port 2: address and udp_port are those of port 1", "it.toml: 2 ports, no status file"]),
+    ("route", OPEN, ["port 1 network 0000d05b node c200020a0852 ipxnet udp 192.0.2.10:2130 cost 1 clients 64 peers 2",
+                     "port 2 network 0000d05c node 020000000022 ipxnet udp 127.0.0.1:24002 cost 6 clients 8 peers 0"
+                     " accept any", "it.toml: 2 ports, no status file"]),
     ("listen", HOST, ["socket 4002 network 00000011 node 00007f000114 udp 127.0.1.20:20999",
                       "it.toml: router 127.0.1.1, buffers 1024"]),
     ("listen", changed(HOST, "router", '"127.0.1.20"') + "buffers = 512\n",

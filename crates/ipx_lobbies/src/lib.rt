@@ -14,4 +14,4 @@ mod sockets;
 pub use lobbies::Lobbies;
 pub use memory::{MemoryDatagram, MemoryPlaces};
 pub use place_sockets::{DatagramCame, PlaceSockets};
-pub use sockets::LobbySockets;
+pub use sockets::{LobbySocket, LobbySockets};

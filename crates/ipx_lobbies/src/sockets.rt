@@ -1,8 +1,8 @@
 //! Sockets of UDP as those of lobbies.
 
-ghost use Rattle.std.specs.Prelude.{◌≡◌, ◌<◌, ◌≤◌, ◌↔◌, ◌+◌, [], IfOk, IfSome, IsSome, OnErr, OnOk, length};
+ghost use Rattle.std.specs.Prelude.{◌≡◌, ◌<◌, ◌≤◌, ◌↔◌, ◌++◌, ◌∷◌, [], IfOk, IfSome, IsSome, OnErr, OnOk, length, map, slice_get, true};
 ghost use Rattle.ipx_carrier.specs.Counting.{raised};
-ghost use Rattle.ipx_lobbies.specs.LobbyAddresses.{place_behind};
+ghost use Rattle.ipx_lobbies.specs.LobbyAddresses.{ips_heard, is_ip_heard, listed_ips, place_behind, place_heard};
 ghost use Rattle.ipx_lobbies.specs.PlaceTraffic.{failures_with};
 
 use crate::place_sockets::{DatagramCame, PlaceSockets};
@@ -14,14 +14,23 @@ use std::io::ErrorKind;
 use std::net::{Net, SocketAddr, UdpSocket};
 use std::os::fd::{AsRawFd, RawFd};
 
-/// Sockets that have one of UDP for each port. Datagrams come from whatever place and go to whatever
-/// place: who is a client is the lobby's to say. What comes over IPv6 is from nowhere, and kept back.
+/// The socket of a port, and the IP addresses from which datagrams are heard there. None stands for
+/// each.
+#[derive(Drop)]
+pub struct LobbySocket {
+    socket: UdpSocket,
+    hears: Option<Vec<[u8; 4]>>,
+}
+
+/// Sockets that have one of UDP for each port. Datagrams come from the IP addresses that are heard
+/// there, whatever their port, and go to whatever place: who is a client is the lobby's to say. What
+/// comes from elsewhere or over IPv6 is from nowhere, and kept back.
 ///
 /// Which datagrams come and which arrive is the network's. What the system doesn't take is a failure of
 /// sending; receiving never fails.
 #[derive(Drop)]
 pub struct LobbySockets {
-    sockets: Vec<UdpSocket>,
+    sockets: Vec<LobbySocket>,
     sent: u64,
     failures: u64,
     faults: u64,
@@ -44,6 +53,30 @@ fn place_at(from: SocketAddr) -> Option<Place>
     }
 }
 
+/// Whether an IP address is one of these, or each is.
+fn is_heard(ips: &Option<Vec<[u8; 4]>>, ip: [u8; 4]) -> bool
+    ensures { result ≡ is_ip_heard (listed_ips ips.now) ip }
+{
+    match ips {
+        Some(ips) => ips.contains(&ip),
+        None => true,
+    }
+}
+
+impl LobbySocket {
+    /// The place that a datagram came from, if it is heard.
+    fn place_heard(&self, from: SocketAddr) -> Option<Place>
+        ensures { result ≡ place_heard (ips_heard self.now) (place_behind from) }
+    {
+        let place = place_at(from)?;
+        if is_heard(&self.hears, place.ip) {
+            Some(place)
+        } else {
+            None
+        }
+    }
+}
+
 impl LobbySockets {
     /// Sockets without a port.
     pub fn new(alloc: Global) -> LobbySockets
@@ -60,14 +93,15 @@ impl LobbySockets {
         }
     }
 
-    /// Binds one more port at a place. The error is the system's, or want of memory, and then the ports
-    /// are those before.
-    pub fn bind<R: Net>(&mut self, rt: &R, at: Place) -> io::Result<()>
-        ensures bound { OnOk result (length self.new.sockets.items
-            ≡ length self.old.sockets.items + 1) }
+    /// Binds one more port at a place, where datagrams from these IP addresses are heard; None stands
+    /// for each. The error is the system's, or want of memory, and then the ports are those before.
+    pub fn bind<R: Net>(&mut self, rt: &R, at: Place, hears: Option<Vec<[u8; 4]>>) -> io::Result<()>
+        ensures bound { OnOk result (map ips_heard self.new.sockets.items
+            ≡ map ips_heard self.old.sockets.items ++ listed_ips hears ∷ []) }
         ensures refused { OnErr result (self.new.sockets.items ≡ self.old.sockets.items) }
     {
         let socket = bound_socket(rt, at.ip, at.udp_port)?;
+        let socket = LobbySocket { socket, hears };
         if self.sockets.push(socket).is_err() {
             return Err(io::Error::from(ErrorKind::OutOfMemory));
         }
@@ -93,7 +127,7 @@ impl LobbySockets {
         ensures { IsSome result ↔ port < length self.now.sockets.items }
     {
         let socket = self.sockets.get(port)?;
-        Some(socket.as_raw_fd())
+        Some(socket.socket.as_raw_fd())
     }
 }
 
@@ -130,7 +164,10 @@ impl PlaceSockets for LobbySockets {
         ensures rest { (self.new.sockets ≡ self.old.sockets) × (self.new.faults ≡ self.old.faults)
             × (self.new.nowhere ≡ self.old.nowhere) }
     {
-        match self.sockets[port].send_to(bytes, place_of(place.ip, place.udp_port)) {
+        match self.sockets[port]
+            .socket
+            .send_to(bytes, place_of(place.ip, place.udp_port))
+        {
             Ok(count) if count == bytes.len() => {
                 raise(&mut self.sent);
                 Ok(())
@@ -148,6 +185,10 @@ impl PlaceSockets for LobbySockets {
         ensures within { IfOk result (λ came. IfSome came (λ c. c.size ≤ length room.old)) }
         ensures answered { IfOk result (λ came. IsSome came
             → self.new.nowhere ≡ self.old.nowhere) }
+        // It came from an IP address that is heard there.
+        ensures heard { IfOk result (λ came. IfSome came (λ c.
+            IfSome (slice_get self.old.sockets.items port)
+            (λ s. is_ip_heard (ips_heard s) c.from.ip ≡ true))) }
         ensures kept_back { self.old.nowhere ≤ self.new.nowhere }
         ensures goes_on { OnErr result ⊥ }
         ensures faults { self.old.faults ≤ self.new.faults }
@@ -155,9 +196,9 @@ impl PlaceSockets for LobbySockets {
             × (self.new.failures ≡ self.old.failures) }
     {
         for _try in 0..TRIES {
-            match self.sockets[port].recv_from(room) {
+            match self.sockets[port].socket.recv_from(room) {
                 Ok((size, from)) => {
-                    let Some(from) = place_at(from) else {
+                    let Some(from) = self.sockets[port].place_heard(from) else {
                         raise(&mut self.nowhere);
                         return Ok(None);
                     };

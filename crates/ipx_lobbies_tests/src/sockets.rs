@@ -52,7 +52,7 @@ const TO_ALL: [u8; 34] = [
 /// Sockets of one port.
 fn bound<R: Net>(rt: &R, alloc: Global, at: Place) -> io::Result<LobbySockets> {
     let mut sockets = LobbySockets::new(alloc);
-    sockets.bind(rt, at)?;
+    sockets.bind(rt, at, None)?;
     Ok(sockets)
 }
 
@@ -169,7 +169,7 @@ fn two_ports_of_lobbies(rt: HostRuntime) -> Result<(), Fail> {
     let (at, other) = (place(20_940), place(20_941));
     let mut player = bound(&rt, alloc, place(20_942))?;
     let mut sockets = bound(&rt, alloc, at)?;
-    sockets.bind(&rt, other)?;
+    sockets.bind(&rt, other, None)?;
     assert_eq!(rt; sockets.ports(), 2);
     let descriptors = (sockets.descriptor(0), sockets.descriptor(1));
     let in_order = match descriptors {
@@ -194,11 +194,48 @@ fn two_ports_of_lobbies(rt: HostRuntime) -> Result<(), Fail> {
     assert!(rt; sockets.send(0, place(20_942), b"by first").is_ok());
     assert!(rt; next_by(&mut player, 0, &mut room)? == came_from(at, 8));
     // What was counted stays as one more port is bound.
-    sockets.bind(&rt, place(20_943))?;
+    sockets.bind(&rt, place(20_943), None)?;
     assert_eq!(rt;
         (sockets.ports(), sockets.sent(), sockets.failures()),
         (3, 2, 0)
     );
+    Ok(())
+}
+
+/// A port that hears one other IP address hears nobody here, and counts that; one that hears this does.
+#[test]
+fn who_is_not_named_is_not_heard(rt: HostRuntime) -> Result<(), Fail> {
+    let alloc = rt.alloc();
+    let mut sender = bound(&rt, alloc, place(20_945))?;
+    let mut sockets = LobbySockets::new(alloc);
+    let others = vec![in alloc; [127, 0, 0, 45]]?;
+    sockets.bind(&rt, place(20_946), Some(others))?;
+    let both = vec![in alloc; [127, 0, 0, 45], [127, 0, 0, 44]]?;
+    sockets.bind(&rt, place(20_947), Some(both))?;
+    let mut room = [0; 1536];
+    assert!(rt; sender.send(0, place(20_946), &REGISTRATION).is_ok());
+    assert!(rt; sender.send(0, place(20_947), &REGISTRATION).is_ok());
+    for _ in 0..100_000_u32 {
+        assert!(rt; sockets.receive(0, &mut room)? == None);
+        if sockets.from_nowhere() > 0 {
+            break;
+        }
+    }
+    assert_eq!(rt; sockets.from_nowhere(), 1);
+    let mut came = None;
+    for _ in 0..100_000_u32 {
+        came = sockets.receive(1, &mut room)?;
+        if came.is_some() {
+            break;
+        }
+    }
+    assert!(rt;
+        came == Some(DatagramCame {
+            from: place(20_945),
+            size: 30
+        })
+    );
+    assert_eq!(rt; sockets.from_nowhere(), 1);
     Ok(())
 }
 
@@ -218,7 +255,7 @@ fn a_datagram_that_the_system_refuses(rt: HostRuntime) -> Result<(), Fail> {
 fn a_lobbys_place_in_use_is_refused(rt: HostRuntime) -> Result<(), Fail> {
     let alloc = rt.alloc();
     let mut sockets = bound(&rt, alloc, place(20_936))?;
-    assert!(rt; sockets.bind(&rt, place(20_936)).is_err());
+    assert!(rt; sockets.bind(&rt, place(20_936), None).is_err());
     assert_eq!(rt; sockets.ports(), 1);
     assert!(rt; sockets.descriptor(0).is_some());
     assert!(rt; sockets.descriptor(1).is_none());

@@ -4,7 +4,7 @@ use Rattle.std.proofs.lemmas.List.Elements.{All-nil, All-cons}
 use Rattle.toml.specs.Data.{Items, Members, no_items, item}
 use Rattle.ipx_router.specs.NewRouter.{IsOwnNetwork}
 use Rattle.ipx_site.specs.declared.site.PortOfKind.{PortOfKind}
-use Rattle.ipx_site.specs.declared.site.PortOfKind.TheVariants.{Rfc1234, Frames}
+use Rattle.ipx_site.specs.declared.site.PortOfKind.TheVariants.{Rfc1234, Frames, Ipxnet}
 use Rattle.ipx_site.specs.FramesTable.{IsTableOfKind}
 use Rattle.ipx_site.specs.Site.{ArePorts}
 use Rattle.ipx_site.specs.SitePorts.{router_port_of_kind, router_ports}
@@ -12,6 +12,7 @@ use Rattle.ipx_site.specs.SitePorts.{router_port_of_kind, router_ports}
 own_one : (ms : Members) (p : PortOfKind) → IsTableOfKind ms p → IsOwnNetwork (router_port_of_kind p)
 own_one ms (Rfc1234 p) h = let network = h.network.2 in (network.2.1, network.2.2)
 own_one ms (Frames p) h = let network = h.network.2 in (network.2.1, network.2.2)
+own_one ms (Ipxnet p) h = let network = h.network.2 in (network.2.1, network.2.2)
 
 pub own_of : (earlier : List PortOfKind) (ds : Items) (ps : List PortOfKind) → ArePorts earlier ds ps → All IsOwnNetwork (router_ports ps)
 own_of earlier no_items ps h =

@@ -1,4 +1,4 @@
--- Ports of both kinds, by where each is among those of its kind.
+-- Ports of all kinds, by where each is among those of its kind.
 use Rattle.std.proofs.Common.{◌≡◌, ◌∙◌, ◌<◌, ℕ, List, [], ◌∷◌, Option, Some, None, Result, Ok, Err, length, map, get_or, refl, subst, sym, ap}
 use Rattle.std.specs.Prelude.{IfOk, OnErr, option_map, slice_get, unwrap_or}
 use Rattle.std.proofs.lemmas.List.{length-map, map-append}
@@ -8,10 +8,11 @@ use Rattle.ipx_carrier.specs.Segments.{SendsFrontOf, copies_count, count_in}
 use Rattle.ipx_carrier.specs.Device.{Traffic}
 use Rattle.ipx_carrier.specs.Turns.{Given, IsFrontOf, Peers, by_ip, copies_of}
 use Rattle.ipx_frames.specs.declared.wire.WirePort.{WirePort}
+use Rattle.ipx_lobbies.specs.OnLobbies.{by_lobbies}
 use Rattle.ipx_wires.specs.OnWires.{by_frames}
 use Rattle.ipx_site.specs.declared.router_ports.Spot.{Spot}
-use Rattle.ipx_site.specs.declared.router_ports.Spot.TheVariants.{Datagrams, Wire}
-use Rattle.ipx_site.specs.RouterPorts.{ByDatagram, ByFrame, PortCopy, by_kind, given_at, way_at}
+use Rattle.ipx_site.specs.declared.router_ports.Spot.TheVariants.{Datagrams, Wire, Lobby}
+use Rattle.ipx_site.specs.RouterPorts.{ByDatagram, ByFrame, ByLobby, PortCopy, by_kind, given_at, way_at}
 
 -- each copy is one of either kind
 as_many_copies : {A B : Type 0} (f : A → B) (o : Option (List A)) → option_map length (option_map (map f) o) ≡ option_map length o
@@ -43,6 +44,12 @@ module _ (peers : Peers) (wires : List WirePort) (spots : List Spot) (p : Given)
   counts_frames (Ok s) at h =
       h ∙ sym (at_spot (Wire k) at ∙ as_many_copies ByFrame (by_frames wires (given_at k p)))
   counts_frames (Err e) at h = tt
+
+  pub counts_lobbies : {E : Type 0} (sent : Result PacketSent E) → spot ≡ Lobby k
+      → IfOk sent (λ s. count_in s ≡ copies_count by_lobbies (given_at k p)) → IfOk sent (λ s. count_in s ≡ copies_count (by_kind peers wires spots) p)
+  counts_lobbies (Ok s) at h =
+      h ∙ sym (at_spot (Lobby k) at ∙ as_many_copies ByLobby (by_lobbies (given_at k p)))
+  counts_lobbies (Err e) at h = tt
 
   pub refused_datagrams : {T E : Type 0} (sent : Result T E) (before after : Option Traffic) → spot ≡ Datagrams k
       → OnErr sent (SendsFrontOf (copies_of (by_ip peers) (given_at k p)) before after)

@@ -10,8 +10,9 @@ use Rattle.ipx_carrier.specs.Mapping.{node_at}
 use Rattle.ipx_site.specs.declared.site.Accept.{Accept}
 use Rattle.ipx_site.specs.declared.site.Accept.TheVariants.{Any, Peers}
 use Rattle.ipx_site.specs.declared.site.FramesPort.{FramesPort}
+use Rattle.ipx_site.specs.declared.ipxnet_port.IpxnetPort.{IpxnetPort}
 use Rattle.ipx_site.specs.declared.site.PortOfKind.{PortOfKind}
-use Rattle.ipx_site.specs.declared.site.PortOfKind.TheVariants.{Rfc1234, Frames}
+use Rattle.ipx_site.specs.declared.site.PortOfKind.TheVariants.{Rfc1234, Frames, Ipxnet}
 use Rattle.ipx_site.specs.declared.site.SiteFile.{SiteFile}
 use Rattle.ipx_site.specs.declared.site.SitePort.{SitePort}
 use Rattle.ipx_site.specs.PortKinds.{place_of_kind}
@@ -88,10 +89,23 @@ frames_text number p =
     ++ (codes " frames " ++ (frame_word p.encapsulation ++ (codes " udp "
     ++ (reached_text p.address p.udp_port ++ (codes " " ++ wire_text p))))))))
 
+-- what it costs, how many clients it may have, and who may register
+abbrev pub clients_text : IpxnetPort → List ℕ
+clients_text p =
+    codes "cost " ++ (decimal p.cost ++ (codes " clients " ++ (decimal p.clients
+    ++ (codes " peers " ++ (decimal (length p.peers.items) ++ others_text p.accept)))))
+
+-- a port for clients of ipxnet with its number
+abbrev pub ipxnet_text : ℕ → IpxnetPort → List ℕ
+ipxnet_text number p =
+    codes "port " ++ (decimal number ++ (codes " " ++ (place_text p.network p.node
+    ++ (codes " ipxnet udp " ++ (reached_text p.address p.udp_port ++ (codes " " ++ clients_text p))))))
+
 -- a port with its number, as a router says it when it starts
 abbrev pub port_text : ℕ → PortOfKind → List ℕ
 port_text number (Rfc1234 p) = rfc1234_text number p
 port_text number (Frames p) = frames_text number p
+port_text number (Ipxnet p) = ipxnet_text number p
 
 -- the lines of its ports, of which the first has this number
 abbrev pub port_texts : ℕ → List PortOfKind → List (List ℕ)
@@ -151,11 +165,13 @@ each_behind printed earlier [] = []
 each_behind printed earlier (x ∷ xs) =
     printed earlier x ++ each_behind printed (earlier ++ x ∷ []) xs
 
--- what is to be remarked on those whom a port sends to, behind the words that say whose they are
+-- what is to be remarked on those whom a port sends to, behind the words that say whose they are: of
+-- clients nothing
 abbrev pub reached_remarks : List ℕ → PortOfKind → List ℕ
 reached_remarks whose (Rfc1234 p) = each_behind (peer_remark whose p.address) [] p.peers.items
 reached_remarks whose (Frames p) =
     each_behind (wire_end_remark whose (place_of_kind (Frames p))) [] p.ends.items
+reached_remarks whose (Ipxnet p) = []
 
 -- the line of a port behind earlier ones, and what is to be remarked
 abbrev pub port_lines : List PortOfKind → PortOfKind → List ℕ

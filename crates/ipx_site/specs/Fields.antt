@@ -9,7 +9,7 @@ use Rattle.ipx_site.specs.declared.key.Key.{Key}
 use Rattle.ipx_site.specs.declared.fault.FileFault.{FileFault}
 use Rattle.ipx_site.specs.declared.fault.FileFault.TheVariants.{Missing, NotToml, OtherKind, OutOfMemory, Unknown, Wrong}
 use Rattle.ipx_site.specs.declared.site.Kind.{Kind}
-use Rattle.ipx_site.specs.Keys.{first_unknown, is_text_of, key_text, keys_of_kind, keys_of_other_kind}
+use Rattle.ipx_site.specs.Keys.{first_unknown, is_text_of, key_text, keys_of_kind, keys_of_other_kinds}
 
 -- the number of the line of a place in a text: one more than the line ends before it
 abbrev pub line_number : List ℕ → ℕ → ℕ
@@ -28,10 +28,10 @@ abbrev pub IsUnknown : List Key → Members → ℕ → FileFault → Type 0
 IsUnknown keys ms table f = (name : String Global) × (f ≡ Unknown table name)
     × (first_unknown keys ms ≡ Some (string_bytes name))
 
--- what is told of a name in the table of a port that is no key of its kind: it is one of the other kind,
--- or none at all
+-- what is told of a name in the table of a port that is no key of its kind: it is one of another kind, or
+-- none at all
 abbrev pub IsStrayName : Kind → List ℕ → ℕ → FileFault → Type 0
-IsStrayName kind name table f = MatchOption (find (is_text_of name) (keys_of_other_kind kind))
+IsStrayName kind name table f = MatchOption (find (is_text_of name) (keys_of_other_kinds kind))
     ((copy : String Global) × (f ≡ Unknown table copy) × (string_bytes copy ≡ name))
     (λ key. f ≡ OtherKind table key kind)
 

@@ -1,4 +1,4 @@
--- A port of a router on a wire in its file, and a port of either kind: a table `[[port]]`. All of it is own.
+-- A port of a router on a wire in its file, and a port of any kind: a table `[[port]]`. All of it is own.
 use Rattle.std.specs.Prelude.{◌≡◌, ◌⊎◌, ℕ, true, None}
 use Rattle.toml.specs.Data.{Members}
 use Rattle.ipx_site.specs.declared.fault.FileFault.{FileFault}
@@ -7,8 +7,9 @@ use Rattle.ipx_site.specs.declared.site.FramesPort.{FramesPort}
 use Rattle.ipx_site.specs.declared.site.Kind.{Kind}
 use Rattle.ipx_site.specs.declared.site.Kind.TheVariants as Of
 use Rattle.ipx_site.specs.declared.site.PortOfKind.{PortOfKind}
-use Rattle.ipx_site.specs.declared.site.PortOfKind.TheVariants.{Rfc1234, Frames}
+use Rattle.ipx_site.specs.declared.site.PortOfKind.TheVariants.{Rfc1234, Frames, Ipxnet}
 use Rattle.ipx_site.specs.Fields.{Holds, HoldsOr, IsFault, IsRight, IsRightOr, IsStray, IsWrong}
+use Rattle.ipx_site.specs.IpxnetTable.{IsIpxnetFault, IsIpxnetTable}
 use Rattle.ipx_site.specs.Keys.{first_unknown, frames_keys}
 use Rattle.ipx_site.specs.Port.{IsPortFault, IsPortTable}
 use Rattle.ipx_site.specs.PortKinds.{kind_of_port}
@@ -44,11 +45,12 @@ IsFramesFault table ms f =
     ⊎ (IsRight (IsCount 65535) Key.UdpPort ms × (IsWrong (IsCount 65535) Key.Cost ms table f
     ⊎ (IsRightOr (IsCount 65535) Key.Cost ms × IsWireFault ms table f)))))))))))
 
--- ---- a port of either kind: that of RFC 1234 where the table says none
+-- ---- a port of any kind: that of RFC 1234 where the table says none
 
 abbrev pub IsTableOfKind : Members → PortOfKind → Type 0
 IsTableOfKind ms (Rfc1234 p) = IsPortTable ms p
 IsTableOfKind ms (Frames p) = IsFramesTable ms p
+IsTableOfKind ms (Ipxnet p) = IsIpxnetTable ms p
 
 -- a table is that of a port
 abbrev pub IsPortOfKind : Members → PortOfKind → Type 0
@@ -57,6 +59,7 @@ IsPortOfKind ms p = HoldsOr IsKind Key.Kind ms Of.Rfc1234 (kind_of_port p) × Is
 abbrev pub IsFaultOfKind : Kind → ℕ → Members → FileFault → Type 0
 IsFaultOfKind Of.Rfc1234 table ms f = IsPortFault table ms f
 IsFaultOfKind Of.Frames table ms f = IsFramesFault table ms f
+IsFaultOfKind Of.Ipxnet table ms f = IsIpxnetFault table ms f
 
 -- its first fault: its kind's, and then those of a port of that kind
 abbrev pub IsKindFault : ℕ → Members → FileFault → Type 0

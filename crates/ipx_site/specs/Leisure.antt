@@ -5,6 +5,8 @@ use Rattle.ipx_router.specs.Telling.{is_due}
 use Rattle.ipx_site.specs.declared.figures.Figures.{Figures}
 use Rattle.ipx_site.specs.declared.router_counts.RouterCounts.{RouterCounts}
 use Rattle.ipx_carrier.specs.declared.datagrams.Datagrams as OfDevice
+use Rattle.ipx_lobbies.specs.declared.place_sockets.PlaceSockets as OfPlaces
+use Rattle.ipx_lobbies.specs.declared.sockets.LobbySockets.{LobbySockets}
 use Rattle.ipx_wires.specs.declared.end_sockets.EndSockets as OfSockets
 use Rattle.ipx_wires.specs.declared.sockets.WireSockets.{WireSockets}
 use Rattle.ipx_site.specs.declared.peers.PeersOnly.{PeersOnly}
@@ -52,11 +54,12 @@ happened_in f = record {
 }
 
 -- how many datagrams and frames the system refused
-abbrev pub lost_in : {gd : OfDevice.Ghosts (PeersOnly SiteSockets)} {ge : OfSockets.Ghosts WireSockets} → SitePortsRun gd ge → ℕ
+abbrev pub lost_in : {gd : OfDevice.Ghosts (PeersOnly SiteSockets)} {ge : OfSockets.Ghosts WireSockets} {gl : OfPlaces.Ghosts LobbySockets} → SitePortsRun gd ge gl → ℕ
 lost_in r = r.datagrams.device.device.faults + (r.wires.sockets.failures + r.wires.sockets.faults)
+    + (r.lobbies.sockets.failures + r.lobbies.sockets.faults)
 
 -- by what it tallies, what its core counts, and what its ports kept back, did not send and lost
-abbrev pub happened : {gd : OfDevice.Ghosts (PeersOnly SiteSockets)} {ge : OfSockets.Ghosts WireSockets} → RouterCounts → SparingView CoreView → SitePortsRun gd ge → Happened
+abbrev pub happened : {gd : OfDevice.Ghosts (PeersOnly SiteSockets)} {ge : OfSockets.Ghosts WireSockets} {gl : OfPlaces.Ghosts LobbySockets} → RouterCounts → SparingView CoreView → SitePortsRun gd ge gl → Happened
 happened tally core ports = record {
   strangers = ports.datagrams.device.kept.strangers.count;
   forged = ports.datagrams.device.kept.forged.count;

@@ -5,6 +5,7 @@ pub mod Fields
 pub mod WireValues
 pub mod Port
 pub mod PortKinds
+pub mod IpxnetTable
 pub mod FramesTable
 pub mod Site
 pub mod SitePorts

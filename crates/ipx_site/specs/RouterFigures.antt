@@ -9,6 +9,8 @@ use Rattle.ipx_site.specs.Sparing.{SparingView}
 use Rattle.ipx_site.specs.declared.figures.Figures.{Figures}
 use Rattle.ipx_site.specs.declared.router_counts.RouterCounts.{RouterCounts}
 use Rattle.ipx_carrier.specs.declared.datagrams.Datagrams as OfDevice
+use Rattle.ipx_lobbies.specs.declared.place_sockets.PlaceSockets as OfPlaces
+use Rattle.ipx_lobbies.specs.declared.sockets.LobbySockets.{LobbySockets}
 use Rattle.ipx_wires.specs.declared.end_sockets.EndSockets as OfSockets
 use Rattle.ipx_wires.specs.declared.sockets.WireSockets.{WireSockets}
 use Rattle.ipx_site.specs.declared.peers.PeersOnly.{PeersOnly}
@@ -38,7 +40,7 @@ with_burst b t = with_fault b.fault (record t { unmapped = counted (t.unmapped +
 -- the figures of a router at a moment, in milliseconds since its start, besides how often it happened of
 -- which a line is told: by what it counts itself, what its core counts, what its device kept back, how many
 -- datagrams the system took of it, and what it knew as it looked last
-pub record AreFigures {gd : OfDevice.Ghosts (PeersOnly SiteSockets)} {ge : OfSockets.Ghosts WireSockets} (tally : RouterCounts) (core : SparingView CoreView) (ports : SitePortsRun gd ge) (known : Known) (now : ℕ) (f : Figures) : Type 0 where
+pub record AreFigures {gd : OfDevice.Ghosts (PeersOnly SiteSockets)} {ge : OfSockets.Ghosts WireSockets} {gl : OfPlaces.Ghosts LobbySockets} (tally : RouterCounts) (core : SparingView CoreView) (ports : SitePortsRun gd ge gl) (known : Known) (now : ℕ) (f : Figures) : Type 0 where
   -- each datagram that was heard became something. A query that came too often is none of them
   pub heard : f.heard ≡ counted (outcomes_in core.core.fates)
   pub fates : f.fates ≡ core.core.fates

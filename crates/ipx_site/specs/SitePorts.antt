@@ -9,17 +9,19 @@ use Rattle.ipx_site.specs.declared.peers.Guard.{Guard}
 use Rattle.ipx_site.specs.declared.site.Accept.{Accept}
 use Rattle.ipx_site.specs.declared.site.Accept.TheVariants.{Any, Peers}
 use Rattle.ipx_site.specs.declared.site.PortOfKind.{PortOfKind}
-use Rattle.ipx_site.specs.declared.site.PortOfKind.TheVariants.{Rfc1234, Frames}
+use Rattle.ipx_site.specs.declared.site.PortOfKind.TheVariants.{Rfc1234, Frames, Ipxnet}
 use Rattle.ipx_site.specs.declared.site.SitePort.{SitePort}
 
 -- a port of a file as one of the router: its node is two zero bytes and the IP address
 abbrev pub router_port_of : SitePort → Port
 router_port_of p = record { network = p.network; node = node_at p.address; cost = p.cost }
 
--- so a port of either kind: on a wire its node is its own address there
+-- so a port of any kind: on a wire its node is its own address there, and for clients of ipxnet what its
+-- file says
 abbrev pub router_port_of_kind : PortOfKind → Port
 router_port_of_kind (Rfc1234 p) = router_port_of p
 router_port_of_kind (Frames p) = record { network = p.network; node = p.node; cost = p.cost }
+router_port_of_kind (Ipxnet p) = record { network = p.network; node = p.node; cost = p.cost }
 
 abbrev pub router_ports : List PortOfKind → List Port
 router_ports ports = map router_port_of_kind ports

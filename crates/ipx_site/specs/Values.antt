@@ -12,7 +12,7 @@ use Rattle.ipx_site.specs.SitePeers.{is_peer}
 use Rattle.ipx_site.specs.declared.site.Accept.{Accept}
 use Rattle.ipx_site.specs.declared.site.Accept.TheVariants.{Any, Peers}
 use Rattle.ipx_site.specs.declared.site.Kind.{Kind}
-use Rattle.ipx_site.specs.declared.site.Kind.TheVariants.{Rfc1234, Frames}
+use Rattle.ipx_site.specs.declared.site.Kind.TheVariants.{Rfc1234, Frames, Ipxnet}
 
 -- eight hex digits write a network other than 0, which is the one at hand, and FFFFFFFF, which is
 -- all of them
@@ -52,8 +52,9 @@ IsAccept d a = as_str d ≡ Some (accept_text a)
 abbrev pub kind_text : Kind → List ℕ
 kind_text Rfc1234 = codes "rfc1234"
 kind_text Frames = codes "frames"
+kind_text Ipxnet = codes "ipxnet"
 
--- the string "rfc1234" or the string "frames"
+-- the string "rfc1234", the string "frames" or the string "ipxnet"
 abbrev pub IsKind : Data → Kind → Type 0
 IsKind d k = as_str d ≡ Some (kind_text k)
 

@@ -109,6 +109,7 @@ fn reached_to_remarks(alloc: Global, whose: &str, port: &PortOfKind) -> Result<S
     match port {
         PortOfKind::Rfc1234(port) => peers_to_remarks(alloc, whose, port.address, &port.peers),
         PortOfKind::Frames(port) => ends_to_remarks(alloc, whose, own, &port.ends),
+        PortOfKind::Ipxnet(_) => Ok(String::new(alloc)),
     }
 }
 

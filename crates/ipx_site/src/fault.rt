@@ -16,7 +16,7 @@ pub enum FileFault {
     NotToml(usize, toml::de::Error),
     /// A name that is no key of this table.
     Unknown(usize, String),
-    /// A key of the other kind of port: the key, and the kind that the port has.
+    /// A key of another kind of port: the key, and the kind that the port has.
     OtherKind(usize, Key, Kind),
     /// A key that must be there is not.
     Missing(usize, Key),

@@ -11,7 +11,7 @@ ghost use Rattle.ipx_site.specs.Values.{AreAddressesOf, AreRouterPeers, IsAccept
 ghost use Rattle.ipx_site.specs.Fields.{Gives, GivesIf, GivesOr, Holds, HoldsOr, IsMissing, IsStray, IsStrayName, IsUnknown, IsWrong};
 
 use crate::fault::FileFault;
-use crate::key::{Key, is_key, key_in, keys_of_kind, keys_of_other_kind};
+use crate::key::{Key, is_key, key_in, keys_of_kind, keys_of_other_kinds};
 use crate::neighbours::{among, neighbours_of};
 use crate::origin::{Origin, origins_of};
 use crate::site::{Accept, Kind};
@@ -64,7 +64,7 @@ pub fn refuse_unknown(
 fn stray(alloc: Global, number: usize, kind: Kind, name: &str) -> Result<FileFault, OutOfMemory>
     ensures { IfOk result (IsStrayName kind name.now number) }
 {
-    match key_in(keys_of_other_kind(kind), name) {
+    match key_in(keys_of_other_kinds(kind), name) {
         Some(key) => Ok(FileFault::OtherKind(number, *key, kind)),
         None => unknown(alloc, number, name),
     }

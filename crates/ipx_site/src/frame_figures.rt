@@ -50,7 +50,7 @@ const SENT: Family = Family {
 /// The hub of a port that is on a wire.
 fn hub_at(ports: &SiteRouterPorts, spot: Spot) -> Option<&Hub> {
     match spot {
-        Spot::Datagrams(_) => None,
+        Spot::Datagrams(_) | Spot::Lobby(_) => None,
         Spot::Wire(place) => ports.wires().hubs().get(place),
     }
 }

@@ -1,7 +1,7 @@
 //! The keys of the files.
 
 ghost use Rattle.std.specs.Prelude.{◌≡◌, find, option_copied};
-ghost use Rattle.ipx_site.specs.Keys.{is_key, is_text_of, key_text, keys_of_kind, keys_of_other_kind};
+ghost use Rattle.ipx_site.specs.Keys.{is_key, is_text_of, key_text, keys_of_kind, keys_of_other_kinds};
 
 use crate::site::Kind;
 
@@ -26,6 +26,7 @@ pub enum Key {
     Ends,
     Node,
     Hub,
+    Clients,
 }
 
 impl Key {
@@ -52,6 +53,7 @@ impl Key {
             Key::Ends => "ends",
             Key::Node => "node",
             Key::Hub => "hub",
+            Key::Clients => "clients",
         }
     }
 
@@ -74,11 +76,12 @@ impl Key {
                 "a list of at most 256 networks, each alone or with a node behind it, as \
                  [\"00000022 00000a02001e\", \"00000033\"]"
             }
-            Key::Kind => "\"rfc1234\" or \"frames\"",
+            Key::Kind => "\"rfc1234\", \"frames\" or \"ipxnet\"",
             Key::Frame => "\"802.3\", \"802.2\", \"snap\" or \"ethernet-ii\"",
             Key::Ends => "a list of 1 to 256 places, as [\"127.0.0.1:24001\"]",
             Key::Node => "the address of one station, as \"02:00:00:00:00:22\"",
             Key::Hub => "true or false",
+            Key::Clients => "a number from 1 to 150, as 64",
         }
     }
 }
@@ -102,7 +105,7 @@ const PORT_KEYS: [Key; 8] = [
     Key::Accept,
 ];
 
-/// And those of a port on a wire.
+/// Those of a port on a wire.
 const FRAMES_KEYS: [Key; 9] = [
     Key::Kind,
     Key::Network,
@@ -115,6 +118,27 @@ const FRAMES_KEYS: [Key; 9] = [
     Key::Hub,
 ];
 
+/// And those of a port for clients of ipxnet.
+const IPXNET_KEYS: [Key; 9] = [
+    Key::Kind,
+    Key::Network,
+    Key::Address,
+    Key::UdpPort,
+    Key::Cost,
+    Key::Node,
+    Key::Clients,
+    Key::Accept,
+    Key::Peers,
+];
+
+/// The keys that ports of other kinds than RFC 1234 have besides its own, than wires, and than those
+/// for clients of ipxnet.
+const NOT_RFC1234_KEYS: [Key; 5] = [Key::Frame, Key::Ends, Key::Node, Key::Hub, Key::Clients];
+
+const NOT_FRAMES_KEYS: [Key; 4] = [Key::Peers, Key::Routers, Key::Accept, Key::Clients];
+
+const NOT_IPXNET_KEYS: [Key; 4] = [Key::Routers, Key::Frame, Key::Ends, Key::Hub];
+
 /// The keys of a port of this kind.
 pub fn keys_of_kind(kind: Kind) -> &'static [Key]
     ensures { result.now ≡ keys_of_kind kind }
@@ -122,16 +146,18 @@ pub fn keys_of_kind(kind: Kind) -> &'static [Key]
     match kind {
         Kind::Rfc1234 => &PORT_KEYS,
         Kind::Frames => &FRAMES_KEYS,
+        Kind::Ipxnet => &IPXNET_KEYS,
     }
 }
 
-/// The keys of a port of the other kind.
-pub fn keys_of_other_kind(kind: Kind) -> &'static [Key]
-    ensures { result.now ≡ keys_of_other_kind kind }
+/// The keys of ports of the other kinds that are none of this one.
+pub fn keys_of_other_kinds(kind: Kind) -> &'static [Key]
+    ensures { result.now ≡ keys_of_other_kinds kind }
 {
     match kind {
-        Kind::Rfc1234 => &FRAMES_KEYS,
-        Kind::Frames => &PORT_KEYS,
+        Kind::Rfc1234 => &NOT_RFC1234_KEYS,
+        Kind::Frames => &NOT_FRAMES_KEYS,
+        Kind::Ipxnet => &NOT_IPXNET_KEYS,
     }
 }
 

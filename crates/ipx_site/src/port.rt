@@ -9,6 +9,7 @@ use crate::fault::FileFault;
 use crate::fields::{
     accept_in, address_in, count_in, kind_in, network_in, peers_in, port_routers_in, refuse_stray,
 };
+use crate::ipxnet_fields::ipxnet_port_in;
 use crate::key::Key;
 use crate::site::{FramesPort, Kind, PortOfKind, SitePort};
 use crate::wire_fields::{encapsulation_in, ends_in, joined_in, required_count_in, station_in};
@@ -83,5 +84,6 @@ pub fn port_of(alloc: Global, table: &Table, number: usize) -> Result<PortOfKind
     match kind_in(table, number)? {
         Kind::Rfc1234 => Ok(PortOfKind::Rfc1234(rfc1234_port(alloc, table, number)?)),
         Kind::Frames => Ok(PortOfKind::Frames(frames_port(alloc, table, number)?)),
+        Kind::Ipxnet => Ok(PortOfKind::Ipxnet(ipxnet_port_in(alloc, table, number)?)),
     }
 }

@@ -5,6 +5,7 @@ ghost use Rattle.ipx_carrier.specs.Counting.{counted, raised};
 
 use crate::sockets::SiteSockets;
 use ipx_carrier::Datagrams;
+use ipx_lobbies::{LobbySockets, PlaceSockets};
 use ipx_wires::{EndSockets, WireSockets};
 use mio::unix::SourceFd;
 use mio::{Events, Interest, Poll, Token};
@@ -83,6 +84,22 @@ impl Readiness {
     {
         for wire in 0..sockets.ports() {
             if let Some(descriptor) = sockets.descriptor(wire) {
+                if !self.watch_reading(descriptor) {
+                    return Err(WaitFault::System);
+                }
+            }
+        }
+        Ok(())
+    }
+
+    /// Waits for the sockets of lobbies too.
+    pub fn watch_lobbies(&mut self, sockets: &LobbySockets) -> Result<(), WaitFault>
+        ensures watched { OnOk result (self.new.watched
+            ≡ counted (self.old.watched + length sockets.now.sockets.items)) }
+        ensures asked { self.new.asked ≡ self.old.asked }
+    {
+        for lobby in 0..sockets.ports() {
+            if let Some(descriptor) = sockets.descriptor(lobby) {
                 if !self.watch_reading(descriptor) {
                     return Err(WaitFault::System);
                 }

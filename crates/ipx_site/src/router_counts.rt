@@ -12,6 +12,7 @@ use crate::sparing::Sparing;
 use crate::watch::Known;
 use crate::wire_totals::{in_other_encapsulations, unframed};
 use ipx_carrier::{Burst, OutcomeCounts, RouterCore, RunFault, raise};
+use ipx_lobbies::PlaceSockets;
 use ipx_wires::EndSockets;
 
 /// What a router that runs counts itself. Each count stays at the greatest u64.
@@ -34,12 +35,15 @@ fn heard_in(fates: &OutcomeCounts) -> u64
 fn faults_of(ports: &SiteRouterPorts) -> u64
     ensures { result ≡ counted (lost_in ports.now) }
 {
-    let sockets = ports.wires().sockets();
+    let wires = ports.wires().sockets();
+    let lobbies = ports.lobbies().sockets();
     let device = ports.device().device();
     device
         .faults()
-        .saturating_add(sockets.failures())
-        .saturating_add(sockets.faults())
+        .saturating_add(wires.failures())
+        .saturating_add(wires.faults())
+        .saturating_add(lobbies.failures())
+        .saturating_add(lobbies.faults())
 }
 
 impl RouterCounts {

@@ -10,6 +10,7 @@ ghost use Rattle.ipx_site.specs.SitePorts.{GuardPorts, access_by, access_of, hea
 use crate::bind_fault::BindFault;
 use crate::clock::SteadyClock;
 use crate::files::load_site;
+use crate::ipxnet_ports::lobbies_of;
 use crate::peers::{Guard, PeersOnly};
 use crate::readiness::{Readiness, WaitFault};
 use crate::room::{SOCKET_ROOM, ask_room};
@@ -25,6 +26,7 @@ use ipx_router::{NewFault, Port, Router};
 use log::{Log, info, warn};
 use std::alloc::{AllocError, Global};
 use std::net::Net;
+use std::os::fd::RawFd;
 use std::rt::{Clock as SystemClock, Files};
 use thiserror::Error;
 
@@ -146,6 +148,7 @@ fn spots_of(alloc: Global, ports: &[PortOfKind]) -> Result<Vec<Spot>, AllocError
     let mut spots = Vec::new(alloc);
     let mut datagrams = 0;
     let mut wires = 0;
+    let mut lobbies = 0;
     for port in ports {
         match port {
             PortOfKind::Rfc1234(_) => {
@@ -155,6 +158,10 @@ fn spots_of(alloc: Global, ports: &[PortOfKind]) -> Result<Vec<Spot>, AllocError
             PortOfKind::Frames(_) => {
                 spots.push(Spot::Wire(wires))?;
                 wires += 1;
+            }
+            PortOfKind::Ipxnet(_) => {
+                spots.push(Spot::Lobby(lobbies))?;
+                lobbies += 1;
             }
         }
     }
@@ -171,15 +178,22 @@ fn tell_port<R: Log>(rt: &R, number: usize, line: &str, room: u32) {
     }
 }
 
+/// How many bytes the socket with a descriptor holds, as the system says, which is asked for more first;
+/// 0 where it does not say.
+fn room_of(descriptor: Option<RawFd>) -> u32 {
+    match descriptor {
+        Some(descriptor) => ask_room(descriptor),
+        None => 0,
+    }
+}
+
 /// How many bytes the socket of a port holds, as the system said; 0 where it did not say. That of a wire
-/// is asked to hold more now.
+/// or of a lobby is asked to hold more now.
 fn room_at(ports: &SiteRouterPorts, spot: Spot) -> u32 {
     match spot {
         Spot::Datagrams(place) => ports.device().device().room(place).unwrap_or(0),
-        Spot::Wire(place) => match ports.wires().sockets().descriptor(place) {
-            Some(descriptor) => ask_room(descriptor),
-            None => 0,
-        },
+        Spot::Wire(place) => room_of(ports.wires().sockets().descriptor(place)),
+        Spot::Lobby(place) => room_of(ports.lobbies().sockets().descriptor(place)),
     }
 }
 
@@ -221,7 +235,8 @@ fn bound_ports<R: Net>(
     let spots = spots_of(alloc, ports)?;
     let datagrams = datagrams_of(rt, alloc, ports)?;
     let wires = wires_of(rt, alloc, ports)?;
-    Ok(RouterPorts::new(datagrams, wires, spots))
+    let lobbies = lobbies_of(rt, alloc, ports)?;
+    Ok(RouterPorts::new(datagrams, wires, lobbies, spots))
 }
 
 /// What waits for the sockets of ports.
@@ -232,10 +247,12 @@ fn ready_for<R: Net>(
 ) -> Result<Readiness, RouteFault>
     ensures { IfOk result (λ r. r.watched
         ≡ counted (length ports.now.datagrams.device.device.sockets.items
-        + length ports.now.wires.sockets.wires.items)) }
+        + length ports.now.wires.sockets.wires.items
+        + length ports.now.lobbies.sockets.sockets.items)) }
 {
     let mut ready = Readiness::new(rt, alloc, ports.device().device())?;
     ready.watch_wires(ports.wires().sockets())?;
+    ready.watch_lobbies(ports.lobbies().sockets())?;
     Ok(ready)
 }
 
@@ -251,7 +268,8 @@ fn start<'a, R: Net + Log + SystemClock>(
     // So those who ask at these have their turns, and nobody has asked yet.
     ensures askers { IfOk result (λ s. (s.core.ports ≡ router_ports site.ports.items)
         × (s.core.askers.askers ≡ []) × (s.core.askers.back ≡ 0)) }
-    // Each of them has its socket: one of RFC 1234 its peers and its guard, one on a wire its hub.
+    // Each of them has its socket: one of RFC 1234 its peers and its guard, one on a wire its hub, and
+    // one for clients of ipxnet its lobby.
     ensures bound { IfOk result (λ s. ArePortsBound site.ports.items s.ports) }
     ensures clock { IfOk result (λ s. s.clock.last ≡ 0) }
     ensures asked { IfOk result (λ s. s.asked ≡ 0) }

@@ -13,6 +13,7 @@ use crate::asking::asking_moment;
 use crate::clock::SteadyClock;
 use crate::figures::Figures;
 use crate::frame_figures::{put_frame_figures, tell_encapsulations};
+use crate::ipxnet_figures::put_ipxnet_figures;
 use crate::moments::{LONGEST, end_of, is_over, sooner, time_to};
 use crate::readiness::{Readiness, WaitFault};
 use crate::router_counts::RouterCounts;
@@ -106,6 +107,7 @@ impl<'a, R: SystemClock> RunningRouter<'a, R> {
     fn status_text(&self, alloc: Global, now: u64) -> Result<String, AllocError> {
         let mut text = self.figures(now).text(alloc)?;
         put_frame_figures(&mut text, &self.ports)?;
+        put_ipxnet_figures(&mut text, &self.ports)?;
         Ok(text)
     }
 
@@ -229,6 +231,8 @@ impl<'a, R: SystemClock> RunningRouter<'a, R> {
             self.old.asked self.new.asked self.old.core self.new.core
             self.new.ports.wires.moment result }
         ensures ready { self.new.ready ≡ self.old.ready }
+        // What comes and goes by lobbies does so at the same moment as on wires.
+        ensures moments { self.new.ports.lobbies.moment ≡ self.new.ports.wires.moment }
         // By what packets are sent, and who may speak, stays.
         ensures ways { ways_in self.new.ports ≡ ways_in self.old.ports }
         ensures peers { peers_of self.new.ports.datagrams.peers.items
@@ -265,6 +269,7 @@ impl<'a, R: SystemClock> RunningRouter<'a, R> {
             (happened self.new.tally self.new.core self.new.ports)))
             between self.new.clock NeverGoesBack
             self.old.ready.asked self.new.ready.asked burst.fault burst.quiet }
+        ensures moments { self.new.ports.lobbies.moment ≡ self.new.ports.wires.moment }
         ensures ways { ways_in self.new.ports ≡ ways_in self.old.ports }
         ensures peers { peers_of self.new.ports.datagrams.peers.items
             ≡ peers_of self.old.ports.datagrams.peers.items }

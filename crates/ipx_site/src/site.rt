@@ -4,6 +4,7 @@ ghost use Rattle.std.specs.Prelude.{◌≡◌};
 ghost use Rattle.ipx_site.specs.PortKinds.{kind_of_port, network_of_kind, place_of_kind};
 ghost use Rattle.ipx_site.specs.SitePorts.{router_port_of, router_port_of_kind};
 
+use crate::ipxnet_port::IpxnetPort;
 use ipx_carrier::node_of;
 use ipx_frames::Encapsulation;
 use ipx_router::Port;
@@ -17,6 +18,8 @@ pub enum Kind {
     Rfc1234,
     /// A wire: an Ethernet frame in each datagram.
     Frames,
+    /// A port for clients of DOSBox's ipxnet.
+    Ipxnet,
 }
 
 /// Who is heard at a port.
@@ -73,6 +76,7 @@ pub struct FramesPort {
 pub enum PortOfKind {
     Rfc1234(SitePort),
     Frames(FramesPort),
+    Ipxnet(IpxnetPort),
 }
 
 /// The router's port of a port of RFC 1234.
@@ -86,6 +90,17 @@ fn router_port(port: &SitePort) -> Port
     }
 }
 
+/// A port of a router with a node of its own.
+fn port_at(network: Network, node: Node, cost: u16) -> Port
+    ensures { result ≡ record { network = network; node = node; cost = cost } }
+{
+    Port {
+        network,
+        node,
+        cost,
+    }
+}
+
 impl PortOfKind {
     /// The network that it is on.
     pub fn network(&self) -> Network
@@ -94,6 +109,7 @@ impl PortOfKind {
         match self {
             PortOfKind::Rfc1234(port) => port.network,
             PortOfKind::Frames(port) => port.network,
+            PortOfKind::Ipxnet(port) => port.network,
         }
     }
 
@@ -104,6 +120,7 @@ impl PortOfKind {
         let (ip, udp_port) = match self {
             PortOfKind::Rfc1234(port) => (port.address, port.udp_port),
             PortOfKind::Frames(port) => (port.address, port.udp_port),
+            PortOfKind::Ipxnet(port) => (port.address, port.udp_port),
         };
         Place { ip, udp_port }
     }
@@ -114,11 +131,8 @@ impl PortOfKind {
     {
         match self {
             PortOfKind::Rfc1234(port) => router_port(port),
-            PortOfKind::Frames(port) => Port {
-                network: port.network,
-                node: port.node,
-                cost: port.cost,
-            },
+            PortOfKind::Frames(port) => port_at(port.network, port.node, port.cost),
+            PortOfKind::Ipxnet(port) => port_at(port.network, port.node, port.cost),
         }
     }
 
@@ -128,6 +142,7 @@ impl PortOfKind {
         match self {
             PortOfKind::Rfc1234(_) => Kind::Rfc1234,
             PortOfKind::Frames(_) => Kind::Frames,
+            PortOfKind::Ipxnet(_) => Kind::Ipxnet,
         }
     }
 }

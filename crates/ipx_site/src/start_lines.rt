@@ -2,8 +2,9 @@
 
 ghost use Rattle.std.specs.Prelude.{◌≡◌, IfOk, map, string_bytes};
 ghost use Rattle.std.specs.List.{flat_map};
-ghost use Rattle.ipx_site.specs.Checked.{dealings_text, dotted_text, frames_text, joined_text, others_text, place_text, port_text, port_texts, reached_text, rfc1234_text, routers_text, wire_end_text, wire_text};
+ghost use Rattle.ipx_site.specs.Checked.{clients_text, dealings_text, dotted_text, frames_text, ipxnet_text, joined_text, others_text, place_text, port_text, port_texts, reached_text, rfc1234_text, routers_text, wire_end_text, wire_text};
 
+use crate::ipxnet_port::IpxnetPort;
 use crate::site::{Accept, FramesPort, PortOfKind, SitePort};
 use crate::wire_values::word_of;
 use ipx_carrier::node_of;
@@ -125,6 +126,26 @@ fn frames_to_text(alloc: Global, number: usize, port: &FramesPort) -> Result<Str
     format!(in alloc; "port {number} {place} frames {word} udp {reached} {wire}")
 }
 
+fn clients_to_text(alloc: Global, port: &IpxnetPort) -> Result<String, AllocError>
+    ensures { IfOk result (λ t. string_bytes t ≡ clients_text port.now) }
+{
+    let cost = port.cost;
+    let clients = port.clients;
+    let named = port.peers.len();
+    let others = others(port.accept);
+    format!(in alloc; "cost {cost} clients {clients} peers {named}{others}")
+}
+
+/// A port for clients with its number: `port 3 network .. node .. ipxnet udp .. cost .. clients ..`.
+fn ipxnet_to_text(alloc: Global, number: usize, port: &IpxnetPort) -> Result<String, AllocError>
+    ensures { IfOk result (λ t. string_bytes t ≡ ipxnet_text number port.now) }
+{
+    let place = place_to_text(alloc, port.network, port.node)?;
+    let reached = reached_to_text(alloc, port.address, port.udp_port)?;
+    let clients = clients_to_text(alloc, port)?;
+    format!(in alloc; "port {number} {place} ipxnet udp {reached} {clients}")
+}
+
 /// A port with its number, as its kind has it.
 pub fn port_to_text(alloc: Global, number: usize, port: &PortOfKind) -> Result<String, AllocError>
     ensures { IfOk result (λ t. string_bytes t ≡ port_text number port.now) }
@@ -132,6 +153,7 @@ pub fn port_to_text(alloc: Global, number: usize, port: &PortOfKind) -> Result<S
     match port {
         PortOfKind::Rfc1234(port) => rfc1234_to_text(alloc, number, port),
         PortOfKind::Frames(port) => frames_to_text(alloc, number, port),
+        PortOfKind::Ipxnet(port) => ipxnet_to_text(alloc, number, port),
     }
 }
 

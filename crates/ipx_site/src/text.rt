@@ -14,7 +14,8 @@ fn keys_of(table: usize) -> &'static str {
             accept";
     }
     "the keys are kind, network, address, udp_port, cost, for kind = \"rfc1234\" also peers, \
-        routers and accept, for kind = \"frames\" frame, ends, node and hub"
+        routers and accept, for kind = \"frames\" frame, ends, node and hub, \
+        for kind = \"ipxnet\" node, clients, accept and peers"
 }
 
 /// The kind of a port as it stands in a file.
@@ -22,6 +23,7 @@ fn word_of_kind(kind: Kind) -> &'static str {
     match kind {
         Kind::Rfc1234 => "rfc1234",
         Kind::Frames => "frames",
+        Kind::Ipxnet => "ipxnet",
     }
 }
 
@@ -30,6 +32,7 @@ fn keys_of_port(kind: Kind) -> &'static str {
     match kind {
         Kind::Rfc1234 => "kind, network, address, udp_port, cost, peers, routers, accept",
         Kind::Frames => "kind, network, frame, address, udp_port, cost, ends, node, hub",
+        Kind::Ipxnet => "kind, network, address, udp_port, cost, node, clients, accept, peers",
     }
 }
 

@@ -54,7 +54,7 @@ accept = \"any\"
 fn plain(site: &SiteFile, index: usize) -> Option<&SitePort> {
     match site.ports.get(index)? {
         PortOfKind::Rfc1234(port) => Some(port),
-        PortOfKind::Frames(_) => None,
+        PortOfKind::Frames(_) | PortOfKind::Ipxnet(_) => None,
     }
 }
 

@@ -17,6 +17,8 @@ mod moments;
 #[cfg(test)]
 mod peers;
 #[cfg(test)]
+mod players;
+#[cfg(test)]
 mod refused;
 #[cfg(test)]
 mod refused_device;

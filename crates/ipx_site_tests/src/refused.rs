@@ -3,7 +3,7 @@
 
 use ipx_site::{FileFault, PortOfKind, read_host, read_site};
 
-/// A router with two ports, and one on a wire.
+/// A router with two ports, one on a wire and one for clients of ipxnet.
 const SITE: &str = "\
 status = \"/run/ipx/hq.prom\"
 
@@ -27,6 +27,13 @@ frame = \"802.3\"
 address = \"127.0.0.1\"
 udp_port = 24002
 ends = [\"127.0.0.1:24001\", \"127.0.0.1:24003\"]
+
+[[port]]
+kind = \"ipxnet\"
+network = \"0000d05b\"
+address = \"192.0.2.10\"
+udp_port = 2130
+peers = [\"198.51.100.7\", \"203.0.113.9\"]
 ";
 
 const HOST: &str = "\
@@ -50,6 +57,7 @@ fn reached(port: &PortOfKind) -> usize {
     match port {
         PortOfKind::Rfc1234(port) => port.peers.len(),
         PortOfKind::Frames(port) => port.ends.len(),
+        PortOfKind::Ipxnet(port) => port.peers.len(),
     }
 }
 
@@ -57,7 +65,7 @@ fn reached(port: &PortOfKind) -> usize {
 fn refused_site(rt: HostRuntime) {
     match read_site(rt.alloc(), SITE) {
         Ok(site) => {
-            assert!(rt; site.ports.len() == 3 && site.status.is_some());
+            assert!(rt; site.ports.len() == 4 && site.status.is_some());
             assert!(rt; site.ports.first().is_some_and(|port| reached(port) == 2));
             assert!(rt; site.ports.last().is_some_and(|port| reached(port) == 2));
         }

@@ -38,7 +38,7 @@ hub = false
 fn wire(site: &SiteFile, index: usize) -> Option<&FramesPort> {
     match site.ports.get(index)? {
         PortOfKind::Frames(port) => Some(port),
-        PortOfKind::Rfc1234(_) => None,
+        PortOfKind::Rfc1234(_) | PortOfKind::Ipxnet(_) => None,
     }
 }
 
@@ -177,7 +177,7 @@ const WIRES: [(&str, &str); 17] = [
     ),
     (
         "ends = 1\npeers = []\nend = []",
-        "port 1: end is no key here: the keys are kind, network, address, udp_port, cost, for kind = \"rfc1234\" also peers, routers and accept, for kind = \"frames\" frame, ends, node and hub",
+        "port 1: end is no key here: the keys are kind, network, address, udp_port, cost, for kind = \"rfc1234\" also peers, routers and accept, for kind = \"frames\" frame, ends, node and hub, for kind = \"ipxnet\" node, clients, accept and peers",
     ),
     (
         "ends = [\"127.0.0.1:24001\"]\nhub = true\nnode = \"02:00:00:00:00:22\"",
@@ -198,11 +198,11 @@ fn lines_of_wires(rt: HostRuntime) -> Result<(), AllocError> {
 const KINDS: [(&str, &str); 7] = [
     (
         "peer = 1\nkind = \"ethernet\"",
-        "port 1: kind is to be \"rfc1234\" or \"frames\"",
+        "port 1: kind is to be \"rfc1234\", \"frames\" or \"ipxnet\"",
     ),
     (
         "kind = 1",
-        "port 1: kind is to be \"rfc1234\" or \"frames\"",
+        "port 1: kind is to be \"rfc1234\", \"frames\" or \"ipxnet\"",
     ),
     (
         "kind = \"rfc1234\"\nnode = 1",

@@ -144,6 +144,13 @@ or for a wire, which is an Ethernet frame in each datagram,
   ends      a list of places, as [\"127.0.0.1:24001\"]: where they come from and go
   node      its address, as \"02:00:00:00:00:22\"; made of its place where it is left out
   hub       true, as where it is left out: each end hears the others; or false
+or for clients of DOSBox, which connect by ipxnet,
+  kind      \"ipxnet\"
+  network, address, cost and node as above
+  udp_port  where they register
+  clients   how many at once, 1 to 150; 64 where it is left out
+  peers     a list of IP addresses: from where they may register
+  accept    \"any\": from everywhere, and peers may be left out
 and before the first port, if figures are wanted,
   status    the name of a file, which it writes anew every ten seconds
 It tells each port, and what becomes known or is lost, on standard error.";

@@ -1,0 +1,76 @@
+//! The table of a port for clients of ipxnet.
+
+ghost use Rattle.std.specs.Prelude.{◌≡◌, ◌⊎◌, IfErr, IfOk};
+ghost use Rattle.toml.specs.View.{table_view};
+ghost use Rattle.ipx_site.specs.IpxnetTable.{ArePeersFor, IsIpxnetFault, IsIpxnetTable, IsPeersFault};
+
+use crate::fault::FileFault;
+use crate::fields::{accept_in, address_in, count_in, held, network_in, refuse_stray};
+use crate::ipxnet_port::IpxnetPort;
+use crate::key::Key;
+use crate::site::{Accept, Kind};
+use crate::values::parse_peers;
+use crate::wire_fields::{required_count_in, station_in};
+use crate::wire_values::station_at;
+use ipx_wires::Place;
+use std::alloc::Global;
+use toml::Table;
+
+/// How many clients a port for those may have, as a file may say, and where it says nothing.
+const MOST_CLIENTS: u16 = 150;
+
+const USUAL_CLIENTS: u16 = 64;
+
+/// Who may register at a port: its peers, which may be left out where everybody may.
+fn registering_in(
+    alloc: Global,
+    table: &Table,
+    number: usize,
+    accept: Accept,
+) -> Result<Vec<[u8; 4]>, FileFault>
+    ensures peers { IfOk result (ArePeersFor accept (table_view table.now)) }
+    ensures fault { IfErr result (λ f. (f ≡ FileFault.OutOfMemory)
+        ⊎ IsPeersFault accept (table_view table.now) number f) }
+{
+    let Some(value) = held(table, Key::Peers) else {
+        return match accept {
+            Accept::Any => Ok(Vec::new(alloc)),
+            Accept::Peers => Err(FileFault::Missing(number, Key::Peers)),
+        };
+    };
+    match parse_peers(alloc, value)? {
+        Some(peers) => Ok(peers),
+        None => Err(FileFault::Wrong(number, Key::Peers)),
+    }
+}
+
+/// The port for clients of ipxnet of a table with this number.
+pub fn ipxnet_port_in(alloc: Global, table: &Table, number: usize) -> Result<IpxnetPort, FileFault>
+    ensures port { IfOk result (IsIpxnetTable (table_view table.now)) }
+    ensures fault { IfErr result (λ f.
+        (f ≡ FileFault.OutOfMemory) ⊎ IsIpxnetFault number (table_view table.now) f) }
+{
+    refuse_stray(alloc, table, number, Kind::Ipxnet)?;
+    let network = network_in(table, number)?;
+    let address = address_in(table, number, Key::Address)?;
+    let udp_port = required_count_in(table, number, Key::UdpPort, 65535)?;
+    let cost = count_in(table, number, Key::Cost, 65535, 1)?;
+    let made = station_at(Place {
+        ip: address,
+        udp_port,
+    });
+    let node = station_in(table, number, made)?;
+    let clients = count_in(table, number, Key::Clients, MOST_CLIENTS, USUAL_CLIENTS)?;
+    let accept = accept_in(table, number)?;
+    let peers = registering_in(alloc, table, number, accept)?;
+    Ok(IpxnetPort {
+        network,
+        address,
+        udp_port,
+        cost,
+        node,
+        clients,
+        accept,
+        peers,
+    })
+}

@@ -1,0 +1,100 @@
+//! What a router counts at its ports for clients of ipxnet, as a text for Prometheus.
+
+use crate::family::{Family, put_family, put_of_port, put_one};
+use crate::router_ports::{SiteRouterPorts, Spot};
+use ipx_lobbies::PlaceSockets;
+use ipx_lobby::{Lobby, LobbyCounts};
+use std::alloc::AllocError;
+
+const CLIENTS: Family = Family {
+    name: "ipx_lobby_clients",
+    help: "Clients that are known",
+    kind: "gauge",
+};
+
+const DROPPED: Family = Family {
+    name: "ipx_lobby_dropped_total",
+    help: "Datagrams of clients and packets for them that were dropped, by reason",
+    kind: "counter",
+};
+
+const STRANGERS: Family = Family {
+    name: "ipx_lobby_strangers_total",
+    help: "Datagrams that came from nobody who may register",
+    kind: "counter",
+};
+
+const SENT: Family = Family {
+    name: "ipx_lobby_sent_total",
+    help: "Datagrams for clients that the system took to be sent",
+    kind: "counter",
+};
+
+/// The lobby of a port that has one.
+fn lobby_at(ports: &SiteRouterPorts, spot: Spot) -> Option<&Lobby> {
+    match spot {
+        Spot::Datagrams(_) | Spot::Wire(_) => None,
+        Spot::Lobby(place) => ports.lobbies().lobbies().get(place),
+    }
+}
+
+/// What was dropped at a port, by its cause.
+fn put_drops(text: &mut String, number: usize, counts: LobbyCounts) -> Result<(), AllocError> {
+    let figures = [
+        ("malformed", counts.malformed),
+        ("node_taken", counts.node_taken),
+        ("too_many_new", counts.too_many_new),
+        ("full", counts.full),
+        ("unregistered", counts.unregistered),
+        ("other_source", counts.other_source),
+        ("too_long", counts.too_long),
+        ("no_such_node", counts.no_such_node),
+        ("to_itself", counts.to_itself),
+        ("ping_elsewhere", counts.ping_elsewhere),
+        ("broadcast_elsewhere", counts.broadcast_elsewhere),
+        ("from_elsewhere", counts.from_elsewhere),
+        ("response", counts.response),
+    ];
+    for (reason, count) in figures {
+        write!(
+            text,
+            "ipx_lobby_dropped_total{{port=\"{number}\",reason=\"{reason}\"}} {count}\n"
+        )?;
+    }
+    Ok(())
+}
+
+/// Writes how many clients each port has.
+fn put_clients(text: &mut String, ports: &SiteRouterPorts) -> Result<(), AllocError> {
+    put_family(text, &CLIENTS)?;
+    for (place, spot) in ports.spots().iter().enumerate() {
+        if let Some(lobby) = lobby_at(ports, *spot) {
+            put_of_port(text, &CLIENTS, place + 1, lobby.clients().len() as u64)?;
+        }
+    }
+    Ok(())
+}
+
+/// Writes what each port dropped.
+fn put_dropped(text: &mut String, ports: &SiteRouterPorts) -> Result<(), AllocError> {
+    put_family(text, &DROPPED)?;
+    for (place, spot) in ports.spots().iter().enumerate() {
+        if let Some(lobby) = lobby_at(ports, *spot) {
+            put_drops(text, place + 1, lobby.counts())?;
+        }
+    }
+    Ok(())
+}
+
+/// Writes what a router counts of clients behind its other figures; nothing where it has no port for
+/// them.
+pub fn put_ipxnet_figures(text: &mut String, ports: &SiteRouterPorts) -> Result<(), AllocError> {
+    if ports.lobbies().lobbies().is_empty() {
+        return Ok(());
+    }
+    put_clients(text, ports)?;
+    put_dropped(text, ports)?;
+    let sockets = ports.lobbies().sockets();
+    put_one(text, &STRANGERS, sockets.from_nowhere())?;
+    put_one(text, &SENT, sockets.sent())
+}

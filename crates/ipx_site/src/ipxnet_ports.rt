@@ -1,0 +1,117 @@
+//! The ports of a router for clients of ipxnet: their sockets and their lobbies.
+
+ghost use Rattle.std.specs.Prelude.{◌≡◌, ◌++◌, ◌∷◌, [], IfOk, OnOk, map};
+ghost use Rattle.ipx_lobbies.specs.LobbyAddresses.{ips_heard, listed_ips};
+ghost use Rattle.ipx_site.specs.KindPorts.{client_port_of, ipxnet_ports, lobby_of_port, registering_at};
+
+use crate::bind_fault::{BindFault, obstacle_of};
+use crate::ipxnet_port::IpxnetPort;
+use crate::site::{Accept, PortOfKind};
+use ipx_lobbies::{Lobbies, LobbySockets};
+use ipx_lobby::{Lobby, LobbyPort, Place};
+use std::alloc::{AllocError, Global};
+use std::io::ErrorKind;
+use std::net::Net;
+
+/// A port of a file as one for clients.
+fn client_port(port: &IpxnetPort) -> LobbyPort
+    ensures { result ≡ client_port_of port.now }
+{
+    LobbyPort {
+        network: port.network,
+        own: port.node,
+    }
+}
+
+/// The lobby of a port, before anybody registered.
+fn lobby_of(alloc: Global, port: &IpxnetPort) -> Result<Lobby, AllocError>
+    ensures { IfOk result (λ l. l ≡ lobby_of_port port.now) }
+{
+    Lobby::new(alloc, client_port(port), usize::from(port.clients))
+}
+
+/// The lobby of each port for clients of ipxnet.
+fn lobbies_of_ports(alloc: Global, ports: &[PortOfKind]) -> Result<Vec<Lobby>, AllocError>
+    ensures { IfOk result (λ v. v.items ≡ map lobby_of_port (ipxnet_ports ports.now)) }
+{
+    let mut lobbies = Vec::new(alloc);
+    for port in ports {
+        if let PortOfKind::Ipxnet(port) = port {
+            let lobby = lobby_of(alloc, port)?;
+            lobbies.push(lobby)?;
+        }
+    }
+    Ok(lobbies)
+}
+
+/// From which IP addresses one may register at a port. None stands for each.
+fn registering(alloc: Global, port: &IpxnetPort) -> Result<Option<Vec<[u8; 4]>>, AllocError>
+    ensures { IfOk result (λ ips. listed_ips ips ≡ registering_at port.now) }
+{
+    match port.accept {
+        Accept::Any => Ok(None),
+        Accept::Peers => Ok(Some(Vec::from_slice(alloc, &port.peers)?)),
+    }
+}
+
+/// Binds the socket of the port with this number behind those of earlier ones.
+fn bind_lobby<R: Net>(
+    rt: &R,
+    alloc: Global,
+    sockets: &mut LobbySockets,
+    number: usize,
+    port: &IpxnetPort,
+) -> Result<(), BindFault>
+    ensures { OnOk result (map ips_heard sockets.new.sockets.items
+        ≡ map ips_heard sockets.old.sockets.items ++ registering_at port.now ∷ []) }
+{
+    let Ok(hears) = registering(alloc, port) else {
+        return Err(BindFault::OutOfMemory);
+    };
+    let at = Place {
+        ip: port.address,
+        udp_port: port.udp_port,
+    };
+    match sockets.bind(rt, at, hears) {
+        Ok(()) => Ok(()),
+        Err(error) if error.kind() == ErrorKind::OutOfMemory => Err(BindFault::OutOfMemory),
+        Err(error) => Err(BindFault::Port(number, obstacle_of(error.kind()))),
+    }
+}
+
+/// The sockets of the ports for clients of ipxnet. At the first that can't be had it answers that
+/// port, and nothing stays bound.
+fn bind_lobbies<R: Net>(
+    rt: &R,
+    alloc: Global,
+    ports: &[PortOfKind],
+) -> Result<LobbySockets, BindFault>
+    ensures { IfOk result (λ s. map ips_heard s.sockets.items
+        ≡ map registering_at (ipxnet_ports ports.now)) }
+{
+    let mut sockets = LobbySockets::new(alloc);
+    for (place, port) in ports.iter().enumerate() {
+        if let PortOfKind::Ipxnet(port) = port {
+            bind_lobby(rt, alloc, &mut sockets, place + 1, port)?;
+        }
+    }
+    Ok(sockets)
+}
+
+/// The ports for clients of ipxnet among these, with their sockets bound and their lobbies.
+pub fn lobbies_of<R: Net>(
+    rt: &R,
+    alloc: Global,
+    ports: &[PortOfKind],
+) -> Result<Lobbies<LobbySockets>, BindFault>
+    ensures lobbies { IfOk result (λ l. l.lobbies.items
+        ≡ map lobby_of_port (ipxnet_ports ports.now)) }
+    ensures registering { IfOk result (λ l. map ips_heard l.sockets.sockets.items
+        ≡ map registering_at (ipxnet_ports ports.now)) }
+{
+    let Ok(lobbies) = lobbies_of_ports(alloc, ports) else {
+        return Err(BindFault::OutOfMemory);
+    };
+    let sockets = bind_lobbies(rt, alloc, ports)?;
+    Ok(Lobbies::new(sockets, lobbies))
+}

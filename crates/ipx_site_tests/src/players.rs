@@ -1,0 +1,185 @@
+//! Files with ports for clients of ipxnet: what is read of them, and each fault with its line.
+
+use crate::fixture::{site, site_line};
+use ipx_site::{Accept, IpxnetPort, Kind, PortOfKind, SiteFile};
+use ipx_wire::{Network, Node};
+use std::alloc::AllocError;
+
+/// A router with a port of RFC 1234 and two for clients.
+const SITE: &str = "\
+[[port]]
+network = \"00000011\"
+address = \"10.1.0.1\"
+peers = []
+
+[[port]]
+kind = \"ipxnet\"
+network = \"0000d05b\"
+address = \"192.0.2.10\"
+udp_port = 2130
+peers = [\"198.51.100.7\", \"203.0.113.9\"]
+
+[[port]]
+kind = \"ipxnet\"
+network = \"0000d05c\"
+address = \"127.0.0.1\"
+udp_port = 24002
+cost = 6
+node = \"02:00:00:00:0A:fe\"
+clients = 150
+accept = \"any\"
+";
+
+/// The port for clients with this index.
+fn players(site: &SiteFile, index: usize) -> Option<&IpxnetPort> {
+    match site.ports.get(index)? {
+        PortOfKind::Ipxnet(port) => Some(port),
+        PortOfKind::Rfc1234(_) | PortOfKind::Frames(_) => None,
+    }
+}
+
+fn is_first(port: &IpxnetPort) -> bool {
+    port.network == Network(0xd05b)
+        && port.address == [192, 0, 2, 10]
+        && port.udp_port == 2130
+        && port.cost == 1
+        && port.clients == 64
+        && port.accept == Accept::Peers
+        && port.peers.as_slice() == [[198, 51, 100, 7], [203, 0, 113, 9]].as_slice()
+}
+
+fn is_second(port: &IpxnetPort) -> bool {
+    port.network == Network(0xd05c)
+        && port.address == [127, 0, 0, 1]
+        && port.udp_port == 24002
+        && port.cost == 6
+        && port.clients == 150
+        && port.accept == Accept::Any
+        && port.peers.is_empty()
+}
+
+#[test]
+fn reads_ports_for_clients(rt: HostRuntime) {
+    let Some(site) = site(rt.alloc(), SITE) else {
+        panic!(rt; "the file has a fault");
+    };
+    assert_eq!(rt; site.ports.len(), 3);
+    assert!(rt; site.ports[1].kind() == Kind::Ipxnet && site.ports[2].kind() == Kind::Ipxnet);
+    assert!(rt; players(&site, 1).is_some_and(|port| is_first(port)));
+    assert!(rt; players(&site, 2).is_some_and(|port| is_second(port)));
+    let place = site.ports[1].place();
+    assert!(rt; place.ip == [192, 0, 2, 10] && place.udp_port == 2130);
+}
+
+/// 192 is 1100_0000, whose two low bits become 10; 2130 is 0x0852.
+#[test]
+fn reads_nodes_for_clients(rt: HostRuntime) {
+    let Some(site) = site(rt.alloc(), SITE) else {
+        panic!(rt; "the file has a fault");
+    };
+    let nodes = [
+        Node([0, 0, 10, 1, 0, 1]),
+        Node([194, 0, 2, 10, 0x08, 0x52]),
+        Node([2, 0, 0, 0, 0x0a, 0xfe]),
+    ];
+    for (port, node) in site.ports.iter().zip(nodes) {
+        assert!(rt; port.router_port().node == node);
+        assert!(rt; port.router_port().network == port.network());
+    }
+}
+
+/// A port for clients up to who may register, and what follows with what is printed of it.
+const START: &str = "\
+[[port]]
+kind = \"ipxnet\"
+network = \"0000d05b\"
+address = \"192.0.2.10\"
+udp_port = 2130
+";
+
+const PLAYERS: [(&str, &str); 14] = [
+    ("accept = \"any\"", "none"),
+    ("peers = []", "none"),
+    (
+        "accept = \"any\"\npeers = [\"198.51.100.7\"]\nclients = 1",
+        "none",
+    ),
+    (
+        "",
+        "port 1: peers is missing: it is to be a list of IP addresses, as [\"198.51.100.7\", \"203.0.113.9\"]",
+    ),
+    (
+        "accept = \"peers\"",
+        "port 1: peers is missing: it is to be a list of IP addresses, as [\"198.51.100.7\", \"203.0.113.9\"]",
+    ),
+    (
+        "accept = \"any\"\npeers = 1",
+        "port 1: peers is to be a list of IP addresses, as [\"198.51.100.7\", \"203.0.113.9\"]",
+    ),
+    (
+        "peers = [\"198.51.100.7:2130\"]",
+        "port 1: peers is to be a list of IP addresses, as [\"198.51.100.7\", \"203.0.113.9\"]",
+    ),
+    (
+        "accept = \"all\"",
+        "port 1: accept is to be \"peers\" or \"any\"",
+    ),
+    (
+        "accept = \"any\"\nclients = 0",
+        "port 1: clients is to be a number from 1 to 150, as 64",
+    ),
+    (
+        "accept = \"all\"\nclients = 151",
+        "port 1: clients is to be a number from 1 to 150, as 64",
+    ),
+    (
+        "clients = 0\nnode = \"ff:ff:ff:ff:ff:ff\"",
+        "port 1: node is to be the address of one station, as \"02:00:00:00:00:22\"",
+    ),
+    (
+        "node = 1\ncost = 0",
+        "port 1: cost is to be a number of ticks from 1 to 65535, as 6",
+    ),
+    (
+        "accept = \"any\"\nrouters = []",
+        "port 1: routers is no key of kind \"ipxnet\": its keys are kind, network, address, udp_port, cost, node, clients, accept, peers",
+    ),
+    (
+        "accept = \"any\"\nplayers = 4",
+        "port 1: players is no key here: the keys are kind, network, address, udp_port, cost, for kind = \"rfc1234\" also peers, routers and accept, for kind = \"frames\" frame, ends, node and hub, for kind = \"ipxnet\" node, clients, accept and peers",
+    ),
+];
+
+#[test]
+fn lines_of_ports_for_clients(rt: HostRuntime) -> Result<(), AllocError> {
+    for (rest, line) in PLAYERS {
+        let text = format!(in rt.alloc(); "{START}{rest}")?;
+        assert_eq!(rt; site_line(rt.alloc(), text.as_str())?.as_str(), line);
+    }
+    Ok(())
+}
+
+/// Keys that ports for clients have and others have not, and one that must be there.
+const KINDS: [(&str, &str); 3] = [
+    (
+        "clients = 4",
+        "port 1: clients is no key of kind \"rfc1234\": its keys are kind, network, address, udp_port, cost, peers, routers, accept",
+    ),
+    (
+        "kind = \"frames\"\nclients = 4",
+        "port 1: clients is no key of kind \"frames\": its keys are kind, network, frame, address, udp_port, cost, ends, node, hub",
+    ),
+    (
+        "kind = \"ipxnet\"\nnetwork = \"0000d05b\"\naddress = \"192.0.2.10\"",
+        "port 1: udp_port is missing: it is to be a number from 1 to 65535, as 213",
+    ),
+];
+
+#[test]
+fn lines_of_kinds_beside_clients(rt: HostRuntime) -> Result<(), AllocError> {
+    for (rest, line) in KINDS {
+        let text = format!(in rt.alloc(); "[[port]]\n{rest}")?;
+        assert_eq!(rt; site_line(rt.alloc(), text.as_str())?.as_str(), line);
+    }
+    Ok(())
+}
