@@ -101,7 +101,8 @@ fn services_in_a_table(rt: HostRuntime) -> Result<(), Fail> {
     Ok(())
 }
 
-/// Within quotes a quote and a backslash have a backslash before them.
+/// Within quotes a name stands as in a table, with a backslash before each quote and backslash of that:
+/// a backslash of its own is two of them and the digits 5c.
 #[test]
 fn services_as_json(rt: HostRuntime) -> Result<(), Fail> {
     let alloc = rt.alloc();
@@ -115,7 +116,8 @@ fn services_as_json(rt: HostRuntime) -> Result<(), Fail> {
     Ok(())
 }
 
-/// Memory that is refused: the same call answers then. Run it with each request refused.
+/// Memory that is refused as networks are listed: the same call answers then, the whole listing. Run it
+/// with each request refused.
 #[test]
 fn refused_lines(rt: HostRuntime) -> Result<(), Fail> {
     let alloc = rt.alloc();
@@ -128,12 +130,39 @@ fn refused_lines(rt: HostRuntime) -> Result<(), Fail> {
         Ok(text) => text,
         Err(_) => networks_to_text(alloc, false, &listed, &answers)?,
     };
-    assert_eq!(rt; text.len(), 105);
-    let services = [service(b"A B", 1)];
-    let text = match services_to_text(alloc, true, &services, &[]) {
+    let wanted = "network   hops  ticks  by\n\
+        00000001     1      2  00000a010001\n\
+        1 network, 00000a010001 answered in 0.8 ms\n";
+    assert_eq!(rt; text.as_str(), wanted);
+    let text = match networks_to_text(alloc, true, &listed, &answers) {
         Ok(text) => text,
-        Err(_) => services_to_text(alloc, true, &services, &[])?,
+        Err(_) => networks_to_text(alloc, true, &listed, &answers)?,
     };
-    assert_eq!(rt; text.len(), 121);
+    let wanted = "{\"network\":\"00000001\",\"hops\":1,\"ticks\":2,\"by\":\"00000a010001\"}\n";
+    assert_eq!(rt; text.as_str(), wanted);
+    Ok(())
+}
+
+/// The same of services.
+#[test]
+fn refused_lines_of_services(rt: HostRuntime) -> Result<(), Fail> {
+    let alloc = rt.alloc();
+    let services = [service(b"A B", 1), service(b"HQ-FILES", 2)];
+    let text = match services_to_text(alloc, false, &services, &[]) {
+        Ok(text) => text,
+        Err(_) => services_to_text(alloc, false, &services, &[])?,
+    };
+    let wanted = "type  name      network   node          socket  hops  by\n\
+        0004  A\\x20B    00000a01  000000000001  0451       1  00000a010001\n\
+        0004  HQ-FILES  00000a01  000000000001  0451       2  00000a010001\n\
+        2 services\n";
+    assert_eq!(rt; text.as_str(), wanted);
+    let text = match services_to_text(alloc, true, &services[..1], &[]) {
+        Ok(text) => text,
+        Err(_) => services_to_text(alloc, true, &services[..1], &[])?,
+    };
+    let wanted = "{\"type\":\"0004\",\"name\":\"A\\\\x20B\",\"network\":\"00000a01\",\
+        \"node\":\"000000000001\",\"socket\":\"0451\",\"hops\":1,\"by\":\"00000a010001\"}\n";
+    assert_eq!(rt; text.as_str(), wanted);
     Ok(())
 }

@@ -65,11 +65,13 @@ fn refused_ping_lines(rt: HostRuntime) -> Result<(), Fail> {
         Ok(text) => text,
         Err(_) => news_to_text(alloc, LISTENER, news)?,
     };
-    assert_eq!(rt; text.len(), 59);
+    let wanted = "00000022 00000a02001e 4002: answer 1 in 31.2 ms, 2 routers\n";
+    assert_eq!(rt; text.as_str(), wanted);
     let text = match totals_to_line(alloc, 4, 1, &[312]) {
         Ok(text) => text,
         Err(_) => totals_to_line(alloc, 4, 1, &[312])?,
     };
-    assert_eq!(rt; text.len(), 62);
+    let wanted = "4 sent, 1 answered, least 31.2 ms, mean 31.2 ms, most 31.2 ms\n";
+    assert_eq!(rt; text.as_str(), wanted);
     Ok(())
 }
