@@ -121,136 +121,155 @@ const PRINTS_JSON: OptionShape = OptionShape {
     help: "Prints a line of JSON for each, and nothing else",
 };
 
-/// All commands, in the order in which the help tells them.
-const COMMANDS: &[CommandShape] = &[
-    CommandShape {
-        name: HOP,
-        about: "What a router with two ports does with one packet",
-        long_about: texts::HOP,
-        statuses: texts::HOP_STATUSES,
-        words: &[],
-        options: &[],
-    },
-    CommandShape {
-        name: SHOW,
-        about: "The fields of one packet",
-        long_about: texts::SHOW,
-        statuses: texts::SHOW_STATUSES,
-        words: &[WordShape {
-            name: "HEX",
-            help: "The packet, two hex digits a byte",
-            unless: Some("frame"),
-            wanted: true,
-        }],
-        options: &[OptionShape {
-            name: "frame",
-            value: OptionValue::Node,
-            help: "Reads frames from standard input, as the station NODE hears them",
-        }],
-    },
-    CommandShape {
-        name: CHECK,
-        about: "Whether packets have the outcomes that they are to have",
-        long_about: texts::CHECK,
-        statuses: texts::CHECK_STATUSES,
-        words: &[],
-        options: &[],
-    },
-    CommandShape {
-        name: SIM,
-        about: "A network in memory, run by a script",
-        long_about: texts::SIM,
-        statuses: texts::SIM_STATUSES,
-        words: &[],
-        options: &[],
-    },
-    CommandShape {
-        name: UDP,
-        about: "A script over UDP sockets of the loopback",
-        long_about: texts::UDP,
-        statuses: texts::UDP_STATUSES,
-        words: &[],
-        options: &[OptionShape {
-            name: "port",
-            value: OptionValue::Port,
-            help: "The UDP port of every socket, 1 to 65535; 213 where none is given",
-        }],
-    },
-    CommandShape {
-        name: ROUTE,
-        about: "A router of one site, over UDP",
-        long_about: texts::ROUTE,
-        statuses: texts::ROUTE_STATUSES,
-        words: &[WordShape {
-            name: "SITE",
-            help: "The file of the site",
+const HOP_SHAPE: &CommandShape = &CommandShape {
+    name: HOP,
+    about: "What a router with two ports does with one packet",
+    long_about: texts::HOP,
+    statuses: texts::HOP_STATUSES,
+    words: &[],
+    options: &[],
+};
+
+const SHOW_SHAPE: &CommandShape = &CommandShape {
+    name: SHOW,
+    about: "The fields of one packet",
+    long_about: texts::SHOW,
+    statuses: texts::SHOW_STATUSES,
+    words: &[WordShape {
+        name: "HEX",
+        help: "The packet, two hex digits a byte",
+        unless: Some("frame"),
+        wanted: true,
+    }],
+    options: &[OptionShape {
+        name: "frame",
+        value: OptionValue::Node,
+        help: "Reads frames from standard input, as the station NODE hears them",
+    }],
+};
+
+const CHECK_SHAPE: &CommandShape = &CommandShape {
+    name: CHECK,
+    about: "Whether packets have the outcomes that they are to have",
+    long_about: texts::CHECK,
+    statuses: texts::CHECK_STATUSES,
+    words: &[],
+    options: &[],
+};
+
+const SIM_SHAPE: &CommandShape = &CommandShape {
+    name: SIM,
+    about: "A network in memory, run by a script",
+    long_about: texts::SIM,
+    statuses: texts::SIM_STATUSES,
+    words: &[],
+    options: &[],
+};
+
+const UDP_SHAPE: &CommandShape = &CommandShape {
+    name: UDP,
+    about: "A script over UDP sockets of the loopback",
+    long_about: texts::UDP,
+    statuses: texts::UDP_STATUSES,
+    words: &[],
+    options: &[OptionShape {
+        name: "port",
+        value: OptionValue::Port,
+        help: "The UDP port of every socket, 1 to 65535; 213 where none is given",
+    }],
+};
+
+const ROUTE_SHAPE: &CommandShape = &CommandShape {
+    name: ROUTE,
+    about: "A router of one site, over UDP",
+    long_about: texts::ROUTE,
+    statuses: texts::ROUTE_STATUSES,
+    words: &[WordShape {
+        name: "SITE",
+        help: "The file of the site",
+        unless: None,
+        wanted: true,
+    }],
+    options: &[CHECKS_FILE],
+};
+
+const LISTEN_SHAPE: &CommandShape = &CommandShape {
+    name: LISTEN,
+    about: "A host that takes connections, and writes the messages that come",
+    long_about: texts::LISTEN,
+    statuses: texts::LISTEN_STATUSES,
+    words: &[HOST_FILE],
+    options: &[
+        OptionShape {
+            name: "once",
+            value: OptionValue::Nothing,
+            help: "Ends behind the first connection that is heard",
+        },
+        CHECKS_FILE,
+    ],
+};
+
+const SEND_SHAPE: &CommandShape = &CommandShape {
+    name: SEND,
+    about: "A host that asks for a connection, and sends its input",
+    long_about: texts::SEND,
+    statuses: texts::SEND_STATUSES,
+    words: &[HOST_FILE, NET, NODE, SOCKET],
+    options: &[],
+};
+
+const NETWORKS_SHAPE: &CommandShape = &CommandShape {
+    name: NETWORKS,
+    about: "The networks that the routers of a host know",
+    long_about: texts::NETWORKS,
+    statuses: texts::NETWORKS_STATUSES,
+    words: &[HOST_FILE],
+    options: &[PRINTS_JSON],
+};
+
+const SERVICES_SHAPE: &CommandShape = &CommandShape {
+    name: SERVICES,
+    about: "The services that the routers of a host know",
+    long_about: texts::SERVICES,
+    statuses: texts::SERVICES_STATUSES,
+    words: &[
+        HOST_FILE,
+        WordShape {
+            name: "TYPE",
+            help: "The type of the services, four hex digits; all where it is left out",
             unless: None,
-            wanted: true,
-        }],
-        options: &[CHECKS_FILE],
-    },
-    CommandShape {
-        name: LISTEN,
-        about: "A host that takes connections, and writes the messages that come",
-        long_about: texts::LISTEN,
-        statuses: texts::LISTEN_STATUSES,
-        words: &[HOST_FILE],
-        options: &[
-            OptionShape {
-                name: "once",
-                value: OptionValue::Nothing,
-                help: "Ends behind the first connection that is heard",
-            },
-            CHECKS_FILE,
-        ],
-    },
-    CommandShape {
-        name: SEND,
-        about: "A host that asks for a connection, and sends its input",
-        long_about: texts::SEND,
-        statuses: texts::SEND_STATUSES,
-        words: &[HOST_FILE, NET, NODE, SOCKET],
-        options: &[],
-    },
-    CommandShape {
-        name: NETWORKS,
-        about: "The networks that the routers of a host know",
-        long_about: texts::NETWORKS,
-        statuses: texts::NETWORKS_STATUSES,
-        words: &[HOST_FILE],
-        options: &[PRINTS_JSON],
-    },
-    CommandShape {
-        name: SERVICES,
-        about: "The services that the routers of a host know",
-        long_about: texts::SERVICES,
-        statuses: texts::SERVICES_STATUSES,
-        words: &[
-            HOST_FILE,
-            WordShape {
-                name: "TYPE",
-                help: "The type of the services, four hex digits; all where it is left out",
-                unless: None,
-                wanted: false,
-            },
-        ],
-        options: &[PRINTS_JSON],
-    },
-    CommandShape {
-        name: PING,
-        about: "Whether a listener is there, and how far",
-        long_about: texts::PING,
-        statuses: texts::PING_STATUSES,
-        words: &[HOST_FILE, NET, NODE, SOCKET],
-        options: &[OptionShape {
-            name: "c",
-            value: OptionValue::Count,
-            help: "How many requests, 1 to 65535; 4 where it is left out",
-        }],
-    },
-];
+            wanted: false,
+        },
+    ],
+    options: &[PRINTS_JSON],
+};
+
+const PING_SHAPE: &CommandShape = &CommandShape {
+    name: PING,
+    about: "Whether a listener is there, and how far",
+    long_about: texts::PING,
+    statuses: texts::PING_STATUSES,
+    words: &[HOST_FILE, NET, NODE, SOCKET],
+    options: &[OptionShape {
+        name: "c",
+        value: OptionValue::Count,
+        help: "How many requests, 1 to 65535; 4 where it is left out",
+    }],
+};
 
 /// All commands, in the order in which the help tells them.
-pub fn shapes() -> &'static [CommandShape] {
-    COMMANDS
+pub fn shapes() -> [&'static CommandShape; 11] {
+    [
+        HOP_SHAPE,
+        SHOW_SHAPE,
+        CHECK_SHAPE,
+        SIM_SHAPE,
+        UDP_SHAPE,
+        ROUTE_SHAPE,
+        LISTEN_SHAPE,
+        SEND_SHAPE,
+        NETWORKS_SHAPE,
+        SERVICES_SHAPE,
+        PING_SHAPE,
+    ]
 }

@@ -124,7 +124,7 @@ fn with_command<'a>(
 fn with_commands<'a>(
     alloc: Global,
     program: Command<'a>,
-    shapes: &[CommandShape],
+    shapes: &[&CommandShape],
 ) -> Result<Command<'a>, AllocError> {
     let mut program = program;
     for shape in shapes {
@@ -135,5 +135,5 @@ fn with_commands<'a>(
 
 /// The program's commands, with what is said of them.
 pub fn whole_command<'a>(alloc: Global) -> Result<Command<'a>, AllocError> {
-    with_commands(alloc, program(alloc)?, shapes())
+    with_commands(alloc, program(alloc)?, &shapes())
 }
