@@ -12,7 +12,7 @@ use Rattle.ipx_asking.specs.PingRequests.{PingGives}
 use Rattle.ipx_asking.specs.declared.ping_core.PingCore.{PingCore}
 use Rattle.ipx_site.specs.declared.host.HostFile.{HostFile}
 use Rattle.ipx_operator.specs.PingLines.{least_time, most_time, news_text, news_times, ping_end_text, ping_news, whole_time}
-use Rattle.ipx_operator.specs.PingRuns.{HasPinged, IsPingTurn, PingTurn, PingsOn, hears_reply, lines_told, pinged_lines, times_told}
+use Rattle.ipx_operator.specs.PingRuns.{HasPinged, IsPingTurn, PingTurn, PingsOn, hears_reply, lines_told, ping_id, pinged_lines, times_told}
 use Rattle.ipx_operator.specs.WhoIsAsked.{asker_address}
 
 -- of one turn alone
@@ -61,12 +61,12 @@ one_more_turn to ts t from mid now a b c times some more w v u h k kept told = r
 }
 
 -- what a host that was opened, and pinged from there until it was over, has done
-pub has_pinged : (file : HostFile) (to : Address) (id count : ℕ) (ts : List PingTurn) (old new : PingCore) (from last now : ℕ) → old ≡ new_ping (asker_address file) (node_at file.router) to id count
-    → from ≡ 0 → PingsOn ts from last old new → now ≡ last → is_ping_over new now ≡ true → HasPinged file to id count ts new now
-has_pinged file to id count ts old new from last now fresh none pings is over =
+pub has_pinged : (file : HostFile) (to : Address) (count : ℕ) (ts : List PingTurn) (old new : PingCore) (from last now : ℕ) → old ≡ new_ping (asker_address file) (node_at file.router) to ping_id count
+    → from ≡ 0 → PingsOn ts from last old new → now ≡ last → is_ping_over new now ≡ true → HasPinged file to count ts new now
+has_pinged file to count ts old new from last now fresh none pings is over =
     let begun = subst (λ (p : PingCore). PingsOn ts from last p new) fresh pings in
-    let at_first = subst (λ (n : ℕ). PingsOn ts n last (new_ping (asker_address file) (node_at file.router) to id count) new) none begun in
-    record { pings = subst (λ (n : ℕ). PingsOn ts 0 n (new_ping (asker_address file) (node_at file.router) to id count) new) (sym is) at_first; over = over }
+    let at_first = subst (λ (n : ℕ). PingsOn ts n last (new_ping (asker_address file) (node_at file.router) to ping_id count) new) none begun in
+    record { pings = subst (λ (n : ℕ). PingsOn ts 0 n (new_ping (asker_address file) (node_at file.router) to ping_id count) new) (sym is) at_first; over = over }
 
 -- and all that is printed of it
 pub all_lines : (to old new : Address) (ts : List PingTurn) (core : PingCore) (before times : List ℕ) (w v u : Option (List ℕ)) → old ≡ to → new ≡ old → before ≡ []

@@ -44,15 +44,15 @@ lines_told to turns = flat_map (λ t. news_text to t.news) turns
 abbrev pub times_told : List PingTurn → List ℕ
 times_told turns = flat_map (λ t. news_times t.news) turns
 
--- an id that a connection may have
-abbrev pub IsPingId : ℕ → Type 0
-IsPingId id = (1 ≤ id) × (id ≤ 65534)
+-- the id of each request of each run: a listener answers all of them from one connection
+abbrev pub ping_id : ℕ
+ping_id = 65534
 
--- the host of a file pinged a listener by so many requests of an id, from nothing at the moment 0 of
--- its clock, turn by turn, until at this moment, behind all turns, it was over
-pub record HasPinged (file : HostFile) (to : Address) (id count : ℕ) (turns : List PingTurn)
+-- the host of a file pinged a listener by so many requests, from nothing at the moment 0 of its clock,
+-- turn by turn, until at this moment, behind all turns, it was over
+pub record HasPinged (file : HostFile) (to : Address) (count : ℕ) (turns : List PingTurn)
     (ping : PingCore) (now : ℕ) : Type 0 where
-  pub pings : PingsOn turns 0 now (new_ping (asker_address file) (node_at file.router) to id count) ping
+  pub pings : PingsOn turns 0 now (new_ping (asker_address file) (node_at file.router) to ping_id count) ping
   pub over : is_ping_over ping now ≡ true
 
 -- all that is printed of it

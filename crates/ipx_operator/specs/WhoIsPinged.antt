@@ -1,5 +1,5 @@
 -- Whom the host of an operator pings, and who may speak to it, by its file. All of it is own.
-use Rattle.std.specs.Prelude.{ℕ, ◌==◌, ◌||◌, List, [], ◌∷◌, Bool, Option, Some, None, if◌then◌else◌}
+use Rattle.std.specs.Prelude.{ℕ, ◌==◌, ◌||◌, ◌&&◌, List, [], ◌∷◌, Bool, Option, Some, None, is_none, if◌then◌else◌}
 use Rattle.ipx_wire.specs.Assigned.{local_network}
 use Rattle.ipx_wire.specs.declared.address.Address.{Address}
 use Rattle.ipx_carrier.specs.Device.{Access}
@@ -26,6 +26,10 @@ ips_of_node (Some ip) = ip ∷ []
 abbrev pub ping_way : HostFile → Address → List (List ℕ)
 ping_way file to =
     if is_pinged_straight file to then ips_of_node (ip_at to.node) else file.router ∷ []
+
+-- on the host's own network nothing goes to a node that no IP address has
+abbrev pub is_pinged_nowhere : HostFile → Address → Bool
+is_pinged_nowhere file to = is_pinged_straight file to && is_none (ip_at to.node)
 
 -- who may bring an answer: that node, or any router that the file names
 abbrev pub ping_carriers : HostFile → Address → List (List ℕ)

@@ -3,19 +3,17 @@
 ghost use Rattle.std.specs.Prelude.{◌≡◌, IfOk};
 ghost use Rattle.ipx_carrier.specs.Mapping.{ip_at};
 ghost use Rattle.ipx_site.specs.SitePorts.{access_by};
-ghost use Rattle.ipx_operator.specs.PingRuns.{IsPingId};
-ghost use Rattle.ipx_operator.specs.WhoIsPinged.{guarded_pinger, ips_of_node, is_pinged_straight, ping_carriers, ping_way, pinged_address};
+ghost use Rattle.ipx_operator.specs.WhoIsPinged.{guarded_pinger, ips_of_node, is_pinged_nowhere, is_pinged_straight, ping_carriers, ping_way, pinged_address};
 
 use crate::whom::asked_ips;
 use ipx_carrier::ip_of;
 use ipx_site::{Guard, HostFile};
 use ipx_wire::{Address, Network, Node};
 use std::alloc::{AllocError, Global};
-use std::rt::Clock;
-use std::time::SystemTime;
 
-/// How many ids there are.
-const IDS: u128 = 65_534;
+/// The id of each request of each run, so that a listener answers all of them from one connection: of a
+/// new id each, four runs would take all that it holds for a host of which it has heard nothing.
+pub const PING_ID: u16 = 65_534;
 
 /// The address that is pinged: network 0 is the host's own.
 pub fn pinged_address(file: &HostFile, to: Address) -> Address
@@ -36,6 +34,13 @@ fn is_straight(file: &HostFile, to: Address) -> bool
     ensures { result ≡ is_pinged_straight file.now to }
 {
     to.network == file.network || to.network == Network::LOCAL
+}
+
+/// Whether nothing goes to an address: on the host's own network to a node that no IP address has.
+pub fn is_nowhere(file: &HostFile, to: Address) -> bool
+    ensures { result ≡ is_pinged_nowhere file.now to }
+{
+    is_straight(file, to) && ip_of(to.node).is_err()
 }
 
 /// The IP address of a node, if it has one.
@@ -84,25 +89,4 @@ pub fn guard_of(alloc: Global, file: &HostFile, to: Address) -> Result<Guard, Al
         hears: Some(hears),
         routers: Some(routers),
     })
-}
-
-/// The id of the requests of this run: the milliseconds of the day's clock tell it, so that two
-/// runs within a minute have different ids.
-pub fn ping_id<R: Clock>(rt: &R) -> u16
-    ensures { IsPingId result }
-{
-    let Ok(now) = SystemTime::now(rt) else {
-        return 1;
-    };
-    let Ok(since) = now.duration_since(SystemTime::UNIX_EPOCH) else {
-        return 1;
-    };
-    id_at(since.as_millis())
-}
-
-/// The id at a moment, in milliseconds.
-fn id_at(moment: u128) -> u16
-    ensures { IsPingId result }
-{
-    u16::try_from(moment % IDS + 1).unwrap_or(1)
 }

@@ -6,7 +6,7 @@ ghost use Rattle.ipx_carrier.specs.Mapping.{node_at};
 ghost use Rattle.ipx_site.specs.SitePorts.{access_by};
 ghost use Rattle.ipx_asking.specs.PingEnds.{is_ping_over, new_ping};
 ghost use Rattle.ipx_operator.specs.PingLines.{news_text, news_times, ping_end_text};
-ghost use Rattle.ipx_operator.specs.PingRuns.{IsPingId, IsPingTurn, PingTurn, PingsOn, lines_told, times_told};
+ghost use Rattle.ipx_operator.specs.PingRuns.{IsPingTurn, PingTurn, PingsOn, lines_told, ping_id, times_told};
 ghost use Rattle.ipx_operator.specs.WhoIsAsked.{asker_address};
 ghost use Rattle.ipx_operator.specs.WhoIsPinged.{guarded_pinger};
 
@@ -15,7 +15,7 @@ use crate::asking_wire::AskingWire;
 use crate::fault::AskFault;
 use crate::ping_lines::{news_to_text, totals_to_line};
 use crate::ping_news::{PingNews, keep_time, news_of, unanswered};
-use crate::pinged::{guard_of, ping_id};
+use crate::pinged::{PING_ID, guard_of};
 use crate::stop_watch::StopWatch;
 use crate::whom::asker_address;
 use ipx_asking::PingCore;
@@ -75,8 +75,8 @@ impl<'a, R: Net + Clock> PingingHost<'a, R> {
         to: Address,
         count: u16,
     ) -> Result<PingingHost<'a, R>, AskFault>
-        ensures fresh { IfOk result (λ h. (id : ℕ) × IsPingId id
-            × (h.core ≡ new_ping (asker_address file.now) (node_at file.now.router) to id count)) }
+        ensures fresh { IfOk result (λ h.
+            h.core ≡ new_ping (asker_address file.now) (node_at file.now.router) to ping_id count) }
         ensures to { IfOk result (λ h. h.to ≡ to) }
         ensures times { IfOk result (λ h. h.times.items ≡ []) }
         ensures udp_port { IfOk result (λ h.
@@ -91,7 +91,7 @@ impl<'a, R: Net + Clock> PingingHost<'a, R> {
         let own = asker_address(file);
         let router = node_of(file.router);
         Ok(PingingHost {
-            core: PingCore::new(own, router, to, ping_id(rt), u32::from(count)),
+            core: PingCore::new(own, router, to, PING_ID, u32::from(count)),
             to,
             times: Vec::new(alloc),
             wire,

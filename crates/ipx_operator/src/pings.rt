@@ -4,7 +4,7 @@ ghost use Rattle.std.specs.Prelude.{◌≡◌, ◌≤◌, ℕ, List, IfOk};
 ghost use Rattle.std.specs.Io.KnownBytes.{Appends};
 ghost use Rattle.ipx_asking.specs.PingEnds.{ping_status};
 ghost use Rattle.ipx_asking.specs.declared.ping_core.PingCore.{PingCore as APingCore};
-ghost use Rattle.ipx_operator.specs.PingRuns.{HasPinged, IsPingId, PingTurn, pinged_lines};
+ghost use Rattle.ipx_operator.specs.PingRuns.{HasPinged, PingTurn, pinged_lines};
 ghost use Rattle.ipx_operator.specs.WhoIsPinged.{pinged_address};
 ghost use Rattle.ipx_site.specs.Host.{IsHostText};
 ghost use Rattle.ipx_site.specs.Loading.{IsFileText};
@@ -13,7 +13,7 @@ ghost use Rattle.ipx_transfer.specs.Target.{NamesAddress};
 ghost use Rattle.ipx_wire.specs.declared.address.Address.{Address as AnAddress};
 
 use crate::fault::{AskFault, tell_fault};
-use crate::pinged::pinged_address;
+use crate::pinged::{is_nowhere, pinged_address};
 use crate::pinging_host::PingingHost;
 use ipx_site::{HostFile, load_host};
 use ipx_transfer::Target;
@@ -32,8 +32,8 @@ fn ping_by<R: Net + Clock, W: Write>(
     count: u16,
     writer: &mut W,
 ) -> Result<u8, AskFault>
-    ensures pinged { IfOk result (λ status. (id : ℕ) × (turns : List PingTurn) × (ping : APingCore)
-        × (now : ℕ) × IsPingId id × HasPinged file.now to id count turns ping now
+    ensures pinged { IfOk result (λ status. (turns : List PingTurn) × (ping : APingCore)
+        × (now : ℕ) × HasPinged file.now to count turns ping now
         × (status ≡ ping_status ping)
         × Appends (W.contents writer.old) (W.contents writer.new) (pinged_lines to turns ping)) }
     ensures few { IfOk result (λ status. status ≤ 1) }
@@ -54,10 +54,10 @@ fn ping_at<R: Net + Files + Clock + Eprint, W: Write>(
     writer: &mut W,
 ) -> u8
     ensures few { result ≤ 2 }
-    ensures pinged { result ≡ 0 → (text : List ℕ) × (file : AHostFile) × (id : ℕ)
+    ensures pinged { result ≡ 0 → (text : List ℕ) × (file : AHostFile)
         × (turns : List PingTurn) × (ping : APingCore) × (now : ℕ)
-        × IsFileText text × IsHostText text file × IsPingId id
-        × HasPinged file (pinged_address file to) id count turns ping now × (ping_status ping ≡ 0)
+        × IsFileText text × IsHostText text file
+        × HasPinged file (pinged_address file to) count turns ping now × (ping_status ping ≡ 0)
         × Appends (W.contents writer.old) (W.contents writer.new)
         (pinged_lines (pinged_address file to) turns ping) }
     ensures untouched { result ≡ 2 → writer.new ≡ writer.old }
@@ -67,6 +67,11 @@ fn ping_at<R: Net + Files + Clock + Eprint, W: Write>(
         Err(status) => return status,
     };
     let to = pinged_address(&file, to);
+    if is_nowhere(&file, to) {
+        let node = to.node;
+        let _ = eprintln!(rt; "{path}: node {node} has no IP address, and is none of its network");
+        return 2;
+    }
     match ping_by(rt, alloc, &file, to, count, writer) {
         Ok(status) => status,
         Err(fault) => tell_fault(rt, path, fault),
@@ -94,10 +99,10 @@ pub fn do_ping<R: Net + Files + Clock + Eprint, W: Write>(
     ensures few { result ≤ 2 }
     // Where it ends well, the host of some text of a file has pinged the address that the words
     // name, one request was answered, and what is written is what came of them, line by line.
-    ensures pinged { result ≡ 0 → (text : List ℕ) × (file : AHostFile) × (to : AnAddress) × (id : ℕ)
+    ensures pinged { result ≡ 0 → (text : List ℕ) × (file : AHostFile) × (to : AnAddress)
         × (turns : List PingTurn) × (ping : APingCore) × (now : ℕ)
-        × IsFileText text × IsHostText text file × NamesAddress target.entry to × IsPingId id
-        × HasPinged file (pinged_address file to) id count turns ping now × (ping_status ping ≡ 0)
+        × IsFileText text × IsHostText text file × NamesAddress target.entry to
+        × HasPinged file (pinged_address file to) count turns ping now × (ping_status ping ≡ 0)
         × Appends (W.contents writer.old) (W.contents writer.new)
         (pinged_lines (pinged_address file to) turns ping) }
     // For a fault of the words or of the file nothing is written.

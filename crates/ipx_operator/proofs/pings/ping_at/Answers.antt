@@ -10,6 +10,6 @@ returns-in-Ok-ping_by-clause-pinged g c = λ zero.
     let text = c.in-Ok.ensures.host in
     let p = c.in-Ok-ping_by.ensures.pinged in
     let same = c.pinged_address-to.ensures in
-    let has = subst (λ (to : Address). HasPinged file to p.0 c.args.count p.1 p.2 p.3) same p.5 in
-    let lines = subst (λ (to : Address). Appends (g.W.Write.contents c.args.writer.now) (g.W.Write.contents c.ping_by.new.writer) (pinged_lines to p.1 p.2)) same p.7 in
-    (text.0, file, p.0, p.1, p.2, p.3, text.1, text.2, p.4, has, sym p.6 ∙ zero, lines)
+    let has = subst (λ (to : Address). HasPinged file to c.args.count p.0 p.1 p.2) same p.3 in
+    let lines = subst (λ (to : Address). Appends (g.W.Write.contents c.args.writer.now) (g.W.Write.contents c.ping_by.new.writer) (pinged_lines to p.0 p.1)) same p.5 in
+    (text.0, file, p.0, p.1, p.2, text.1, text.2, has, sym p.4 ∙ zero, lines)

@@ -11,12 +11,10 @@ returns-clause-pinged g c =
     let w = g.W.Write.contents c.args.writer.now in
     let v = g.W.Write.contents c.ping.new.writer in
     let u = g.W.Write.contents c.conclude.new.writer in (
-      fresh.0,
       pings.0,
       left.core,
       c.in_ok-ping.field-0,
-      fresh.1,
-      has_pinged c.args.file.now c.args.to fresh.0 c.args.count pings.0 host.core left.core host.clock.last left.clock.last c.in_ok-ping.field-0 fresh.2 c.in_ok-host.ensures.clock pings.1 over.0 over.1,
+      has_pinged c.args.file.now c.args.to c.args.count pings.0 host.core left.core host.clock.last left.clock.last c.in_ok-ping.field-0 fresh c.in_ok-host.ensures.clock pings.1 over.0 over.1,
       c.status.ensures,
       all_lines c.args.to host.to left.to pings.0 left.core host.times.items left.times.items w v u c.in_ok-host.ensures.to c.in_ok-ping.ensures.to c.in_ok-host.ensures.times pings.2 pings.3 c.in_ok-conclude.ensures,
     )
