@@ -13,6 +13,8 @@ PINGER, PATIENT = "127.0.1.207", "127.0.1.208"
 LISTENER, BARRING = "127.0.1.209", "127.0.1.210"
 # One that is pinged straight, and one that speaks in its place; and callers of the listener.
 STRAIGHT, OTHER = "127.0.1.211", "127.0.1.212"
+# A host that is pinged in several runs, and then sent to.
+AGAIN = "127.0.1.217"
 CALLERS = [f"127.0.1.{number}" for number in range(213, 217)]
 NEAR, FAR = "00000081", "00000083"
 PING_CHAIN = {
@@ -20,9 +22,9 @@ PING_CHAIN = {
     "p2": [("00000082", "127.0.1.205", ["127.0.1.204"]), (FAR, LAST, [LISTENER, BARRING])],
 }
 PINGING = sorted({address for ports in PING_CHAIN.values() for _, address, _ in ports}
-                 | {PINGER, PATIENT, LISTENER, BARRING, STRAIGHT, OTHER, *CALLERS})
-# As many requests of one run, and as many callers as a listener holds.
-MANY, PLACES = 20, 16
+                 | {PINGER, PATIENT, LISTENER, BARRING, STRAIGHT, OTHER, AGAIN, *CALLERS})
+# As many requests of one run, as many callers as a listener holds, and as many runs of one ping.
+MANY, PLACES, RUNS = 20, 16, 6
 TIME = r"\d+\.\d ms"
 
 
@@ -127,6 +129,19 @@ def check_places(sites):
         one.close()
 
 
+def check_runs(sites):
+    """A host that pinged in several runs, one behind the other, can send to that listener."""
+    sites.host("again", NEAR, AGAIN, FIRST, "4002", listed("peers", [PINGER]))
+    listener = sites.start_listener("--once", name="again")
+    until(listener.said, 5)
+    statuses = [ping(sites, "pinger", NEAR, node(AGAIN), "4002", "-c", "1").status(6) for _ in range(RUNS)]
+    sites.check(f"{RUNS} runs of a ping are answered", statuses == [0] * RUNS, str(statuses))
+    data = b"behind all pings"
+    sender = sites.start_sender("pinger", [data], NEAR, AGAIN)
+    sites.check_transfer(f"behind {RUNS} runs of a ping a host sends", listener, sender, data)
+    listener.end()
+
+
 def check_ping(sites, listeners, patient):
     """Who is there answers, and who is not, or does not want to, is silent."""
     to = f"{FAR} {node(LISTENER)} 4002"
@@ -135,6 +150,7 @@ def check_ping(sites, listeners, patient):
     check_silent_ping(sites, "a listener that does not let the host connect is silent", FAR, node(BARRING), "4002")
     check_silent_ping(sites, "a network that no router knows is silent", "00000099", node(LISTENER), "4002")
     check_straight(sites)
+    check_runs(sites)
     check_lines(sites, f"{MANY} pings of one run", patient, to, MANY, "2 routers", MANY + 5)
     check_places(sites)
     for listener in listeners:
