@@ -129,6 +129,15 @@ def check_places(sites):
         one.close()
 
 
+def check_nowhere(sites):
+    """What no IP address has, nothing can be sent to on the host's own network."""
+    process = ping(sites, "pinger", NEAR, "020000000022", "4002")
+    wanted = [f"{sites.world.path('pinger.toml')}: node 020000000022 has no IP address, and is none of its network"]
+    status = process.status(6)
+    sites.check("a ping of a node that no IP address has is refused", (status, process.out, process.said()) == (2, b"", wanted),
+                f"{status}, {process.said()}, {process.out.decode()}")
+
+
 def check_runs(sites):
     """A host that pinged in several runs, one behind the other, can send to that listener."""
     sites.host("again", NEAR, AGAIN, FIRST, "4002", listed("peers", [PINGER]))
@@ -150,6 +159,7 @@ def check_ping(sites, listeners, patient):
     check_silent_ping(sites, "a listener that does not let the host connect is silent", FAR, node(BARRING), "4002")
     check_silent_ping(sites, "a network that no router knows is silent", "00000099", node(LISTENER), "4002")
     check_straight(sites)
+    check_nowhere(sites)
     check_runs(sites)
     check_lines(sites, f"{MANY} pings of one run", patient, to, MANY, "2 routers", MANY + 5)
     check_places(sites)
