@@ -1,0 +1,78 @@
+"""The rows of tests/players.rows, for tests/players: datagrams in, datagrams out, and what is counted."""
+import collections
+import os
+import re
+import time
+
+from player_world import Client, two_routers
+from site_world import free_port, listed, until
+
+ROWS = os.path.join(os.path.dirname(os.path.abspath(__file__)), "players.rows")
+ROUTERS, LOBBIES, HOST = ["127.0.6.1", "127.0.6.2"], ["127.0.6.3", "127.0.6.4"], "127.0.6.20"
+# The ports of UDP of clients are part of what the rows say. The system gives none below 32768 to others.
+PLACES = {"a": ("127.0.6.11", 24611), "b": ("127.0.6.12", 24612), "c": ("127.0.6.13", 24613), "d": ("127.0.6.14", 24614),
+          "u": ("127.0.6.15", 24615), "v": ("127.0.6.16", 24616), "n": ("127.0.6.17", 24617)}
+# So long after what is wanted came, more of it would be seen; and whatever comes later fails the rows behind it.
+QUIET = 0.06
+
+
+def bytes_of(text):
+    """The bytes of a line: hex, and `61*9` for nine times 61."""
+    return bytes.fromhex(re.sub(r"([0-9a-f]{2})\*(\d+)", lambda some: some[1] * int(some[2]), text))
+
+
+def read_rows():
+    """Each row: what it is of, and its lines as a word, who and what."""
+    rows = []
+    with open(ROWS, encoding="ascii") as file:
+        for line in file.read().splitlines():
+            word, _, rest = line.partition(" ")
+            if word == "row":
+                rows.append((rest, []))
+            elif line and word != "#":
+                who, _, text = rest.partition(" ")
+                rows[-1][1].append((word, who, bytes_of(text)))
+    return rows
+
+
+def run_row(run, clients, name, lines):
+    """Sends what a row has, and compares what came to each."""
+    wanted = {who: [bytes_ for word, to, bytes_ in lines if (word, to) == ("out", who)] for who in clients}
+    for word, who, bytes_ in lines:
+        if word == "in":
+            clients[who].send(bytes_)
+
+    def is_there():
+        return all(len(client.take()) >= len(wanted[who]) for who, client in clients.items())
+
+    until(is_there, 5)
+    time.sleep(QUIET)
+    got = {who: client.take() for who, client in clients.items()}
+    wrong = [f"{who} got {[it.hex()[:120] for it in got[who]]}" for who in clients if got[who] != wanted[who]]
+    for client in clients.values():
+        client.got = []
+    run.check(name, not wrong, "; ".join(wrong))
+
+
+def check_rows(run):
+    """All rows, and then the counts of both routers."""
+    udp_port = free_port([*ROUTERS, HOST, *LOBBIES])
+    lobbies = [(address, udp_port) for address in LOBBIES]
+    may = listed("peers", [PLACES[who][0] for who in "abcuv"]), listed("peers", [PLACES["d"][0]])
+    routers = two_routers(run, ["rows1", "rows2"], ROUTERS, udp_port, lobbies, [may[0] + "clients = 4\n", may[1]], [HOST])
+    clients = {who: Client(place, lobbies[who == "d"]) for who, place in PLACES.items()}
+    clients["h"] = Client((HOST, udp_port), (ROUTERS[0], udp_port))
+    rows = read_rows()
+    for name, lines in rows:
+        run_row(run, clients, name, lines)
+    dropped = collections.Counter(f"{word} {what}" for _, lines in rows for word, what, _ in lines if word.startswith("drop"))
+    for router, word, known in zip(routers, ("drop", "drop2"), (4, 1)):
+        wanted = {f'ipx_lobby_dropped_total{{port="2",reason="{name.split()[1]}"}}': count for name, count in dropped.items()
+                  if name.split()[0] == word}
+        wanted |= {'ipx_lobby_clients{port="2"}': known, "ipx_lobby_strangers_total": 1 if known == 4 else 0}
+        found = router.figures(wanted)
+        run.check(f"{router.name} counts what was dropped, by cause", found == wanted, "" if found == wanted else f"{found}, not {wanted}")
+        router.process.end()
+    run.check("a place that did not register was told nothing", clients["v"].told == clients["n"].told == 0)
+    for client in clients.values():
+        client.end()

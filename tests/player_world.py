@@ -1,0 +1,100 @@
+"""What tests/players stands on: routers with ports for clients of ipxnet, and clients that send what DOSBox does."""
+import socket
+import time
+
+from site_world import bound, port_table, until
+
+ROUTER_NODE, EVERYBODY = "0200000000d0", "f" * 12
+BETWEEN, NETWORKS = "00000081", ["0000d05b", "0000d05c"]
+ROOM = 4_194_304
+# A status file is written every 10 seconds.
+STATUS_SECONDS = 14
+# What DOSBox sends as it connects: 30 bytes, to socket 2 of node 0.
+REGISTRATION = bytes.fromhex("ffff001e0000" "000000000000000000000002" "000000000000000000000002")
+
+
+def lobby_table(network, place, more):
+    """A port for clients of ipxnet at a place."""
+    return (f'[[port]]\nkind = "ipxnet"\nnetwork = "{network}"\naddress = "{place[0]}"\nudp_port = {place[1]}\n'
+            f'node = "02:00:00:00:00:d0"\n{more}')
+
+
+def node_of(place):
+    """The node of a client: its IP address, and then its port of UDP."""
+    return bytes(map(int, place[0].split("."))).hex() + f"{place[1]:04x}"
+
+
+def answer_to(network, node):
+    """The answer to a registration: it tells the network and the node."""
+    return bytes.fromhex(f"ffff001e0000{network}{node}0002{network}{ROUTER_NODE}0002")
+
+
+class Router:
+    """A router with these ports, as a process."""
+
+    def __init__(self, run, name, tables):
+        self.run, self.name = run, name
+        file = run.world.write(f"{name}.toml", f'status = "{run.world.path(name + ".prom")}"\n{"".join(tables)}')
+        self.process = run.world.start(name, "route", file)
+        until(lambda: len(self.process.said()) >= len(tables), 10)
+
+    def knows(self, network):
+        """Whether it says that it knows this network, in some time."""
+        return until(lambda: f"network {network} known" in "\n".join(self.process.said()), 20)
+
+    def figures(self, wanted):
+        """Of the figures of its status file those that are wanted, once they are so, or as they are some time later."""
+        found = {}
+
+        def are_so():
+            found.update(self.run.world.figures(f"{self.name}.prom"))
+            time.sleep(0.1)
+            return all(found.get(key) == value for key, value in wanted.items())
+
+        until(are_so, STATUS_SECONDS)
+        return {key: found.get(key) for key in wanted}
+
+
+def two_routers(run, names, addresses, udp_port, lobbies, more, hosts=()):
+    """Two routers with a network between them, and a port for clients each, once they know of each other's."""
+    routers = []
+    for name, address, other, network, place, lines in zip(names, addresses, addresses[::-1], NETWORKS, lobbies, more):
+        tables = [port_table(BETWEEN, address, udp_port, [other, *hosts]), lobby_table(network, place, lines)]
+        routers.append(Router(run, name, tables))
+    known = [router.knows(network) for router, network in zip(routers, NETWORKS[::-1])]
+    run.check("two routers with ports for clients know of each other's network", all(known))
+    return routers
+
+
+class Client:
+    """Who is at a place, and what comes there but for what routers tell and ask all nodes by RIP and SAP."""
+
+    def __init__(self, place, server):
+        self.server, self.got, self.told = server, [], 0
+        self.socket = bound(*place)
+        self.socket.setsockopt(socket.SOL_SOCKET, socket.SO_RCVBUF, ROOM)
+        self.place = self.socket.getsockname()
+        self.node = node_of(self.place)
+
+    def send(self, packet):
+        self.socket.sendto(packet, self.server)
+
+    def take(self):
+        """Takes what came."""
+        while True:
+            try:
+                packet = self.socket.recv(70000)
+            except BlockingIOError:
+                return self.got
+            if (packet[10:16].hex() == EVERYBODY and packet[28:30] in (b"\x04\x52", b"\x04\x53")
+                    and packet[22:28].hex() in (ROUTER_NODE, *ROUTER_NODES)):
+                self.told += 1
+            else:
+                self.got.append(packet)
+
+    def end(self):
+        self.socket.close()
+
+
+# The nodes of routers on the network between them, which tell there what they know.
+ROUTER_NODES = {"00007f000601", "00007f000602"}
