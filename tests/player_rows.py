@@ -4,8 +4,8 @@ import os
 import re
 import time
 
-from player_world import Client, two_routers
-from site_world import free_port, listed, until
+from player_world import NETWORKS, Client, lobby_table, two_routers
+from site_world import free_port, listed, node, until
 
 ROWS = os.path.join(os.path.dirname(os.path.abspath(__file__)), "players.rows")
 ROUTERS, LOBBIES, HOST = ["127.0.6.1", "127.0.6.2"], ["127.0.6.3", "127.0.6.4"], "127.0.6.20"
@@ -58,10 +58,11 @@ def check_rows(run):
     """All rows, and then the counts of both routers."""
     udp_port = free_port([*ROUTERS, HOST, *LOBBIES])
     lobbies = [(address, udp_port) for address in LOBBIES]
-    may = listed("peers", [PLACES[who][0] for who in "abcuv"]), listed("peers", [PLACES["d"][0]])
-    routers = two_routers(run, ["rows1", "rows2"], ROUTERS, udp_port, lobbies, [may[0] + "clients = 4\n", may[1]], [HOST])
+    may = [listed("peers", [PLACES[who][0] for who in some]) for some in ("abcuv", "d")]
+    ports = [[lobby_table(*it)] for it in zip(NETWORKS, lobbies, [may[0] + "clients = 4\n", may[1]])]
+    routers = two_routers(run, ["rows1", "rows2"], ROUTERS, udp_port, ports, [HOST])
     clients = {who: Client(place, lobbies[who == "d"]) for who, place in PLACES.items()}
-    clients["h"] = Client((HOST, udp_port), (ROUTERS[0], udp_port))
+    clients["h"] = Client((HOST, udp_port), (ROUTERS[0], udp_port), [node(address) for address in ROUTERS])
     rows = read_rows()
     for name, lines in rows:
         run_row(run, clients, name, lines)

@@ -55,22 +55,21 @@ class Router:
         return {key: found.get(key) for key in wanted}
 
 
-def two_routers(run, names, addresses, udp_port, lobbies, more, hosts=()):
-    """Two routers with a network between them, and a port for clients each, once they know of each other's."""
+def two_routers(run, names, addresses, udp_port, lobbies, hosts=()):
+    """Two routers with a network between them, and these ports for clients each, once they know of each other's."""
     routers = []
-    for name, address, other, network, place, lines in zip(names, addresses, addresses[::-1], NETWORKS, lobbies, more):
-        tables = [port_table(BETWEEN, address, udp_port, [other, *hosts]), lobby_table(network, place, lines)]
-        routers.append(Router(run, name, tables))
+    for name, address, other, tables in zip(names, addresses, addresses[::-1], lobbies):
+        routers.append(Router(run, name, [port_table(BETWEEN, address, udp_port, [other, *hosts]), *tables]))
     known = [router.knows(network) for router, network in zip(routers, NETWORKS[::-1])]
     run.check("two routers with ports for clients know of each other's network", all(known))
     return routers
 
 
 class Client:
-    """Who is at a place, and what comes there but for what routers tell and ask all nodes by RIP and SAP."""
+    """Who is at a place, and what comes there but for what routers of these nodes tell and ask all by RIP and SAP."""
 
-    def __init__(self, place, server):
-        self.server, self.got, self.told = server, [], 0
+    def __init__(self, place, server, routers=(ROUTER_NODE,)):
+        self.server, self.routers, self.got, self.told = server, routers, [], 0
         self.socket = bound(*place)
         self.socket.setsockopt(socket.SOL_SOCKET, socket.SO_RCVBUF, ROOM)
         self.place = self.socket.getsockname()
@@ -87,7 +86,7 @@ class Client:
             except BlockingIOError:
                 return self.got
             if (packet[10:16].hex() == EVERYBODY and packet[28:30] in (b"\x04\x52", b"\x04\x53")
-                    and packet[22:28].hex() in (ROUTER_NODE, *ROUTER_NODES)):
+                    and packet[22:28].hex() in self.routers):
                 self.told += 1
             else:
                 self.got.append(packet)
@@ -95,6 +94,3 @@ class Client:
     def end(self):
         self.socket.close()
 
-
-# The nodes of routers on the network between them, which tell there what they know.
-ROUTER_NODES = {"00007f000601", "00007f000602"}
