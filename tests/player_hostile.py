@@ -1,0 +1,348 @@
+"""Clients that mean no good at a port for clients of ipxnet, while two others play, for tests/players."""
+import collections
+import os
+import random
+import select
+import subprocess
+import sys
+import time
+
+from player_world import EVERYBODY, NETWORKS, REGISTRATION, ROUTER_NODE, STATUS_SECONDS, Client, Router, answer_to, lobby_table
+from site_packets import ipx
+from site_world import die_with_the_parent, free_port, until
+
+FORGED_AT, FLOODED_AT = "127.0.6.41", "127.0.6.42"
+PLAYERS, FORGER, STRANGER, MANY = ["127.0.6.43", "127.0.6.44"], "127.0.6.45", "127.0.6.46", "127.0.6.47"
+FLOODERS, PACE = ["127.0.6.48", "127.0.6.49", "127.0.6.50", "127.0.6.51"], "127.0.6.52"
+NETWORK = NETWORKS[0]
+FORGERIES = 500
+# Of so many places that register, so many find room beside those that are there, ten in a second.
+PLACES, ROOM_FOR, IN_A_SECOND = 1_000, 20, 10
+PER_TURN, REGISTER_SECONDS = 20, 3.5
+PER_SECOND, SECONDS, PLAYED, AT_ONCE = 10_000, 10, 400, 64
+SHARE, TRIES = 0.9, 3
+# So many bytes of a socket's room may one datagram want, with what the system adds.
+OF_ROOM = 4096
+MEMORY_KB, LEVEL_KB = 8192, 1024
+REASONS = ["malformed", "unregistered", "other_source", "too_long", "no_such_node", "to_itself", "ping_elsewhere",
+           "broadcast_elsewhere", "from_elsewhere", "response"]
+
+
+def wait_for(client, seconds=2):
+    """Waits until something comes to a client, and takes it."""
+    select.select([client.socket], [], [], seconds)
+    return client.take()
+
+
+def registered(place, server):
+    """A client that is answered."""
+    client = Client(place, server)
+    client.send(REGISTRATION)
+    client.is_answered = wait_for(client) == [answer_to(NETWORK, client.node)]
+    client.got = []
+    return client
+
+
+class Pair:
+    """Two who play: each packet of one is to come to the other, once and in order, and nobody else has a word in its name."""
+
+    def __init__(self, clients):
+        self.clients, self.sent = clients, [[], []]
+        self.came = [[], []]
+
+    def send(self, who):
+        """One of them sends to the other, each tenth time to all."""
+        giver, taker = self.clients[who], self.clients[1 - who]
+        number = len(self.sent[who])
+        to = (NETWORK, EVERYBODY if number % 10 == 9 else taker.node, "4001")
+        packet = ipx(4, to, (NETWORK, giver.node, "4001"), b"move %d" % number)
+        self.sent[who].append(packet)
+        giver.send(packet)
+
+    def take(self):
+        """Takes what came in the name of the other."""
+        for who, client in enumerate(self.clients):
+            other = bytes.fromhex(self.clients[1 - who].node)
+            self.came[1 - who] += [packet for packet in client.take() if packet[22:28] == other]
+            client.got = []
+
+    def missing(self):
+        """How many did not come yet."""
+        return sum(map(len, self.sent)) - sum(map(len, self.came))
+
+    def all_came(self, seconds=2):
+        """Whether all of them came, in some time."""
+        end = time.monotonic() + seconds
+        while self.missing() > 0 and time.monotonic() < end:
+            select.select([client.socket for client in self.clients], [], [], 0.05)
+            self.take()
+        return self.missing() == 0
+
+    def is_whole(self):
+        """What came is what was sent."""
+        self.take()
+        return self.came == self.sent
+
+
+class Forged:
+    """A router with a port for clients, two who play, and one that registered too."""
+
+    def __init__(self, run):
+        self.run = run
+        self.place = (FORGED_AT, free_port([FORGED_AT, FLOODED_AT]))
+        more = f'accept = "any"\nclients = {ROOM_FOR + 3}\n'
+        self.router = Router(run, "forged", [lobby_table(NETWORK, self.place, more)])
+        self.pair = Pair([registered((ip, 0), self.place) for ip in PLAYERS])
+        self.forger, self.stranger = registered((FORGER, 0), self.place), Client((STRANGER, 0), self.place)
+        run.check("two players and a third one are answered", all(it.is_answered for it in [*self.pair.clients, self.forger]))
+        # What they registered counts for none of a later second's.
+        self.quiet_until = time.monotonic() + 1.1
+        self.forged = 0
+
+    def refused(self):
+        """How many registrations were refused, by the figures."""
+        figures = self.run.world.figures(f"{self.router.name}.prom")
+        return sum(figures.get(f'ipx_lobby_dropped_total{{port="1",reason="{reason}"}}', 0) for reason in ("full", "too_many_new"))
+
+
+def forgeries(it):
+    """Packets and pings in the name of each player, of the router and of nobody."""
+    names = [client.node for client in it.pair.clients] + [ROUTER_NODE, "02000000ffff"]
+    for number, name in enumerate(names):
+        to = it.pair.clients[number % 2].node
+        yield ipx(0, ("00000000", EVERYBODY, "0002"), ("00000000", name, "0002"), b"")
+        yield ipx(4, (NETWORK, to, "4001"), (NETWORK, name, "4001"), b"move 0")
+        yield ipx(4, (NETWORK, EVERYBODY, "4001"), (NETWORK, name, "4001"), b"move 0")
+
+
+def check_forgeries(it):
+    """They go nowhere, whether a client sends them or who is none."""
+    turns, wanted = 0, answer_to(NETWORK, it.forger.node)
+    for _ in range(FORGERIES // 12 + 1):
+        for packet in forgeries(it):
+            it.forger.send(packet)
+            it.stranger.send(packet)
+        turns += 1
+        it.pair.send(turns % 2)
+        it.forger.send(REGISTRATION)
+        it.pair.all_came()
+        until(lambda: it.forger.take().count(wanted) >= turns, 2)
+    it.forged, answers = turns * 12, it.forger.take()
+    # What players send to all it gets as well.
+    other = [packet for packet in answers if packet != wanted and packet not in sum(it.pair.sent, [])]
+    it.run.check(f"{it.forged} packets in others' names from a client, and as many from who is none, reach nobody and are not "
+                 "answered; what players send comes meanwhile",
+                 it.pair.is_whole() and answers.count(wanted) == turns and not other and not it.stranger.take(),
+                 f"{it.pair.missing()} missing, {answers.count(wanted)} of {turns} answers, {len(other)} other")
+
+
+class Many:
+    """A thousand places that register, again and again."""
+
+    def __init__(self, it):
+        self.it, self.sent, self.answers = it, 0, collections.Counter()
+        self.wrong, self.quick, self.began = [], 0, None
+        self.clients = [Client((MANY, 0), it.place) for _ in range(PLACES)]
+        self.by_file = {client.socket.fileno(): client for client in self.clients}
+        self.poll = select.epoll()
+        for number in self.by_file:
+            self.poll.register(number, select.EPOLLIN)
+
+    def turn(self):
+        """The next few register, and what came to any is taken."""
+        self.began = self.began or time.monotonic()
+        for number in range(self.sent, self.sent + PER_TURN):
+            self.clients[number % PLACES].send(REGISTRATION)
+        self.sent += PER_TURN
+        self.take()
+
+    def take(self):
+        played = set(self.it.pair.sent[0][-20:] + self.it.pair.sent[1][-20:])
+        for number, _ in self.poll.poll(0):
+            client = self.by_file[number]
+            for packet in client.take():
+                if packet == answer_to(NETWORK, client.node):
+                    self.answers[client.node] += 1
+                elif client.node not in self.answers or packet not in played:
+                    self.wrong.append(packet)
+            client.got = []
+        if time.monotonic() < self.began + 0.95:
+            self.quick = len(self.answers)
+
+
+def check_many(it):
+    """The players go on, and of those that register ten in a second are answered, until there is no more room."""
+    until(lambda: time.monotonic() > it.quiet_until, 2)
+    many, turns = Many(it), 0
+    while turns < 10 or time.monotonic() < many.began + REGISTER_SECONDS:
+        many.turn()
+        turns += 1
+        it.pair.send(turns % 2)
+        if not it.pair.all_came():
+            break
+    it.run.check(f"while {PLACES} places register, {many.sent} times, each packet of the players comes",
+                 it.pair.is_whole(), f"{turns} packets, {it.pair.missing()} missing")
+    until(lambda: many.take() or sum(many.answers.values()) + it.refused() == many.sent, 14)
+    known = len(many.answers)
+    it.run.check(f"{IN_A_SECOND} of them are answered in the first second, and {ROOM_FOR} in all, the number that there is room for",
+                 many.quick <= IN_A_SECOND and known == ROOM_FOR, f"{many.quick} and {known}")
+    it.run.check("nothing else comes to any of them", not many.wrong, str(many.wrong[:1]))
+    answered = sum(many.answers.values())
+    it.run.check("each one that is not answered is counted", answered + it.refused() == many.sent,
+                 f"{answered} answers, {it.refused()} refused, of {many.sent}")
+    for client in many.clients:
+        client.end()
+    many.poll.close()
+
+
+def some_datagram(rng, nodes):
+    """Bytes that are anything; or a packet that is in order, or nearly, from a flooder or in another's name."""
+    way = rng.random()
+    if way < 0.3:
+        return rng.randbytes(rng.randrange(1500))
+    if way < 0.4:
+        packet = bytearray(REGISTRATION + rng.randbytes(rng.choice([0, 0, 1])))
+        packet[rng.choice([4, 5, 6, 10, 17, 18, 22, 29])] = rng.randrange(256)
+        return bytes(packet)
+    to = rng.choice([*nodes, "FLOODER", ROUTER_NODE, rng.randbytes(6).hex()]) if rng.random() < 0.95 else EVERYBODY
+    network = rng.choice([NETWORK, "00000000", "0000d05c", rng.randbytes(4).hex()])
+    source = rng.choice([*nodes, "FLOODER"] + ["FLOODER"] * 5)
+    body = rng.randbytes(rng.choice([rng.randrange(600), rng.randrange(1440)]))
+    if rng.random() < 0.2:
+        body = rng.choice([b"\0\1", b"\0\2", b"\0\3", b"\0\4"]) + body[:400]
+    sockets = [rng.choice(["4001", "0002", "0452", "0453"]) for _ in range(2)]
+    return network, to, sockets, source, body, rng.choice([0, 1, 4, 17, 20]), rng.randrange(20)
+
+
+def made(rng, one, node):
+    """What a flooder of this node sends."""
+    if isinstance(one, bytes):
+        return one
+    network, to, (socket_to, socket_from), source, body, kind, hops = one
+    to, source = (node if it == "FLOODER" else it for it in (to, source))
+    own = rng.choice([NETWORK, "00000000", NETWORK, "00000077"])
+    packet = bytearray(ipx(kind, (network, to, socket_to), (own, source, socket_from), body, hops))
+    if rng.random() < 0.1:
+        packet[rng.randrange(len(packet))] = rng.randrange(256)
+    return bytes(packet)
+
+
+def flood(port, seed, window, *nodes):
+    """Sends them from four places, two of which are clients, so many a second. What was sent and not answered, by the
+    answers to registrations of a fifth between, is never more than a window: a router that is kept waiting loses nothing."""
+    rng = random.Random(seed)
+    clients = [registered((ip, 0), (FLOODED_AT, port)) for ip in FLOODERS[:2]]
+    clients += [Client((ip, 0), (FLOODED_AT, port)) for ip in FLOODERS[2:]]
+    pace = registered((PACE, 0), (FLOODED_AT, port))
+    answer = answer_to(NETWORK, pace.node)
+    numbers = [rng.randrange(4) for _ in range(PER_SECOND)]
+    datagrams = [made(rng, some_datagram(rng, nodes), clients[number].node) for number in numbers]
+    each = max(window // 4, 8)
+    print("ready", flush=True)
+    sys.stdin.readline()
+    start, sent, answered = time.monotonic(), 0, 0
+    while (passed := time.monotonic() - start) < SECONDS:
+        due = min(int(passed * PER_SECOND) + 1, (answered + 4) * each)
+        for number in range(sent, due):
+            place = number % PER_SECOND
+            datagram = REGISTRATION if number % each == each - 1 else datagrams[place]
+            (pace if datagram is REGISTRATION else clients[numbers[place]]).send(datagram)
+        sent = max(sent, due)
+        time.sleep(0.002)
+        answered += pace.take().count(answer)
+        for client in [pace, *clients]:
+            client.take()
+            client.got = []
+    print(sent, flush=True)
+
+
+class Flooded:
+    """A router with a port for clients that is flooded, and two who play there."""
+
+    def __init__(self, run, port):
+        self.run, self.place = run, (FLOODED_AT, port)
+        self.router = Router(run, "flooded", [lobby_table(NETWORK, self.place, 'accept = "any"\n')])
+        self.pair = Pair([registered((ip, 0), self.place) for ip in PLAYERS])
+        room = int(self.router.process.said()[0].rsplit(" ", 1)[1])
+        script = os.path.join(os.path.dirname(os.path.abspath(__file__)), "players")
+        self.words = [sys.executable, script, "--flood", str(port), str(run.seed), str(min(room // OF_ROOM, 1000)),
+                      *(client.node for client in self.pair.clients)]
+
+    def play(self, is_over):
+        """They play until that is so, at an even pace; who is behind waits for what was sent."""
+        start, sent = time.monotonic(), sum(map(len, self.pair.sent))
+        first = sent
+        while not is_over():
+            due = first + int((time.monotonic() - start) * PLAYED)
+            while sent < due and self.pair.missing() < AT_ONCE:
+                self.pair.send(sent % 2)
+                sent += 1
+            select.select([client.socket for client in self.pair.clients], [], [], 0.002)
+            self.pair.take()
+        self.pair.all_came()
+
+    def attempt(self):
+        """Floods once. How many datagrams that was, and the memory before, in the middle and at the end."""
+        flooder = subprocess.Popen(self.words, stdin=subprocess.PIPE, stdout=subprocess.PIPE, text=True,
+                                   preexec_fn=die_with_the_parent)
+        flooder.stdout.readline()
+        memory = [self.router.process.memory()[0]]
+        flooder.stdin.write("go\n")
+        flooder.stdin.flush()
+        half = time.monotonic() + SECONDS / 2
+        self.play(lambda: time.monotonic() > half)
+        memory.append(self.router.process.memory()[0])
+        self.play(lambda: select.select([flooder.stdout], [], [], 0)[0])
+        memory.append(self.router.process.memory()[0])
+        return int(flooder.communicate(timeout=60)[0]), memory
+
+
+def check_flood(run, port):
+    """In each try nothing of theirs is lost and memory stays; the rate of the flood is reached in one of them."""
+    it, came = Flooded(run, port), []
+    name = f"while {PER_SECOND} random datagrams a second come for {SECONDS} seconds"
+    while len(came) < TRIES and max(came, default=0) < SHARE * PER_SECOND * SECONDS:
+        sent, memory = it.attempt()
+        came.append(sent)
+        good = it.pair.is_whole()
+        level = memory[2] - memory[0] < MEMORY_KB and memory[2] - memory[1] < LEVEL_KB
+        if not good or not level:
+            break
+    run.check(f"{name}, each packet of the players comes, in order and once", good,
+              f"{sum(map(len, it.pair.sent))} packets, {it.pair.missing()} missing")
+    run.check(f"{name}, the router's memory stays level", level, f"{memory} kB")
+    run.check("so many came, or nine tenths, in one of the tries", max(came) >= SHARE * PER_SECOND * SECONDS, str(came))
+    return it, sum(came)
+
+
+def dropped(run, router, least):
+    """How much a router dropped, by cause, once it is so much in all, or some time later."""
+    found = {}
+
+    def is_enough():
+        figures = run.world.figures(f"{router.name}.prom")
+        found.update({reason: figures.get(f'ipx_lobby_dropped_total{{port="1",reason="{reason}"}}', 0) for reason in REASONS})
+        return sum(found.values()) >= least
+
+    until(is_enough, STATUS_SECONDS)
+    return found
+
+
+def check_hostile(run):
+    """All of it."""
+    forged = Forged(run)
+    check_forgeries(forged)
+    check_many(forged)
+    it, came = check_flood(run, forged.place[1])
+    found = forged.router.figures(wanted := {
+        'ipx_lobby_dropped_total{port="1",reason="other_source"}': forged.forged,
+        'ipx_lobby_dropped_total{port="1",reason="unregistered"}': forged.forged, 'ipx_lobby_clients{port="1"}': ROOM_FOR + 3})
+    run.check("what was forged is counted", found == wanted, str(found))
+    found = dropped(run, it.router, came / 2)
+    run.check("of the flood most is dropped, and for each cause that there is", all(found.values()) and
+              sum(found.values()) >= came / 2, f"of {came}: {found}")
+    for router in (forged.router, it.router):
+        run.check(f"the router {router.name} goes on", not router.process.is_over())
+        router.process.end()
+    for client in [*forged.pair.clients, *it.pair.clients, forged.forger, forged.stranger]:
+        client.end()
