@@ -146,7 +146,8 @@ def told_port():
 
 def table(text, network, place, peers):
     """That port with another network, place and peers."""
-    for key, value in (("network", f'"{network}"'), ("address", f'"{place[0]}"'), ("udp_port", place[1]), ("peers", f'["{peers}"]')):
+    values = {"network": f'"{network}"', "address": f'"{place[0]}"', "udp_port": place[1], "peers": f'["{peers}"]'}
+    for key, value in values.items():
         text, count = re.subn(rf"^{key} = .*$", f"{key} = {value}", text, flags=re.M)
         assert count == 1, key
     return text
@@ -180,10 +181,20 @@ class Boxes:
         self.run.check(name, not wrong, "; ".join(wrong))
 
     def connected(self, box, network):
-        listens, said = box.listens(), box.said("CONNECT")
-        self.run.check(f"DOSBox {box.name} connects, and its program has the network and node that it was told",
-                       listens and f"connected to server at {box.place[0]}" in said
-                       and (box.network, box.node[:8]) == (network, "7f000001"), f"{said[-60:]} {box.read('OWN').hex()}")
+        """Whether a box has connected to a port of this network."""
+        good = (box.listens() and f"connected to server at {box.place[0]}" in box.said("CONNECT")
+                and (box.network, box.node[:8]) == (network, "7f000001"))
+        return self.run.check(f"DOSBox {box.name} connects, and its program has the network and node that it was told", good,
+                              "" if good else f"{box.said('CONNECT')} {box.read('OWN').hex()} {box.process.said()[-1:]}")
+
+    def end(self, boxes):
+        """The boxes and the routers end."""
+        for box in boxes:
+            box.step("exit")
+            self.run.check(f"DOSBox {box.name} ends", box.process.status(SECONDS) == 0)
+        for router in self.routers:
+            self.run.check(f"the router {router.name} goes on", not router.process.is_over())
+            router.process.end()
 
     def old_place(self, box):
         """A client at the place that a box had."""
@@ -218,7 +229,8 @@ def check_pings(it):
             found = box.pings()
             if found == wanted or not found <= wanted:
                 break
-        it.run.check(f"ipxnet ping of {box.name} shows the router and the other one there", found == wanted, str(found))
+        it.run.check(f"ipxnet ping of {box.name} shows the router and the other one there", found == wanted,
+                     "" if found == wanted else str(found))
 
 
 def check_again(it):
@@ -232,15 +244,15 @@ def check_again(it):
         box = getattr(it, name)
         it.connected(box, other.network)
         places.append(old())
-        it.run.check(f"{name} has another node", box.node != node, f"{node} {box.node}")
+        it.run.check(f"{name} has another node then", box.node != node, box.node)
         packet = other.send((other.network, EVERYBODY), b"to all, again", [box, other])
         it.compare(f"behind that, what is for all comes once to {name}")
         until(places[-1].take, 5)
         it.run.check("and once to its old place, which no router can know to be left", places[-1].take() == [packet],
-                     str(places[-1].got))
+                     "" if places[-1].got == [packet] else str(places[-1].got))
         other.send((other.network, box.node), b"to the new place", [box])
         it.compare("what is for its new node comes to it")
-        it.run.check("and not to the old place", places[-1].take() == [packet], str(places[-1].got))
+        it.run.check("and not to the old place", places[-1].take() == [packet], f"{len(places[-1].got)} packets there")
     a, b, c, d = it.boxes
     for giver, taker in ((b, d), (d, b), (a, d), (c, b)):
         packet = giver.send((taker.network, taker.node), b"again far", [])
@@ -268,7 +280,8 @@ def check_figures(it):
     clients = 'ipx_lobby_clients{port="2"}'
     for router, wanted in zip(it.routers, ({clients: 3, "ipx_lobby_strangers_total": 1}, {clients: 3})):
         found = router.figures(wanted)
-        it.run.check(f"{router.name} counts its clients, and what came from who is not named", found == wanted, str(found))
+        it.run.check(f"{router.name} counts its clients, and what came from who is not named", found == wanted,
+                     "" if found == wanted else str(found))
 
 
 def check_boxes(run):
@@ -282,19 +295,15 @@ def check_boxes(run):
     if run.lacks("DOSBox", "dosbox", "nasm"):
         return
     it = Boxes(run)
-    for box in it.boxes:
-        box.listens()
-    for box, network in zip(it.boxes, NETWORKS[:1] * 2 + NETWORKS[1:] * 2):
-        it.connected(box, network)
+    good = [it.connected(box, network) for box, network in zip(it.boxes, NETWORKS[:1] * 2 + NETWORKS[1:] * 2)]
+    if not all(good):
+        for one in [*it.boxes, it.closed, *it.routers]:
+            one.process.end()
+        return
     check_programs(it)
     check_pings(it)
     check_again(it)
-    run.check("where it is not named DOSBox says that it can't connect", until(lambda: it.closed.said("CONNECT").count("ail"), 10),
-              it.closed.said("CONNECT"))
+    good = until(lambda: "failed to connect" in it.closed.said("CONNECT"), 10)
+    run.check("where it is not named DOSBox says that it can't connect", good, "" if good else it.closed.said("CONNECT"))
     check_figures(it)
-    for box in [*it.boxes, it.closed]:
-        box.step("exit")
-        run.check(f"DOSBox {box.name} ends", box.process.status(SECONDS) == 0)
-    for router in it.routers:
-        run.check(f"{router.name} goes on", not router.process.is_over())
-        router.process.end()
+    it.end([*it.boxes, it.closed])

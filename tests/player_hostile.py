@@ -2,6 +2,7 @@
 import collections
 import os
 import random
+import resource
 import select
 import subprocess
 import sys
@@ -26,6 +27,11 @@ OF_ROOM = 4096
 MEMORY_KB, LEVEL_KB = 8192, 1024
 REASONS = ["malformed", "unregistered", "other_source", "too_long", "no_such_node", "to_itself", "ping_elsewhere",
            "broadcast_elsewhere", "from_elsewhere", "response"]
+
+
+def dropped_for(reason):
+    """The figure of what a port dropped for a cause."""
+    return f'ipx_lobby_dropped_total{{port="1",reason="{reason}"}}'
 
 
 def wait_for(client, seconds=2):
@@ -95,14 +101,14 @@ class Forged:
         self.pair = Pair([registered((ip, 0), self.place) for ip in PLAYERS])
         self.forger, self.stranger = registered((FORGER, 0), self.place), Client((STRANGER, 0), self.place)
         run.check("two players and a third one are answered", all(it.is_answered for it in [*self.pair.clients, self.forger]))
-        # What they registered counts for none of a later second's.
+        # Behind it they are none of those who registered within a second.
         self.quiet_until = time.monotonic() + 1.1
         self.forged = 0
 
     def refused(self):
         """How many registrations were refused, by the figures."""
         figures = self.run.world.figures(f"{self.router.name}.prom")
-        return sum(figures.get(f'ipx_lobby_dropped_total{{port="1",reason="{reason}"}}', 0) for reason in ("full", "too_many_new"))
+        return sum(figures.get(dropped_for(reason), 0) for reason in ("full", "too_many_new"))
 
 
 def forgeries(it):
@@ -130,16 +136,18 @@ def check_forgeries(it):
     it.forged, answers = turns * 12, it.forger.take()
     # What players send to all it gets as well.
     other = [packet for packet in answers if packet != wanted and packet not in sum(it.pair.sent, [])]
-    it.run.check(f"{it.forged} packets in others' names from a client, and as many from who is none, reach nobody and are not "
-                 "answered; what players send comes meanwhile",
-                 it.pair.is_whole() and answers.count(wanted) == turns and not other and not it.stranger.take(),
-                 f"{it.pair.missing()} missing, {answers.count(wanted)} of {turns} answers, {len(other)} other")
+    good = it.pair.is_whole() and answers.count(wanted) == turns and not other and not it.stranger.take()
+    it.run.check(f"{it.forged} packets and pings in others' names from a client, and as many from who is none, reach nobody "
+                 "and are not answered; what players send comes meanwhile", good,
+                 "" if good else f"{it.pair.missing()} missing, {answers.count(wanted)} of {turns} answers, {len(other)} other")
 
 
 class Many:
     """A thousand places that register, again and again."""
 
     def __init__(self, it):
+        _, most = resource.getrlimit(resource.RLIMIT_NOFILE)
+        resource.setrlimit(resource.RLIMIT_NOFILE, (most, most))
         self.it, self.sent, self.answers = it, 0, collections.Counter()
         self.wrong, self.quick, self.began = [], 0, None
         self.clients = [Client((MANY, 0), it.place) for _ in range(PLACES)]
@@ -169,6 +177,11 @@ class Many:
         if time.monotonic() < self.began + 0.95:
             self.quick = len(self.answers)
 
+    def end(self):
+        for client in self.clients:
+            client.end()
+        self.poll.close()
+
 
 def check_many(it):
     """The players go on, and of those that register ten in a second are answered, until there is no more room."""
@@ -182,17 +195,25 @@ def check_many(it):
             break
     it.run.check(f"while {PLACES} places register, {many.sent} times, each packet of the players comes",
                  it.pair.is_whole(), f"{turns} packets, {it.pair.missing()} missing")
-    until(lambda: many.take() or sum(many.answers.values()) + it.refused() == many.sent, 14)
+    until(lambda: many.take() or len(many.answers) > ROOM_FOR, 0.3)
     known = len(many.answers)
-    it.run.check(f"{IN_A_SECOND} of them are answered in the first second, and {ROOM_FOR} in all, the number that there is room for",
+    it.run.check(f"{IN_A_SECOND} are answered in the first second, and {ROOM_FOR} in all, as many as there is room for",
                  many.quick <= IN_A_SECOND and known == ROOM_FOR, f"{many.quick} and {known}")
-    it.run.check("nothing else comes to any of them", not many.wrong, str(many.wrong[:1]))
+    it.run.check("nothing else comes to any of them", not many.wrong, str(many.wrong[:1] or ""))
+    many.end()
+    return many
+
+
+def check_counts(it, many):
+    """What was forged and who found no room is counted."""
     answered = sum(many.answers.values())
+    until(lambda: answered + it.refused() == many.sent, STATUS_SECONDS)
     it.run.check("each one that is not answered is counted", answered + it.refused() == many.sent,
                  f"{answered} answers, {it.refused()} refused, of {many.sent}")
-    for client in many.clients:
-        client.end()
-    many.poll.close()
+    found = it.router.figures(wanted := {
+        dropped_for("other_source"): it.forged, dropped_for("unregistered"): it.forged,
+        'ipx_lobby_clients{port="1"}': ROOM_FOR + 3})
+    it.run.check("what was forged is counted", found == wanted, "" if found == wanted else str(found))
 
 
 def some_datagram(rng, nodes):
@@ -321,7 +342,7 @@ def dropped(run, router, least):
 
     def is_enough():
         figures = run.world.figures(f"{router.name}.prom")
-        found.update({reason: figures.get(f'ipx_lobby_dropped_total{{port="1",reason="{reason}"}}', 0) for reason in REASONS})
+        found.update({reason: figures.get(dropped_for(reason), 0) for reason in REASONS})
         return sum(found.values()) >= least
 
     until(is_enough, STATUS_SECONDS)
@@ -332,12 +353,9 @@ def check_hostile(run):
     """All of it."""
     forged = Forged(run)
     check_forgeries(forged)
-    check_many(forged)
+    many = check_many(forged)
     it, came = check_flood(run, forged.place[1])
-    found = forged.router.figures(wanted := {
-        'ipx_lobby_dropped_total{port="1",reason="other_source"}': forged.forged,
-        'ipx_lobby_dropped_total{port="1",reason="unregistered"}': forged.forged, 'ipx_lobby_clients{port="1"}': ROOM_FOR + 3})
-    run.check("what was forged is counted", found == wanted, str(found))
+    check_counts(forged, many)
     found = dropped(run, it.router, came / 2)
     run.check("of the flood most is dropped, and for each cause that there is", all(found.values()) and
               sum(found.values()) >= came / 2, f"of {came}: {found}")

@@ -72,7 +72,8 @@ def check_rows(run):
                   if name.split()[0] == word}
         wanted |= {'ipx_lobby_clients{port="2"}': known, "ipx_lobby_strangers_total": 1 if known == 4 else 0}
         found = router.figures(wanted)
-        run.check(f"{router.name} counts what was dropped, by cause", found == wanted, "" if found == wanted else f"{found}, not {wanted}")
+        run.check(f"{router.name} counts what was dropped, by cause", found == wanted,
+                  "" if found == wanted else f"{found}, not {wanted}")
         router.process.end()
     run.check("a place that did not register was told nothing", clients["v"].told == clients["n"].told == 0)
     for client in clients.values():
