@@ -179,6 +179,9 @@ class Boxes:
         wrong = [f"{box.name} got {[it.hex() for it in box.got()[-4:]]}" for box in self.boxes
                  if collections.Counter(box.got()) != collections.Counter(box.wanted)]
         self.run.check(name, not wrong, "; ".join(wrong))
+        # What failed fails no other check.
+        for box in self.boxes:
+            box.wanted = box.got()
 
     def connected(self, box, network):
         """Whether a box has connected to a port of this network."""
