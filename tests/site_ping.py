@@ -5,26 +5,33 @@ import threading
 import time
 
 from site_packets import ipx
-from site_world import bound, listed, node, port_table, until
+from site_world import bound, listed, node, port_table, some_bytes, until
 
-# Two routers in a chain, hosts that ping at one end, and listeners at the other.
-FIRST, LAST = "127.0.1.203", "127.0.1.206"
+# Three routers in a chain, hosts that ping at one end, and listeners at the other and behind the first router.
+FIRST, LAST = "127.0.1.203", "127.0.1.219"
 PINGER, PATIENT = "127.0.1.207", "127.0.1.208"
-LISTENER, BARRING = "127.0.1.209", "127.0.1.210"
+LISTENER, BARRING, NEXT = "127.0.1.209", "127.0.1.210", "127.0.1.220"
 # One that is pinged straight, and one that speaks in its place; and callers of the listener.
 STRAIGHT, OTHER = "127.0.1.211", "127.0.1.212"
-# A host that is pinged in several runs, and then sent to.
-AGAIN = "127.0.1.217"
 CALLERS = [f"127.0.1.{number}" for number in range(213, 217)]
-NEAR, FAR = "00000081", "00000083"
+# A host that is pinged in several runs, and then sent to; and a listener to which one sends that another host pings.
+AGAIN = "127.0.1.217"
+PRESSED, PRESSING, SENDING = "127.0.1.233", "127.0.1.234", "127.0.1.235"
+NEAR, MIDDLE, FAR = "00000081", "00000082", "00000084"
 PING_CHAIN = {
-    "p1": [(NEAR, FIRST, [PINGER, PATIENT]), ("00000082", "127.0.1.204", ["127.0.1.205"])],
-    "p2": [("00000082", "127.0.1.205", ["127.0.1.204"]), (FAR, LAST, [LISTENER, BARRING])],
+    "pings1": [(NEAR, FIRST, [PINGER, PATIENT, PRESSING, SENDING]), (MIDDLE, "127.0.1.204", ["127.0.1.205", NEXT])],
+    "pings2": [(MIDDLE, "127.0.1.205", ["127.0.1.204"]), ("00000083", "127.0.1.206", ["127.0.1.218"])],
+    "pings3": [("00000083", "127.0.1.218", ["127.0.1.206"]), (FAR, LAST, [LISTENER, BARRING, PRESSED])],
 }
 PINGING = sorted({address for ports in PING_CHAIN.values() for _, address, _ in ports}
-                 | {PINGER, PATIENT, LISTENER, BARRING, STRAIGHT, OTHER, AGAIN, *CALLERS})
+                 | {PINGER, PATIENT, LISTENER, BARRING, NEXT, STRAIGHT, OTHER, AGAIN, PRESSED, PRESSING, SENDING, *CALLERS})
 # As many requests of one run, as many callers as a listener holds, and as many runs of one ping.
-MANY, PLACES, RUNS = 20, 16, 6
+MANY, PLACES, RUNS = 100, 16, 6
+# A busy machine may let a host wait for over a second, and what is answered meanwhile counts once.
+LATE = 5
+# A place of one that never speaks goes after some six seconds.
+SECONDS_OF_A_PLACE = 5
+NEVER_SPOKE = r"\[WARN  ipx\] \d+ callers never spoke \((\d+) since the start\).*"
 TIME = r"\d+\.\d ms"
 
 
@@ -34,30 +41,50 @@ def ping(sites, name, *words):
 
 
 def start_ping(sites):
-    """The routers and the listeners, and a host that pings one of these many times."""
+    """The routers and the listeners, a host that pings one of these many times, and one that sends to a listener with
+    --once while another host pings that."""
     for name, ports in PING_CHAIN.items():
         sites.world.write(f"{name}.toml", "".join(port_table(network, address, sites.port, peers)
                                                   for network, address, peers in ports))
     for name, network, address, router, number, more in (
             ("pinger", NEAR, PINGER, FIRST, "4003", ""), ("patient", NEAR, PATIENT, FIRST, "4003", ""),
-            ("pinged", FAR, LISTENER, LAST, "4002", listed("peers", CALLERS)),
-            ("barring", FAR, BARRING, LAST, "4002", listed("from", ["00000099"]))):
+            ("pressing", NEAR, PRESSING, FIRST, "4003", ""), ("sending", NEAR, SENDING, FIRST, "4003", ""),
+            ("pinged", FAR, LISTENER, LAST, "4002", listed("peers", CALLERS)), ("pressed", FAR, PRESSED, LAST, "4002", ""),
+            ("barring", FAR, BARRING, LAST, "4002", listed("from", ["00000099"])),
+            ("next", MIDDLE, NEXT, "127.0.1.204", "4002", "")):
         sites.host(name, network, address, router, number, more)
     for name in PING_CHAIN:
         sites.start_router(name)
-    listeners = [sites.start_listener(name=name) for name in ("pinged", "barring")]
-    until(lambda: all(listener.said() for listener in listeners), 5)
-    until(lambda: any(FAR in line for line in sites.routers["p1"].said()), 10)
-    return listeners, ping(sites, "patient", FAR, node(LISTENER), "4002", "-c", str(MANY))
+    listeners = [sites.start_listener(name=name) for name in ("pinged", "barring", "next")]
+    pressed = sites.start_listener("--once", name="pressed")
+    until(lambda: all(listener.said() for listener in (*listeners, pressed)), 5)
+    until(lambda: all(any(f"network {network} known" in line for line in sites.routers[name].said())
+                      for name, network in (("pings1", FAR), ("pings3", NEAR))), 10)
+    patient = ping(sites, "patient", FAR, node(LISTENER), "4002", "-c", str(MANY))
+    pressing = ping(sites, "pressing", FAR, node(PRESSED), "4002", "-c", "10")
+    until(lambda: pressing.out.count(b"answer") >= 2 or pressing.is_over(), 5)
+    # For three seconds, in which it is pinged on.
+    data = some_bytes(sites.seed + 11, 60_000)
+    pieces = [piece for at in range(0, len(data), 10_000) for piece in (data[at:at + 10_000], 0.5)]
+    return listeners, patient, (pressed, sites.start_sender("sending", pieces, FAR, PRESSED), pressing, data)
 
 
-def check_lines(sites, what, process, to, count, routers, seconds):
-    """All of a run were answered, over so many routers."""
+def numbers_of(out, to, routers):
+    """How many requests of a run were answered over so many routers, and how many in all, where it wrote what it is to."""
+    *lines, last = out.splitlines() or [""]
+    answers = [bool(re.fullmatch(rf"{to}: answer {number} in {TIME}, {routers}", line)) for number, line in enumerate(lines, 1)]
+    silent = [line == f"{to}: no answer {number}" for number, line in enumerate(lines, 1)]
+    whole = rf"{len(lines)} sent, {sum(answers)} answered, least {TIME}, mean {TIME}, most {TIME}"
+    good = all(map(any, zip(answers, silent))) and re.fullmatch(whole, last)
+    return (sum(answers), len(lines)) if good else None
+
+
+def check_lines(sites, what, process, to, count, routers, seconds, late=0):
+    """All of a run were answered, over so many routers, but for some that may be late."""
     status, out = process.status(seconds), process.out.decode()
-    lines = "".join(rf"{to}: answer {number} in {TIME}, {routers}\n" for number in range(1, count + 1))
-    whole = lines + rf"{count} sent, {count} answered, least {TIME}, mean {TIME}, most {TIME}\n"
-    sites.check(what, status == 0 and bool(re.fullmatch(whole, out)) and not process.said(),
-                out.splitlines()[-1] if status == 0 else f"{status}, {process.said()}, {out}")
+    answered, sent = numbers_of(out, to, routers) or (0, 0)
+    sites.check(what, (status, sent, process.said()) == (0, count, []) and count - late <= answered,
+                out.splitlines()[-1] if answered else f"{status}, {process.said()}, {out}")
 
 
 def check_silent_ping(sites, what, *words):
@@ -143,25 +170,48 @@ def check_runs(sites):
     sites.host("again", NEAR, AGAIN, FIRST, "4002", listed("peers", [PINGER]))
     listener = sites.start_listener("--once", name="again")
     until(listener.said, 5)
-    statuses = [ping(sites, "pinger", NEAR, node(AGAIN), "4002", "-c", "1").status(6) for _ in range(RUNS)]
-    sites.check(f"{RUNS} runs of a ping are answered", statuses == [0] * RUNS, str(statuses))
+    to, runs = f"{NEAR} {node(AGAIN)} 4002", []
+    for _ in range(RUNS):
+        process = ping(sites, "pinger", *to.split(), "-c", "1")
+        runs.append((process.status(6), numbers_of(process.out.decode(), to, "0 routers")))
+    sites.check(f"{RUNS} runs of a ping on the host's own network are answered, over 0 routers", runs == [(0, (1, 1))] * RUNS,
+                str(runs))
     data = b"behind all pings"
     sender = sites.start_sender("pinger", [data], NEAR, AGAIN)
     sites.check_transfer(f"behind {RUNS} runs of a ping a host sends", listener, sender, data)
     listener.end()
 
 
-def check_ping(sites, listeners, patient):
+def check_pressed(sites, pressed, sender, pressing, data):
+    """A listener with --once that is pinged takes the one who sends, and writes what that sends alone."""
+    sites.check_transfer("a listener with --once takes the sender, while another host pings it", pressed, sender, data)
+    status, numbers = pressing.status(15), numbers_of(pressing.out.decode(), f"{FAR} {node(PRESSED)} 4002", "3 routers")
+    sites.check("and the pings are answered, over 3 routers", status == 0 and numbers is not None and numbers[0] >= 2,
+                f"{status}, {numbers}")
+
+
+def check_patient(sites, patient, listener):
+    """Many pings take one place at a time: each goes after some seconds, and is taken again by the next ping."""
+    check_lines(sites, f"{MANY} pings of one run", patient, f"{FAR} {node(LISTENER)} 4002", MANY, "3 routers", MANY + 5, LATE)
+    told = [int(line[1]) for line in (re.fullmatch(NEVER_SPOKE, line) for line in listener.said()) if line]
+    most = MANY // SECONDS_OF_A_PLACE
+    sites.check(f"they were no more than {most} callers that never spoke, one after another",
+                told and told[-1] <= most, str(told))
+
+
+def check_ping(sites, listeners, patient, pressed):
     """Who is there answers, and who is not, or does not want to, is silent."""
-    to = f"{FAR} {node(LISTENER)} 4002"
-    check_lines(sites, "a ping over two routers", ping(sites, "pinger", "-c", "3", *to.split()), to, 3, "2 routers", 8)
+    check_pressed(sites, *pressed)
+    for network, address, routers in ((MIDDLE, NEXT, "1 router"), (FAR, LISTENER, "3 routers")):
+        to = f"{network} {node(address)} 4002"
+        check_lines(sites, f"a ping over {routers}", ping(sites, "pinger", "-c", "2", *to.split()), to, 2, routers, 8)
     check_silent_ping(sites, "a socket that nobody listens at is silent", FAR, node(LISTENER), "4004")
     check_silent_ping(sites, "a listener that does not let the host connect is silent", FAR, node(BARRING), "4002")
     check_silent_ping(sites, "a network that no router knows is silent", "00000099", node(LISTENER), "4002")
     check_straight(sites)
     check_nowhere(sites)
     check_runs(sites)
-    check_lines(sites, f"{MANY} pings of one run", patient, to, MANY, "2 routers", MANY + 5)
+    check_patient(sites, patient, listeners[0])
     check_places(sites)
     for listener in listeners:
         listener.end()

@@ -6,8 +6,8 @@ from site_packets import ipx
 from site_world import listed, port_table, until
 
 # Two routers, each with a port for clients, and a network between them. The first names who may register.
-NEAR_PORT, NEAR, FAR, FAR_PORT = "127.0.1.180", "127.0.1.181", "127.0.1.182", "127.0.1.183"
-FIRST, SECOND, THIRD, UNNAMED = "127.0.1.184", "127.0.1.185", "127.0.1.186", "127.0.1.187"
+NEAR_PORT, NEAR, FAR, FAR_PORT = "127.0.1.241", "127.0.1.242", "127.0.1.243", "127.0.1.244"
+FIRST, SECOND, THIRD, UNNAMED = "127.0.1.245", "127.0.1.246", "127.0.1.247", "127.0.1.248"
 PLAYING = [NEAR_PORT, NEAR, FAR, FAR_PORT, FIRST, SECOND, THIRD, UNNAMED]
 NAMES = ["p1", "p2"]
 NETWORKS = {"p1": "0000d05b", "p2": "0000d05c"}
@@ -64,6 +64,8 @@ def start_players(sites):
     """Starts both routers, and answers three clients and one that the file does not name."""
     more = {"p1": listed("peers", [FIRST, SECOND]), "p2": 'accept = "any"\nclients = 2\n'}
     ports = {"p1": (NEAR_PORT, NEAR, FAR), "p2": (FAR_PORT, FAR, NEAR)}
+    near, far = (NEAR_PORT, sites.port), (FAR_PORT, sites.port)
+    first = Client(FIRST, near)
     for name in NAMES:
         own, address, peer = ports[name]
         sites.world.write(f"{name}.toml", f'status = "{sites.world.path(name + ".prom")}"\n'
@@ -71,8 +73,11 @@ def start_players(sites):
                           + ipxnet_table(NETWORKS[name], own, sites.port, more[name]))
         sites.start_router(name)
         until(lambda name=name: len(sites.routers[name].said()) >= 2, 10)
-    near, far = (NEAR_PORT, sites.port), (FAR_PORT, sites.port)
-    return Client(FIRST, near), Client(SECOND, near), Client(THIRD, far), Client(UNNAMED, near)
+        if name == NAMES[0]:
+            # It is there before the router hears of the other one, which it is told then.
+            first.send(REGISTRATION)
+            until(first.came, 3)
+    return first, Client(SECOND, near), Client(THIRD, far), Client(UNNAMED, near)
 
 
 def all_came(*clients, wanted=1):
