@@ -1,5 +1,5 @@
 -- What holds of each packet, whatever becomes of it.
-use Rattle.std.proofs.Common.{◌≡◌, ◌≤◌, ℕ, List, [], ◌∷◌, Bool, true, false, Option, Some, None, length, find, not, cond, arith, refl, sym, ap, ◌∙◌}
+use Rattle.std.proofs.Common.{◌≡◌, ◌≤◌, ℕ, List, [], ◌∷◌, Bool, true, false, Option, Some, None, length, find, not, cond, arith, refl, sym, ap, subst, ◌∙◌}
 use Rattle.std.specs.Prelude.{is_some, replicate, ◌==◌, ◌&&◌, ◌||◌, nat_le, nat_lt, if◌then◌else◌}
 use Rattle.std.specs.Str.{bytes_eq}
 use Rattle.ipx_wire.specs.Assigned.{ipx_header_size}
@@ -7,15 +7,18 @@ use Rattle.ipx_wire.specs.Ipx.{PacketView}
 use Rattle.ipx_wire.specs.declared.ipx.packet.IpxHeader.{IpxHeader}
 use Rattle.ipx_lobby.specs.declared.clients.Client.{Client}
 use Rattle.ipx_lobby.specs.declared.drops.LobbyDrop.{LobbyDrop}
-use Rattle.ipx_lobby.specs.declared.drops.LobbyDrop.TheVariants.{NodeTaken, TooManyNew, Full, Unregistered, OtherSource, TooLong, NoSuchNode, ToItself, PingElsewhere, BroadcastElsewhere, FromElsewhere, Response}
+use Rattle.ipx_lobby.specs.declared.drops.LobbyDrop.TheVariants.{NodeTaken, TooManyNew, Full, Unregistered, OtherSource, TooLong, NoSuchNode, ToItself, PingElsewhere, BroadcastElsewhere, FromElsewhere, Response, NodeTwice, ForElsewhere}
 use Rattle.ipx_lobby.specs.declared.heard.Heard.{Heard}
-use Rattle.ipx_lobby.specs.declared.heard.Heard.TheVariants.{Registered, Pinged, ToClient, ToOthers, ToOthersAndCore, ToCore, Dropped}
+use Rattle.ipx_lobby.specs.declared.heard.Heard.TheVariants.{Registered, Pinged, ToClient, ToOthers, ToOthersAndCore, ToCore, ToJoined, FromJoined, Dropped}
 use Rattle.ipx_lobby.specs.declared.place.Place.{Place}
 use Rattle.ipx_lobby.specs.declared.port.LobbyPort.{LobbyPort}
-use Rattle.ipx_lobby.specs.declared.takers.Takers.TheVariants.{One}
-use Rattle.ipx_lobby.specs.LobbyClients.{are_one_place, is_lobby_full, client_at, client_of_node, has_client_node, is_client_at, most_newcomers, newcomers, node_of_place}
-use Rattle.ipx_lobby.specs.LobbyHears.{IsAnswer, LobbyView, all_hear, client_hears, core_hears, goes_to_core, is_for_lobby, is_from_lobby, is_node_taken, is_registration, is_to_all_nodes, is_to_service, lobby_hears, lobby_hears_elsewhere, lobby_hears_from, lobby_hears_here, lobby_socket, may_reach_core, most_client_bytes, newcomer_drop, newcomer_hears, ping_answer, registration_answer, registration_hears, tells_router}
-use Rattle.ipx_lobby.specs.LobbyInside.{IsSoundHearing}
+use Rattle.ipx_lobby.specs.declared.joined.FarClient.{FarClient}
+use Rattle.ipx_lobby.specs.declared.takers.Takers.{Takers}
+use Rattle.ipx_lobby.specs.declared.takers.Takers.TheVariants.{Nobody, One, Here, Joined, JoinedAt}
+use Rattle.ipx_lobby.specs.LobbyClients.{are_one_place, is_lobby_full, client_at, client_of_node, has_client_node, is_client_at, most_newcomers, newcomers}
+use Rattle.ipx_lobby.specs.LobbyHears.{IsAnswer, LobbyView, all_hear, all_hear_joined, client_hears, core_hears, far_hear, far_source, goes_to_core, is_dropped, is_for_lobby, is_from_lobby, is_joined_taker, is_node_here, is_node_taken, is_of_client, is_registration, is_taker, is_to_all_nodes, is_to_service, joined_hears, joined_takers, lobby_hears, lobby_hears_elsewhere, lobby_hears_from, lobby_hears_here, lobby_socket, may_reach_core, most_client_bytes, newcomer_drop, newcomer_hears, node_given, one_hears_joined, ping_answer, registration_answer, registration_hears, takers_of, tells_node, tells_router}
+use Rattle.ipx_lobby.specs.LobbyJoined.{far_client_of, is_joined_place}
+use Rattle.ipx_lobby.specs.LobbyInside.{IsSoundHearing, StaysAmongClients}
 use Rattle.ipx_wire.specs.declared.address.Node.{Node}
 use Rattle.ipx_wire.specs.Assigned.{broadcast_node}
 use Rattle.std.proofs.lemmas.Bool.{eqb-true}
@@ -38,6 +41,10 @@ left_true false b e = cc
 right_false : (a b : Bool) → (a || b) ≡ false → b ≡ false
 right_false true b e = cc
 right_false false b e = e
+
+left_false : (a b : Bool) → (a || b) ≡ false → a ≡ false
+left_false true b e = cc
+left_false false b e = refl
 
 first_none : (b : Bool) (d : LobbyDrop) (o : Option LobbyDrop) → (if b then Some d else o) ≡ None → b ≡ false
 first_none true d o e = cc
@@ -78,8 +85,10 @@ dropped_hears l from size d = record {
   as_many = λ header answer e a. cc;
   no_longer = λ answer a. absurd_none a.0 a.1;
   free = λ e. cc;
-  sender = λ place e. cc;
+  sender = λ place e f. cc;
   taker = λ place e. cc;
+  joined = λ e. record { ring = λ place. refl; core = refl; answer = refl; client = refl };
+  member = λ e. refl;
 }
 
 module _ (l : LobbyView) (from : Place) (size : ℕ) (thirty : ipx_header_size ≤ size) where
@@ -95,128 +104,180 @@ module _ (l : LobbyView) (from : Place) (size : ℕ) (thirty : ipx_header_size �
   dropped : (d : LobbyDrop) → Sound (Dropped d)
   dropped d = dropped_hears l from size d
 
-  registered : (answer : IpxHeader) → size ≡ ipx_header_size → (client_at from l.clients ≡ None → client_of_node (node_of_place from) l.clients ≡ None) → Sound (Registered answer)
-  registered answer is free = record {
-    back = refl;
-    as_many = λ header bytes e a. size_of (Registered answer) bytes a ∙ sym is;
-    no_longer = λ bytes a. short (Registered answer) bytes a;
-    free = λ e. free;
-    sender = λ place e. cc;
-    taker = λ place e. cc;
-  }
+  -- ---- what a client sent
 
-  newcomer : (o : Option LobbyDrop) → size ≡ ipx_header_size → (o ≡ None → client_of_node (node_of_place from) l.clients ≡ None) → Sound (newcomer_hears l.port from o)
-  newcomer None is free = registered (registration_answer l.port (node_of_place from)) is (λ e. free refl)
-  newcomer (Some d) is free = dropped d
+  module _ (apart : is_joined_place from l.routers ≡ false) where
+    stays : {heard : Heard} → is_joined_place from l.routers ≡ true → StaysAmongClients heard
+    stays e = cc
 
-  free_node : (now : ℕ) → newcomer_drop l.port l.most l.clients from now ≡ None → client_of_node (node_of_place from) l.clients ≡ None
-  free_node now e =
-      let node = node_of_place from in
-      let rest : Option LobbyDrop = if nat_le most_newcomers (newcomers now l.clients) then Some TooManyNew else if is_lobby_full l.most now l.clients then Some Full else None in
-      let taken = first_none (is_node_taken l.port l.clients node) (NodeTaken node) rest e in
-      is_none (client_of_node node l.clients) (right_false (bytes_eq node.0 l.port.own.0 || bytes_eq node.0 broadcast_node) (is_some (client_of_node node l.clients)) taken)
-
-  registering : (now : ℕ) (o : Option Client) → client_at from l.clients ≡ o → size ≡ ipx_header_size → Sound (registration_hears l.port l.most l.clients from now o)
-  registering now None known is = newcomer (newcomer_drop l.port l.most l.clients from now) is (free_node now)
-  registering now (Some c) known is = registered (registration_answer l.port c.node) is (λ none. cc)
-
-  module _ (c : Client) (known : client_at from l.clients ≡ Some c) where
-    no_newcomer : client_at from l.clients ≡ None → client_of_node (node_of_place from) l.clients ≡ None
-    no_newcomer none = cc
-
-    to_core : Sound ToCore
-    to_core = record {
+    registered : (answer : IpxHeader) → size ≡ ipx_header_size → (client_at from l.clients ≡ None → client_of_node (node_given l from) l.clients ≡ None) → Sound (Registered answer)
+    registered answer is free = record {
       back = refl;
-      as_many = λ header answer e a. cc;
-      no_longer = λ answer a. short ToCore answer a;
-      free = λ e. no_newcomer;
-      sender = λ place e. cc;
+      as_many = λ header bytes e a. size_of (Registered answer) bytes a ∙ sym is;
+      no_longer = λ bytes a. short (Registered answer) bytes a;
+      free = λ e. free;
+      sender = λ place e f. cc;
       taker = λ place e. cc;
+      joined = stays;
+      member = λ e. refl;
     }
 
-    to_others : Sound (ToOthers from)
-    to_others = record {
-      back = ap not (same_place from);
+    newcomer : (o : Option LobbyDrop) → size ≡ ipx_header_size → (o ≡ None → client_of_node (node_given l from) l.clients ≡ None) → Sound (newcomer_hears l.port (node_given l from) o)
+    newcomer None is free = registered (registration_answer l.port (node_given l from)) is (λ e. free refl)
+    newcomer (Some d) is free = dropped d
+
+    free_node : (node : Node) (now : ℕ) → newcomer_drop l node now ≡ None → client_of_node node l.clients ≡ None
+    free_node node now e =
+        let rest : Option LobbyDrop = if nat_le most_newcomers (newcomers now l.clients) then Some TooManyNew else if is_lobby_full l.most now l.clients then Some Full else None in
+        let taken : is_node_taken l node ≡ false = first_none (is_node_taken l node) (NodeTaken node) rest e in
+        let here : is_node_here l.port l.clients node ≡ false = left_false (is_node_here l.port l.clients node) (is_some (far_client_of node l.far)) taken in
+        is_none (client_of_node node l.clients) (right_false (bytes_eq node.0 l.port.own.0 || bytes_eq node.0 broadcast_node) (is_some (client_of_node node l.clients)) here)
+
+    registering : (now : ℕ) (o : Option Client) → client_at from l.clients ≡ o → size ≡ ipx_header_size → Sound (registration_hears l from now o)
+    registering now None known is = newcomer (newcomer_drop l (node_given l from) now) is (free_node (node_given l from) now)
+    registering now (Some c) known is = registered (registration_answer l.port c.node) is (λ none. cc)
+
+    module _ (c : Client) (known : client_at from l.clients ≡ Some c) where
+      no_newcomer : client_at from l.clients ≡ None → client_of_node (node_given l from) l.clients ≡ None
+      no_newcomer none = cc
+
+      -- to nobody, or to others than the sender, and not to one
+      sent : (heard : Heard) → is_taker (takers_of heard) from ≡ false → ((header : IpxHeader) → heard ≡ Registered header → ⊥) → ((place : Place) → takers_of heard ≡ One place → ⊥) → is_of_client heard ≡ not (is_dropped heard) → Sound heard
+      sent heard back other none of = record {
+        back = back;
+        as_many = λ header answer e a. absurd (other header e);
+        no_longer = λ answer a. short heard answer a;
+        free = λ e. no_newcomer;
+        sender = λ place e f. absurd (none place f);
+        taker = λ place e. absurd (none place e);
+        joined = stays;
+        member = λ e. of;
+      }
+
+      to_core : Sound ToCore
+      to_core = sent ToCore refl (λ header e. cc) (λ place e. cc) refl
+
+      to_others : Sound (ToOthers from)
+      to_others = sent (ToOthers from) (ap not (same_place from)) (λ header e. cc) (λ place e. cc) refl
+
+      to_both : Sound (ToOthersAndCore from)
+      to_both = sent (ToOthersAndCore from) (ap not (same_place from)) (λ header e. cc) (λ place e. cc) refl
+
+      pinged : (answer : IpxHeader) → Sound (Pinged from answer)
+      pinged answer = sent (Pinged from answer) (ap not (same_place from)) (λ header e. cc) (λ place e. cc) refl
+
+      to_joined : (o : Option FarClient) → Sound (ToJoined (joined_takers o))
+      to_joined None = sent (ToJoined Joined) refl (λ header e. cc) (λ place e. cc) refl
+      to_joined (Some f) = sent (ToJoined (JoinedAt f.router)) refl (λ header e. cc) (λ place e. cc) refl
+
+      one_is : (a b : Place) → One a ≡ One b → a ≡ b
+      one_is a b e = cc
+
+      to_one : (node : Node) (k : Client) → client_of_node node l.clients ≡ Some k → are_one_place k.place from ≡ false → Sound (ToClient k.place)
+      to_one node k found apart = record {
+        back = apart;
+        as_many = λ header answer e a. cc;
+        no_longer = λ answer a. short (ToClient k.place) answer a;
+        free = λ e. no_newcomer;
+        sender = λ place e f. known_there from l.clients c known;
+        taker = λ place e. taker_known node place l.clients k found (one_is k.place place e);
+        joined = stays;
+        member = λ e. refl;
+      }
+
+      all : (p : PacketView) → Sound (all_hear l.port from p size)
+      all p =
+          either Sound (nat_lt most_client_bytes size) _ _ (dropped (TooLong size))
+          (either Sound (p.header.to.socket.0 == lobby_socket) _ _ (pinged (ping_answer l.port p.header.from.node))
+          (either Sound (is_to_service p.header && may_reach_core l.port p) _ _ to_both to_others))
+
+      core : (p : PacketView) → Sound (core_hears l.port p)
+      core p =
+          either Sound (not (is_from_lobby l.port p.header)) _ _ (dropped (FromElsewhere p.header.from.network))
+          (either Sound (tells_router p) _ _ (dropped Response) to_core)
+
+      far : (node : Node) → Sound (far_hear l node size)
+      far node =
+          either Sound (length l.routers == 0) _ _ (dropped (NoSuchNode node))
+          (either Sound (nat_lt most_client_bytes size) _ _ (dropped (TooLong size)) (to_joined (far_client_of node l.far)))
+
+      client : (h : IpxHeader) (o : Option Client) → client_of_node h.to.node l.clients ≡ o → Sound (client_hears l from h size o)
+      client h None found = far h.to.node
+      client h (Some k) found =
+          either_by Sound (are_one_place k.place from) _ _ (λ e. dropped ToItself)
+          (λ apart. either Sound (nat_lt most_client_bytes size) _ _ (dropped (TooLong size)) (to_one h.to.node k found apart))
+
+      here : (p : PacketView) → Sound (lobby_hears_here l from p size)
+      here p =
+          either Sound (is_to_all_nodes p.header) _ _ (all p)
+          (either Sound (bytes_eq p.header.to.node.0 l.port.own.0) _ _ (core p) (client p.header (client_of_node p.header.to.node l.clients) refl))
+
+      elsewhere : (p : PacketView) → Sound (lobby_hears_elsewhere l.port p)
+      elsewhere p =
+          either Sound (p.header.to.socket.0 == lobby_socket) _ _ (dropped (PingElsewhere p.header.to.network))
+          (either Sound (is_to_all_nodes p.header) _ _ (dropped (BroadcastElsewhere p.header.to.network)) (core p))
+
+      known_hears : (p : PacketView) → Sound (lobby_hears_from l from p size (Some c))
+      known_hears p =
+          either Sound (not (bytes_eq p.header.from.node.0 c.node.0)) _ _ (dropped (OtherSource p.header.from.node))
+          (either Sound (is_for_lobby l.port p.header) _ _ (here p) (elsewhere p))
+
+    from_place : (p : PacketView) (o : Option Client) → client_at from l.clients ≡ o → Sound (lobby_hears_from l from p size o)
+    from_place p None known = dropped Unregistered
+    from_place p (Some c) known = known_hears c known p
+
+    from_client : (p : PacketView) (now : ℕ) → Sound (if is_registration p.header size then registration_hears l from now (client_at from l.clients) else lobby_hears_from l from p size (client_at from l.clients))
+    from_client p now =
+        either_by Sound (is_registration p.header size) _ _ (λ e. registering now (client_at from l.clients) refl (size_is p.header size e))
+        (λ e. from_place p (client_at from l.clients) refl)
+
+  -- ---- what a joined router sent
+
+  module _ (is : is_joined_place from l.routers ≡ true) where
+    entering : (told : Option Node) (takers : Takers) → is_taker takers from ≡ false → ((place : Place) → is_joined_taker takers place ≡ false) → ((place : Place) → takers ≡ One place → is_some (client_at place l.clients) ≡ true) → Sound (FromJoined told takers)
+    entering told takers back ring taker = record {
+      back = back;
       as_many = λ header answer e a. cc;
-      no_longer = λ answer a. short (ToOthers from) answer a;
-      free = λ e. no_newcomer;
+      no_longer = λ answer a. short (FromJoined told takers) answer a;
+      free = λ e. cc;
       sender = λ place e. cc;
-      taker = λ place e. cc;
+      taker = taker;
+      joined = λ e. record { ring = ring; core = refl; answer = refl; client = refl };
+      member = λ e. cc;
     }
 
-    to_both : Sound (ToOthersAndCore from)
-    to_both = record {
-      back = ap not (same_place from);
-      as_many = λ header answer e a. cc;
-      no_longer = λ answer a. short (ToOthersAndCore from) answer a;
-      free = λ e. no_newcomer;
-      sender = λ place e. cc;
-      taker = λ place e. cc;
-    }
+    place_is : (a b : Place) → One a ≡ One b → a ≡ b
+    place_is a b e = cc
 
-    pinged : (answer : IpxHeader) → Sound (Pinged from answer)
-    pinged answer = record {
-      back = ap not (same_place from);
-      as_many = λ header bytes e a. cc;
-      no_longer = λ bytes a. short (Pinged from answer) bytes a;
-      free = λ e. no_newcomer;
-      sender = λ place e. cc;
-      taker = λ place e. cc;
-    }
-
-    one_is : (a b : Place) → One a ≡ One b → a ≡ b
-    one_is a b e = cc
-
-    to_one : (node : Node) (k : Client) → client_of_node node l.clients ≡ Some k → are_one_place k.place from ≡ false → Sound (ToClient k.place)
-    to_one node k found apart = record {
-      back = apart;
-      as_many = λ header answer e a. cc;
-      no_longer = λ answer a. short (ToClient k.place) answer a;
-      free = λ e. no_newcomer;
-      sender = λ place e. known_there from l.clients c known;
-      taker = λ place e. taker_known node place l.clients k found (one_is k.place place e);
-    }
-
-    all : (p : PacketView) → Sound (all_hear l.port from p size)
-    all p =
-        either Sound (nat_lt most_client_bytes size) _ _ (dropped (TooLong size))
-        (either Sound (p.header.to.socket.0 == lobby_socket) _ _ (pinged (ping_answer l.port p.header.from.node))
-        (either Sound (is_to_service p.header && may_reach_core l.port p) _ _ to_both to_others))
-
-    core : (p : PacketView) → Sound (core_hears l.port p)
-    core p =
-        either Sound (not (is_from_lobby l.port p.header)) _ _ (dropped (FromElsewhere p.header.from.network))
-        (either Sound (tells_router p) _ _ (dropped Response) to_core)
-
-    client : (h : IpxHeader) (o : Option Client) → client_of_node h.to.node l.clients ≡ o → Sound (client_hears from h size o)
-    client h None found = dropped (NoSuchNode h.to.node)
-    client h (Some k) found =
+    one_enters : (h : IpxHeader) (o : Option Client) → client_of_node h.to.node l.clients ≡ o → Sound (one_hears_joined l.port from h size o)
+    one_enters h None found = dropped (NoSuchNode h.to.node)
+    one_enters h (Some k) found =
         either_by Sound (are_one_place k.place from) _ _ (λ e. dropped ToItself)
-        (λ apart. either Sound (nat_lt most_client_bytes size) _ _ (dropped (TooLong size)) (to_one h.to.node k found apart))
+        (λ apart. either Sound (nat_lt most_client_bytes size) _ _ (dropped (TooLong size))
+        (entering (far_source l.port h) (One k.place) apart (λ place. refl) (λ place e. taker_known h.to.node place l.clients k found (place_is k.place place e))))
 
-    here : (p : PacketView) → Sound (lobby_hears_here l.port l.clients from p size)
-    here p =
-        either Sound (is_to_all_nodes p.header) _ _ (all p)
-        (either Sound (bytes_eq p.header.to.node.0 l.port.own.0) _ _ (core p) (client p.header (client_of_node p.header.to.node l.clients) refl))
+    all_enter : (h : IpxHeader) → Sound (all_hear_joined l.port from h size)
+    all_enter h =
+        either Sound (nat_lt most_client_bytes size) _ _ (dropped (TooLong size))
+        (entering (far_source l.port h) (Here from) (ap not (same_place from)) (λ place. refl) (λ place e. cc))
 
-    elsewhere : (p : PacketView) → Sound (lobby_hears_elsewhere l.port p)
-    elsewhere p =
-        either Sound (p.header.to.socket.0 == lobby_socket) _ _ (dropped (PingElsewhere p.header.to.network))
-        (either Sound (is_to_all_nodes p.header) _ _ (dropped (BroadcastElsewhere p.header.to.network)) (core p))
+    enters : (h : IpxHeader) → Sound (joined_hears l from h size)
+    enters h =
+        either Sound (not (is_for_lobby l.port h)) _ _ (dropped (ForElsewhere h.to.network))
+        (either Sound (is_from_lobby l.port h && is_node_here l.port l.clients h.from.node) _ _ (dropped (NodeTwice h.from.node))
+        (either Sound (tells_node l.port h) _ _ (entering (Some h.from.node) Nobody refl (λ place. refl) (λ place e. cc))
+        (either Sound (is_to_all_nodes h) _ _ (all_enter h) (one_enters h (client_of_node h.to.node l.clients) refl))))
 
-    known_hears : (p : PacketView) → Sound (lobby_hears_from l.port l.clients from p size (Some c))
-    known_hears p =
-        either Sound (not (bytes_eq p.header.from.node.0 c.node.0)) _ _ (dropped (OtherSource p.header.from.node))
-        (either Sound (is_for_lobby l.port p.header) _ _ (here p) (elsewhere p))
-
-  from_place : (p : PacketView) (o : Option Client) → client_at from l.clients ≡ o → Sound (lobby_hears_from l.port l.clients from p size o)
-  from_place p None known = dropped Unregistered
-  from_place p (Some c) known = known_hears c known p
-
-  pub sound_hearing : (p : PacketView) (now : ℕ) → IsSoundHearing l from size (lobby_hears l from p size now)
+  pub sound_hearing : (p : PacketView) (now : ℕ) → Sound (lobby_hears l from p size now)
   sound_hearing p now =
-      either_by Sound (is_registration p.header size) _ _ (λ e. registering now (client_at from l.clients) refl (size_is p.header size e))
-      (λ e. from_place p (client_at from l.clients) refl)
+      either_by Sound (is_joined_place from l.routers) _ _ (λ is. enters is p.header) (λ apart. from_client apart p now)
+
+-- what tells of a far client came from a joined router
+pub told_joined : (b : Bool) (heard : Heard) (told : Option Node) (takers : Takers) → (b ≡ false → is_of_client heard ≡ not (is_dropped heard)) → heard ≡ FromJoined told takers → b ≡ true
+told_joined true heard told takers member e = refl
+told_joined false heard told takers member e =
+    let other : is_of_client (FromJoined told takers) ≡ not (is_dropped (FromJoined told takers)) = subst (λ (h : Heard). is_of_client h ≡ not (is_dropped h)) e (member refl) in
+    cc
 
 -- ---- what goes to the core is of the port's network, and tells nothing
 
@@ -244,32 +305,53 @@ reaches_all port from p size =
     (either_by (ReachesCore port p) (is_to_service p.header && may_reach_core port p) _ _
     (λ e. λ goes. right_true (is_to_service p.header) (may_reach_core port p) e) (λ e. λ goes. cc)))
 
-reaches_client : (port : LobbyPort) (from : Place) (p : PacketView) (size : ℕ) (o : Option Client) → ReachesCore port p (client_hears from p.header size o)
-reaches_client port from p size None = λ goes. cc
-reaches_client port from p size (Some c) =
-    either (ReachesCore port p) (are_one_place c.place from) _ _ (λ goes. cc)
-    (either (ReachesCore port p) (nat_lt most_client_bytes size) _ _ (λ goes. cc) (λ goes. cc))
+reaches_far : (l : LobbyView) (node : Node) (p : PacketView) (size : ℕ) → ReachesCore l.port p (far_hear l node size)
+reaches_far l node p size =
+    either (ReachesCore l.port p) (length l.routers == 0) _ _ (λ goes. cc)
+    (either (ReachesCore l.port p) (nat_lt most_client_bytes size) _ _ (λ goes. cc) (λ goes. cc))
 
-reaches_from : (port : LobbyPort) (known : List Client) (from : Place) (p : PacketView) (size : ℕ) (o : Option Client) → ReachesCore port p (lobby_hears_from port known from p size o)
-reaches_from port known from p size None = λ goes. cc
-reaches_from port known from p size (Some c) =
-    either (ReachesCore port p) (not (bytes_eq p.header.from.node.0 c.node.0)) _ _ (λ goes. cc)
-    (either (ReachesCore port p) (is_for_lobby port p.header) _ _
-    (either (ReachesCore port p) (is_to_all_nodes p.header) _ _ (reaches_all port from p size)
-    (either (ReachesCore port p) (bytes_eq p.header.to.node.0 port.own.0) _ _ (reaches_core port p)
-    (reaches_client port from p size (client_of_node p.header.to.node known))))
-    (either (ReachesCore port p) (p.header.to.socket.0 == lobby_socket) _ _ (λ goes. cc)
-    (either (ReachesCore port p) (is_to_all_nodes p.header) _ _ (λ goes. cc) (reaches_core port p))))
+reaches_client : (l : LobbyView) (from : Place) (p : PacketView) (size : ℕ) (o : Option Client) → ReachesCore l.port p (client_hears l from p.header size o)
+reaches_client l from p size None = reaches_far l p.header.to.node p size
+reaches_client l from p size (Some c) =
+    either (ReachesCore l.port p) (are_one_place c.place from) _ _ (λ goes. cc)
+    (either (ReachesCore l.port p) (nat_lt most_client_bytes size) _ _ (λ goes. cc) (λ goes. cc))
 
-reaches_newcomer : (port : LobbyPort) (from : Place) (p : PacketView) (o : Option LobbyDrop) → ReachesCore port p (newcomer_hears port from o)
-reaches_newcomer port from p None = λ goes. cc
-reaches_newcomer port from p (Some d) = λ goes. cc
+reaches_from : (l : LobbyView) (from : Place) (p : PacketView) (size : ℕ) (o : Option Client) → ReachesCore l.port p (lobby_hears_from l from p size o)
+reaches_from l from p size None = λ goes. cc
+reaches_from l from p size (Some c) =
+    either (ReachesCore l.port p) (not (bytes_eq p.header.from.node.0 c.node.0)) _ _ (λ goes. cc)
+    (either (ReachesCore l.port p) (is_for_lobby l.port p.header) _ _
+    (either (ReachesCore l.port p) (is_to_all_nodes p.header) _ _ (reaches_all l.port from p size)
+    (either (ReachesCore l.port p) (bytes_eq p.header.to.node.0 l.port.own.0) _ _ (reaches_core l.port p)
+    (reaches_client l from p size (client_of_node p.header.to.node l.clients))))
+    (either (ReachesCore l.port p) (p.header.to.socket.0 == lobby_socket) _ _ (λ goes. cc)
+    (either (ReachesCore l.port p) (is_to_all_nodes p.header) _ _ (λ goes. cc) (reaches_core l.port p))))
 
-reaches_registering : (l : LobbyView) (from : Place) (p : PacketView) (now : ℕ) (o : Option Client) → ReachesCore l.port p (registration_hears l.port l.most l.clients from now o)
-reaches_registering l from p now None = reaches_newcomer l.port from p (newcomer_drop l.port l.most l.clients from now)
+reaches_newcomer : (port : LobbyPort) (node : Node) (p : PacketView) (o : Option LobbyDrop) → ReachesCore port p (newcomer_hears port node o)
+reaches_newcomer port node p None = λ goes. cc
+reaches_newcomer port node p (Some d) = λ goes. cc
+
+reaches_registering : (l : LobbyView) (from : Place) (p : PacketView) (now : ℕ) (o : Option Client) → ReachesCore l.port p (registration_hears l from now o)
+reaches_registering l from p now None = reaches_newcomer l.port (node_given l from) p (newcomer_drop l (node_given l from) now)
 reaches_registering l from p now (Some c) = λ goes. cc
+
+reaches_joined_one : (l : LobbyView) (from : Place) (p : PacketView) (size : ℕ) (o : Option Client) → ReachesCore l.port p (one_hears_joined l.port from p.header size o)
+reaches_joined_one l from p size None = λ goes. cc
+reaches_joined_one l from p size (Some c) =
+    either (ReachesCore l.port p) (are_one_place c.place from) _ _ (λ goes. cc)
+    (either (ReachesCore l.port p) (nat_lt most_client_bytes size) _ _ (λ goes. cc) (λ goes. cc))
+
+reaches_joined : (l : LobbyView) (from : Place) (p : PacketView) (size : ℕ) → ReachesCore l.port p (joined_hears l from p.header size)
+reaches_joined l from p size =
+    either (ReachesCore l.port p) (not (is_for_lobby l.port p.header)) _ _ (λ goes. cc)
+    (either (ReachesCore l.port p) (is_from_lobby l.port p.header && is_node_here l.port l.clients p.header.from.node) _ _ (λ goes. cc)
+    (either (ReachesCore l.port p) (tells_node l.port p.header) _ _ (λ goes. cc)
+    (either (ReachesCore l.port p) (is_to_all_nodes p.header) _ _
+    (either (ReachesCore l.port p) (nat_lt most_client_bytes size) _ _ (λ goes. cc) (λ goes. cc))
+    (reaches_joined_one l from p size (client_of_node p.header.to.node l.clients)))))
 
 pub core_law : (l : LobbyView) (from : Place) (p : PacketView) (size now : ℕ) → goes_to_core (lobby_hears l from p size now) ≡ true → may_reach_core l.port p ≡ true
 core_law l from p size now =
-    either (ReachesCore l.port p) (is_registration p.header size) _ _ (reaches_registering l from p now (client_at from l.clients))
-    (reaches_from l.port l.clients from p size (client_at from l.clients))
+    either (ReachesCore l.port p) (is_joined_place from l.routers) _ _ (reaches_joined l from p size)
+    (either (ReachesCore l.port p) (is_registration p.header size) _ _ (reaches_registering l from p now (client_at from l.clients))
+    (reaches_from l from p size (client_at from l.clients)))

@@ -42,7 +42,6 @@ once_left now most room known are = record {
   few = are.few;
   within = omega (arith, are.within, fewer (was_heard_within forgotten_after now) known);
   once = AllPairs-filter AreTwoClients (was_heard_within forgotten_after now) known are.once;
-  nodes = All-filter (was_heard_within forgotten_after now) HasPlaceNode known are.nodes;
   all = are.all;
 }
 
@@ -128,11 +127,11 @@ at_another place k isnt same = cc (ap (λ (p : Place). are_one_place p place) sa
 of_another : (node : Node) (k : Client) → has_client_node node k ≡ false → k.node ≢ node
 of_another node k isnt same = cc (same_node k.node node same)
 
-others_by : (place : Place) (now : ℕ) (known : List Client) (o : Option Client) → EachClientOnce known → client_at place known ≡ o → (o ≡ None → client_of_node (node_of_place place) known ≡ None)
-    → All (AreOthers place (client_heard place now o)) known
-others_by place now known None once is free k d lt isnt =
-    record { places = at_another place (get_or known k d) isnt; nodes = of_another (node_of_place place) (get_or known k d) (none_passes (has_client_node (node_of_place place)) known (free refl) k d lt) }
-others_by place now known (Some c) once is free k d lt isnt =
+others_by : (node : Node) (place : Place) (now : ℕ) (known : List Client) (o : Option Client) → EachClientOnce known → client_at place known ≡ o → (o ≡ None → client_of_node node known ≡ None)
+    → All (AreOthers place (client_heard node place now o)) known
+others_by node place now known None once is free k d lt isnt =
+    record { places = at_another place (get_or known k d) isnt; nodes = of_another node (get_or known k d) (none_passes (has_client_node node) known (free refl) k d lt) }
+others_by node place now known (Some c) once is free k d lt isnt =
     record {
       places = λ same. not_here place (get_or known k d) c isnt (found_passes (is_client_at place) known c is) same;
       nodes = others_differ place c known once is k d lt isnt;
@@ -145,21 +144,31 @@ kept_others place c known others k d lt =
     (is_not (is_client_at place (get_or (filter (λ x. not (is_client_at place x)) known) k d)) (filter_passes (λ x. not (is_client_at place x)) known k d lt))
 
 -- each of them has the node of its place
-heard_node : (place : Place) (now : ℕ) (known : List Client) (o : Option Client) → All HasPlaceNode known → client_at place known ≡ o → HasPlaceNode (client_heard place now o)
+heard_node : (place : Place) (now : ℕ) (known : List Client) (o : Option Client) → All HasPlaceNode known → client_at place known ≡ o → HasPlaceNode (client_heard (node_of_place place) place now o)
 heard_node place now known None nodes is = refl
 heard_node place now known (Some c) nodes is = found_has HasPlaceNode (is_client_at place) known c nodes is
 
-pub once_heard : (most room now : ℕ) (place : Place) (known : List Client) → AreClients most known room
-    → (client_at place known ≡ None → client_of_node (node_of_place place) known ≡ None) → AreClients most (clients_heard most place now known) room
-once_heard most room now place known are free =
+pub nodes_left : (now : ℕ) (known : List Client) → All HasPlaceNode known → All HasPlaceNode (clients_left now known)
+nodes_left now known nodes = All-filter (was_heard_within forgotten_after now) HasPlaceNode known nodes
+
+pub nodes_heard : (most now : ℕ) (place : Place) (known : List Client) → All HasPlaceNode known → All HasPlaceNode (clients_heard most (node_of_place place) place now known)
+nodes_heard most now place known nodes =
     let test = λ (x : Client). not (is_client_at place x) in
     let kept : List Client = filter test known in
-    let c : Client = client_heard place now (client_at place known) in
+    let n = length kept + 1 - most in
+    All-push HasPlaceNode (drop n kept) (client_heard (node_of_place place) place now (client_at place known)) (All-drop HasPlaceNode n kept (All-filter test HasPlaceNode known nodes)) (heard_node place now known (client_at place known) nodes refl)
+
+pub once_heard : (most room now : ℕ) (node : Node) (place : Place) (known : List Client) → AreClients most known room
+    → (client_at place known ≡ None → client_of_node node known ≡ None) → AreClients most (clients_heard most node place now known) room
+once_heard most room now node place known are free =
+    let test = λ (x : Client). not (is_client_at place x) in
+    let kept : List Client = filter test known in
+    let c : Client = client_heard node place now (client_at place known) in
     let n = length kept + 1 - most in
     let some : 1 ≤ most = are.some in
     let within : length known ≤ most = are.within in
     let few : length kept ≤ length known = fewer test known in
-    let others : All (AreOthers place c) known = others_by place now known (client_at place known) are.once refl free in
+    let others : All (AreOthers place c) known = others_by node place now known (client_at place known) are.once refl free in
     let pairs : EachClientOnce (kept ++ c ∷ []) = all_pairs_push AreTwoClients kept c (AllPairs-filter AreTwoClients test known are.once) (kept_others place c known others) in
     let joined : drop n (kept ++ c ∷ []) ≡ drop n kept ++ c ∷ [] = drop-append-le n kept (c ∷ []) (omega (arith, some, within, few)) in
     record {
@@ -167,6 +176,5 @@ once_heard most room now place known are free =
       few = are.few;
       within = omega (arith, some, within, few, length-append (drop n kept) (c ∷ []), length-drop n kept);
       once = subst EachClientOnce joined (behind AreTwoClients n (kept ++ c ∷ []) pairs);
-      nodes = All-push HasPlaceNode (drop n kept) c (All-drop HasPlaceNode n kept (All-filter test HasPlaceNode known are.nodes)) (heard_node place now known (client_at place known) are.nodes refl);
       all = are.all;
     }

@@ -1,5 +1,5 @@
 -- Who is known, once a client was heard.
-use Rattle.std.proofs.Common.{◌≡◌, ◌≤◌, ◌+◌, ◌-◌, ℕ, List, [], ◌∷◌, ◌++◌, Bool, true, false, Option, Some, None, length, take, drop, filter, find, not, cond, arith, refl, sym, ap, ◌∙◌, take-append-drop}
+use Rattle.std.proofs.Common.{◌≡◌, ◌≤◌, ◌+◌, ◌-◌, ℕ, List, [], ◌∷◌, ◌++◌, Bool, true, false, Option, Some, None, length, take, drop, filter, find, not, cond, arith, refl, sym, ap, subst, ◌∙◌, take-append-drop}
 use Rattle.std.specs.Prelude.{is_some, Ok, Err, ◌==◌, ◌&&◌, nat_lt, if◌then◌else◌}
 use Rattle.std.specs.Option.{option_or}
 use Rattle.std.specs.Str.{bytes_eq}
@@ -8,15 +8,18 @@ use Rattle.std.proofs.lemmas.Bool.{eqb-true}
 use Rattle.std.proofs.lemmas.Slice.Eq.{bytes_eq-Decides}
 use Rattle.ipx_lobby.specs.declared.clients.Client.{Client}
 use Rattle.ipx_lobby.specs.declared.heard.Heard.{Heard}
-use Rattle.ipx_lobby.specs.declared.heard.Heard.TheVariants.{Registered, Pinged, ToClient, ToOthers, ToOthersAndCore, ToCore, Dropped}
+use Rattle.ipx_lobby.specs.declared.heard.Heard.TheVariants.{Registered, Pinged, ToClient, ToOthers, ToOthersAndCore, ToCore, ToJoined, FromJoined, Dropped}
 use Rattle.ipx_lobby.specs.declared.drops.LobbyDrop.{LobbyDrop}
-use Rattle.ipx_lobby.specs.declared.drops.LobbyDrop.TheVariants.{TooLong}
+use Rattle.ipx_lobby.specs.declared.drops.LobbyDrop.TheVariants.{NoSuchNode, TooLong}
 use Rattle.ipx_lobby.specs.declared.place.Place.{Place}
+use Rattle.ipx_lobby.specs.declared.joined.FarClient.{FarClient}
+use Rattle.ipx_lobby.specs.declared.takers.Takers.{Takers}
 use Rattle.ipx_lobby.specs.declared.takers.Takers.TheVariants.{All, One}
 use Rattle.ipx_wire.specs.Assigned.{broadcast_node}
 use Rattle.ipx_wire.specs.declared.address.Node.{Node}
 use Rattle.ipx_lobby.specs.LobbyClients.{are_one_place, client_at, client_heard, client_of_node, clients_heard, is_client_at}
-use Rattle.ipx_lobby.specs.LobbyHears.{LobbyView, client_gets, is_dropped, lobby_gives, lobby_hearing, most_client_bytes, takers_of}
+use Rattle.ipx_lobby.specs.LobbyHears.{LobbyView, client_gets, is_dropped, is_of_client, is_taker, joined_takers, lobby_gives, lobby_hearing, lobby_told, most_client_bytes, node_given, takers_of}
+use Rattle.ipx_lobby.specs.LobbyJoined.{far_client_of}
 use Rattle.ipx_lobby.proofs.Hears.{taker_known}
 use Rattle.ipx_lobby.proofs.Once.{fewer, found_passes, same_place}
 
@@ -86,21 +89,21 @@ shorter from c (x ∷ xs) found =
 
 -- ---- the one that was heard
 
-is_there : (from : Place) (now : ℕ) (xs : List Client) (o : Option Client) → client_at from xs ≡ o → is_client_at from (client_heard from now o) ≡ true
-is_there from now xs None is = same_place from
-is_there from now xs (Some c) is = found_passes (is_client_at from) xs c is
+is_there : (node : Node) (from : Place) (now : ℕ) (xs : List Client) (o : Option Client) → client_at from xs ≡ o → is_client_at from (client_heard node from now o) ≡ true
+is_there node from now xs None is = same_place from
+is_there node from now xs (Some c) is = found_passes (is_client_at from) xs c is
 
 alone : (from : Place) (c : Client) → is_client_at from c ≡ true → find (is_client_at from) (c ∷ []) ≡ Some c
 alone from c is = rw is refl
 
-pub heard_found : (most now : ℕ) (from : Place) (xs : List Client) → client_at from (clients_heard most from now xs) ≡ Some (client_heard from now (client_at from xs))
-heard_found most now from xs =
+pub heard_found : (most now : ℕ) (node : Node) (from : Place) (xs : List Client) → client_at from (clients_heard most node from now xs) ≡ Some (client_heard node from now (client_at from xs))
+heard_found most now node from xs =
     let test = is_client_at from in
     let kept : List Client = filter (λ k. not (is_client_at from k)) xs in
     let n = length kept + 1 - most in
-    let c : Client = client_heard from now (client_at from xs) in
+    let c : Client = client_heard node from now (client_at from xs) in
     let none : find test (drop n kept) ≡ None = none_behind test n kept (gone from xs) in
-    find-append test (drop n kept) (c ∷ []) ∙ ap (λ (o : Option Client). option_or o (find test (c ∷ []))) none ∙ alone from c (is_there from now xs (client_at from xs) refl)
+    find-append test (drop n kept) (c ∷ []) ∙ ap (λ (o : Option Client). option_or o (find test (c ∷ []))) none ∙ alone from c (is_there node from now xs (client_at from xs) refl)
 
 -- ---- the others
 
@@ -108,13 +111,13 @@ first_is : (a b : Option Client) → is_some a ≡ true → is_some (option_or a
 first_is None b e = cc
 first_is (Some x) b e = refl
 
-pub still_there : (most now : ℕ) (from place : Place) (xs : List Client) (o : Option Client) → length xs ≤ most → client_at from xs ≡ o → is_some o ≡ true → are_one_place place from ≡ false → is_some (client_at place xs) ≡ true
-    → is_some (client_at place (clients_heard most from now xs)) ≡ true
-still_there most now from place xs None few is known apart there = cc
-still_there most now from place xs (Some c) few is known apart there =
+pub still_there : (most now : ℕ) (node : Node) (from place : Place) (xs : List Client) (o : Option Client) → length xs ≤ most → client_at from xs ≡ o → is_some o ≡ true → are_one_place place from ≡ false → is_some (client_at place xs) ≡ true
+    → is_some (client_at place (clients_heard most node from now xs)) ≡ true
+still_there most now node from place xs None few is known apart there = cc
+still_there most now node from place xs (Some c) few is known apart there =
     let test = is_client_at place in
     let kept : List Client = filter (λ k. not (is_client_at from k)) xs in
-    let last : Client = client_heard from now (client_at from xs) in
+    let last : Client = client_heard node from now (client_at from xs) in
     let zero : length kept + 1 - most ≡ 0 = omega (arith, few, shorter from c xs is) in
     let stays : is_some (find test kept) ≡ true = ap is_some (stay from place xs apart) ∙ there in
     let all : is_some (find test (kept ++ last ∷ [])) ≡ true = ap is_some (find-append test kept (last ∷ [])) ∙ first_is (find test kept) (find test (last ∷ [])) stays in
@@ -122,33 +125,70 @@ still_there most now from place xs (Some c) few is known apart there =
 
 -- ---- a lobby behind a datagram
 
-pub hearing_clients : (heard : Heard) (from : Place) (now : ℕ) (l : LobbyView) → is_dropped heard ≡ false → (lobby_hearing heard from now l).clients ≡ clients_heard l.most from now l.clients
+pub hearing_clients : (heard : Heard) (from : Place) (now : ℕ) (l : LobbyView) → is_of_client heard ≡ true → (lobby_hearing heard from now l).clients ≡ clients_heard l.most (node_given l from) from now l.clients
 hearing_clients (Registered answer) from now l e = refl
 hearing_clients (Pinged giver answer) from now l e = refl
 hearing_clients (ToClient place) from now l e = refl
 hearing_clients (ToOthers giver) from now l e = refl
 hearing_clients (ToOthersAndCore giver) from now l e = refl
 hearing_clients ToCore from now l e = refl
+hearing_clients (ToJoined takers) from now l e = refl
+hearing_clients (FromJoined told takers) from now l e = cc
 hearing_clients (Dropped d) from now l e = cc
 
-pub taker_heard : (heard : Heard) (place : Place) → takers_of heard ≡ One place → is_dropped heard ≡ false
-taker_heard (Registered answer) place e = refl
-taker_heard (Pinged giver answer) place e = refl
-taker_heard (ToClient one) place e = refl
-taker_heard (ToOthers giver) place e = refl
-taker_heard (ToOthersAndCore giver) place e = refl
-taker_heard ToCore place e = refl
-taker_heard (Dropped d) place e = cc
+told_clients : (told : Option Node) (from : Place) (now : ℕ) (l : LobbyView) → (lobby_told told from now l).clients ≡ l.clients
+told_clients None from now l = refl
+told_clients (Some node) from now l = refl
+
+pub others_clients : (heard : Heard) (from : Place) (now : ℕ) (l : LobbyView) → is_of_client heard ≡ false → (lobby_hearing heard from now l).clients ≡ l.clients
+others_clients (Registered answer) from now l e = cc
+others_clients (Pinged giver answer) from now l e = cc
+others_clients (ToClient place) from now l e = cc
+others_clients (ToOthers giver) from now l e = cc
+others_clients (ToOthersAndCore giver) from now l e = cc
+others_clients ToCore from now l e = cc
+others_clients (ToJoined takers) from now l e = cc
+others_clients (FromJoined told takers) from now l e = told_clients told from now l
+others_clients (Dropped d) from now l e = refl
+
+pub taker_kept : (b : Bool) (heard : Heard) (from place : Place) (now : ℕ) (l : LobbyView) → is_of_client heard ≡ b → length l.clients ≤ l.most → is_taker (takers_of heard) from ≡ false → takers_of heard ≡ One place
+    → (is_of_client heard ≡ true → is_some (client_at from l.clients) ≡ true) → is_some (client_at place l.clients) ≡ true → is_some (client_at place (lobby_hearing heard from now l).clients) ≡ true
+taker_kept true heard from place now l of few back one sender there =
+    let apart : are_one_place place from ≡ false = subst (λ (t : Takers). is_taker t from ≡ false) one back in
+    ap (λ (known : List Client). is_some (client_at place known)) (hearing_clients heard from now l of)
+    ∙ still_there l.most now (node_given l from) from place l.clients (client_at from l.clients) few refl (sender of) apart there
+taker_kept false heard from place now l of few back one sender there =
+    ap (λ (known : List Client). is_some (client_at place known)) (others_clients heard from now l of) ∙ there
+
+-- where nobody who is joined sent it, no far client is another
+pub hearing_far : (heard : Heard) (from : Place) (now : ℕ) (l : LobbyView) → is_of_client heard ≡ not (is_dropped heard) → (lobby_hearing heard from now l).far ≡ l.far
+hearing_far (Registered answer) from now l e = refl
+hearing_far (Pinged giver answer) from now l e = refl
+hearing_far (ToClient place) from now l e = refl
+hearing_far (ToOthers giver) from now l e = refl
+hearing_far (ToOthersAndCore giver) from now l e = refl
+hearing_far ToCore from now l e = refl
+hearing_far (ToJoined takers) from now l e = refl
+hearing_far (FromJoined told takers) from now l e = cc
+hearing_far (Dropped d) from now l e = refl
 
 -- ---- packets of the core
 
-gives_by : (long broad : Bool) (drop : LobbyDrop) (node : Node) (o : Option Client) (place : Place) (xs : List Client) → client_of_node node xs ≡ o
-    → (if long then Err drop else if broad then Ok All else client_gets node o) ≡ Ok (One place) → is_some (client_at place xs) ≡ true
-gives_by true broad drop node o place xs found e = cc
-gives_by false true drop node o place xs found e = cc
-gives_by false false drop node None place xs found e = cc
-gives_by false false drop node (Some c) place xs found e = taker_known node place xs c found (cc e)
+joined_not_one : (o : Option FarClient) (place : Place) {P : Type 0} → joined_takers o ≡ One place → P
+joined_not_one None place e = cc
+joined_not_one (Some f) place e = cc
+
+none_gives : (alone : Bool) (node : Node) (f : Option FarClient) (place : Place) {P : Type 0} → (if alone then Err (NoSuchNode node) else Ok (joined_takers f)) ≡ Ok (One place) → P
+none_gives true node f place e = cc
+none_gives false node f place e = joined_not_one f place (cc e)
+
+gives_by : (long broad : Bool) (drop : LobbyDrop) (l : LobbyView) (node : Node) (o : Option Client) (place : Place) → client_of_node node l.clients ≡ o
+    → (if long then Err drop else if broad then Ok All else client_gets l node o) ≡ Ok (One place) → is_some (client_at place l.clients) ≡ true
+gives_by true broad drop l node o place found e = cc
+gives_by false true drop l node o place found e = cc
+gives_by false false drop l node None place found e = none_gives (length l.routers == 0) node (far_client_of node l.far) place e
+gives_by false false drop l node (Some c) place found e = taker_known node place l.clients c found (cc e)
 
 pub gives_client : (l : LobbyView) (node : Node) (size : ℕ) (place : Place) → lobby_gives l node size ≡ Ok (One place) → is_some (client_at place l.clients) ≡ true
 gives_client l node size place e =
-    gives_by (nat_lt most_client_bytes size) (bytes_eq node.0 broadcast_node) (TooLong size) node (client_of_node node l.clients) place l.clients refl e
+    gives_by (nat_lt most_client_bytes size) (bytes_eq node.0 broadcast_node) (TooLong size) l node (client_of_node node l.clients) place refl e

@@ -1,4 +1,5 @@
 pub mod LobbyClients
+pub mod LobbyJoined
 pub mod LobbyHears
 pub mod LobbyCounted
 pub mod LobbyInside

@@ -81,15 +81,15 @@ is_first_heard now (c ∷ rest) = was_heard_within replaced_after now c
 abbrev pub is_lobby_full : ℕ → ℕ → List Client → Bool
 is_lobby_full most now known = nat_le most (length known) && is_first_heard now known
 
--- the client that is heard at a place, which is a new one where none is known there
-abbrev pub client_heard : Place → ℕ → Option Client → Client
-client_heard place now None =
-    record { node = node_of_place place; place = place; since = now; heard = now }
-client_heard place now (Some c) = record c { heard = now }
+-- the client that is heard at a place, which is a new one of this node where none is known there
+abbrev pub client_heard : Node → Place → ℕ → Option Client → Client
+client_heard node place now None =
+    record { node = node; place = place; since = now; heard = now }
+client_heard node place now (Some c) = record c { heard = now }
 
 -- it is known once, behind all the others, and where there are too many the first one goes
-abbrev pub clients_heard : ℕ → Place → ℕ → List Client → List Client
-clients_heard most place now known =
+abbrev pub clients_heard : ℕ → Node → Place → ℕ → List Client → List Client
+clients_heard most node place now known =
     drop (length (filter (λ c. not (is_client_at place c)) known) + 1 - most)
     (filter (λ c. not (is_client_at place c)) known)
-    ++ client_heard place now (client_at place known) ∷ []
+    ++ client_heard node place now (client_at place known) ∷ []

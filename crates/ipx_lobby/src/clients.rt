@@ -1,9 +1,9 @@
 //! The clients of a lobby.
 
-ghost use Rattle.std.specs.Prelude.{◌≡◌, ◌≤◌, ◌<◌, ◌+◌, ◌-◌, All, [], None, IfOk, drop, filter, find, length, not, option_copied};
+ghost use Rattle.std.specs.Prelude.{◌≡◌, ◌≤◌, ◌<◌, ◌+◌, ◌-◌, [], None, IfOk, drop, filter, find, length, not, option_copied};
 ghost use Rattle.std.specs.Vec.{vec_capacity, vec_len};
-ghost use Rattle.ipx_lobby.specs.LobbyClients.{EachClientOnce, HasPlaceNode, is_lobby_full, client_at, client_heard, client_of_node, clients_heard, clients_left};
-ghost use Rattle.ipx_lobby.specs.LobbyClients.{has_client_node, is_client_at, is_newcomer, most_lobby_clients, newcomers, node_of_place};
+ghost use Rattle.ipx_lobby.specs.LobbyClients.{EachClientOnce, is_lobby_full, client_at, client_heard, client_of_node, clients_heard, clients_left};
+ghost use Rattle.ipx_lobby.specs.LobbyClients.{has_client_node, is_client_at, is_newcomer, most_lobby_clients, newcomers};
 
 use crate::place::Place;
 use ipx_wire::Node;
@@ -124,7 +124,6 @@ impl Clients {
     pub fn all(&self) -> &[Client]
         ensures all { result.now ≡ self.now.known }
         ensures once { EachClientOnce self.now.known }
-        ensures nodes { All HasPlaceNode self.now.known }
         ensures few { length self.now.known ≤ self.now.most }
         ensures most { self.now.most ≤ most_lobby_clients }
     {
@@ -176,9 +175,9 @@ impl Clients {
         }
     }
 
-    /// The client that is heard at a place, which is a new one where none is known there.
-    fn heard_at(&self, place: Place, now: u64) -> Client
-        ensures { result ≡ client_heard place now (client_at place self.now.known) }
+    /// The client that is heard at a place, which is a new one of this node where none is known there.
+    fn heard_at(&self, node: Node, place: Place, now: u64) -> Client
+        ensures { result ≡ client_heard node place now (client_at place self.now.known) }
     {
         match self.at(place) {
             Some(client) => Client {
@@ -186,7 +185,7 @@ impl Clients {
                 ..client
             },
             None => Client {
-                node: place.node(),
+                node,
                 place,
                 since: now,
                 heard: now,
@@ -196,14 +195,14 @@ impl Clients {
 
     /// A client is heard at a place, where a new one's node is no other's. Where there are too many
     /// the one goes that was heard before all others.
-    pub fn put(&mut self, place: Place, now: u64)
+    pub fn put(&mut self, node: Node, place: Place, now: u64)
         requires { client_at place self.old.known ≡ None
-            → client_of_node (node_of_place place) self.old.known ≡ None }
+            → client_of_node node self.old.known ≡ None }
         ensures { self.new ≡ record self.old {
-          known = clients_heard self.old.most place now self.old.known;
+          known = clients_heard self.old.most node place now self.old.known;
         } }
     {
-        let client = self.heard_at(place, now);
+        let client = self.heard_at(node, place, now);
         leave_out(&mut self.known, place);
         make_room(&mut self.known, self.most);
         let last = self.known.len();

@@ -22,6 +22,8 @@ pub struct LobbyCounts {
     pub broadcast_elsewhere: u64,
     pub from_elsewhere: u64,
     pub response: u64,
+    pub node_twice: u64,
+    pub for_elsewhere: u64,
 }
 
 /// A count goes up by one, and stays where it is the greatest.
@@ -50,6 +52,8 @@ impl LobbyCounts {
             broadcast_elsewhere: 0,
             from_elsewhere: 0,
             response: 0,
+            node_twice: 0,
+            for_elsewhere: 0,
         }
     }
 
@@ -71,6 +75,8 @@ impl LobbyCounts {
             LobbyDrop::BroadcastElsewhere(_) => raise(&mut self.broadcast_elsewhere),
             LobbyDrop::FromElsewhere(_) => raise(&mut self.from_elsewhere),
             LobbyDrop::Response => raise(&mut self.response),
+            LobbyDrop::NodeTwice(_) => raise(&mut self.node_twice),
+            LobbyDrop::ForElsewhere(_) => raise(&mut self.for_elsewhere),
         }
     }
 }

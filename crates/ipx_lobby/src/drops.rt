@@ -10,7 +10,7 @@ pub enum LobbyDrop {
     #[error("{0}")]
     Malformed(IpxFault),
     /// A registration whose node is the router's or all nodes', or in a lobby that is joined another
-    /// client's: which.
+    /// client's, here or there: which.
     #[error("a client's node is taken: {0}")]
     NodeTaken(Node),
     /// A registration, and ten clients are new in less than a second.
@@ -46,4 +46,11 @@ pub enum LobbyDrop {
     /// It is for the core alone, and is a response of RIP or SAP, which tells routes or services.
     #[error("a client told routes or services")]
     Response,
+    /// A joined router's, from a node of this network that is the router's here, all nodes' or a
+    /// client's here: which.
+    #[error("a joined router sent from a node that is known here: {0}")]
+    NodeTwice(Node),
+    /// A joined router's, for another network: for which.
+    #[error("a joined router sent for network {0}")]
+    ForElsewhere(Network),
 }

@@ -2,12 +2,12 @@
 
 ghost use Rattle.std.specs.Prelude.{◌≡◌, [], IfSome, is_some};
 ghost use Rattle.ipx_wire.specs.Ipx.{IsIpx, packet_of};
-ghost use Rattle.ipx_lobby.specs.LobbyHears.{IsAnswer, answer_of, goes_to_core, takers_of};
+ghost use Rattle.ipx_lobby.specs.LobbyHears.{IsAnswer, IsNotice, answer_of, goes_to_core, notice_of, takers_of};
 
 use crate::drops::LobbyDrop;
 use crate::place::Place;
 use crate::takers::Takers;
-use ipx_wire::{IPX_HEADER_SIZE, IpxHeader, Packet, encode_into};
+use ipx_wire::{IPX_HEADER_SIZE, IpxHeader, Node, Packet, encode_into};
 
 /// What becomes of a datagram.
 #[derive(Clone, Copy, Debug, PartialEq, Eq)]
@@ -19,12 +19,17 @@ pub enum Heard {
     Pinged(Place, IpxHeader),
     /// It goes to the client at a place.
     ToClient(Place),
-    /// It goes to each client but the one at a place, which sent it.
+    /// It goes to each client but the one at a place, which sent it, and to each joined router.
     ToOthers(Place),
     /// The same, and the core of the port gets it too.
     ToOthersAndCore(Place),
     /// The core of the port gets it alone.
     ToCore,
+    /// It is a client's for a node that no client has: it goes to these joined routers.
+    ToJoined(Takers),
+    /// It came from a joined router, and goes to these clients: also whose node is there, where it tells
+    /// that.
+    FromJoined(Option<Node>, Takers),
     /// Nobody gets it: why.
     Dropped(LobbyDrop),
 }
@@ -40,7 +45,7 @@ fn bytes_of(header: IpxHeader) -> [u8; IPX_HEADER_SIZE]
 }
 
 impl Heard {
-    /// The clients that the bytes go on to, as they came.
+    /// The clients and joined routers that the bytes go on to, as they came.
     pub fn takers(self) -> Takers
         ensures { result ≡ takers_of self }
     {
@@ -49,6 +54,7 @@ impl Heard {
             Heard::Pinged(from, _) | Heard::ToOthers(from) | Heard::ToOthersAndCore(from) => {
                 Takers::Others(from)
             }
+            Heard::ToJoined(takers) | Heard::FromJoined(_, takers) => takers,
             Heard::Registered(_) | Heard::ToCore | Heard::Dropped(_) => Takers::Nobody,
         }
     }
@@ -71,6 +77,30 @@ impl Heard {
             | Heard::ToOthers(_)
             | Heard::ToOthersAndCore(_)
             | Heard::ToCore
+            | Heard::ToJoined(_)
+            | Heard::FromJoined(_, _)
+            | Heard::Dropped(_) => None,
+        }
+    }
+
+    /// What tells each joined router that a client registered, if one did: a packet from its node to
+    /// its node. A router that hears it gives that node to no client of its own.
+    pub fn notice(self) -> Option<[u8; IPX_HEADER_SIZE]>
+        ensures notice { IfSome result (λ bytes. IsNotice self bytes) }
+        ensures noticed { is_some result ≡ is_some (notice_of self) }
+    {
+        match self {
+            Heard::Registered(answer) => Some(bytes_of(IpxHeader {
+                from: answer.to,
+                ..answer
+            })),
+            Heard::Pinged(_, _)
+            | Heard::ToClient(_)
+            | Heard::ToOthers(_)
+            | Heard::ToOthersAndCore(_)
+            | Heard::ToCore
+            | Heard::ToJoined(_)
+            | Heard::FromJoined(_, _)
             | Heard::Dropped(_) => None,
         }
     }

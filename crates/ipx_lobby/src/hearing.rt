@@ -2,13 +2,16 @@
 
 ghost use Rattle.std.specs.Prelude.{◌≡◌};
 ghost use Rattle.ipx_wire.specs.Ipx.{packet_view};
-ghost use Rattle.ipx_lobby.specs.LobbyHears.{all_hear, core_hears, has_socket, is_for_lobby, is_from_lobby, is_registration, is_to_all_nodes, is_to_service};
-ghost use Rattle.ipx_lobby.specs.LobbyHears.{lobby_header, lobby_hears_elsewhere, may_reach_core, registration_answer, tells_router};
+ghost use Rattle.ipx_lobby.specs.LobbyHears.{all_hear, core_hears, has_socket, is_for_lobby, is_from_lobby, is_registration, is_to_all_nodes, is_to_service, joined_takers};
+ghost use Rattle.ipx_lobby.specs.LobbyHears.{all_hear_joined, far_source, lobby_header, lobby_hears_elsewhere, may_reach_core, one_hears_joined, registration_answer, tells_node, tells_router};
 
+use crate::clients::Client;
 use crate::drops::LobbyDrop;
 use crate::heard::Heard;
+use crate::joined::FarClient;
 use crate::place::Place;
 use crate::port::LobbyPort;
+use crate::takers::Takers;
 use byteorder::{BigEndian, ByteOrder};
 use ipx_wire::{Address, IPX_HEADER_SIZE, IpxHeader, Network, Node, Packet, Socket, packet_type};
 
@@ -82,7 +85,7 @@ fn asks_router(header: IpxHeader) -> bool
 }
 
 /// Whether a packet comes from the network of the port.
-fn is_from_here(port: LobbyPort, header: IpxHeader) -> bool
+pub fn is_from_here(port: LobbyPort, header: IpxHeader) -> bool
     ensures { result ≡ is_from_lobby port header }
 {
     header.from.network == Network::LOCAL || header.from.network == port.network
@@ -158,4 +161,61 @@ pub fn elsewhere(port: LobbyPort, packet: &Packet<'_>) -> Heard
         return Heard::Dropped(LobbyDrop::BroadcastElsewhere(header.to.network));
     }
     to_core(port, packet)
+}
+
+/// The joined routers that bytes for a node go to which no client has: the one behind which it is
+/// known, or each.
+pub fn joined_takers_of(far: Option<FarClient>) -> Takers
+    ensures { result ≡ joined_takers far }
+{
+    match far {
+        Some(far) => Takers::JoinedAt(far.router),
+        None => Takers::Joined,
+    }
+}
+
+/// The node that a packet of a joined router is from, where it comes from the network of the port.
+fn far_node(port: LobbyPort, header: IpxHeader) -> Option<Node>
+    ensures { result ≡ far_source port header }
+{
+    if is_from_here(port, header) {
+        Some(header.from.node)
+    } else {
+        None
+    }
+}
+
+/// Whether a packet of a joined router tells where a node is, and is for nobody.
+pub fn notes_node(port: LobbyPort, header: IpxHeader) -> bool
+    ensures { result ≡ tells_node port header }
+{
+    is_from_here(port, header) && header.to.node == header.from.node
+}
+
+/// What becomes of a packet of a joined router for all nodes, in a datagram of so many bytes.
+pub fn joined_to_all(port: LobbyPort, from: Place, header: IpxHeader, size: usize) -> Heard
+    ensures { result ≡ all_hear_joined port from header size }
+{
+    if size > MOST_CLIENT_BYTES {
+        return Heard::Dropped(LobbyDrop::TooLong(size));
+    }
+    Heard::FromJoined(far_node(port, header), Takers::Here(from))
+}
+
+/// What becomes of a packet of a joined router for one node, which this client has.
+pub fn joined_to_one(
+    port: LobbyPort,
+    from: Place,
+    header: IpxHeader,
+    size: usize,
+    client: Option<Client>,
+) -> Heard
+    ensures { result ≡ one_hears_joined port from header size client }
+{
+    match client {
+        None => Heard::Dropped(LobbyDrop::NoSuchNode(header.to.node)),
+        Some(client) if client.place == from => Heard::Dropped(LobbyDrop::ToItself),
+        Some(_) if size > MOST_CLIENT_BYTES => Heard::Dropped(LobbyDrop::TooLong(size)),
+        Some(client) => { Heard::FromJoined(far_node(port, header), Takers::One(client.place)) }
+    }
 }

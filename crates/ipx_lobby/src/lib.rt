@@ -2,7 +2,11 @@
 //!
 //! [`Lobby::hear`] says of a datagram that came from a place what is answered, to which clients the
 //! bytes go on, and whether the core of the port gets them. [`Lobby::give`] says which clients a
-//! packet of the core goes to. Memory is taken by [`Lobby::new`] alone.
+//! packet of the core goes to. Memory is taken by [`Lobby::new`] and [`Lobby::joined_to`] alone.
+//!
+//! Lobbies of several routers can be joined as one network: what a client of one sends to all nodes,
+//! or to a node that none there has, goes to the joined routers too, and from there to their clients
+//! alone.
 #![tactic(auto)]
 
 mod clients;
@@ -10,6 +14,7 @@ mod counts;
 mod drops;
 mod heard;
 mod hearing;
+mod joined;
 mod lobby;
 mod place;
 mod port;
@@ -20,6 +25,7 @@ pub use counts::LobbyCounts;
 pub use drops::LobbyDrop;
 pub use heard::Heard;
 pub use hearing::{LOBBY_SOCKET, MOST_CLIENT_BYTES};
+pub use joined::{FarClient, MOST_FAR_CLIENTS};
 pub use lobby::Lobby;
 pub use place::Place;
 pub use port::LobbyPort;

@@ -1,25 +1,31 @@
 //! A port for clients that register.
 
-ghost use Rattle.std.specs.Prelude.{◌≡◌, ◌≤◌, ◌&&◌, ℕ, All, List, IfOk, None, Ok, Some, false, is_some, length, nat_le, true};
+ghost use Rattle.std.specs.Prelude.{◌≡◌, ◌≤◌, ◌&&◌, ℕ, All, List, [], IfOk, None, Ok, Option, Some, false, is_some, length, nat_le, true};
 ghost use Rattle.ipx_wire.specs.declared.ipx.fault.IpxFault.{IpxFault};
 ghost use Rattle.ipx_wire.specs.Ipx.{BeginsWith, PacketView, ipx_fault, packet_view};
 ghost use Rattle.ipx_wire.specs.declared.ipx.packet.IpxHeader.{IpxHeader};
-ghost use Rattle.ipx_lobby.specs.declared.heard.Heard.TheVariants.{Dropped, Registered};
+ghost use Rattle.ipx_lobby.specs.declared.heard.Heard.TheVariants.{Dropped, FromJoined, Registered};
 ghost use Rattle.ipx_lobby.specs.declared.drops.LobbyDrop.TheVariants.{Malformed};
 ghost use Rattle.ipx_lobby.specs.declared.place.Place.{Place};
+ghost use Rattle.ipx_wire.specs.declared.address.Node.{Node};
+ghost use Rattle.ipx_lobby.specs.declared.takers.Takers.{Takers};
 ghost use Rattle.ipx_lobby.specs.declared.takers.Takers.TheVariants.{One};
 ghost use Rattle.ipx_lobby.specs.LobbyClients.{EachClientOnce, client_at, client_heard, client_of_node, clients_left, most_lobby_clients, node_of_place};
-ghost use Rattle.ipx_lobby.specs.LobbyHears.{IsAnswer, client_hears, goes_to_core, is_dropped, is_taker, lobby_aged, lobby_gives, lobby_giving, lobby_hearing};
+ghost use Rattle.ipx_lobby.specs.LobbyHears.{IsAnswer, answer_of, client_hears, far_hear, goes_to_core, is_dropped, is_joined_taker, is_node_here, is_node_taken, is_of_client, is_taker};
+ghost use Rattle.ipx_lobby.specs.LobbyHears.{joined_hears, joined_lobby, lobby_aged, lobby_gives, lobby_giving, lobby_hearing, lobby_knowing, lobby_told};
+ghost use Rattle.ipx_lobby.specs.LobbyHears.{lobby_hears, lobby_hears_from, lobby_hears_here, may_reach_core, new_lobby, newcomer_drop, node_given, registration_hears, takers_join, takers_of, takers_reach};
 ghost use Rattle.ipx_lobby.specs.LobbyInside.{IsSoundHearing};
-ghost use Rattle.ipx_lobby.specs.LobbyHears.{lobby_hears, lobby_hears_from, lobby_hears_here, may_reach_core, new_lobby, newcomer_drop, registration_hears, takers_of, takers_reach};
+ghost use Rattle.ipx_lobby.specs.LobbyJoined.{far_client_of, is_joined_place, most_far_clients};
 
 use crate::clients::{Client, Clients, MOST_CLIENTS, MOST_NEWCOMERS};
 use crate::counts::LobbyCounts;
 use crate::drops::LobbyDrop;
 use crate::heard::Heard;
 use crate::hearing::{
-    MOST_CLIENT_BYTES, answer_with_node, elsewhere, is_for_all, registers, stays, to_all, to_core,
+    MOST_CLIENT_BYTES, answer_with_node, elsewhere, is_for_all, is_from_here, joined_takers_of,
+    joined_to_all, joined_to_one, notes_node, registers, stays, to_all, to_core,
 };
+use crate::joined::{FarClient, Joined};
 use crate::place::Place;
 use crate::port::LobbyPort;
 use crate::takers::Takers;
@@ -27,15 +33,19 @@ use ipx_wire::{IpxHeader, Node, Packet, decode};
 use std::alloc::{AllocError, Global};
 use std::marker::Model;
 
-/// A port for clients that register, and a hub between them.
+/// A port for clients that register, and a hub between them, which may be joined to those of other
+/// routers.
 #[derive(Drop)]
 pub struct Lobby {
     port: LobbyPort,
     clients: Clients,
     counts: LobbyCounts,
+    joined: Joined,
 }
 
 impl Model for Lobby {
+    ghost use Rattle.std.specs.Prelude.{◌≡◌, All, []};
+    ghost use Rattle.ipx_lobby.specs.LobbyClients.{HasPlaceNode};
     ghost use Rattle.ipx_lobby.specs.LobbyHears.{LobbyView};
 
     ghost Value = { LobbyView };
@@ -45,7 +55,11 @@ impl Model for Lobby {
       most = l.clients.most;
       clients = l.clients.known;
       counts = l.counts;
+      routers = l.joined.routers;
+      far = l.joined.far;
     } };
+
+    ghost invariant = { λ l. l.joined.routers ≡ [] → All HasPlaceNode l.clients.known };
 }
 
 impl Lobby {
@@ -56,18 +70,36 @@ impl Lobby {
         1 <= most && most <= MOST_CLIENTS
     }
 
-    /// A lobby of a port, with at most so many clients: 1 to 150, which the caller owes. Nobody is
-    /// known yet. Memory is taken here alone.
+    /// A lobby of a port, with at most so many clients: 1 to 150, which the caller owes. It is joined
+    /// to no router, and nobody is known yet. Memory is taken here, or by `Lobby::joined_to`, alone.
     pub fn new(alloc: Global, port: LobbyPort, most: usize) -> Result<Lobby, AllocError>
         requires some { 1 ≤ most }
         requires few { most ≤ most_lobby_clients }
         ensures { IfOk result (λ l. l ≡ new_lobby port most) }
     {
+        Lobby::joined_to(alloc, port, most, Vec::new(alloc))
+    }
+
+    /// The same lobby, joined to those of routers at these places as one network: each of these names
+    /// the others, and has the same network number and a node of its own. A place is that from which
+    /// the router sends.
+    pub fn joined_to(
+        alloc: Global,
+        port: LobbyPort,
+        most: usize,
+        routers: Vec<Place>,
+    ) -> Result<Lobby, AllocError>
+        requires some { 1 ≤ most }
+        requires few { most ≤ most_lobby_clients }
+        ensures { IfOk result (λ l. l ≡ joined_lobby port most routers.items) }
+    {
         let clients = Clients::new(alloc, most)?;
+        let joined = Joined::new(alloc, routers)?;
         Ok(Lobby {
             port,
             clients,
             counts: LobbyCounts::new(),
+            joined,
         })
     }
 
@@ -86,15 +118,39 @@ impl Lobby {
     }
 
     /// The clients, the one that was heard last behind the others: no two at one place, and no two of
-    /// one node, which is that of its place.
+    /// one node, which is that of its place where no router is joined.
     pub fn clients(&self) -> &[Client]
         ensures all { result.now ≡ self.now.clients }
         ensures once { EachClientOnce self.now.clients }
-        ensures nodes { All (λ c. c.node ≡ node_of_place c.place) self.now.clients }
+        ensures nodes { self.now.routers ≡ []
+            → All (λ c. c.node ≡ node_of_place c.place) self.now.clients }
         ensures few { length self.now.clients ≤ self.now.most }
         ensures most { self.now.most ≤ most_lobby_clients }
     {
         self.clients.all()
+    }
+
+    /// Where the routers are that the lobby is joined to.
+    pub fn routers(&self) -> &[Place]
+        ensures { result.now ≡ self.now.routers }
+    {
+        self.joined.routers()
+    }
+
+    /// The clients of joined routers, the one that was heard last behind the others.
+    pub fn far_clients(&self) -> &[FarClient]
+        ensures all { result.now ≡ self.now.far }
+        ensures few { length self.now.far ≤ most_far_clients }
+        ensures none { self.now.routers ≡ [] → self.now.far ≡ [] }
+    {
+        self.joined.far_clients()
+    }
+
+    /// Whether bytes with these takers go to the joined router at a place.
+    pub fn joins(&self, takers: Takers, place: Place) -> bool
+        ensures { result ≡ takers_join self.now takers place }
+    {
+        self.joined.has(place) && takers.has_router(place)
     }
 
     /// Whether bytes with these takers go to a place: a client is known there, and it is one of them.
@@ -104,15 +160,33 @@ impl Lobby {
         self.clients.at(place).is_some() && takers.has(place)
     }
 
-    /// Why who registers from a place becomes no client.
-    fn refuses(&self, from: Place, now: u64) -> Option<LobbyDrop>
-        ensures { result ≡ newcomer_drop self.now.port self.now.most self.now.clients from now }
+    /// Whether a node is the router's, all nodes' or a client's.
+    fn is_here(&self, node: Node) -> bool
+        ensures { result ≡ is_node_here self.now.port self.now.clients node }
     {
-        let node = from.node();
-        if node == self.port.own
-            || node == Node::BROADCAST
-            || self.clients.of_node(node).is_some()
-        {
+        node == self.port.own || node == Node::BROADCAST || self.clients.of_node(node).is_some()
+    }
+
+    /// Whether no new client can have a node.
+    fn is_taken(&self, node: Node) -> bool
+        ensures { result ≡ is_node_taken self.now node }
+    {
+        self.is_here(node) || self.joined.of_node(node).is_some()
+    }
+
+    /// The node that a new client at a place gets.
+    fn node_for(&self, from: Place) -> Node
+        ensures node { result ≡ node_given self.now from }
+        ensures alone { self.now.routers ≡ [] → result ≡ node_of_place from }
+    {
+        self.joined.node_for(self.port.own, from)
+    }
+
+    /// Why who registers, and would get this node, becomes no client.
+    fn refuses(&self, node: Node, now: u64) -> Option<LobbyDrop>
+        ensures { result ≡ newcomer_drop self.now node now }
+    {
+        if self.is_taken(node) {
             return Some(LobbyDrop::NodeTaken(node));
         }
         if self.clients.newcomers(now) >= MOST_NEWCOMERS {
@@ -126,23 +200,38 @@ impl Lobby {
 
     /// What becomes of a registration.
     fn registration(&self, from: Place, now: u64, known: Option<Client>) -> Heard
-        ensures { result ≡ registration_hears self.now.port self.now.most self.now.clients from now known }
+        ensures { result ≡ registration_hears self.now from now known }
     {
         if let Some(client) = known {
             return Heard::Registered(answer_with_node(self.port, client.node));
         }
-        match self.refuses(from, now) {
+        let node = self.node_for(from);
+        match self.refuses(node, now) {
             Some(drop) => Heard::Dropped(drop),
-            None => Heard::Registered(answer_with_node(self.port, from.node())),
+            None => Heard::Registered(answer_with_node(self.port, node)),
         }
+    }
+
+    /// What becomes of a packet for one node here, which no client has.
+    fn to_far(&self, node: Node, size: usize) -> Heard
+        ensures { result ≡ far_hear self.now node size }
+    {
+        if self.routers().is_empty() {
+            return Heard::Dropped(LobbyDrop::NoSuchNode(node));
+        }
+        if size > MOST_CLIENT_BYTES {
+            return Heard::Dropped(LobbyDrop::TooLong(size));
+        }
+        Heard::ToJoined(joined_takers_of(self.joined.of_node(node)))
     }
 
     /// What becomes of a packet for one node here.
     fn to_node(&self, from: Place, header: IpxHeader, size: usize) -> Heard
-        ensures { result ≡ client_hears from header size (client_of_node header.to.node self.now.clients) }
+        ensures { result ≡ client_hears self.now from header size
+            (client_of_node header.to.node self.now.clients) }
     {
         match self.clients.of_node(header.to.node) {
-            None => Heard::Dropped(LobbyDrop::NoSuchNode(header.to.node)),
+            None => self.to_far(header.to.node, size),
             Some(client) if client.place == from => Heard::Dropped(LobbyDrop::ToItself),
             Some(_) if size > MOST_CLIENT_BYTES => Heard::Dropped(LobbyDrop::TooLong(size)),
             Some(client) => Heard::ToClient(client.place),
@@ -151,7 +240,7 @@ impl Lobby {
 
     /// What becomes of a packet for the network of the port.
     fn here(&self, from: Place, packet: &Packet<'_>, size: usize) -> Heard
-        ensures { result ≡ lobby_hears_here self.now.port self.now.clients from (packet_view packet.now) size }
+        ensures { result ≡ lobby_hears_here self.now from (packet_view packet.now) size }
     {
         if is_for_all(packet.header) {
             return to_all(self.port, from, packet, size);
@@ -170,7 +259,7 @@ impl Lobby {
         size: usize,
         known: Option<Client>,
     ) -> Heard
-        ensures { result ≡ lobby_hears_from self.now.port self.now.clients from (packet_view packet.now) size known }
+        ensures { result ≡ lobby_hears_from self.now from (packet_view packet.now) size known }
     {
         let header = packet.header;
         let Some(client) = known else {
@@ -185,10 +274,38 @@ impl Lobby {
         elsewhere(self.port, packet)
     }
 
+    /// What becomes of a packet of a joined router.
+    fn from_joined(&self, from: Place, header: IpxHeader, size: usize) -> Heard
+        ensures { result ≡ joined_hears self.now from header size }
+    {
+        if !stays(self.port, header) {
+            return Heard::Dropped(LobbyDrop::ForElsewhere(header.to.network));
+        }
+        if is_from_here(self.port, header) && self.is_here(header.from.node) {
+            return Heard::Dropped(LobbyDrop::NodeTwice(header.from.node));
+        }
+        if notes_node(self.port, header) {
+            return Heard::FromJoined(Some(header.from.node), Takers::Nobody);
+        }
+        if is_for_all(header) {
+            return joined_to_all(self.port, from, header, size);
+        }
+        joined_to_one(
+            self.port,
+            from,
+            header,
+            size,
+            self.clients.of_node(header.to.node),
+        )
+    }
+
     /// What becomes of a packet.
     fn outcome(&self, from: Place, packet: &Packet<'_>, size: usize, now: u64) -> Heard
         ensures { result ≡ lobby_hears self.now from (packet_view packet.now) size now }
     {
+        if self.joined.has(from) {
+            return self.from_joined(from, packet.header, size);
+        }
         let known = self.clients.at(from);
         if registers(packet.header, size) {
             return self.registration(from, now, known);
@@ -210,29 +327,63 @@ impl Lobby {
         }
     }
 
+    /// The client at a place was heard.
+    fn know(&mut self, from: Place, now: u64)
+        requires { client_at from self.old.clients ≡ None
+            → client_of_node (node_given self.old from) self.old.clients ≡ None }
+        ensures { self.new ≡ lobby_knowing from now self.old }
+    {
+        let node = self.node_for(from);
+        self.clients.put(node, from, now);
+    }
+
+    /// The joined router at a place told where a node is, or none.
+    fn know_far(&mut self, told: Option<Node>, from: Place, now: u64)
+        requires { is_joined_place from self.old.routers ≡ true }
+        ensures { self.new ≡ lobby_told told from now self.old }
+    {
+        if let Some(node) = told {
+            self.joined.put(node, from, now);
+        }
+    }
+
     /// Keeps what became of a datagram: its cause, where it was dropped, or that its sender was heard.
     fn keep(&mut self, heard: Heard, from: Place, now: u64)
-        requires { is_dropped heard ≡ false → client_at from self.old.clients ≡ None
-            → client_of_node (node_of_place from) self.old.clients ≡ None }
+        requires free { is_of_client heard ≡ true → client_at from self.old.clients ≡ None
+            → client_of_node (node_given self.old from) self.old.clients ≡ None }
+        requires joined { (told : Option Node) (takers : Takers) → heard ≡ FromJoined told takers
+            → is_joined_place from self.old.routers ≡ true }
         ensures { self.new ≡ lobby_hearing heard from now self.old }
     {
         match heard {
             Heard::Dropped(drop) => self.counts.count(drop),
+            Heard::FromJoined(told, _) => self.know_far(told, from, now),
             Heard::Registered(_)
             | Heard::Pinged(_, _)
             | Heard::ToClient(_)
             | Heard::ToOthers(_)
             | Heard::ToOthersAndCore(_)
-            | Heard::ToCore => self.clients.put(from, now),
+            | Heard::ToCore
+            | Heard::ToJoined(_) => self.know(from, now),
         }
     }
 
+    /// Those who were silent for a day are forgotten.
+    fn age(&mut self, now: u64)
+        ensures aged { self.new ≡ lobby_aged now self.old }
+        ensures few { length self.new.clients ≤ self.new.most }
+    {
+        self.clients.age(now);
+        self.joined.age(now);
+    }
+
     /// A datagram that came from a place at the moment `now`, in ms: what is answered, which clients
-    /// the bytes go on to, and whether the core gets them. No memory is taken.
+    /// and joined routers the bytes go on to, and whether the core gets them. No memory is taken.
     ///
     /// One calls it with whatever came, first sends the answer to that place, and then the bytes, as
-    /// they came, to each of the clients that are among the takers. What is dropped changes nothing
-    /// but its count, and who was silent for a day is forgotten at any call.
+    /// they came, to each of the clients and joined routers that are among the takers, and to each
+    /// joined router the notice. What is dropped changes nothing but its count, and who was silent for
+    /// a day is forgotten at any call.
     pub fn hear(&mut self, from: Place, bytes: &[u8], now: u64) -> Heard
         // What becomes of it: bytes are no packet, or they begin with one.
         ensures malformed { (f : IpxFault) → ipx_fault bytes.now ≡ Some f
@@ -247,31 +398,45 @@ impl Lobby {
             → IsAnswer result answer → length answer ≡ length bytes.now }
         ensures no_longer { (answer : List ℕ) → IsAnswer result answer
             → length answer ≤ length bytes.now }
-        // Who sent what is not dropped is a client then, and so is the one that it goes to.
-        ensures sender { is_dropped result ≡ false → client_at from self.new.clients
-            ≡ Some (client_heard from now (client_at from (clients_left now self.old.clients))) }
+        // Who sent what is not dropped is a client then, or a joined router, and the one that it goes
+        // to is a client.
+        ensures sender { is_dropped result ≡ false → is_joined_place from self.old.routers ≡ false
+            → client_at from self.new.clients ≡ Some (client_heard
+            (node_given (lobby_aged now self.old) from) from now
+            (client_at from (clients_left now self.old.clients))) }
         ensures taker { (place : Place) → takers_of result ≡ One place
             → is_some (client_at place self.new.clients) ≡ true }
         // The core gets nothing that comes from another network, nor a response of RIP or SAP.
         ensures core { (p : PacketView) → BeginsWith bytes.now p → goes_to_core result ≡ true
             → may_reach_core self.old.port p ≡ true }
+        // What came from a joined router goes to none of them, and not to the core; it is not answered,
+        // and makes no client.
+        ensures ring { is_joined_place from self.old.routers ≡ true
+            → (place : Place) → is_joined_taker (takers_of result) place ≡ false }
+        ensures apart { is_joined_place from self.old.routers ≡ true → goes_to_core result ≡ false }
+        ensures unanswered { is_joined_place from self.old.routers ≡ true → answer_of result ≡ None }
+        ensures members { is_joined_place from self.old.routers ≡ true
+            → self.new.clients ≡ clients_left now self.old.clients }
+        // Nothing that a client sent tells where a far client is.
+        ensures told { is_joined_place from self.old.routers ≡ false
+            → self.new.far ≡ (lobby_aged now self.old).far }
     {
-        self.clients.age(now);
+        self.age(now);
         let heard = self.judge(from, bytes, now);
         self.keep(heard, from, now);
         heard
     }
 
-    /// Which clients a packet of the core for a node goes to, at the moment `now`, in ms, or why it
-    /// goes to none. No memory is taken.
+    /// Which clients and joined routers a packet of the core for a node goes to, at the moment `now`,
+    /// in ms, or why it goes to none. No memory is taken.
     pub fn give(&mut self, node: Node, packet: &[u8], now: u64) -> Result<Takers, LobbyDrop>
         ensures takers { result ≡ lobby_gives (lobby_aged now self.old) node (length packet.now) }
         ensures lobby { self.new ≡ lobby_giving result (lobby_aged now self.old) }
-        // The one that it goes to is a client.
+        // The one client that it goes to is known.
         ensures taker { (place : Place) → result ≡ Ok (One place)
             → is_some (client_at place self.new.clients) ≡ true }
     {
-        self.clients.age(now);
+        self.age(now);
         let takers = self.takers(node, packet.len());
         match takers {
             Ok(_) => {}
@@ -292,7 +457,8 @@ impl Lobby {
         }
         match self.clients.of_node(node) {
             Some(client) => Ok(Takers::One(client.place)),
-            None => Err(LobbyDrop::NoSuchNode(node)),
+            None if self.routers().is_empty() => Err(LobbyDrop::NoSuchNode(node)),
+            None => Ok(joined_takers_of(self.joined.of_node(node))),
         }
     }
 }

@@ -1,21 +1,27 @@
-//! The clients that bytes go to.
+//! The clients and joined routers that bytes go to.
 
 ghost use Rattle.std.specs.Prelude.{◌≡◌};
-ghost use Rattle.ipx_lobby.specs.LobbyHears.{is_taker};
+ghost use Rattle.ipx_lobby.specs.LobbyHears.{is_joined_taker, is_taker};
 
 use crate::place::Place;
 
-/// The clients of a lobby that bytes go to.
+/// The clients of a lobby, and the routers that it is joined to, that bytes go to.
 #[derive(Clone, Copy, Debug, PartialEq, Eq)]
 pub enum Takers {
     /// None.
     Nobody,
     /// The one at a place: at which.
     One(Place),
-    /// Each but the one that sent them: where that is.
+    /// Each client but the one that sent them, where that is; and each joined router.
     Others(Place),
-    /// Each.
+    /// Each client, and no joined router.
     All,
+    /// The same, of what came from a joined router: where that is.
+    Here(Place),
+    /// Each joined router, and no client.
+    Joined,
+    /// The joined router at a place: at which.
+    JoinedAt(Place),
 }
 
 impl Takers {
@@ -29,6 +35,20 @@ impl Takers {
             Takers::One(one) => one == place,
             Takers::Others(from) => from != place,
             Takers::All => true,
+            Takers::Here(from) => from != place,
+            Takers::Joined | Takers::JoinedAt(_) => false,
+        }
+    }
+
+    /// Whether the joined router at a place is one of them, where a router is joined: `Lobby::joins`
+    /// asks for that too.
+    pub fn has_router(self, place: Place) -> bool
+        ensures { result ≡ is_joined_taker self place }
+    {
+        match self {
+            Takers::Others(_) | Takers::Joined => true,
+            Takers::JoinedAt(one) => one == place,
+            Takers::Nobody | Takers::One(_) | Takers::All | Takers::Here(_) => false,
         }
     }
 }

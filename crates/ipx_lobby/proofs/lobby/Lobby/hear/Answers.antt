@@ -1,41 +1,67 @@
-use Rattle.std.proofs.Common.{◌≡◌, List, false, true, Some, length, ap, refl, subst, ◌∙◌}
+use Rattle.std.proofs.Common.{◌≡◌, List, false, true, Some, length, not, ap, refl, subst, ◌∙◌}
 use Rattle.std.specs.Prelude.{is_some}
-use Rattle.ipx_lobby.specs.declared.clients.Client.{Client}
-use Rattle.ipx_lobby.specs.declared.takers.Takers.{Takers}
-use Rattle.ipx_lobby.specs.LobbyClients.{are_one_place, client_at, client_heard, clients_left}
-use Rattle.ipx_lobby.specs.LobbyInside.{ClientsView}
 use Rattle.ipx_lobby.specs.declared.heard.Heard.{Heard}
-use Rattle.ipx_lobby.specs.LobbyHears.{LobbyView, goes_to_core, is_taker, may_reach_core}
-use Rattle.ipx_lobby.proofs.Hears.{core_law}
-use Rattle.ipx_lobby.proofs.Still.{hearing_clients, heard_found, still_there, taker_heard}
+use Rattle.ipx_lobby.specs.LobbyClients.{client_at, client_heard}
+use Rattle.ipx_lobby.specs.LobbyHears.{LobbyView, goes_to_core, is_of_client, may_reach_core, node_given}
+use Rattle.ipx_lobby.specs.LobbyInside.{StaysAmongClients}
+use Rattle.ipx_lobby.specs.LobbyJoined.{is_joined_place}
+use Rattle.ipx_lobby.proofs.Hears.{core_law, told_joined}
+use Rattle.ipx_lobby.proofs.Still.{hearing_clients, hearing_far, heard_found, others_clients, taker_kept}
 use Rattle.ipx_lobby.proofs.lobby.Lobby.hear.Goals as goal
+
+pub keep-requires-clause-joined : goal.keep-requires-clause-joined
+keep-requires-clause-joined c =
+    λ told takers e. told_joined (is_joined_place c.args.from c.age.new.self.routers) c.judge-heard.result told takers c.judge-heard.ensures.sound.member e
+
+-- the lobby has the routers that it had
+routers : (c : goal.After-keep) → is_joined_place c.args.from c.age.new.self.routers ≡ is_joined_place c.args.from c.args.self.now.routers
+routers c = ap (λ (v : LobbyView). is_joined_place c.args.from v.routers) c.age.ensures.aged
+
+stays : (c : goal.After-keep) → is_joined_place c.args.from c.args.self.now.routers ≡ true → StaysAmongClients c.judge-heard.result
+stays c is = c.judge-heard.ensures.sound.joined (routers c ∙ is)
 
 pub returns-clause-sender : goal.returns-clause-sender
 returns-clause-sender c =
     let from = c.args.from in
     let now = c.args.now in
     let heard = c.judge-heard.result in
-    let l : LobbyView = record { port = c.self.inside.port; most = c.age.new.self.most; clients = c.age.new.self.known; counts = c.self.inside.counts } in
-    let left : l.clients ≡ clients_left now c.args.self.now.clients = ap (λ (v : ClientsView). v.known) c.age.ensures.left ∙ ap (λ (v : LobbyView). clients_left now v.clients) c.self.view_is in
-    λ e.
-    ap (λ (v : LobbyView). client_at from v.clients) c.keep.ensures ∙ ap (client_at from) (hearing_clients heard from now l e) ∙ heard_found l.most now from l.clients
-    ∙ ap (λ (known : List Client). Some (client_heard from now (client_at from known))) left
+    let l = c.age.new.self in
+    λ e apart.
+    let sent : is_of_client heard ≡ true = c.judge-heard.ensures.sound.member (routers c ∙ apart) ∙ ap not e in
+    ap (λ (v : LobbyView). client_at from v.clients) c.keep.ensures ∙ ap (client_at from) (hearing_clients heard from now l sent) ∙ heard_found l.most now (node_given l from) from l.clients
+    ∙ ap (λ (v : LobbyView). Some (client_heard (node_given v from) from now (client_at from v.clients))) c.age.ensures.aged
 
 pub returns-clause-taker : goal.returns-clause-taker
 returns-clause-taker c =
-    let from = c.args.from in
-    let now = c.args.now in
     let heard = c.judge-heard.result in
-    let l : LobbyView = record { port = c.self.inside.port; most = c.age.new.self.most; clients = c.age.new.self.known; counts = c.self.inside.counts } in
+    let l = c.age.new.self in
     let sound = c.judge-heard.ensures.sound in
     λ place e.
-    let apart : are_one_place place from ≡ false = subst (λ (t : Takers). is_taker t from ≡ false) e sound.back in
-    ap (λ (v : LobbyView). is_some (client_at place v.clients)) c.keep.ensures ∙ ap (λ (known : List Client). is_some (client_at place known)) (hearing_clients heard from now l (taker_heard heard place e))
-    ∙ still_there l.most now from place l.clients (client_at from l.clients) c.age.ensures.few refl (sound.sender place e) apart (sound.taker place e)
+    ap (λ (v : LobbyView). is_some (client_at place v.clients)) c.keep.ensures
+    ∙ taker_kept (is_of_client heard) heard c.args.from place c.args.now l refl c.age.ensures.few sound.back e (λ sent. sound.sender place sent e) (sound.taker place e)
 
 pub returns-clause-core : goal.returns-clause-core
 returns-clause-core c =
-    let l : LobbyView = record { port = c.self.inside.port; most = c.age.new.self.most; clients = c.age.new.self.known; counts = c.self.inside.counts } in
+    let l = c.age.new.self in
     λ p begins goes.
-    subst (λ (v : LobbyView). may_reach_core v.port p ≡ true) c.self.view_is
+    subst (λ (v : LobbyView). may_reach_core v.port p ≡ true) c.age.ensures.aged
     (core_law l c.args.from p (length c.args.bytes.now) c.args.now (subst (λ (heard : Heard). goes_to_core heard ≡ true) (c.judge-heard.ensures.packet p begins) goes))
+
+pub returns-clause-ring : goal.returns-clause-ring
+returns-clause-ring c = λ is. (stays c is).ring
+
+pub returns-clause-apart : goal.returns-clause-apart
+returns-clause-apart c = λ is. (stays c is).core
+
+pub returns-clause-unanswered : goal.returns-clause-unanswered
+returns-clause-unanswered c = λ is. (stays c is).answer
+
+pub returns-clause-members : goal.returns-clause-members
+returns-clause-members c =
+    λ is.
+    ap (λ (v : LobbyView). v.clients) c.keep.ensures ∙ others_clients c.judge-heard.result c.args.from c.args.now c.age.new.self (stays c is).client ∙ ap (λ (v : LobbyView). v.clients) c.age.ensures.aged
+
+pub returns-clause-told : goal.returns-clause-told
+returns-clause-told c =
+    λ apart.
+    ap (λ (v : LobbyView). v.far) c.keep.ensures ∙ hearing_far c.judge-heard.result c.args.from c.args.now c.age.new.self (c.judge-heard.ensures.sound.member (routers c ∙ apart)) ∙ ap (λ (v : LobbyView). v.far) c.age.ensures.aged
