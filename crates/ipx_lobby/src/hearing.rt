@@ -1,9 +1,9 @@
 //! What becomes of a packet.
 
-ghost use Rattle.std.specs.Prelude.{◌≡◌};
+ghost use Rattle.std.specs.Prelude.{◌≡◌, nat_lt};
 ghost use Rattle.ipx_wire.specs.Ipx.{packet_view};
 ghost use Rattle.ipx_lobby.specs.LobbyHears.{all_hear, core_hears, has_socket, is_for_lobby, is_from_lobby, is_registration, is_to_all_nodes, is_to_service, joined_takers};
-ghost use Rattle.ipx_lobby.specs.LobbyHears.{all_hear_joined, far_source, lobby_header, lobby_hears_elsewhere, may_reach_core, one_hears_joined, registration_answer, tells_node, tells_router};
+ghost use Rattle.ipx_lobby.specs.LobbyHears.{all_hear_joined, far_source, lobby_header, lobby_hears_elsewhere, may_reach_core, most_client_bytes, one_hears_joined, registration_answer, tells_node, tells_router};
 
 use crate::clients::Client;
 use crate::drops::LobbyDrop;
@@ -25,6 +25,13 @@ pub const MOST_CLIENT_BYTES: usize = 1424;
 const RESPONSE: u16 = 2;
 
 const NEAREST_RESPONSE: u16 = 4;
+
+/// Whether a client would not take so many bytes whole.
+pub fn is_too_long(size: usize) -> bool
+    ensures { result ≡ nat_lt most_client_bytes size }
+{
+    size > MOST_CLIENT_BYTES
+}
 
 /// A header with no hops, between two nodes of a network.
 fn header_between(network: Network, to: Node, from: Node) -> IpxHeader
@@ -136,7 +143,7 @@ pub fn to_all(port: LobbyPort, from: Place, packet: &Packet<'_>, size: usize) ->
     ensures { result ≡ all_hear port from (packet_view packet.now) size }
 {
     let header = packet.header;
-    if size > MOST_CLIENT_BYTES {
+    if is_too_long(size) {
         return Heard::Dropped(LobbyDrop::TooLong(size));
     }
     if header.to.socket == LOBBY_SOCKET {
@@ -196,7 +203,7 @@ pub fn notes_node(port: LobbyPort, header: IpxHeader) -> bool
 pub fn joined_to_all(port: LobbyPort, from: Place, header: IpxHeader, size: usize) -> Heard
     ensures { result ≡ all_hear_joined port from header size }
 {
-    if size > MOST_CLIENT_BYTES {
+    if is_too_long(size) {
         return Heard::Dropped(LobbyDrop::TooLong(size));
     }
     Heard::FromJoined(far_node(port, header), Takers::Here(from))
@@ -215,7 +222,7 @@ pub fn joined_to_one(
     match client {
         None => Heard::Dropped(LobbyDrop::NoSuchNode(header.to.node)),
         Some(client) if client.place == from => Heard::Dropped(LobbyDrop::ToItself),
-        Some(_) if size > MOST_CLIENT_BYTES => Heard::Dropped(LobbyDrop::TooLong(size)),
+        Some(_) if is_too_long(size) => Heard::Dropped(LobbyDrop::TooLong(size)),
         Some(client) => { Heard::FromJoined(far_node(port, header), Takers::One(client.place)) }
     }
 }

@@ -15,6 +15,7 @@ mod drops;
 mod heard;
 mod hearing;
 mod joined;
+mod judging;
 mod lobby;
 mod place;
 mod port;

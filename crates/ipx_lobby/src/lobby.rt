@@ -2,7 +2,7 @@
 
 ghost use Rattle.std.specs.Prelude.{◌≡◌, ◌≤◌, ◌&&◌, ℕ, All, List, [], IfOk, None, Ok, Option, Some, false, is_some, length, nat_le, true};
 ghost use Rattle.ipx_wire.specs.declared.ipx.fault.IpxFault.{IpxFault};
-ghost use Rattle.ipx_wire.specs.Ipx.{BeginsWith, PacketView, ipx_fault, packet_view};
+ghost use Rattle.ipx_wire.specs.Ipx.{BeginsWith, PacketView, ipx_fault};
 ghost use Rattle.ipx_wire.specs.declared.ipx.packet.IpxHeader.{IpxHeader};
 ghost use Rattle.ipx_lobby.specs.declared.heard.Heard.TheVariants.{Dropped, FromJoined, Registered};
 ghost use Rattle.ipx_lobby.specs.declared.drops.LobbyDrop.TheVariants.{Malformed};
@@ -11,25 +11,22 @@ ghost use Rattle.ipx_wire.specs.declared.address.Node.{Node};
 ghost use Rattle.ipx_lobby.specs.declared.takers.Takers.{Takers};
 ghost use Rattle.ipx_lobby.specs.declared.takers.Takers.TheVariants.{One};
 ghost use Rattle.ipx_lobby.specs.LobbyClients.{EachClientOnce, client_at, client_heard, client_of_node, clients_left, most_lobby_clients, node_of_place};
-ghost use Rattle.ipx_lobby.specs.LobbyHears.{IsAnswer, answer_of, client_hears, far_hear, goes_to_core, is_dropped, is_joined_taker, is_node_here, is_node_taken, is_of_client, is_taker};
-ghost use Rattle.ipx_lobby.specs.LobbyHears.{joined_hears, joined_lobby, lobby_aged, lobby_gives, lobby_giving, lobby_hearing, lobby_knowing, lobby_told};
-ghost use Rattle.ipx_lobby.specs.LobbyHears.{lobby_hears, lobby_hears_from, lobby_hears_here, may_reach_core, new_lobby, newcomer_drop, node_given, registration_hears, takers_join, takers_of, takers_reach};
+ghost use Rattle.ipx_lobby.specs.LobbyHears.{IsAnswer, answer_of, goes_to_core, is_dropped, is_joined_taker, is_of_client, is_taker};
+ghost use Rattle.ipx_lobby.specs.LobbyHears.{joined_lobby, lobby_aged, lobby_gives, lobby_giving, lobby_hearing, lobby_knowing, lobby_told};
+ghost use Rattle.ipx_lobby.specs.LobbyHears.{lobby_hears, may_reach_core, new_lobby, node_given, takers_join, takers_of, takers_reach};
 ghost use Rattle.ipx_lobby.specs.LobbyInside.{IsSoundHearing};
-ghost use Rattle.ipx_lobby.specs.LobbyJoined.{far_client_of, is_joined_place, most_far_clients};
+ghost use Rattle.ipx_lobby.specs.LobbyJoined.{is_joined_place, most_far_clients};
 
-use crate::clients::{Client, Clients, MOST_CLIENTS, MOST_NEWCOMERS};
+use crate::clients::{Client, Clients, MOST_CLIENTS};
 use crate::counts::LobbyCounts;
 use crate::drops::LobbyDrop;
 use crate::heard::Heard;
-use crate::hearing::{
-    MOST_CLIENT_BYTES, answer_with_node, elsewhere, is_for_all, is_from_here, joined_takers_of,
-    joined_to_all, joined_to_one, notes_node, registers, stays, to_all, to_core,
-};
+use crate::hearing::{is_too_long, joined_takers_of};
 use crate::joined::{FarClient, Joined};
 use crate::place::Place;
 use crate::port::LobbyPort;
 use crate::takers::Takers;
-use ipx_wire::{IpxHeader, Node, Packet, decode};
+use ipx_wire::{Node, decode};
 use std::alloc::{AllocError, Global};
 use std::marker::Model;
 
@@ -37,10 +34,10 @@ use std::marker::Model;
 /// routers.
 #[derive(Drop)]
 pub struct Lobby {
-    port: LobbyPort,
-    clients: Clients,
-    counts: LobbyCounts,
-    joined: Joined,
+    pub(crate) port: LobbyPort,
+    pub(crate) clients: Clients,
+    pub(crate) counts: LobbyCounts,
+    pub(crate) joined: Joined,
 }
 
 impl Model for Lobby {
@@ -160,159 +157,6 @@ impl Lobby {
         self.clients.at(place).is_some() && takers.has(place)
     }
 
-    /// Whether a node is the router's, all nodes' or a client's.
-    fn is_here(&self, node: Node) -> bool
-        ensures { result ≡ is_node_here self.now.port self.now.clients node }
-    {
-        node == self.port.own || node == Node::BROADCAST || self.clients.of_node(node).is_some()
-    }
-
-    /// Whether no new client can have a node.
-    fn is_taken(&self, node: Node) -> bool
-        ensures { result ≡ is_node_taken self.now node }
-    {
-        self.is_here(node) || self.joined.of_node(node).is_some()
-    }
-
-    /// The node that a new client at a place gets.
-    fn node_for(&self, from: Place) -> Node
-        ensures node { result ≡ node_given self.now from }
-        ensures alone { self.now.routers ≡ [] → result ≡ node_of_place from }
-    {
-        self.joined.node_for(self.port.own, from)
-    }
-
-    /// Why who registers, and would get this node, becomes no client.
-    fn refuses(&self, node: Node, now: u64) -> Option<LobbyDrop>
-        ensures { result ≡ newcomer_drop self.now node now }
-    {
-        if self.is_taken(node) {
-            return Some(LobbyDrop::NodeTaken(node));
-        }
-        if self.clients.newcomers(now) >= MOST_NEWCOMERS {
-            return Some(LobbyDrop::TooManyNew);
-        }
-        if self.clients.is_full(now) {
-            return Some(LobbyDrop::Full);
-        }
-        None
-    }
-
-    /// What becomes of a registration.
-    fn registration(&self, from: Place, now: u64, known: Option<Client>) -> Heard
-        ensures { result ≡ registration_hears self.now from now known }
-    {
-        if let Some(client) = known {
-            return Heard::Registered(answer_with_node(self.port, client.node));
-        }
-        let node = self.node_for(from);
-        match self.refuses(node, now) {
-            Some(drop) => Heard::Dropped(drop),
-            None => Heard::Registered(answer_with_node(self.port, node)),
-        }
-    }
-
-    /// What becomes of a packet for one node here, which no client has.
-    fn to_far(&self, node: Node, size: usize) -> Heard
-        ensures { result ≡ far_hear self.now node size }
-    {
-        if self.routers().is_empty() {
-            return Heard::Dropped(LobbyDrop::NoSuchNode(node));
-        }
-        if size > MOST_CLIENT_BYTES {
-            return Heard::Dropped(LobbyDrop::TooLong(size));
-        }
-        Heard::ToJoined(joined_takers_of(self.joined.of_node(node)))
-    }
-
-    /// What becomes of a packet for one node here.
-    fn to_node(&self, from: Place, header: IpxHeader, size: usize) -> Heard
-        ensures { result ≡ client_hears self.now from header size
-            (client_of_node header.to.node self.now.clients) }
-    {
-        match self.clients.of_node(header.to.node) {
-            None => self.to_far(header.to.node, size),
-            Some(client) if client.place == from => Heard::Dropped(LobbyDrop::ToItself),
-            Some(_) if size > MOST_CLIENT_BYTES => Heard::Dropped(LobbyDrop::TooLong(size)),
-            Some(client) => Heard::ToClient(client.place),
-        }
-    }
-
-    /// What becomes of a packet for the network of the port.
-    fn here(&self, from: Place, packet: &Packet<'_>, size: usize) -> Heard
-        ensures { result ≡ lobby_hears_here self.now from (packet_view packet.now) size }
-    {
-        if is_for_all(packet.header) {
-            return to_all(self.port, from, packet, size);
-        }
-        if packet.header.to.node == self.port.own {
-            return to_core(self.port, packet);
-        }
-        self.to_node(from, packet.header, size)
-    }
-
-    /// What becomes of a packet of a client, if one is known there.
-    fn from_client(
-        &self,
-        from: Place,
-        packet: &Packet<'_>,
-        size: usize,
-        known: Option<Client>,
-    ) -> Heard
-        ensures { result ≡ lobby_hears_from self.now from (packet_view packet.now) size known }
-    {
-        let header = packet.header;
-        let Some(client) = known else {
-            return Heard::Dropped(LobbyDrop::Unregistered);
-        };
-        if header.from.node != client.node {
-            return Heard::Dropped(LobbyDrop::OtherSource(header.from.node));
-        }
-        if stays(self.port, header) {
-            return self.here(from, packet, size);
-        }
-        elsewhere(self.port, packet)
-    }
-
-    /// What becomes of a packet of a joined router.
-    fn from_joined(&self, from: Place, header: IpxHeader, size: usize) -> Heard
-        ensures { result ≡ joined_hears self.now from header size }
-    {
-        if !stays(self.port, header) {
-            return Heard::Dropped(LobbyDrop::ForElsewhere(header.to.network));
-        }
-        if is_from_here(self.port, header) && self.is_here(header.from.node) {
-            return Heard::Dropped(LobbyDrop::NodeTwice(header.from.node));
-        }
-        if notes_node(self.port, header) {
-            return Heard::FromJoined(Some(header.from.node), Takers::Nobody);
-        }
-        if is_for_all(header) {
-            return joined_to_all(self.port, from, header, size);
-        }
-        joined_to_one(
-            self.port,
-            from,
-            header,
-            size,
-            self.clients.of_node(header.to.node),
-        )
-    }
-
-    /// What becomes of a packet.
-    fn outcome(&self, from: Place, packet: &Packet<'_>, size: usize, now: u64) -> Heard
-        ensures { result ≡ lobby_hears self.now from (packet_view packet.now) size now }
-    {
-        if self.joined.has(from) {
-            return self.from_joined(from, packet.header, size);
-        }
-        let known = self.clients.at(from);
-        if registers(packet.header, size) {
-            return self.registration(from, now, known);
-        }
-        self.from_client(from, packet, size, known)
-    }
-
     /// What becomes of a datagram.
     fn judge(&self, from: Place, bytes: &[u8], now: u64) -> Heard
         ensures malformed { (f : IpxFault) → ipx_fault bytes.now ≡ Some f
@@ -363,8 +207,8 @@ impl Lobby {
             | Heard::ToClient(_)
             | Heard::ToOthers(_)
             | Heard::ToOthersAndCore(_)
-            | Heard::ToCore
-            | Heard::ToJoined(_) => self.know(from, now),
+            | Heard::ToJoined(_)
+            | Heard::ToCore => self.know(from, now),
         }
     }
 
@@ -449,7 +293,7 @@ impl Lobby {
     fn takers(&self, node: Node, size: usize) -> Result<Takers, LobbyDrop>
         ensures { result ≡ lobby_gives self.now node size }
     {
-        if size > MOST_CLIENT_BYTES {
+        if is_too_long(size) {
             return Err(LobbyDrop::TooLong(size));
         }
         if node == Node::BROADCAST {

@@ -1,4 +1,4 @@
-use Rattle.std.proofs.Common.{◌≡◌, List, false, true, Some, length, not, ap, refl, subst, ◌∙◌}
+use Rattle.std.proofs.Common.{◌≡◌, true, Some, length, not, ap, refl, subst, ◌∙◌}
 use Rattle.std.specs.Prelude.{is_some}
 use Rattle.ipx_lobby.specs.declared.heard.Heard.{Heard}
 use Rattle.ipx_lobby.specs.LobbyClients.{client_at, client_heard}

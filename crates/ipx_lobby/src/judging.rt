@@ -1,0 +1,174 @@
+//! What becomes of a packet, by who is known.
+
+ghost use Rattle.std.specs.Prelude.{◌≡◌, []};
+ghost use Rattle.ipx_wire.specs.Ipx.{packet_view};
+ghost use Rattle.ipx_lobby.specs.LobbyClients.{client_of_node, node_of_place};
+ghost use Rattle.ipx_lobby.specs.LobbyHears.{client_hears, far_hear, is_node_here, is_node_taken, joined_hears, lobby_hears};
+ghost use Rattle.ipx_lobby.specs.LobbyHears.{lobby_hears_from, lobby_hears_here, newcomer_drop, node_given, registration_hears};
+
+use crate::clients::{Client, MOST_NEWCOMERS};
+use crate::drops::LobbyDrop;
+use crate::heard::Heard;
+use crate::hearing::{
+    answer_with_node, elsewhere, is_for_all, is_from_here, is_too_long, joined_takers_of,
+    joined_to_all, joined_to_one, notes_node, registers, stays, to_all, to_core,
+};
+use crate::lobby::Lobby;
+use crate::place::Place;
+use crate::takers::Takers;
+use ipx_wire::{IpxHeader, Node, Packet};
+
+impl Lobby {
+    /// Whether a node is the router's, all nodes' or a client's.
+    fn is_here(&self, node: Node) -> bool
+        ensures { result ≡ is_node_here self.now.port self.now.clients node }
+    {
+        node == self.port.own || node == Node::BROADCAST || self.clients.of_node(node).is_some()
+    }
+
+    /// Whether no new client can have a node.
+    fn is_taken(&self, node: Node) -> bool
+        ensures { result ≡ is_node_taken self.now node }
+    {
+        self.is_here(node) || self.joined.of_node(node).is_some()
+    }
+
+    /// The node that a new client at a place gets.
+    pub(crate) fn node_for(&self, from: Place) -> Node
+        ensures node { result ≡ node_given self.now from }
+        ensures alone { self.now.routers ≡ [] → result ≡ node_of_place from }
+    {
+        self.joined.node_for(self.port.own, from)
+    }
+
+    /// Why who registers, and would get this node, becomes no client.
+    fn refuses(&self, node: Node, now: u64) -> Option<LobbyDrop>
+        ensures { result ≡ newcomer_drop self.now node now }
+    {
+        if self.is_taken(node) {
+            return Some(LobbyDrop::NodeTaken(node));
+        }
+        if self.clients.newcomers(now) >= MOST_NEWCOMERS {
+            return Some(LobbyDrop::TooManyNew);
+        }
+        if self.clients.is_full(now) {
+            return Some(LobbyDrop::Full);
+        }
+        None
+    }
+
+    /// What becomes of a registration.
+    fn registration(&self, from: Place, now: u64, known: Option<Client>) -> Heard
+        ensures { result ≡ registration_hears self.now from now known }
+    {
+        if let Some(client) = known {
+            return Heard::Registered(answer_with_node(self.port, client.node));
+        }
+        let node = self.node_for(from);
+        match self.refuses(node, now) {
+            Some(drop) => Heard::Dropped(drop),
+            None => Heard::Registered(answer_with_node(self.port, node)),
+        }
+    }
+
+    /// What becomes of a packet for one node here, which no client has.
+    fn to_far(&self, node: Node, size: usize) -> Heard
+        ensures { result ≡ far_hear self.now node size }
+    {
+        if self.routers().is_empty() {
+            return Heard::Dropped(LobbyDrop::NoSuchNode(node));
+        }
+        if is_too_long(size) {
+            return Heard::Dropped(LobbyDrop::TooLong(size));
+        }
+        Heard::ToJoined(joined_takers_of(self.joined.of_node(node)))
+    }
+
+    /// What becomes of a packet for one node here.
+    fn to_node(&self, from: Place, header: IpxHeader, size: usize) -> Heard
+        ensures { result ≡ client_hears self.now from header size
+            (client_of_node header.to.node self.now.clients) }
+    {
+        match self.clients.of_node(header.to.node) {
+            None => self.to_far(header.to.node, size),
+            Some(client) if client.place == from => Heard::Dropped(LobbyDrop::ToItself),
+            Some(_) if is_too_long(size) => Heard::Dropped(LobbyDrop::TooLong(size)),
+            Some(client) => Heard::ToClient(client.place),
+        }
+    }
+
+    /// What becomes of a packet for the network of the port.
+    fn here(&self, from: Place, packet: &Packet<'_>, size: usize) -> Heard
+        ensures { result ≡ lobby_hears_here self.now from (packet_view packet.now) size }
+    {
+        if is_for_all(packet.header) {
+            return to_all(self.port, from, packet, size);
+        }
+        if packet.header.to.node == self.port.own {
+            return to_core(self.port, packet);
+        }
+        self.to_node(from, packet.header, size)
+    }
+
+    /// What becomes of a packet of a client, if one is known there.
+    fn from_client(
+        &self,
+        from: Place,
+        packet: &Packet<'_>,
+        size: usize,
+        known: Option<Client>,
+    ) -> Heard
+        ensures { result ≡ lobby_hears_from self.now from (packet_view packet.now) size known }
+    {
+        let header = packet.header;
+        let Some(client) = known else {
+            return Heard::Dropped(LobbyDrop::Unregistered);
+        };
+        if header.from.node != client.node {
+            return Heard::Dropped(LobbyDrop::OtherSource(header.from.node));
+        }
+        if stays(self.port, header) {
+            return self.here(from, packet, size);
+        }
+        elsewhere(self.port, packet)
+    }
+
+    /// What becomes of a packet of a joined router.
+    fn from_joined(&self, from: Place, header: IpxHeader, size: usize) -> Heard
+        ensures { result ≡ joined_hears self.now from header size }
+    {
+        if !stays(self.port, header) {
+            return Heard::Dropped(LobbyDrop::ForElsewhere(header.to.network));
+        }
+        if is_from_here(self.port, header) && self.is_here(header.from.node) {
+            return Heard::Dropped(LobbyDrop::NodeTwice(header.from.node));
+        }
+        if notes_node(self.port, header) {
+            return Heard::FromJoined(Some(header.from.node), Takers::Nobody);
+        }
+        if is_for_all(header) {
+            return joined_to_all(self.port, from, header, size);
+        }
+        joined_to_one(
+            self.port,
+            from,
+            header,
+            size,
+            self.clients.of_node(header.to.node),
+        )
+    }
+
+    /// What becomes of a packet.
+    pub(crate) fn outcome(&self, from: Place, packet: &Packet<'_>, size: usize, now: u64) -> Heard
+        ensures { result ≡ lobby_hears self.now from (packet_view packet.now) size now }
+    {
+        if self.joined.has(from) {
+            return self.from_joined(from, packet.header, size);
+        }
+        let known = self.clients.at(from);
+        if registers(packet.header, size) {
+            return self.registration(from, now, known);
+        }
+        self.from_client(from, packet, size, known)
+    }
+}
