@@ -12,9 +12,10 @@ use Rattle.ipx_lobby.specs.declared.heard.Heard.TheVariants.{Dropped}
 use Rattle.ipx_lobby.specs.declared.place.Place.{Place}
 use Rattle.ipx_lobby.specs.declared.port.LobbyPort.{LobbyPort}
 use Rattle.ipx_lobby.specs.declared.takers.Takers.{Takers}
-use Rattle.ipx_lobby.specs.declared.takers.Takers.TheVariants.{Nobody}
+use Rattle.ipx_lobby.specs.declared.takers.Takers.TheVariants.{Nobody, Joined}
 use Rattle.ipx_lobby.specs.LobbyClients.{EachClientOnce, client_at}
-use Rattle.ipx_lobby.specs.LobbyHears.{IsAnswer, LobbyView, answer_of, goes_to_core, is_taker, lobby_aged, lobby_gives, lobby_giving, lobby_hearing, lobby_hears, most_client_bytes, takers_of, takers_reach}
+use Rattle.ipx_lobby.specs.LobbyHears.{IsAnswer, IsNotice, LobbyView, answer_of, goes_to_core, is_taker, lobby_aged, lobby_gives, lobby_giving, lobby_hearing, lobby_hears, most_client_bytes, notice_of, takers_join, takers_of, takers_reach}
+use Rattle.ipx_lobby.specs.LobbyJoined.{is_joined_place}
 use Rattle.ipx_carrier.specs.declared.segments.PacketSent.{PacketSent}
 use Rattle.ipx_carrier.specs.declared.segments.PacketSent.TheVariants.{Unmapped, Copies}
 use Rattle.ipx_carrier.specs.Counting.{raised}
@@ -38,6 +39,13 @@ clients_reached l takers = filter (λ c. takers_reach l takers c.place) l.client
 abbrev pub relayed_to : ℕ → List ℕ → List Client → List PlaceDatagram
 relayed_to port bytes clients = map (λ c. place_datagram port bytes c.place) clients
 
+-- the places of joined routers that takers have, in order, and the same bytes for each of these
+abbrev pub routers_reached : LobbyView → Takers → List Place
+routers_reached l takers = filter (λ r. takers_join l takers r) l.routers
+
+abbrev pub relayed_on : ℕ → List ℕ → List Place → List PlaceDatagram
+relayed_on port bytes routers = map (λ r. place_datagram port bytes r) routers
+
 -- an answer to a place, if there is one
 abbrev pub answer_for : ℕ → Place → Option (List ℕ) → List PlaceDatagram
 answer_for port place None = []
@@ -48,6 +56,20 @@ answer_for port place (Some answer) = place_datagram port answer place ∷ []
 abbrev pub lobby_sends : LobbyView → Heard → PlaceDatagram → Option (List ℕ) → List PlaceDatagram
 lobby_sends l heard d answer = answer_for d.port d.place answer
     ++ relayed_to d.port d.bytes (clients_reached l (takers_of heard))
+
+-- what tells each joined router that a client registered, if one did
+abbrev pub notice_for : ℕ → LobbyView → Option (List ℕ) → List PlaceDatagram
+notice_for port l None = []
+notice_for port l (Some notice) = relayed_on port notice (routers_reached l Joined)
+
+-- what goes on to joined routers: that notice, and the bytes, as they came, to each that gets them
+abbrev pub joined_sends : LobbyView → Heard → PlaceDatagram → Option (List ℕ) → List PlaceDatagram
+joined_sends l heard d notice = notice_for d.port l notice
+    ++ relayed_on d.port d.bytes (routers_reached l (takers_of heard))
+
+-- each of these is for the place of a joined router
+abbrev pub AreForRouters : LobbyView → List PlaceDatagram → Type 0
+AreForRouters l datagrams = All (λ d. is_joined_place d.place l.routers ≡ true) datagrams
 
 -- each of these is for a place where a client is known
 abbrev pub AreForClients : LobbyView → List PlaceDatagram → Type 0
@@ -60,13 +82,17 @@ pub record HearsBytes (l : LobbyView) (from : Place) (bytes : List ℕ) (now : �
       → heard ≡ lobby_hears (lobby_aged now l) from p (length bytes) now
 
 -- bytes that a lobby heard go on, behind what came: all that it sends is handed to the sockets, with the
--- answer that is theirs, if they have one. Its clients are each at one place, and those that get the bytes
--- are not at the one that they came from
+-- answer that is theirs, if they have one, and then what is for joined routers. Its clients are each at one
+-- place, and those that get the bytes are not at the one that they came from
 pub record GivesOn (l : LobbyView) (heard : Heard) (d : PlaceDatagram) (came : List PlaceDatagram) (old new : Option PlaceTraffic) (failed failed_after : ℕ) : Type 0 where
   pub answer : Option (List ℕ)
   pub answered : is_some answer ≡ is_some (answer_of heard)
   pub is_it : IfSome answer (λ bytes. IsAnswer heard bytes)
-  pub gone : HandsOver (lobby_sends l heard d answer) came old new failed failed_after
+  pub notice : Option (List ℕ)
+  pub noticed : is_some notice ≡ is_some (notice_of heard)
+  pub is_notice : IfSome notice (λ bytes. IsNotice heard bytes)
+  pub gone : HandsOver (lobby_sends l heard d answer ++ joined_sends l heard d notice) came
+      old new failed failed_after
   pub once : EachClientOnce l.clients
   pub back : is_taker (takers_of heard) d.place ≡ false
 
@@ -93,8 +119,9 @@ lobbies_view lobbies kept traffic failed =
     record { lobbies = lobbies; kept = kept; traffic = traffic; failed = failed }
 
 -- bytes are heard that came from a place to the port of a lobby, and behind them nothing but these: they
--- are answered, and go on to clients, as the lobby says, and the core gets them where it is to. Nothing
--- goes where no client is known then, and an answer has no more bytes than it answers
+-- are answered, and go on to clients and joined routers, as the lobby says, and the core gets them where it
+-- is to. Nothing goes where no client is known then and no router is joined, nothing to those behind what one
+-- of them sent, and an answer has no more bytes than it answers
 pub record HearsAtLobby (now most : ℕ) (d : PlaceDatagram) (came : List PlaceDatagram) (room : List ℕ) (up : Option ℕ) (old new : LobbiesView) : Type 0 where
   pub lobby : LobbyView
   pub after : LobbyView
@@ -104,6 +131,9 @@ pub record HearsAtLobby (now most : ℕ) (d : PlaceDatagram) (came : List PlaceD
   pub becomes : after ≡ lobby_hearing heard d.place now (lobby_aged now lobby)
   pub onward : GivesOn after heard d came old.traffic new.traffic old.failed new.failed
   pub known : AreForClients after (lobby_sends after heard d onward.answer)
+  pub joined : AreForRouters after (joined_sends after heard d onward.notice)
+  pub ring : is_joined_place d.place lobby.routers ≡ true
+      → joined_sends after heard d onward.notice ≡ []
   pub no_longer : (answer : List ℕ) → IsAnswer heard answer → length answer ≤ length d.bytes
   pub core : TakesBytes (goes_to_core heard) d.bytes most room up
   pub lobbies : new.lobbies ≡ slice_set old.lobbies d.port after
@@ -117,7 +147,7 @@ ReceivesAtLobby now most None room up old new = (up ≡ None) × (new.lobbies �
 ReceivesAtLobby now most (Some d) room up old new =
     HearsAtLobby now most d (d ∷ []) room up old new
 
--- the clients that a packet of the core goes to
+-- the clients and joined routers that a packet of the core goes to
 abbrev pub takers_given : Result Takers LobbyDrop → Takers
 takers_given (Ok takers) = takers
 takers_given (Err drop) = Nobody
@@ -126,8 +156,13 @@ takers_given (Err drop) = Nobody
 abbrev pub packet_said : ℕ → PacketSent
 packet_said size = if nat_lt most_client_bytes size then Unmapped else Copies 1
 
+-- what goes to the places of those who get it, the clients first
+abbrev pub packet_sends : ℕ → List ℕ → LobbyView → Takers → List PlaceDatagram
+packet_sends port packet l takers = relayed_to port packet (clients_reached l takers)
+    ++ relayed_on port packet (routers_reached l takers)
+
 -- a packet of the core for a node goes, as it is, to each of the clients that the lobby of its port says,
--- who are each at one place; and what the lobby refuses is counted there
+-- who are each at one place, and each of the joined routers; and what the lobby refuses is counted there
 pub record SendsThroughLobby (now port : ℕ) (node : Node) (packet : List ℕ) (sent : PacketSent) (old new : LobbiesView) : Type 0 where
   pub lobby : LobbyView
   pub after : LobbyView
@@ -135,10 +170,11 @@ pub record SendsThroughLobby (now port : ℕ) (node : Node) (packet : List ℕ) 
   pub at_port : slice_get old.lobbies port ≡ Some lobby
   pub gives : given ≡ lobby_gives (lobby_aged now lobby) node (length packet)
   pub becomes : after ≡ lobby_giving given (lobby_aged now lobby)
-  pub gone : HandsOver (relayed_to port packet (clients_reached after (takers_given given))) []
+  pub gone : HandsOver (packet_sends port packet after (takers_given given)) []
       old.traffic new.traffic old.failed new.failed
   pub once : EachClientOnce after.clients
   pub known : AreForClients after (relayed_to port packet (clients_reached after (takers_given given)))
+  pub joined : AreForRouters after (relayed_on port packet (routers_reached after (takers_given given)))
   pub said : sent ≡ packet_said (length packet)
   pub lobbies : new.lobbies ≡ slice_set old.lobbies port after
   pub counted : new.kept ≡ old.kept

@@ -3,7 +3,7 @@
 ghost use Rattle.std.specs.Prelude.{◌≡◌, ◌<◌, [], false};
 ghost use Rattle.ipx_lobby.specs.LobbyClients.{EachClientOnce};
 ghost use Rattle.ipx_lobby.specs.LobbyHears.{is_taker, takers_of};
-ghost use Rattle.ipx_lobbies.specs.OnLobbies.{GivesOn, answer_for, clients_reached, relayed_to};
+ghost use Rattle.ipx_lobbies.specs.OnLobbies.{GivesOn, answer_for, clients_reached, notice_for, relayed_on, relayed_to, routers_reached};
 ghost use Rattle.ipx_lobbies.specs.PlaceTraffic.{HandsOver, place_datagram};
 
 use crate::place_sockets::PlaceSockets;
@@ -35,6 +35,49 @@ pub fn send_to_clients<D: PlaceSockets>(
     }
 }
 
+/// Sends bytes by a port to each joined router that takers have, in order. Where that fails at one, the
+/// others get them still.
+pub fn send_to_routers<D: PlaceSockets>(
+    sockets: &mut D,
+    port: usize,
+    lobby: &Lobby,
+    takers: Takers,
+    bytes: &[u8],
+)
+    requires { port < D.port_count sockets.old }
+    ensures gone { HandsOver (relayed_on port bytes.now (routers_reached lobby.now takers)) []
+        (D.traffic sockets.old) (D.traffic sockets.new)
+        (D.failed sockets.old) (D.failed sockets.new) }
+    ensures ports { D.port_count sockets.new ≡ D.port_count sockets.old }
+    ensures kept_back { D.kept_back sockets.new ≡ D.kept_back sockets.old }
+{
+    let routers = lobby.routers();
+    for router in routers {
+        if lobby.joins(takers, *router) {
+            let _ = sockets.send(port, *router, bytes);
+        }
+    }
+}
+
+/// Tells each joined router by a port that a client registered, if one did.
+fn send_notice<D: PlaceSockets>(
+    sockets: &mut D,
+    port: usize,
+    lobby: &Lobby,
+    notice: Option<[u8; IPX_HEADER_SIZE]>,
+)
+    requires { port < D.port_count sockets.old }
+    ensures gone { HandsOver (notice_for port lobby.now notice) []
+        (D.traffic sockets.old) (D.traffic sockets.new)
+        (D.failed sockets.old) (D.failed sockets.new) }
+    ensures ports { D.port_count sockets.new ≡ D.port_count sockets.old }
+    ensures kept_back { D.kept_back sockets.new ≡ D.kept_back sockets.old }
+{
+    if let Some(notice) = notice {
+        send_to_routers(sockets, port, lobby, Takers::Joined, &notice);
+    }
+}
+
 /// Sends an answer by a port to a place, if there is one.
 fn send_answer<D: PlaceSockets>(
     sockets: &mut D,
@@ -56,7 +99,7 @@ fn send_answer<D: PlaceSockets>(
 
 /// Sends by a port what its lobby has to send of bytes that came from a place and that it heard: the
 /// answer first, since a client takes the first datagram that it gets for it, and then the bytes, as
-/// they came, to the clients that get them.
+/// they came, to the clients that get them; and behind these what is for joined routers.
 ///
 /// The caller owes that these are not at that place.
 pub fn give_on<D: PlaceSockets>(
@@ -76,5 +119,8 @@ pub fn give_on<D: PlaceSockets>(
     ensures kept_back { D.kept_back sockets.new ≡ D.kept_back sockets.old }
 {
     send_answer(sockets, port, from, heard.answer());
-    send_to_clients(sockets, port, lobby, heard.takers(), bytes);
+    let takers = heard.takers();
+    send_to_clients(sockets, port, lobby, takers, bytes);
+    send_notice(sockets, port, lobby, heard.notice());
+    send_to_routers(sockets, port, lobby, takers, bytes);
 }

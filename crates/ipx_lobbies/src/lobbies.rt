@@ -6,7 +6,7 @@ ghost use Rattle.ipx_lobbies.specs.OnLobbies.{HearsAtLobby, ReceivesAtLobby, Sen
 ghost use Rattle.ipx_lobbies.specs.PlaceTraffic.{PlaceDatagram, place_datagram};
 
 use crate::front::put_front;
-use crate::giving_on::{give_on, send_to_clients};
+use crate::giving_on::{give_on, send_to_clients, send_to_routers};
 use crate::place_sockets::PlaceSockets;
 use ipx_carrier::{DeviceFault, PacketSent, Segments, SegmentsKeepBack, raise};
 use ipx_lobby::{Lobby, MOST_CLIENT_BYTES, Place, Takers};
@@ -15,9 +15,9 @@ use ipx_wire::Node;
 /// The room that a datagram is received into: more than any that goes on to clients has.
 const DATAGRAM_ROOM: usize = 1536;
 
-/// Ports for clients that register, each with a lobby of its own: what a client sends is answered and
-/// goes on to others, the core gets what is for it, and its packets go to clients. There are as many
-/// ports as both the sockets and the lobbies are for.
+/// Ports for clients that register, each with a lobby of its own, which may be joined to those of
+/// other routers: what a client sends is answered and goes on to others, the core gets what is for it,
+/// and its packets go to clients. There are as many ports as both the sockets and the lobbies are for.
 ///
 /// What can't be sent to one client is lost there, as it may be on the way, and the sockets count it,
 /// as they do where they can't receive: nothing of it keeps others from theirs.
@@ -78,7 +78,8 @@ impl<D: PlaceSockets + Drop> Lobbies<D> {
         &self.lobbies
     }
 
-    /// Sends a packet of the core to the clients of a port that its node stands for.
+    /// Sends a packet of the core to the clients of a port that its node stands for, and to the joined
+    /// routers behind which that may be.
     fn send_packet(&mut self, port: usize, node: Node, packet: &[u8]) -> PacketSent
         requires lobby { port < length self.old.lobbies.items }
         requires there { port < D.port_count self.old.sockets }
@@ -97,6 +98,7 @@ impl<D: PlaceSockets + Drop> Lobbies<D> {
             Err(_) => Takers::Nobody,
         };
         send_to_clients(&mut self.sockets, port, lobby, takers, packet);
+        send_to_routers(&mut self.sockets, port, lobby, takers, packet);
         said_of(packet.len())
     }
 
@@ -178,7 +180,7 @@ impl<D: PlaceSockets + Drop> Segments for Lobbies<D> {
     fn send(&mut self, port: usize, node: Node, packet: &[u8]) -> Result<PacketSent, DeviceFault>
         requires there { port < min (length self.old.lobbies.items)
             (D.port_count self.old.sockets) }
-        // The packet goes to the clients of its node, or the lobby refuses it.
+        // The packet goes to the clients of its node, or to joined routers, or the lobby refuses it.
         ensures sent { IfOk result (λ sent. SendsThroughLobby self.old.moment port node packet.now sent
             (lobbies_view self.old.lobbies.items self.old.kept
             (D.traffic self.old.sockets) (D.failed self.old.sockets))

@@ -7,7 +7,7 @@ use Rattle.ipx_wire.specs.Ipx.{PacketView}
 use Rattle.ipx_wire.specs.declared.ipx.packet.IpxHeader.{IpxHeader}
 use Rattle.ipx_lobby.specs.declared.clients.Client.{Client}
 use Rattle.ipx_lobby.specs.declared.drops.LobbyDrop.{LobbyDrop}
-use Rattle.ipx_lobby.specs.declared.drops.LobbyDrop.TheVariants.{NodeTaken, TooManyNew, Full, Unregistered, OtherSource, TooLong, NoSuchNode, ToItself, PingElsewhere, BroadcastElsewhere, FromElsewhere, Response, NodeTwice, ForElsewhere}
+use Rattle.ipx_lobby.specs.declared.drops.LobbyDrop.TheVariants.{NodeTaken, TooManyNew, Full, Unregistered, OtherSource, TooLong, NoSuchNode, ToItself, PingElsewhere, BroadcastElsewhere, FromElsewhere, Response, NotBehind, ForElsewhere}
 use Rattle.ipx_lobby.specs.declared.heard.Heard.{Heard}
 use Rattle.ipx_lobby.specs.declared.heard.Heard.TheVariants.{Registered, Pinged, ToClient, ToOthers, ToOthersAndCore, ToCore, ToJoined, FromJoined, Dropped}
 use Rattle.ipx_lobby.specs.declared.place.Place.{Place}
@@ -16,7 +16,7 @@ use Rattle.ipx_lobby.specs.declared.joined.FarClient.{FarClient}
 use Rattle.ipx_lobby.specs.declared.takers.Takers.{Takers}
 use Rattle.ipx_lobby.specs.declared.takers.Takers.TheVariants.{Nobody, One, Here, Joined, JoinedAt}
 use Rattle.ipx_lobby.specs.LobbyClients.{are_one_place, is_lobby_full, client_at, client_of_node, has_client_node, is_client_at, most_newcomers, newcomers}
-use Rattle.ipx_lobby.specs.LobbyHears.{IsAnswer, LobbyView, all_hear, all_hear_joined, client_hears, core_hears, far_hear, far_source, goes_to_core, is_dropped, is_for_lobby, is_from_lobby, is_joined_taker, is_node_here, is_node_taken, is_of_client, is_registration, is_taker, is_to_all_nodes, is_to_service, joined_hears, joined_takers, lobby_hears, lobby_hears_elsewhere, lobby_hears_from, lobby_hears_here, lobby_socket, may_reach_core, most_client_bytes, newcomer_drop, newcomer_hears, node_given, one_hears_joined, ping_answer, registration_answer, registration_hears, takers_of, tells_node, tells_router}
+use Rattle.ipx_lobby.specs.LobbyHears.{IsAnswer, LobbyView, all_hear, all_hear_joined, client_hears, core_hears, far_hear, far_source, goes_to_core, is_dropped, is_for_lobby, is_from_lobby, is_joined_taker, is_node_here, is_node_taken, is_not_behind, is_of_client, is_registration, is_taker, is_to_all_nodes, is_to_service, joined_hears, joined_takers, lobby_hears, lobby_hears_elsewhere, lobby_hears_from, lobby_hears_here, lobby_socket, may_reach_core, most_client_bytes, newcomer_drop, newcomer_hears, node_given, one_hears_joined, ping_answer, registration_answer, registration_hears, takers_of, tells_node, tells_router}
 use Rattle.ipx_lobby.specs.LobbyJoined.{far_client_of, is_joined_place}
 use Rattle.ipx_lobby.specs.LobbyInside.{IsSoundHearing, StaysAmongClients}
 use Rattle.ipx_wire.specs.declared.address.Node.{Node}
@@ -264,7 +264,7 @@ module _ (l : LobbyView) (from : Place) (size : ℕ) (thirty : ipx_header_size �
     enters : (h : IpxHeader) → Sound (joined_hears l from h size)
     enters h =
         either Sound (not (is_for_lobby l.port h)) _ _ (dropped (ForElsewhere h.to.network))
-        (either Sound (is_from_lobby l.port h && is_node_here l.port l.clients h.from.node) _ _ (dropped (NodeTwice h.from.node))
+        (either Sound (is_from_lobby l.port h && is_not_behind l.port l.clients h.from.node) _ _ (dropped (NotBehind h.from.node))
         (either Sound (tells_node l.port h) _ _ (entering (Some h.from.node) Nobody refl (λ place. refl) (λ place e. cc))
         (either Sound (is_to_all_nodes h) _ _ (all_enter h) (one_enters h (client_of_node h.to.node l.clients) refl))))
 
@@ -344,7 +344,7 @@ reaches_joined_one l from p size (Some c) =
 reaches_joined : (l : LobbyView) (from : Place) (p : PacketView) (size : ℕ) → ReachesCore l.port p (joined_hears l from p.header size)
 reaches_joined l from p size =
     either (ReachesCore l.port p) (not (is_for_lobby l.port p.header)) _ _ (λ goes. cc)
-    (either (ReachesCore l.port p) (is_from_lobby l.port p.header && is_node_here l.port l.clients p.header.from.node) _ _ (λ goes. cc)
+    (either (ReachesCore l.port p) (is_from_lobby l.port p.header && is_not_behind l.port l.clients p.header.from.node) _ _ (λ goes. cc)
     (either (ReachesCore l.port p) (tells_node l.port p.header) _ _ (λ goes. cc)
     (either (ReachesCore l.port p) (is_to_all_nodes p.header) _ _
     (either (ReachesCore l.port p) (nat_lt most_client_bytes size) _ _ (λ goes. cc) (λ goes. cc))

@@ -2,7 +2,7 @@
 use Rattle.std.specs.Prelude.{ℕ, ◌+◌, ◌-◌, ◌^◌, min}
 use Rattle.ipx_lobby.specs.declared.counts.LobbyCounts.{LobbyCounts}
 use Rattle.ipx_lobby.specs.declared.drops.LobbyDrop.{LobbyDrop}
-use Rattle.ipx_lobby.specs.declared.drops.LobbyDrop.TheVariants.{Malformed, NodeTaken, TooManyNew, Full, Unregistered, OtherSource, TooLong, NoSuchNode, ToItself, PingElsewhere, BroadcastElsewhere, FromElsewhere, Response, NodeTwice, ForElsewhere}
+use Rattle.ipx_lobby.specs.declared.drops.LobbyDrop.TheVariants.{Malformed, NodeTaken, TooManyNew, Full, Unregistered, OtherSource, TooLong, NoSuchNode, ToItself, PingElsewhere, BroadcastElsewhere, FromElsewhere, Response, NotBehind, ForElsewhere}
 
 -- a count of 64 bits goes up by one, and stays where it is the greatest
 abbrev pub drops_raised : ℕ → ℕ
@@ -24,7 +24,7 @@ drop_counted (BroadcastElsewhere network) c =
     record c { broadcast_elsewhere = drops_raised c.broadcast_elsewhere }
 drop_counted (FromElsewhere network) c = record c { from_elsewhere = drops_raised c.from_elsewhere }
 drop_counted Response c = record c { response = drops_raised c.response }
-drop_counted (NodeTwice node) c = record c { node_twice = drops_raised c.node_twice }
+drop_counted (NotBehind node) c = record c { not_behind = drops_raised c.not_behind }
 drop_counted (ForElsewhere network) c =
     record c { for_elsewhere = drops_raised c.for_elsewhere }
 
@@ -44,6 +44,6 @@ no_drops = record {
   broadcast_elsewhere = 0;
   from_elsewhere = 0;
   response = 0;
-  node_twice = 0;
+  not_behind = 0;
   for_elsewhere = 0;
 }

@@ -12,7 +12,7 @@ use Rattle.ipx_lobby.specs.declared.place.Place.{Place}
 use Rattle.ipx_lobby.specs.declared.clients.Client.{Client}
 use Rattle.ipx_lobby.specs.declared.counts.LobbyCounts.{LobbyCounts}
 use Rattle.ipx_lobby.specs.declared.drops.LobbyDrop.{LobbyDrop}
-use Rattle.ipx_lobby.specs.declared.drops.LobbyDrop.TheVariants.{NodeTaken, TooManyNew, Full, Unregistered, OtherSource, TooLong, NoSuchNode, ToItself, PingElsewhere, BroadcastElsewhere, FromElsewhere, Response, NodeTwice, ForElsewhere}
+use Rattle.ipx_lobby.specs.declared.drops.LobbyDrop.TheVariants.{NodeTaken, TooManyNew, Full, Unregistered, OtherSource, TooLong, NoSuchNode, ToItself, PingElsewhere, BroadcastElsewhere, FromElsewhere, Response, NotBehind, ForElsewhere}
 use Rattle.ipx_lobby.specs.declared.heard.Heard.{Heard}
 use Rattle.ipx_lobby.specs.declared.heard.Heard.TheVariants.{Registered, Pinged, ToClient, ToOthers, ToOthersAndCore, ToCore, ToJoined, FromJoined, Dropped}
 use Rattle.ipx_lobby.specs.declared.takers.Takers.{Takers}
@@ -186,6 +186,11 @@ lobby_hears_from l from p size (Some c) =
     else if is_for_lobby l.port p.header then lobby_hears_here l from p size
     else lobby_hears_elsewhere l.port p
 
+-- no client behind a joined router can have one of these, nor 0
+abbrev pub is_not_behind : LobbyPort → List Client → Node → Bool
+is_not_behind port known node =
+    bytes_eq node.0 (replicate 6 0) || is_node_here port known node
+
 -- the node of a far client that a packet of a joined router is from: of none where it comes from
 -- another network
 abbrev pub far_source : LobbyPort → IpxHeader → Option Node
@@ -213,8 +218,8 @@ all_hear_joined port from h size =
 abbrev pub joined_hears : LobbyView → Place → IpxHeader → ℕ → Heard
 joined_hears l from h size =
     if not (is_for_lobby l.port h) then Dropped (ForElsewhere h.to.network)
-    else if is_from_lobby l.port h && is_node_here l.port l.clients h.from.node
-    then Dropped (NodeTwice h.from.node)
+    else if is_from_lobby l.port h && is_not_behind l.port l.clients h.from.node
+    then Dropped (NotBehind h.from.node)
     else if tells_node l.port h then FromJoined (Some h.from.node) Nobody
     else if is_to_all_nodes h then all_hear_joined l.port from h size
     else one_hears_joined l.port from h size (client_of_node h.to.node l.clients)

@@ -22,7 +22,7 @@ pub struct LobbyCounts {
     pub broadcast_elsewhere: u64,
     pub from_elsewhere: u64,
     pub response: u64,
-    pub node_twice: u64,
+    pub not_behind: u64,
     pub for_elsewhere: u64,
 }
 
@@ -52,7 +52,7 @@ impl LobbyCounts {
             broadcast_elsewhere: 0,
             from_elsewhere: 0,
             response: 0,
-            node_twice: 0,
+            not_behind: 0,
             for_elsewhere: 0,
         }
     }
@@ -75,7 +75,7 @@ impl LobbyCounts {
             LobbyDrop::BroadcastElsewhere(_) => raise(&mut self.broadcast_elsewhere),
             LobbyDrop::FromElsewhere(_) => raise(&mut self.from_elsewhere),
             LobbyDrop::Response => raise(&mut self.response),
-            LobbyDrop::NodeTwice(_) => raise(&mut self.node_twice),
+            LobbyDrop::NotBehind(_) => raise(&mut self.not_behind),
             LobbyDrop::ForElsewhere(_) => raise(&mut self.for_elsewhere),
         }
     }

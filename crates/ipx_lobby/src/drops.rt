@@ -46,10 +46,10 @@ pub enum LobbyDrop {
     /// It is for the core alone, and is a response of RIP or SAP, which tells routes or services.
     #[error("a client told routes or services")]
     Response,
-    /// A joined router's, from a node of this network that is the router's here, all nodes' or a
-    /// client's here: which.
-    #[error("a joined router sent from a node that is known here: {0}")]
-    NodeTwice(Node),
+    /// A joined router's, from a node of this network that no client there can have: 0, the router's
+    /// here, all nodes' or a client's here: which.
+    #[error("a joined router sent from a node that is not behind it: {0}")]
+    NotBehind(Node),
     /// A joined router's, for another network: for which.
     #[error("a joined router sent for network {0}")]
     ForElsewhere(Network),

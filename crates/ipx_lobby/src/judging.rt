@@ -3,7 +3,7 @@
 ghost use Rattle.std.specs.Prelude.{◌≡◌, []};
 ghost use Rattle.ipx_wire.specs.Ipx.{packet_view};
 ghost use Rattle.ipx_lobby.specs.LobbyClients.{client_of_node, node_of_place};
-ghost use Rattle.ipx_lobby.specs.LobbyHears.{client_hears, far_hear, is_node_here, is_node_taken, joined_hears, lobby_hears};
+ghost use Rattle.ipx_lobby.specs.LobbyHears.{client_hears, far_hear, is_node_here, is_node_taken, is_not_behind, joined_hears, lobby_hears};
 ghost use Rattle.ipx_lobby.specs.LobbyHears.{lobby_hears_from, lobby_hears_here, newcomer_drop, node_given, registration_hears};
 
 use crate::clients::{Client, MOST_NEWCOMERS};
@@ -24,6 +24,13 @@ impl Lobby {
         ensures { result ≡ is_node_here self.now.port self.now.clients node }
     {
         node == self.port.own || node == Node::BROADCAST || self.clients.of_node(node).is_some()
+    }
+
+    /// Whether no client behind a joined router can have a node.
+    fn is_not_behind(&self, node: Node) -> bool
+        ensures { result ≡ is_not_behind self.now.port self.now.clients node }
+    {
+        node == Node([0; 6]) || self.is_here(node)
     }
 
     /// Whether no new client can have a node.
@@ -140,8 +147,8 @@ impl Lobby {
         if !stays(self.port, header) {
             return Heard::Dropped(LobbyDrop::ForElsewhere(header.to.network));
         }
-        if is_from_here(self.port, header) && self.is_here(header.from.node) {
-            return Heard::Dropped(LobbyDrop::NodeTwice(header.from.node));
+        if is_from_here(self.port, header) && self.is_not_behind(header.from.node) {
+            return Heard::Dropped(LobbyDrop::NotBehind(header.from.node));
         }
         if notes_node(self.port, header) {
             return Heard::FromJoined(Some(header.from.node), Takers::Nobody);

@@ -13,6 +13,8 @@ mod fixture;
 #[cfg(test)]
 mod giving;
 #[cfg(test)]
+mod joined;
+#[cfg(test)]
 mod pings;
 #[cfg(test)]
 mod refused;
@@ -24,5 +26,7 @@ mod room;
 mod router;
 #[cfg(test)]
 mod silent;
+#[cfg(test)]
+mod sites;
 #[cfg(test)]
 mod telling;
