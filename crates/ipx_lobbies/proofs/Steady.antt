@@ -1,5 +1,5 @@
 -- What of ports for clients stays where a lobby hears, or gives.
-use Rattle.std.proofs.Common.{◌≡◌, ℕ, Bool, true, false, List, [], ◌∷◌, Option, Some, None, Result, Ok, Err, length, map, ap, refl, sym, ◌∙◌, subst}
+use Rattle.std.proofs.Common.{◌≡◌, ℕ, Bool, true, false, List, [], ◌∷◌, ◌++◌, Option, Some, None, Result, Ok, Err, cond, filter, length, map, ap, refl, sym, ◌∙◌, subst}
 use Rattle.std.specs.Prelude.{◌&&◌, is_some, nat_lt, slice_get, slice_set}
 use Rattle.std.proofs.Math.Seq.{map-set_same}
 use Rattle.std.proofs.lemmas.List.Elements.{All-append, All-cons, All-map, All-nil, All-weaker, filter_passes}
@@ -8,16 +8,18 @@ use Rattle.ipx_wire.specs.declared.address.Node.{Node}
 use Rattle.ipx_lobby.specs.declared.clients.Client.{Client}
 use Rattle.ipx_lobby.specs.declared.drops.LobbyDrop.{LobbyDrop}
 use Rattle.ipx_lobby.specs.declared.heard.Heard.{Heard}
-use Rattle.ipx_lobby.specs.declared.heard.Heard.TheVariants.{Registered, Pinged, ToClient, ToOthers, ToOthersAndCore, ToCore, Dropped}
+use Rattle.ipx_lobby.specs.declared.heard.Heard.TheVariants.{Registered, Pinged, ToClient, ToOthers, ToOthersAndCore, ToCore, ToJoined, FromJoined, Dropped}
 use Rattle.ipx_lobby.specs.declared.place.Place.{Place}
 use Rattle.ipx_lobby.specs.declared.port.LobbyPort.{LobbyPort}
 use Rattle.ipx_lobby.specs.declared.takers.Takers.{Takers}
+use Rattle.ipx_lobby.specs.declared.takers.Takers.TheVariants.{Joined}
 use Rattle.ipx_lobby.specs.LobbyClients.{client_at}
-use Rattle.ipx_lobby.specs.LobbyHears.{LobbyView, answer_of, is_dropped, is_taker, lobby_aged, lobby_giving, lobby_hearing, most_client_bytes, takers_of, takers_reach}
+use Rattle.ipx_lobby.specs.LobbyHears.{LobbyView, answer_of, is_dropped, is_joined_taker, is_taker, lobby_aged, lobby_giving, lobby_hearing, lobby_told, most_client_bytes, notice_of, takers_join, takers_of, takers_reach}
+use Rattle.ipx_lobby.specs.LobbyJoined.{is_joined_place}
 use Rattle.ipx_carrier.specs.declared.segments.PacketSent.{PacketSent}
 use Rattle.ipx_carrier.specs.Segments.{copies_count, count_in}
 use Rattle.ipx_carrier.specs.Turns.{Given}
-use Rattle.ipx_lobbies.specs.OnLobbies.{AreForClients, HearsAtLobby, LobbiesView, SendsThroughLobby, answer_for, by_lobbies, clients_reached, lobbies_view, lobby_ports, lobby_sends, packet_said, relayed_to}
+use Rattle.ipx_lobbies.specs.OnLobbies.{AreForClients, AreForRouters, HearsAtLobby, LobbiesView, SendsThroughLobby, answer_for, by_lobbies, clients_reached, joined_sends, lobbies_view, lobby_ports, lobby_sends, notice_for, packet_said, relayed_on, relayed_to, routers_reached}
 use Rattle.ipx_lobbies.specs.PlaceTraffic.{HandsOver, PlaceDatagram, PlaceTraffic, PlacesPass, place_datagram}
 use Rattle.ipx_lobbies.proofs.Handing.{hands_behind}
 
@@ -26,6 +28,10 @@ use Rattle.ipx_lobbies.proofs.Handing.{hands_behind}
 abbrev port_in : LobbyView → LobbyPort × ℕ
 port_in l = (l.port, l.most)
 
+told_stays : (told : Option Node) (from : Place) (now : ℕ) (l : LobbyView) → port_in (lobby_told told from now l) ≡ port_in l
+told_stays None from now l = refl
+told_stays (Some node) from now l = refl
+
 hearing_stays : (heard : Heard) (from : Place) (now : ℕ) (l : LobbyView) → port_in (lobby_hearing heard from now l) ≡ port_in l
 hearing_stays (Registered answer) from now l = refl
 hearing_stays (Pinged giver answer) from now l = refl
@@ -33,6 +39,8 @@ hearing_stays (ToClient place) from now l = refl
 hearing_stays (ToOthers giver) from now l = refl
 hearing_stays (ToOthersAndCore giver) from now l = refl
 hearing_stays ToCore from now l = refl
+hearing_stays (ToJoined takers) from now l = refl
+hearing_stays (FromJoined told takers) from now l = told_stays told from now l
 hearing_stays (Dropped drop) from now l = refl
 
 giving_stays : (given : Result Takers LobbyDrop) (l : LobbyView) → port_in (lobby_giving given l) ≡ port_in l
@@ -69,6 +77,8 @@ answered_kept (ToClient place) e = refl
 answered_kept (ToOthers giver) e = refl
 answered_kept (ToOthersAndCore giver) e = refl
 answered_kept ToCore e = refl
+answered_kept (ToJoined takers) e = refl
+answered_kept (FromJoined told takers) e = refl
 answered_kept (Dropped drop) e = cc
 
 both_true : (a b : Bool) → (a && b) ≡ true → a ≡ true
@@ -86,19 +96,76 @@ answer_known port place l None h = All-nil (λ (d : PlaceDatagram). is_some (cli
 answer_known port place l (Some answer) h =
     All-cons (λ (d : PlaceDatagram). is_some (client_at d.place l.clients) ≡ true) (place_datagram port answer place) [] (h refl) (All-nil (λ (d : PlaceDatagram). is_some (client_at d.place l.clients) ≡ true))
 
--- who is answered was heard, and so is a client
-pub sends_known : (l : LobbyView) (heard : Heard) (d : PlaceDatagram) (answer : Option (List ℕ)) (c : Client) → is_some answer ≡ is_some (answer_of heard) → (is_dropped heard ≡ false → client_at d.place l.clients ≡ Some c) → AreForClients l (lobby_sends l heard d answer)
-sends_known l heard d answer c answered sender =
+answered_apart : (joined : Bool) (heard : Heard) → (joined ≡ true → answer_of heard ≡ None) → is_some (answer_of heard) ≡ true → joined ≡ false
+answered_apart true heard unanswered e = cc (ap is_some (unanswered refl))
+answered_apart false heard unanswered e = refl
+
+-- who is answered was heard and is no joined router, and so is a client
+pub sends_known : (joined : Bool) (l : LobbyView) (heard : Heard) (d : PlaceDatagram) (answer : Option (List ℕ)) (c : Client) → is_some answer ≡ is_some (answer_of heard) → (is_dropped heard ≡ false → joined ≡ false → client_at d.place l.clients ≡ Some c) → (joined ≡ true → answer_of heard ≡ None)
+    → AreForClients l (lobby_sends l heard d answer)
+sends_known joined l heard d answer c answered sender unanswered =
+    let one = λ (e : is_some answer ≡ true). sym answered ∙ e in
     All-append (λ (s : PlaceDatagram). is_some (client_at s.place l.clients) ≡ true) (answer_for d.port d.place answer) (relayed_to d.port d.bytes (clients_reached l (takers_of heard)))
-    (answer_known d.port d.place l answer (λ e. ap (λ (o : Option Client). is_some o) (sender (answered_kept heard (sym answered ∙ e)))))
+    (answer_known d.port d.place l answer (λ e. ap (λ (o : Option Client). is_some o) (sender (answered_kept heard (one e)) (answered_apart joined heard unanswered (one e)))))
     (relays_known d.port d.bytes l (takers_of heard))
+
+-- ---- what is sent on is for joined routers, and not what came from one
+
+pub relays_joined : (port : ℕ) (bytes : List ℕ) (l : LobbyView) (takers : Takers) → AreForRouters l (relayed_on port bytes (routers_reached l takers))
+relays_joined port bytes l takers =
+    All-map (λ (d : PlaceDatagram). is_joined_place d.place l.routers ≡ true) (λ (r : Place). place_datagram port bytes r) (routers_reached l takers)
+    (All-weaker (λ (r : Place). takers_join l takers r ≡ true) (λ (r : Place). is_joined_place r l.routers ≡ true) (λ r e. both_true (is_joined_place r l.routers) (is_joined_taker takers r) e) (routers_reached l takers) (filter_passes (λ (r : Place). takers_join l takers r) l.routers))
+
+notice_joined : (port : ℕ) (l : LobbyView) (notice : Option (List ℕ)) → AreForRouters l (notice_for port l notice)
+notice_joined port l None = All-nil (λ (d : PlaceDatagram). is_joined_place d.place l.routers ≡ true)
+notice_joined port l (Some notice) = relays_joined port notice l Joined
+
+pub sends_joined : (l : LobbyView) (heard : Heard) (d : PlaceDatagram) (notice : Option (List ℕ)) → AreForRouters l (joined_sends l heard d notice)
+sends_joined l heard d notice =
+    All-append (λ (s : PlaceDatagram). is_joined_place s.place l.routers ≡ true) (notice_for d.port l notice) (relayed_on d.port d.bytes (routers_reached l (takers_of heard)))
+    (notice_joined d.port l notice) (relays_joined d.port d.bytes l (takers_of heard))
+
+none_noticed : (heard : Heard) → answer_of heard ≡ None → is_some (notice_of heard) ≡ false
+none_noticed (Registered answer) e = cc
+none_noticed (Pinged giver answer) e = refl
+none_noticed (ToClient place) e = refl
+none_noticed (ToOthers giver) e = refl
+none_noticed (ToOthersAndCore giver) e = refl
+none_noticed ToCore e = refl
+none_noticed (ToJoined takers) e = refl
+none_noticed (FromJoined told takers) e = refl
+none_noticed (Dropped drop) e = refl
+
+second_false : (a b : Bool) → b ≡ false → (a && b) ≡ false
+second_false true b e = e
+second_false false b e = refl
+
+past_by : (r : Place) (kept : List Place) (b : Bool) → b ≡ false → cond b (r ∷ kept) kept ≡ kept
+past_by r kept true e = cc
+past_by r kept false e = refl
+
+none_joined : (l : LobbyView) (takers : Takers) (rs : List Place) → ((place : Place) → is_joined_taker takers place ≡ false) → filter (λ r. takers_join l takers r) rs ≡ []
+none_joined l takers [] ring = refl
+none_joined l takers (r ∷ rs) ring =
+    past_by r (filter (λ r. takers_join l takers r) rs) (takers_join l takers r) (second_false (is_joined_place r l.routers) (is_joined_taker takers r) (ring r)) ∙ none_joined l takers rs ring
+
+nothing_noticed : (port : ℕ) (l : LobbyView) (notice : Option (List ℕ)) → is_some notice ≡ false → notice_for port l notice ≡ []
+nothing_noticed port l None e = refl
+nothing_noticed port l (Some notice) e = cc
+
+pub nothing_goes_round : (l : LobbyView) (heard : Heard) (d : PlaceDatagram) (notice : Option (List ℕ)) → is_some notice ≡ is_some (notice_of heard) → answer_of heard ≡ None → ((place : Place) → is_joined_taker (takers_of heard) place ≡ false)
+    → joined_sends l heard d notice ≡ []
+nothing_goes_round l heard d notice noticed unanswered ring =
+    let first : notice_for d.port l notice ≡ [] = nothing_noticed d.port l notice (noticed ∙ none_noticed heard unanswered) in
+    let second : relayed_on d.port d.bytes (routers_reached l (takers_of heard)) ≡ [] = ap (relayed_on d.port d.bytes) (none_joined l (takers_of heard) l.routers ring) in
+    ap (λ (ds : List PlaceDatagram). ds ++ relayed_on d.port d.bytes (routers_reached l (takers_of heard))) first ∙ second
 
 -- ---- what is heard behind what the sockets answered
 
 pub hears_behind : (now most : ℕ) (d : PlaceDatagram) (room : List ℕ) (up : Option ℕ) (lobbies : List LobbyView) (kept : ℕ) (s t : Option PlaceTraffic) (f f' : ℕ) (new : LobbiesView) → f' ≡ f → PlacesPass s t (d ∷ []) []
     → HearsAtLobby now most d [] room up (lobbies_view lobbies kept t f') new → HearsAtLobby now most d (d ∷ []) room up (lobbies_view lobbies kept s f) new
 hears_behind now most d room up lobbies kept s t f f' new as_often first r =
-    let sends : List PlaceDatagram = lobby_sends r.after r.heard d r.onward.answer in
+    let sends : List PlaceDatagram = lobby_sends r.after r.heard d r.onward.answer ++ joined_sends r.after r.heard d r.onward.notice in
     let behind : HandsOver sends (d ∷ []) s new.traffic f' new.failed =
     hands_behind sends (d ∷ []) s t new.traffic f' new.failed first r.onward.gone in
     record {
@@ -112,11 +179,16 @@ hears_behind now most d room up lobbies kept s t f f' new as_often first r =
         answer = r.onward.answer;
         answered = r.onward.answered;
         is_it = r.onward.is_it;
+        notice = r.onward.notice;
+        noticed = r.onward.noticed;
+        is_notice = r.onward.is_notice;
         gone = subst (λ (k : ℕ). HandsOver sends (d ∷ []) s new.traffic k new.failed) as_often behind;
         once = r.onward.once;
         back = r.onward.back;
       };
       known = r.known;
+      joined = r.joined;
+      ring = r.ring;
       no_longer = r.no_longer;
       core = r.core;
       lobbies = r.lobbies;

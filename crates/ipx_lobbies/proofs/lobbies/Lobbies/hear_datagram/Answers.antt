@@ -2,7 +2,8 @@ use Rattle.std.proofs.Common.{length, refl, sym, ◌∙◌}
 use Rattle.std.specs.Prelude.{slice_set}
 use Rattle.std.proofs.lemmas.Option.{slice_get_read}
 use Rattle.ipx_lobbies.specs.PlaceTraffic.{place_datagram}
-use Rattle.ipx_lobbies.proofs.Steady.{sends_known}
+use Rattle.ipx_lobby.specs.LobbyJoined.{is_joined_place}
+use Rattle.ipx_lobbies.proofs.Steady.{nothing_goes_round, sends_joined, sends_known}
 use Rattle.ipx_lobbies.proofs.lobbies.Lobbies.hear_datagram.Goals as goal
 
 pub returns-then-not-is_for_core-clause-heard : goal.returns-then-not-is_for_core-clause-heard
@@ -12,6 +13,7 @@ returns-then-not-is_for_core-clause-heard g c =
     let after = c.hear-heard.new.self in
     let heard = c.hear-heard.result in
     let onward = c.give_on.ensures.gone in
+    let d = place_datagram c.args.port c.args.bytes.now c.args.from in
     record {
       lobby = lobby;
       after = after;
@@ -20,7 +22,9 @@ returns-then-not-is_for_core-clause-heard g c =
       hears = record { malformed = c.hear-heard.ensures.malformed; packet = c.hear-heard.ensures.packet };
       becomes = c.hear-heard.ensures.lobby;
       onward = onward;
-      known = sends_known after heard (place_datagram c.args.port c.args.bytes.now c.args.from) onward.answer _ onward.answered c.hear-heard.ensures.sender;
+      known = sends_known (is_joined_place c.args.from lobby.routers) after heard d onward.answer _ onward.answered c.hear-heard.ensures.sender c.hear-heard.ensures.unanswered;
+      joined = sends_joined after heard d onward.notice;
+      ring = λ is. nothing_goes_round after heard d onward.notice onward.noticed (c.hear-heard.ensures.unanswered is) (c.hear-heard.ensures.ring is);
       no_longer = c.hear-heard.ensures.no_longer;
       core = sym c.is_for_core.ensures ∙ c.if-not-is_for_core.true;
       lobbies = refl {a = slice_set lobbies c.args.port after};
@@ -34,6 +38,7 @@ returns-clause-heard g c =
     let after = c.hear-heard.new.self in
     let heard = c.hear-heard.result in
     let onward = c.give_on.ensures.gone in
+    let d = place_datagram c.args.port c.args.bytes.now c.args.from in
     record {
       lobby = lobby;
       after = after;
@@ -42,7 +47,9 @@ returns-clause-heard g c =
       hears = record { malformed = c.hear-heard.ensures.malformed; packet = c.hear-heard.ensures.packet };
       becomes = c.hear-heard.ensures.lobby;
       onward = onward;
-      known = sends_known after heard (place_datagram c.args.port c.args.bytes.now c.args.from) onward.answer _ onward.answered c.hear-heard.ensures.sender;
+      known = sends_known (is_joined_place c.args.from lobby.routers) after heard d onward.answer _ onward.answered c.hear-heard.ensures.sender c.hear-heard.ensures.unanswered;
+      joined = sends_joined after heard d onward.notice;
+      ring = λ is. nothing_goes_round after heard d onward.notice onward.noticed (c.hear-heard.ensures.unanswered is) (c.hear-heard.ensures.ring is);
       no_longer = c.hear-heard.ensures.no_longer;
       core = (sym c.is_for_core.ensures ∙ c.if-not-is_for_core.false, c.put_front.ensures.put);
       lobbies = refl {a = slice_set lobbies c.args.port after};

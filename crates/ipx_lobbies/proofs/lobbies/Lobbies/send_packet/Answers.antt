@@ -1,8 +1,9 @@
 use Rattle.std.proofs.Common.{◌≡◌, ap, length, refl}
 use Rattle.std.specs.Prelude.{slice_set}
 use Rattle.std.proofs.lemmas.Option.{slice_get_read}
-use Rattle.ipx_lobbies.specs.OnLobbies.{takers_given}
-use Rattle.ipx_lobbies.proofs.Steady.{relays_known}
+use Rattle.ipx_lobbies.specs.OnLobbies.{clients_reached, relayed_on, relayed_to, routers_reached, takers_given}
+use Rattle.ipx_lobbies.proofs.Handing.{hands_both}
+use Rattle.ipx_lobbies.proofs.Steady.{relays_joined, relays_known}
 use Rattle.ipx_lobbies.proofs.lobbies.Lobbies.send_packet.Goals as goal
 use Rattle.ipx_lobbies.proofs.lobbies.Lobbies.send_packet.Goals.{in-Ok, in-Err}
 
@@ -12,6 +13,9 @@ returns-clause-sent g c =
     let lobby = c.index_mut-lobby.result.now in
     let after = c.give.new.self in
     let given = c.give.result in
+    let port = c.args.port in
+    let packet = c.args.packet.now in
+    let given_to = c.match-give.takers in
     let takers : takers_given given ≡ c.match-give.takers =
     elim c.match-give.branch [
       | in-Ok w ↦ rw w.takers-is (ap takers_given w.in-Ok.is)
@@ -24,9 +28,10 @@ returns-clause-sent g c =
       at_port = slice_get_read lobbies (length lobbies) c.args.port lobby (refl {a = length lobbies}) c.requires.lobby c.index_mut-lobby.ensures.value;
       gives = c.give.ensures.takers;
       becomes = c.give.ensures.lobby;
-      gone = rw takers c.send_to_clients.ensures.gone;
+      gone = rw takers (hands_both (relayed_to port packet (clients_reached after given_to)) (relayed_on port packet (routers_reached after given_to)) _ _ _ _ _ _ c.send_to_clients.ensures.gone c.send_to_routers.ensures.gone);
       once = c.send_to_clients.ensures.once;
-      known = relays_known c.args.port c.args.packet.now after (takers_given given);
+      known = relays_known port packet after (takers_given given);
+      joined = relays_joined port packet after (takers_given given);
       said = c.said_of.ensures;
       lobbies = refl {a = slice_set lobbies c.args.port after};
       counted = refl {a = c.args.self.now.kept};
