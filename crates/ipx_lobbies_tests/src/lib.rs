@@ -19,4 +19,6 @@ mod running;
 #[cfg(test)]
 mod sending;
 #[cfg(test)]
+mod sites;
+#[cfg(test)]
 mod sockets;
