@@ -35,10 +35,10 @@ socket = "4002"
 KEYS = ("a router has status and port, a host network, address, router, udp_port, socket, buffers, peers, routers, from and "
         "accept")
 PORT_KEYS = ('the keys are kind, network, address, udp_port, cost, for kind = "rfc1234" also peers, routers and accept, '
-             'for kind = "frames" frame, ends, node and hub, for kind = "ipxnet" node, clients, accept and peers')
+             'for kind = "frames" frame, ends, node and hub, for kind = "ipxnet" node, clients, accept, peers and join')
 RFC1234_KEYS = "its keys are kind, network, address, udp_port, cost, peers, routers, accept"
 FRAMES_KEYS = "its keys are kind, network, frame, address, udp_port, cost, ends, node, hub"
-IPXNET_KEYS = "its keys are kind, network, address, udp_port, cost, node, clients, accept, peers"
+IPXNET_KEYS = "its keys are kind, network, address, udp_port, cost, node, clients, accept, peers, join"
 NETWORK = 'eight hex digits, neither all 0 nor all f, as "00000011"'
 ADDRESS = 'an IP address of this machine, as "192.0.2.10"'
 NUMBER = "a number from 1 to 65535, as 213"
@@ -318,6 +318,7 @@ cost = 6
 node = "02:00:00:00:00:22"
 clients = 8
 accept = "any"
+join = ["198.51.100.7:2130", "203.0.113.5:2131"]
 """
 PORT_11 = "port 1 network 00000011 node 00000a010001 udp 10.1.0.1:213 cost 1 peers 4"
 REMARKS = ["port 1: peer 10.1.0.1 is its own address", "port 1: peer 10.1.0.20 stands twice"]
@@ -336,7 +337,7 @@ CHECKED = [
                       "port 2: address and udp_port are those of port 1", "it.toml: 2 ports, no status file"]),
     ("route", OPEN, ["port 1 network 0000d05b node c200020a0852 ipxnet udp 192.0.2.10:2130 cost 1 clients 64 peers 2",
                      "port 2 network 0000d05c node 020000000022 ipxnet udp 127.0.0.1:24002 cost 6 clients 8 peers 0"
-                     " accept any", "it.toml: 2 ports, no status file"]),
+                     " accept any joined 198.51.100.7:2130 203.0.113.5:2131", "it.toml: 2 ports, no status file"]),
     ("listen", HOST, ["socket 4002 network 00000011 node 00007f000114 udp 127.0.1.20:20999",
                       "it.toml: router 127.0.1.1, buffers 1024"]),
     ("listen", changed(HOST, "router", '"127.0.1.20"') + "buffers = 512\n",

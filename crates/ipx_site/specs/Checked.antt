@@ -89,11 +89,17 @@ frames_text number p =
     ++ (codes " frames " ++ (frame_word p.encapsulation ++ (codes " udp "
     ++ (reached_text p.address p.udp_port ++ (codes " " ++ wire_text p))))))))
 
--- what it costs, how many clients it may have, and who may register
+-- where the routers are that a port is joined to, if it is
+abbrev pub join_text : List Place → List ℕ
+join_text routers =
+    if length routers == 0 then [] else codes " joined" ++ flat_map wire_end_text routers
+
+-- what it costs, how many clients it may have, who may register, and what it is joined to
 abbrev pub clients_text : IpxnetPort → List ℕ
 clients_text p =
     codes "cost " ++ (decimal p.cost ++ (codes " clients " ++ (decimal p.clients
-    ++ (codes " peers " ++ (decimal (length p.peers.items) ++ others_text p.accept)))))
+    ++ (codes " peers " ++ (decimal (length p.peers.items)
+    ++ (others_text p.accept ++ join_text p.join.items))))))
 
 -- a port for clients of ipxnet with its number
 abbrev pub ipxnet_text : ℕ → IpxnetPort → List ℕ

@@ -4,7 +4,7 @@ use Rattle.std.specs.List.{list_any}
 use Rattle.std.specs.Cmp.Lexicographic.{pointwise}
 use Rattle.toml.specs.Data.{Members, no_members, member}
 use Rattle.ipx_site.specs.declared.key.Key.{Key}
-use Rattle.ipx_site.specs.declared.key.Key.TheVariants.{Status, Port, Network, Address, UdpPort, Cost, Peers, Routers, Accept, Router, Socket, Buffers, From, Kind, Frame, Ends, Node, Hub, Clients}
+use Rattle.ipx_site.specs.declared.key.Key.TheVariants.{Status, Port, Network, Address, UdpPort, Cost, Peers, Routers, Accept, Router, Socket, Buffers, From, Kind, Frame, Ends, Node, Hub, Clients, Join}
 use Rattle.ipx_site.specs.declared.site.Kind.{Kind as PortKind}
 use Rattle.ipx_site.specs.declared.site.Kind.TheVariants as Of
 
@@ -29,6 +29,7 @@ key_text Ends = codes "ends"
 key_text Node = codes "node"
 key_text Hub = codes "hub"
 key_text Clients = codes "clients"
+key_text Join = codes "join"
 
 -- a text is a key as it is written
 abbrev pub is_text_of : List ℕ → Key → Bool
@@ -54,7 +55,7 @@ frames_keys =
 
 abbrev pub ipxnet_keys : List Key
 ipxnet_keys =
-    Kind ∷ Network ∷ Address ∷ UdpPort ∷ Cost ∷ Node ∷ Clients ∷ Accept ∷ Peers ∷ []
+    Kind ∷ Network ∷ Address ∷ UdpPort ∷ Cost ∷ Node ∷ Clients ∷ Accept ∷ Peers ∷ Join ∷ []
 
 -- those of a port of this kind, and those of ports of the other kinds that are none of these
 abbrev pub keys_of_kind : PortKind → List Key
@@ -63,8 +64,8 @@ keys_of_kind Of.Frames = frames_keys
 keys_of_kind Of.Ipxnet = ipxnet_keys
 
 abbrev pub keys_of_other_kinds : PortKind → List Key
-keys_of_other_kinds Of.Rfc1234 = Frame ∷ Ends ∷ Node ∷ Hub ∷ Clients ∷ []
-keys_of_other_kinds Of.Frames = Peers ∷ Routers ∷ Accept ∷ Clients ∷ []
+keys_of_other_kinds Of.Rfc1234 = Frame ∷ Ends ∷ Node ∷ Hub ∷ Clients ∷ Join ∷ []
+keys_of_other_kinds Of.Frames = Peers ∷ Routers ∷ Accept ∷ Clients ∷ Join ∷ []
 keys_of_other_kinds Of.Ipxnet = Routers ∷ Frame ∷ Ends ∷ Hub ∷ []
 
 abbrev pub site_keys : List Key

@@ -5,7 +5,8 @@ use Rattle.std.specs.List.{flat_map}
 use Rattle.ipx_frames.specs.declared.wire.WirePort.{WirePort}
 use Rattle.ipx_hub.specs.Heard.{HubView, new_hub}
 use Rattle.ipx_carrier.specs.Turns.{peers_of}
-use Rattle.ipx_lobby.specs.LobbyHears.{LobbyView, new_lobby}
+use Rattle.ipx_lobby.specs.LobbyHears.{LobbyView, joined_lobby}
+use Rattle.ipx_lobby.specs.declared.place.Place.{Place as ClientPlace}
 use Rattle.ipx_lobby.specs.declared.port.LobbyPort.{LobbyPort}
 use Rattle.ipx_lobbies.specs.LobbyAddresses.{ips_heard}
 use Rattle.ipx_wires.specs.WirePlaces.{places_behind}
@@ -82,12 +83,17 @@ end_places ports = map (λ p. p.ends.items) ports
 abbrev pub client_port_of : IpxnetPort → LobbyPort
 client_port_of p = record { network = p.network; own = p.node }
 
-abbrev pub lobby_of_port : IpxnetPort → LobbyView
-lobby_of_port p = new_lobby (client_port_of p) p.clients
+-- a place of a file as one of a lobby
+abbrev pub lobby_place : Place → ClientPlace
+lobby_place p = record { ip = p.ip; udp_port = p.udp_port }
 
--- from which IP addresses one may register: the named ones, or each
+-- it is joined to those of the routers that the file names
+abbrev pub lobby_of_port : IpxnetPort → LobbyView
+lobby_of_port p = joined_lobby (client_port_of p) p.clients (map lobby_place p.join.items)
+
+-- from which IP addresses one may register: the named ones, and those of the routers, or each
 abbrev pub registering_at : IpxnetPort → Option (List (List ℕ))
-registering_at p = heard_at_port p.accept p.peers.items
+registering_at p = heard_at_port p.accept (p.peers.items ++ map (λ r. r.ip) p.join.items)
 
 -- the ports of a file as those of a router: each of RFC 1234 has its peers, its guard, and a socket with the
 -- port of UDP of its peers; each on a wire has its hub, and a socket with the places of its ends; and each

@@ -2,7 +2,9 @@
 
 ghost use Rattle.std.specs.Prelude.{◌≡◌, ◌⊎◌, IfErr, IfOk};
 ghost use Rattle.toml.specs.View.{table_view};
-ghost use Rattle.ipx_site.specs.IpxnetTable.{ArePeersFor, IsIpxnetFault, IsIpxnetTable, IsPeersFault};
+ghost use Rattle.ipx_site.specs.IpxnetTable.{AreJoinedRouters, ArePeersFor, IsIpxnetFault, IsIpxnetTable, IsPeersFault};
+ghost use Rattle.ipx_site.specs.Fields.{IsWrong};
+ghost use Rattle.ipx_site.specs.WireValues.{AreWireEnds};
 
 use crate::fault::FileFault;
 use crate::fields::{accept_in, address_in, count_in, held, network_in, refuse_stray};
@@ -11,7 +13,7 @@ use crate::key::Key;
 use crate::site::{Accept, Kind};
 use crate::values::parse_peers;
 use crate::wire_fields::{required_count_in, station_in};
-use crate::wire_values::station_at;
+use crate::wire_values::{ends_of, station_at};
 use ipx_wires::Place;
 use std::alloc::Global;
 use toml::Table;
@@ -44,6 +46,21 @@ fn registering_in(
     }
 }
 
+/// Where the routers are whose lobbies are joined with that of a port: none, where nothing is said.
+fn joined_routers_in(alloc: Global, table: &Table, number: usize) -> Result<Vec<Place>, FileFault>
+    ensures join { IfOk result (AreJoinedRouters (table_view table.now)) }
+    ensures fault { IfErr result (λ f. (f ≡ FileFault.OutOfMemory)
+        ⊎ IsWrong AreWireEnds Key.Join (table_view table.now) number f) }
+{
+    let Some(value) = held(table, Key::Join) else {
+        return Ok(Vec::new(alloc));
+    };
+    match ends_of(alloc, value)? {
+        Some(routers) => Ok(routers),
+        None => Err(FileFault::Wrong(number, Key::Join)),
+    }
+}
+
 /// The port for clients of ipxnet of a table with this number.
 pub fn ipxnet_port_in(alloc: Global, table: &Table, number: usize) -> Result<IpxnetPort, FileFault>
     ensures port { IfOk result (IsIpxnetTable (table_view table.now)) }
@@ -63,6 +80,7 @@ pub fn ipxnet_port_in(alloc: Global, table: &Table, number: usize) -> Result<Ipx
     let clients = count_in(table, number, Key::Clients, MOST_CLIENTS, USUAL_CLIENTS)?;
     let accept = accept_in(table, number)?;
     let peers = registering_in(alloc, table, number, accept)?;
+    let join = joined_routers_in(alloc, table, number)?;
     Ok(IpxnetPort {
         network,
         address,
@@ -72,5 +90,6 @@ pub fn ipxnet_port_in(alloc: Global, table: &Table, number: usize) -> Result<Ipx
         clients,
         accept,
         peers,
+        join,
     })
 }

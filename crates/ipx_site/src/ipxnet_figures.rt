@@ -54,6 +54,8 @@ fn put_drops(text: &mut String, number: usize, counts: LobbyCounts) -> Result<()
         ("broadcast_elsewhere", counts.broadcast_elsewhere),
         ("from_elsewhere", counts.from_elsewhere),
         ("response", counts.response),
+        ("not_behind", counts.not_behind),
+        ("for_elsewhere", counts.for_elsewhere),
     ];
     for (reason, count) in figures {
         write!(

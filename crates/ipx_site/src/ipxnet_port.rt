@@ -5,6 +5,7 @@ ghost use Rattle.ipx_lobby.specs.LobbyClients.{most_lobby_clients};
 
 use crate::site::Accept;
 use ipx_wire::{Network, Node};
+use ipx_wires::Place;
 
 /// A port of a router for clients of ipxnet, as its file has it.
 #[derive(Drop)]
@@ -25,6 +26,8 @@ pub struct IpxnetPort {
     pub accept: Accept,
     /// The IP addresses of those who may, where not everybody may.
     pub peers: Vec<[u8; 4]>,
+    /// Where the routers are whose lobbies are one network with this one.
+    pub join: Vec<Place>,
     // So a lobby may have as many.
     ghost few: { (1 ≤ clients) × (clients ≤ most_lobby_clients) },
 }

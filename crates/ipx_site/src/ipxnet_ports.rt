@@ -2,13 +2,14 @@
 
 ghost use Rattle.std.specs.Prelude.{◌≡◌, ◌++◌, ◌∷◌, [], IfOk, OnOk, map};
 ghost use Rattle.ipx_lobbies.specs.LobbyAddresses.{ips_heard, listed_ips};
-ghost use Rattle.ipx_site.specs.KindPorts.{client_port_of, ipxnet_ports, lobby_of_port, registering_at};
+ghost use Rattle.ipx_site.specs.KindPorts.{client_port_of, ipxnet_ports, lobby_of_port, lobby_place, registering_at};
 
 use crate::bind_fault::{BindFault, obstacle_of};
 use crate::ipxnet_port::IpxnetPort;
 use crate::site::{Accept, PortOfKind};
 use ipx_lobbies::{Lobbies, LobbySockets};
 use ipx_lobby::{Lobby, LobbyPort, Place};
+use ipx_wires::Place as EndPlace;
 use std::alloc::{AllocError, Global};
 use std::io::ErrorKind;
 use std::net::Net;
@@ -23,11 +24,26 @@ fn client_port(port: &IpxnetPort) -> LobbyPort
     }
 }
 
+/// Where the joined routers of a port are.
+fn routers_of(alloc: Global, join: &[EndPlace]) -> Result<Vec<Place>, AllocError>
+    ensures { IfOk result (λ v. v.items ≡ map lobby_place join.now) }
+{
+    let mut routers = Vec::new(alloc);
+    for router in join {
+        routers.push(Place {
+            ip: router.ip,
+            udp_port: router.udp_port,
+        })?;
+    }
+    Ok(routers)
+}
+
 /// The lobby of a port, before anybody registered.
 fn lobby_of(alloc: Global, port: &IpxnetPort) -> Result<Lobby, AllocError>
     ensures { IfOk result (λ l. l ≡ lobby_of_port port.now) }
 {
-    Lobby::new(alloc, client_port(port), usize::from(port.clients))
+    let routers = routers_of(alloc, &port.join)?;
+    Lobby::joined_to(alloc, client_port(port), usize::from(port.clients), routers)
 }
 
 /// The lobby of each port for clients of ipxnet.
@@ -44,13 +60,24 @@ fn lobbies_of_ports(alloc: Global, ports: &[PortOfKind]) -> Result<Vec<Lobby>, A
     Ok(lobbies)
 }
 
+/// The IP addresses that are named at a port: of those who may register, and of joined routers.
+fn named_ips(alloc: Global, port: &IpxnetPort) -> Result<Vec<[u8; 4]>, AllocError>
+    ensures { IfOk result (λ v. v.items ≡ port.now.peers.items ++ map (λ r. r.ip) port.now.join.items) }
+{
+    let mut ips = Vec::from_slice(alloc, &port.peers)?;
+    for router in &port.join {
+        ips.push(router.ip)?;
+    }
+    Ok(ips)
+}
+
 /// From which IP addresses one may register at a port. None stands for each.
 fn registering(alloc: Global, port: &IpxnetPort) -> Result<Option<Vec<[u8; 4]>>, AllocError>
     ensures { IfOk result (λ ips. listed_ips ips ≡ registering_at port.now) }
 {
     match port.accept {
         Accept::Any => Ok(None),
-        Accept::Peers => Ok(Some(Vec::from_slice(alloc, &port.peers)?)),
+        Accept::Peers => Ok(Some(named_ips(alloc, port)?)),
     }
 }
 

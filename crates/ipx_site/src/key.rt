@@ -27,6 +27,7 @@ pub enum Key {
     Node,
     Hub,
     Clients,
+    Join,
 }
 
 impl Key {
@@ -54,6 +55,7 @@ impl Key {
             Key::Node => "node",
             Key::Hub => "hub",
             Key::Clients => "clients",
+            Key::Join => "join",
         }
     }
 
@@ -82,6 +84,7 @@ impl Key {
             Key::Node => "the address of one station, as \"02:00:00:00:00:22\"",
             Key::Hub => "true or false",
             Key::Clients => "a number from 1 to 150, as 64",
+            Key::Join => "a list of 1 to 256 places, as [\"198.51.100.7:2130\"]",
         }
     }
 }
@@ -119,7 +122,7 @@ const FRAMES_KEYS: [Key; 9] = [
 ];
 
 /// And those of a port for clients of ipxnet.
-const IPXNET_KEYS: [Key; 9] = [
+const IPXNET_KEYS: [Key; 10] = [
     Key::Kind,
     Key::Network,
     Key::Address,
@@ -129,13 +132,27 @@ const IPXNET_KEYS: [Key; 9] = [
     Key::Clients,
     Key::Accept,
     Key::Peers,
+    Key::Join,
 ];
 
 /// The keys that ports of other kinds than RFC 1234 have besides its own, than wires, and than those
 /// for clients of ipxnet.
-const NOT_RFC1234_KEYS: [Key; 5] = [Key::Frame, Key::Ends, Key::Node, Key::Hub, Key::Clients];
+const NOT_RFC1234_KEYS: [Key; 6] = [
+    Key::Frame,
+    Key::Ends,
+    Key::Node,
+    Key::Hub,
+    Key::Clients,
+    Key::Join,
+];
 
-const NOT_FRAMES_KEYS: [Key; 4] = [Key::Peers, Key::Routers, Key::Accept, Key::Clients];
+const NOT_FRAMES_KEYS: [Key; 5] = [
+    Key::Peers,
+    Key::Routers,
+    Key::Accept,
+    Key::Clients,
+    Key::Join,
+];
 
 const NOT_IPXNET_KEYS: [Key; 4] = [Key::Routers, Key::Frame, Key::Ends, Key::Hub];
 

@@ -2,7 +2,7 @@
 
 ghost use Rattle.std.specs.Prelude.{◌≡◌, IfOk, map, string_bytes};
 ghost use Rattle.std.specs.List.{flat_map};
-ghost use Rattle.ipx_site.specs.Checked.{clients_text, dealings_text, dotted_text, frames_text, ipxnet_text, joined_text, others_text, place_text, port_text, port_texts, reached_text, rfc1234_text, routers_text, wire_end_text, wire_text};
+ghost use Rattle.ipx_site.specs.Checked.{clients_text, dealings_text, dotted_text, frames_text, ipxnet_text, join_text, joined_text, others_text, place_text, port_text, port_texts, reached_text, rfc1234_text, routers_text, wire_end_text, wire_text};
 
 use crate::ipxnet_port::IpxnetPort;
 use crate::site::{Accept, FramesPort, PortOfKind, SitePort};
@@ -126,6 +126,17 @@ fn frames_to_text(alloc: Global, number: usize, port: &FramesPort) -> Result<Str
     format!(in alloc; "port {number} {place} frames {word} udp {reached} {wire}")
 }
 
+/// The places of joined routers, if there are any.
+fn join_to_text(alloc: Global, routers: &[Place]) -> Result<String, AllocError>
+    ensures { IfOk result (λ t. string_bytes t ≡ join_text routers.now) }
+{
+    if routers.is_empty() {
+        return Ok(String::new(alloc));
+    }
+    let places = ends_to_text(alloc, routers)?;
+    format!(in alloc; " joined{places}")
+}
+
 fn clients_to_text(alloc: Global, port: &IpxnetPort) -> Result<String, AllocError>
     ensures { IfOk result (λ t. string_bytes t ≡ clients_text port.now) }
 {
@@ -133,7 +144,8 @@ fn clients_to_text(alloc: Global, port: &IpxnetPort) -> Result<String, AllocErro
     let clients = port.clients;
     let named = port.peers.len();
     let others = others(port.accept);
-    format!(in alloc; "cost {cost} clients {clients} peers {named}{others}")
+    let joined = join_to_text(alloc, &port.join)?;
+    format!(in alloc; "cost {cost} clients {clients} peers {named}{others}{joined}")
 }
 
 /// A port for clients with its number: `port 3 network .. node .. ipxnet udp .. cost .. clients ..`.

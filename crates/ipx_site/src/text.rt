@@ -15,7 +15,7 @@ fn keys_of(table: usize) -> &'static str {
     }
     "the keys are kind, network, address, udp_port, cost, for kind = \"rfc1234\" also peers, \
         routers and accept, for kind = \"frames\" frame, ends, node and hub, \
-        for kind = \"ipxnet\" node, clients, accept and peers"
+        for kind = \"ipxnet\" node, clients, accept, peers and join"
 }
 
 /// The kind of a port as it stands in a file.
@@ -32,7 +32,9 @@ fn keys_of_port(kind: Kind) -> &'static str {
     match kind {
         Kind::Rfc1234 => "kind, network, address, udp_port, cost, peers, routers, accept",
         Kind::Frames => "kind, network, frame, address, udp_port, cost, ends, node, hub",
-        Kind::Ipxnet => "kind, network, address, udp_port, cost, node, clients, accept, peers",
+        Kind::Ipxnet => {
+            "kind, network, address, udp_port, cost, node, clients, accept, peers, join"
+        },
     }
 }
 

@@ -40,7 +40,7 @@ const SITES: [(&str, &str); 9] = [
     ),
     (
         "[[port]]\npeer = []",
-        "port 1: peer is no key here: the keys are kind, network, address, udp_port, cost, for kind = \"rfc1234\" also peers, routers and accept, for kind = \"frames\" frame, ends, node and hub, for kind = \"ipxnet\" node, clients, accept and peers",
+        "port 1: peer is no key here: the keys are kind, network, address, udp_port, cost, for kind = \"rfc1234\" also peers, routers and accept, for kind = \"frames\" frame, ends, node and hub, for kind = \"ipxnet\" node, clients, accept, peers and join",
     ),
     (
         "[[port]]\nnetwork = \"ffffffff\"",

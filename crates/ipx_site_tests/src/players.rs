@@ -97,7 +97,7 @@ address = \"192.0.2.10\"
 udp_port = 2130
 ";
 
-const PLAYERS: [(&str, &str); 14] = [
+const PLAYERS: [(&str, &str); 19] = [
     ("accept = \"any\"", "none"),
     ("peers = []", "none"),
     (
@@ -142,11 +142,28 @@ const PLAYERS: [(&str, &str); 14] = [
     ),
     (
         "accept = \"any\"\nrouters = []",
-        "port 1: routers is no key of kind \"ipxnet\": its keys are kind, network, address, udp_port, cost, node, clients, accept, peers",
+        "port 1: routers is no key of kind \"ipxnet\": its keys are kind, network, address, udp_port, cost, node, clients, accept, peers, join",
+    ),
+    ("accept = \"any\"\njoin = [\"198.51.100.7:2130\"]", "none"),
+    (
+        "peers = [\"203.0.113.9\"]\njoin = [\"198.51.100.7:2130\", \"203.0.113.5:2131\"]",
+        "none",
+    ),
+    (
+        "accept = \"any\"\njoin = []",
+        "port 1: join is to be a list of 1 to 256 places, as [\"198.51.100.7:2130\"]",
+    ),
+    (
+        "accept = \"any\"\njoin = [\"198.51.100.7\"]",
+        "port 1: join is to be a list of 1 to 256 places, as [\"198.51.100.7:2130\"]",
+    ),
+    (
+        "peers = 1\njoin = 1",
+        "port 1: peers is to be a list of IP addresses, as [\"198.51.100.7\", \"203.0.113.9\"]",
     ),
     (
         "accept = \"any\"\nplayers = 4",
-        "port 1: players is no key here: the keys are kind, network, address, udp_port, cost, for kind = \"rfc1234\" also peers, routers and accept, for kind = \"frames\" frame, ends, node and hub, for kind = \"ipxnet\" node, clients, accept and peers",
+        "port 1: players is no key here: the keys are kind, network, address, udp_port, cost, for kind = \"rfc1234\" also peers, routers and accept, for kind = \"frames\" frame, ends, node and hub, for kind = \"ipxnet\" node, clients, accept, peers and join",
     ),
 ];
 
@@ -160,10 +177,14 @@ fn lines_of_ports_for_clients(rt: HostRuntime) -> Result<(), AllocError> {
 }
 
 /// Keys that ports for clients have and others have not, and one that must be there.
-const KINDS: [(&str, &str); 3] = [
+const KINDS: [(&str, &str); 4] = [
     (
         "clients = 4",
         "port 1: clients is no key of kind \"rfc1234\": its keys are kind, network, address, udp_port, cost, peers, routers, accept",
+    ),
+    (
+        "join = [\"198.51.100.7:2130\"]",
+        "port 1: join is no key of kind \"rfc1234\": its keys are kind, network, address, udp_port, cost, peers, routers, accept",
     ),
     (
         "kind = \"frames\"\nclients = 4",

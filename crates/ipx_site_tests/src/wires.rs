@@ -177,7 +177,7 @@ const WIRES: [(&str, &str); 17] = [
     ),
     (
         "ends = 1\npeers = []\nend = []",
-        "port 1: end is no key here: the keys are kind, network, address, udp_port, cost, for kind = \"rfc1234\" also peers, routers and accept, for kind = \"frames\" frame, ends, node and hub, for kind = \"ipxnet\" node, clients, accept and peers",
+        "port 1: end is no key here: the keys are kind, network, address, udp_port, cost, for kind = \"rfc1234\" also peers, routers and accept, for kind = \"frames\" frame, ends, node and hub, for kind = \"ipxnet\" node, clients, accept, peers and join",
     ),
     (
         "ends = [\"127.0.0.1:24001\"]\nhub = true\nnode = \"02:00:00:00:00:22\"",

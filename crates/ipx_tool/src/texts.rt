@@ -151,6 +151,8 @@ or for clients of DOSBox, which connect by ipxnet,
   clients   how many at once, 1 to 150; 64 where it is left out
   peers     a list of IP addresses: from where they may register
   accept    \"any\": from everywhere, and peers may be left out
+  join      a list of places, as [\"198.51.100.7:2130\"]: other routers' such ports,
+            on the same network, whose players are in one game with those here
 and before the first port, if figures are wanted,
   status    the name of a file, which it writes anew every ten seconds
 It tells each port, and what becomes known or is lost, on standard error.";
