@@ -11,6 +11,7 @@ pub mod SendingView
 pub mod Runs
 pub mod Stepped
 pub mod Counting
+pub mod PortMarks
 pub mod OutcomeCounts
 pub mod RouterCore
 pub mod HostCore

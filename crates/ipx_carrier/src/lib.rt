@@ -24,6 +24,7 @@ mod mapping;
 mod memory;
 mod on_peers;
 mod outcome_counts;
+mod port_marks;
 mod queue;
 mod report;
 mod router_core;
@@ -44,6 +45,7 @@ pub use mapping::{ip_of, node_of, node_of_ip_has_that_ip, node_with_ip_is_of_it}
 pub use memory::{MemoryDatagrams, SentDatagram};
 pub use on_peers::OnPeers;
 pub use outcome_counts::OutcomeCounts;
+pub use port_marks::PortMarks;
 pub use report::{Burst, Report};
 pub use router_core::RouterCore;
 pub use running::{run, run_segments};

@@ -15,6 +15,8 @@ mod hosts;
 #[cfg(test)]
 mod mapping;
 #[cfg(test)]
+mod port_marks;
+#[cfg(test)]
 mod refused;
 #[cfg(test)]
 mod refused_calls;

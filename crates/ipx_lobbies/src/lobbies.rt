@@ -1,6 +1,6 @@
 //! Ports for clients that register.
 
-ghost use Rattle.std.specs.Prelude.{◌≡◌, ◌<◌, ◌≤◌, ◌+◌, ◌^◌, [], Option, None, IfOk, IfSome, OnErr, length, min};
+ghost use Rattle.std.specs.Prelude.{◌≡◌, ◌<◌, ◌≤◌, ◌+◌, ◌^◌, [], Option, None, IfOk, IfSome, OnErr, length, min, slice_set, true};
 ghost use Rattle.ipx_carrier.specs.Segments.{copies_count, count_in};
 ghost use Rattle.ipx_lobbies.specs.OnLobbies.{HearsAtLobby, ReceivesAtLobby, SendsThroughLobby, by_lobbies, lobbies_view, lobby_ports, packet_said};
 ghost use Rattle.ipx_lobbies.specs.PlaceTraffic.{PlaceDatagram, place_datagram};
@@ -8,6 +8,7 @@ ghost use Rattle.ipx_lobbies.specs.PlaceTraffic.{PlaceDatagram, place_datagram};
 use crate::front::put_front;
 use crate::giving_on::{give_on, send_to_clients, send_to_routers};
 use crate::place_sockets::PlaceSockets;
+use crate::sockets::LobbySockets;
 use ipx_carrier::{DeviceFault, PacketSent, Segments, SegmentsKeepBack, raise};
 use ipx_lobby::{Lobby, MOST_CLIENT_BYTES, Place, Takers};
 use ipx_wire::Node;
@@ -134,6 +135,19 @@ impl<D: PlaceSockets + Drop> Lobbies<D> {
             return None;
         }
         Some(put_front(bytes, room))
+    }
+}
+
+impl Lobbies<LobbySockets> {
+    /// Something came to the socket of a port, as `LobbySockets::mark` says.
+    pub fn mark(&mut self, port: usize)
+        ensures { self.new ≡ record self.old {
+          sockets = record self.old.sockets {
+            marks = slice_set self.old.sockets.marks port true;
+          };
+        } }
+    {
+        self.sockets.mark(port);
     }
 }
 

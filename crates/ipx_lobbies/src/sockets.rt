@@ -1,12 +1,13 @@
 //! Sockets of UDP as those of lobbies.
 
-ghost use Rattle.std.specs.Prelude.{◌≡◌, ◌<◌, ◌≤◌, ◌↔◌, ◌++◌, ◌∷◌, [], IfOk, IfSome, IsSome, OnErr, OnOk, length, map, slice_get, true};
+ghost use Rattle.std.specs.Prelude.{◌≡◌, ◌<◌, ◌≤◌, ◌↔◌, ◌++◌, ◌∷◌, [], Bool, IfOk, IfSome, IsSome, None, Ok, OnErr, OnOk, false, is_some, length, map, slice_get, slice_set, true};
 ghost use Rattle.ipx_carrier.specs.Counting.{raised};
+ghost use Rattle.ipx_carrier.specs.PortMarks.{AsksMarked, IsKeptOrAnswer, is_port_marked};
 ghost use Rattle.ipx_lobbies.specs.LobbyAddresses.{ips_heard, is_ip_heard, listed_ips, place_behind, place_heard};
 ghost use Rattle.ipx_lobbies.specs.PlaceTraffic.{failures_with};
 
 use crate::place_sockets::{DatagramCame, PlaceSockets};
-use ipx_carrier::{DeviceFault, bound_socket, place_of, raise};
+use ipx_carrier::{DeviceFault, PortMarks, bound_socket, place_of, raise};
 use ipx_lobby::Place;
 use std::alloc::Global;
 use std::io;
@@ -28,9 +29,13 @@ pub struct LobbySocket {
 ///
 /// Which datagrams come and which arrive is the network's. What the system doesn't take is a failure of
 /// sending; receiving never fails.
+///
+/// They have a mark for each port, at which something may wait, and ask the system at those alone. One
+/// that is bound is marked. Whoever waits for them marks those at which something came.
 #[derive(Drop)]
 pub struct LobbySockets {
     sockets: Vec<LobbySocket>,
+    marks: PortMarks,
     sent: u64,
     failures: u64,
     faults: u64,
@@ -80,12 +85,13 @@ impl LobbySocket {
 impl LobbySockets {
     /// Sockets without a port.
     pub fn new(alloc: Global) -> LobbySockets
-        ensures none { result.sockets.items ≡ [] }
+        ensures none { (result.sockets.items ≡ []) × (result.marks ≡ []) }
         ensures fresh { (result.sent ≡ 0) × (result.failures ≡ 0) × (result.faults ≡ 0)
             × (result.nowhere ≡ 0) }
     {
         LobbySockets {
             sockets: Vec::new(alloc),
+            marks: PortMarks::new(alloc),
             sent: 0,
             failures: 0,
             faults: 0,
@@ -98,11 +104,18 @@ impl LobbySockets {
     pub fn bind<R: Net>(&mut self, rt: &R, at: Place, hears: Option<Vec<[u8; 4]>>) -> io::Result<()>
         ensures bound { OnOk result (map ips_heard self.new.sockets.items
             ≡ map ips_heard self.old.sockets.items ++ listed_ips hears ∷ []) }
-        ensures refused { OnErr result (self.new.sockets.items ≡ self.old.sockets.items) }
+        ensures marks { OnOk result (self.new.marks ≡ self.old.marks ++ true ∷ []) }
+        ensures refused { OnErr result ((self.new.sockets.items ≡ self.old.sockets.items)
+            × (self.new.marks ≡ self.old.marks)) }
     {
         let socket = bound_socket(rt, at.ip, at.udp_port)?;
         let socket = LobbySocket { socket, hears };
+        let count = self.sockets.len();
         if self.sockets.push(socket).is_err() {
+            return Err(io::Error::from(ErrorKind::OutOfMemory));
+        }
+        if self.marks.add().is_err() {
+            self.sockets.truncate(count);
             return Err(io::Error::from(ErrorKind::OutOfMemory));
         }
         Ok(())
@@ -128,6 +141,21 @@ impl LobbySockets {
     {
         let socket = self.sockets.get(port)?;
         Some(socket.socket.as_raw_fd())
+    }
+
+    /// The marks of the ports, in order.
+    pub fn marks(&self) -> &PortMarks
+        ensures { result.now ≡ self.now.marks }
+    {
+        &self.marks
+    }
+
+    /// Something came to a port, as the system said: what waits there is received. Where there is no
+    /// port of that number nothing happens.
+    pub fn mark(&mut self, port: usize)
+        ensures { self.new ≡ record self.old { marks = slice_set self.old.marks port true } }
+    {
+        self.marks.mark(port);
     }
 }
 
@@ -162,7 +190,7 @@ impl PlaceSockets for LobbySockets {
         ensures refused { OnErr result (self.new.sent ≡ self.old.sent) }
         ensures failures { self.new.failures ≡ failures_with result self.old.failures }
         ensures rest { (self.new.sockets ≡ self.old.sockets) × (self.new.faults ≡ self.old.faults)
-            × (self.new.nowhere ≡ self.old.nowhere) }
+            × (self.new.nowhere ≡ self.old.nowhere) × (self.new.marks ≡ self.old.marks) }
     {
         match self.sockets[port]
             .socket
@@ -181,6 +209,15 @@ impl PlaceSockets for LobbySockets {
 
     fn receive(&mut self, port: usize, room: &mut [u8]) -> Result<Option<DatagramCame>, DeviceFault>
         requires { port < length self.old.sockets.items }
+        // A port without a mark is not asked, and nothing changes.
+        ensures unmarked { is_port_marked self.old.marks port ≡ false
+            → (result ≡ Ok None) × (self.new ≡ self.old) × (room.new ≡ room.old) }
+        // One with a mark is asked until something comes or nothing waits, eight times at most: the
+        // mark goes just where nothing waits. What came is answered or counted.
+        ensures marked { is_port_marked self.old.marks port ≡ true → IfOk result (λ answer.
+            (came : Bool) × AsksMarked port came self.old.marks self.new.marks
+            self.old.faults self.new.faults
+            × IsKeptOrAnswer came (is_some answer) self.old.nowhere self.new.nowhere) }
         // What came from a place is answered, and what came from nowhere is counted.
         ensures within { IfOk result (λ came. IfSome came (λ c. c.size ≤ length room.old)) }
         ensures answered { IfOk result (λ came. IsSome came
@@ -195,6 +232,9 @@ impl PlaceSockets for LobbySockets {
         ensures rest { (self.new.sockets ≡ self.old.sockets) × (self.new.sent ≡ self.old.sent)
             × (self.new.failures ≡ self.old.failures) }
     {
+        if !self.marks.is_marked(port) {
+            return Ok(None);
+        }
         for _try in 0..TRIES {
             match self.sockets[port].socket.recv_from(room) {
                 Ok((size, from)) => {
@@ -204,7 +244,10 @@ impl PlaceSockets for LobbySockets {
                     };
                     return Ok(Some(DatagramCame { from, size }));
                 }
-                Err(error) if error.kind() == ErrorKind::WouldBlock => return Ok(None),
+                Err(error) if error.kind() == ErrorKind::WouldBlock => {
+                    self.marks.unmark(port);
+                    return Ok(None);
+                }
                 Err(_) => raise(&mut self.faults),
             }
         }

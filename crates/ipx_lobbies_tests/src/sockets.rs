@@ -71,6 +71,7 @@ fn next_by(
     room: &mut [u8],
 ) -> Result<Option<DatagramCame>, DeviceFault> {
     for _ in 0..100_000_u32 {
+        sockets.mark(port);
         let came = sockets.receive(port, room)?;
         if came.is_some() {
             return Ok(came);
@@ -91,6 +92,7 @@ fn next_packet(
 ) -> Result<Option<usize>, DeviceFault> {
     let kept_back = lobbies.kept_back();
     for _ in 0..100_000_u32 {
+        lobbies.mark(0);
         let came = lobbies.receive(0, room)?;
         if came.is_some() || lobbies.kept_back() != kept_back {
             return Ok(came);
@@ -216,6 +218,7 @@ fn who_is_not_named_is_not_heard(rt: HostRuntime) -> Result<(), Fail> {
     assert!(rt; sender.send(0, place(20_946), &REGISTRATION).is_ok());
     assert!(rt; sender.send(0, place(20_947), &REGISTRATION).is_ok());
     for _ in 0..100_000_u32 {
+        sockets.mark(0);
         assert!(rt; sockets.receive(0, &mut room)? == None);
         if sockets.from_nowhere() > 0 {
             break;
@@ -224,6 +227,7 @@ fn who_is_not_named_is_not_heard(rt: HostRuntime) -> Result<(), Fail> {
     assert_eq!(rt; sockets.from_nowhere(), 1);
     let mut came = None;
     for _ in 0..100_000_u32 {
+        sockets.mark(1);
         came = sockets.receive(1, &mut room)?;
         if came.is_some() {
             break;
@@ -236,6 +240,23 @@ fn who_is_not_named_is_not_heard(rt: HostRuntime) -> Result<(), Fail> {
         })
     );
     assert_eq!(rt; sockets.from_nowhere(), 1);
+    Ok(())
+}
+
+/// A port is asked only where it is marked, and one that has nothing loses its mark.
+#[test]
+fn a_port_without_a_mark_is_not_asked(rt: HostRuntime) -> Result<(), Fail> {
+    let alloc = rt.alloc();
+    let mut player = bound(&rt, alloc, place(20_948))?;
+    let mut sockets = bound(&rt, alloc, place(20_949))?;
+    let mut room = [0; 1536];
+    assert!(rt; sockets.marks().is_marked(0));
+    assert!(rt; sockets.receive(0, &mut room)? == None);
+    assert!(rt; !sockets.marks().is_any_marked());
+    assert!(rt; player.send(0, place(20_949), b"abc").is_ok());
+    assert!(rt; sockets.receive(0, &mut room)? == None);
+    assert!(rt; next_datagram(&mut sockets, &mut room)? == came_from(place(20_948), 3));
+    assert!(rt; sockets.marks().is_marked(0));
     Ok(())
 }
 

@@ -70,6 +70,8 @@ impl AskingWire {
             × IsTurn C.hears C.gives (C.port_count core.old) turn core.old core.new
             × K.tells clock.old turn.moment clock.new) }
     {
+        // (it asks its one port in each turn, whether the wait said so or not)
+        self.device.mark_all();
         let before = self.device.kept_back();
         let Ok(report) = turn(alloc, core, &mut self.device, &self.peers, clock) else {
             return Err(AskFault::OutOfMemory);

@@ -19,3 +19,5 @@ pub mod WrittenStations
 pub mod Spots
 pub mod KindLists
 pub mod PortsRun
+pub mod Marked
+pub mod MarksApart

@@ -1,11 +1,12 @@
 -- One round of a router that runs.
-use Rattle.std.proofs.Common.{◌≡◌, ℕ, length, Bool, true, false, Option, Some, None, is_some, sym, ap, subst, inl, inr}
+use Rattle.std.proofs.Common.{◌≡◌, ◌∙◌, ℕ, length, min, Bool, true, false, if◌then◌else◌, Option, Some, None, is_some, sym, ap, subst, inl, inr}
 use Rattle.ipx_carrier.specs.declared.fault.RunFault.{RunFault}
 use Rattle.ipx_carrier.specs.RouterCore.{CoreView, RouterGives, RouterHears, Misses, Withholds}
 use Rattle.ipx_carrier.specs.Turns.{Ways}
 use Rattle.ipx_carrier.specs.declared.report.Burst.{Burst}
 use Rattle.ipx_carrier.specs.Driving.{BurstsBy}
-use Rattle.ipx_site.specs.Leisure.{IsLeisure}
+use Rattle.ipx_site.specs.Leisure.{Agenda, Happened, IsLeisure, IsToDo, agenda}
+use Rattle.ipx_site.specs.declared.troubles.Troubles.{Troubles}
 use Rattle.ipx_site.specs.Sparing.{GivesBelow, HearsSparingly, MissesBelow, SparingView, WithholdsBelow}
 use Rattle.ipx_site.specs.RouterRounds.{AsksAgain, IsRound, SleepsBehind}
 
@@ -18,32 +19,63 @@ same_ports now times times_after old mid (inr h) = ap (λ (v : SparingView CoreV
 pub is_round : {K A : Type 0} (tells : K → ℕ → K → Type 0) (clock told tick clock_after : K) (ways here : Ways A)
     (i j n : ℕ) (now moment times times_after : ℕ) (old mid new : SparingView CoreView) (b : Burst) → tells clock now told → tick ≡ told → moment ≡ now
     → AsksAgain now times times_after old mid → here ≡ ways → j ≡ i
-    → BurstsBy (HearsSparingly RouterHears) (MissesBelow Misses) (GivesBelow RouterGives) (WithholdsBelow Withholds) tells (length mid.core.router.ports) here 256 b j n tick clock_after mid new
+    → BurstsBy (HearsSparingly RouterHears) (MissesBelow Misses) (GivesBelow RouterGives) (WithholdsBelow Withholds) tells (length mid.core.router.ports) here 32 b j n tick clock_after mid new
     → IsRound clock clock_after tells ways i n times times_after old new moment b
 is_round {A = A} tells clock told tick clock_after ways here i j n now moment times times_after old mid new b h e m asks f g bursts =
-    let at = subst (λ ports. BurstsBy (HearsSparingly RouterHears) (MissesBelow Misses) (GivesBelow RouterGives) (WithholdsBelow Withholds) tells ports here 256 b j n tick clock_after mid new)
+    let at = subst (λ ports. BurstsBy (HearsSparingly RouterHears) (MissesBelow Misses) (GivesBelow RouterGives) (WithholdsBelow Withholds) tells ports here 32 b j n tick clock_after mid new)
     (same_ports now times times_after old mid asks) bursts in
-    let by = subst (λ (it : Ways A). BurstsBy (HearsSparingly RouterHears) (MissesBelow Misses) (GivesBelow RouterGives) (WithholdsBelow Withholds) tells (length old.core.router.ports) it 256 b j n tick clock_after mid new) f at in
-    let kept = subst (λ it. BurstsBy (HearsSparingly RouterHears) (MissesBelow Misses) (GivesBelow RouterGives) (WithholdsBelow Withholds) tells (length old.core.router.ports) ways 256 b it n tick clock_after mid new) g by in
+    let by = subst (λ (it : Ways A). BurstsBy (HearsSparingly RouterHears) (MissesBelow Misses) (GivesBelow RouterGives) (WithholdsBelow Withholds) tells (length old.core.router.ports) it 32 b j n tick clock_after mid new) f at in
+    let kept = subst (λ it. BurstsBy (HearsSparingly RouterHears) (MissesBelow Misses) (GivesBelow RouterGives) (WithholdsBelow Withholds) tells (length old.core.router.ports) ways 32 b it n tick clock_after mid new) g by in
     (now, tick, mid, subst (λ it. tells clock now it) (sym e) h, m, asks, kept)
 
 -- how long a router waits, by how its burst ended
-pub rests : {K : Type 0} (todo : ℕ → Type 0) (clock clock' : K) (tells : K → ℕ → K → Type 0) (asked asked' : Option ℕ)
-    (fault : Option RunFault) (quiet : Bool) → is_some fault ≡ true → asked' ≡ Some 100 → clock' ≡ clock
-    → SleepsBehind todo clock clock' tells asked asked' fault quiet
-rests todo clock clock' tells asked asked' (Some f) quiet e at same = (at, same)
-rests todo clock clock' tells asked asked' None quiet e at same = absurd (cc)
+pub rests : {K : Type 0} (todo : ℕ → Type 0) (marked : Bool) (clock clock' : K) (tells : K → ℕ → K → Type 0) (asked : Option ℕ)
+    (fault : Option RunFault) (quiet : Bool) → is_some fault ≡ true → asked ≡ Some 100 → clock' ≡ clock
+    → SleepsBehind todo marked clock clock' tells asked fault quiet
+rests todo marked clock clock' tells asked (Some f) quiet e at same = (at, same)
+rests todo marked clock clock' tells asked None quiet e at same = absurd (cc)
 
-pub sleeps : {K : Type 0} (todo : ℕ → Type 0) (clock clock' : K) (tells : K → ℕ → K → Type 0) (asked asked' : Option ℕ)
+pub sleeps : {K : Type 0} (todo : ℕ → Type 0) (marked : Bool) (clock clock' : K) (tells : K → ℕ → K → Type 0) (asked : Option ℕ)
     (fault : Option RunFault) (quiet : Bool) → is_some fault ≡ false → quiet ≡ true → (now time : ℕ) → tells clock now clock'
-    → IsLeisure todo now time → asked' ≡ Some time → SleepsBehind todo clock clock' tells asked asked' fault quiet
-sleeps todo clock clock' tells asked asked' (Some f) quiet e q now time told leisure at = absurd (cc)
-sleeps todo clock clock' tells asked asked' None true e q now time told leisure at = (now, time, told, leisure, at)
-sleeps todo clock clock' tells asked asked' None false e q now time told leisure at = absurd (cc)
+    → IsLeisure todo now time → asked ≡ Some (if marked then min time 100 else time) → SleepsBehind todo marked clock clock' tells asked fault quiet
+sleeps todo marked clock clock' tells asked (Some f) quiet e q now time told leisure at = absurd (cc)
+sleeps todo marked clock clock' tells asked None true e q now time told leisure at = (now, time, told, leisure, at)
+sleeps todo marked clock clock' tells asked None false e q now time told leisure at = absurd (cc)
 
-pub goes_on : {K : Type 0} (todo : ℕ → Type 0) (clock clock' : K) (tells : K → ℕ → K → Type 0) (asked asked' : Option ℕ)
-    (fault : Option RunFault) (quiet : Bool) → is_some fault ≡ false → quiet ≡ false → asked' ≡ asked → clock' ≡ clock
-    → SleepsBehind todo clock clock' tells asked asked' fault quiet
-goes_on todo clock clock' tells asked asked' (Some f) quiet e q at same = absurd (cc)
-goes_on todo clock clock' tells asked asked' None true e q at same = absurd (cc)
-goes_on todo clock clock' tells asked asked' None false e q at same = (at, same)
+pub goes_on : {K : Type 0} (todo : ℕ → Type 0) (marked : Bool) (clock clock' : K) (tells : K → ℕ → K → Type 0) (asked : Option ℕ)
+    (fault : Option RunFault) (quiet : Bool) → is_some fault ≡ false → quiet ≡ false → asked ≡ Some 0 → clock' ≡ clock
+    → SleepsBehind todo marked clock clock' tells asked fault quiet
+goes_on todo marked clock clock' tells asked (Some f) quiet e q at same = absurd (cc)
+goes_on todo marked clock clock' tells asked None true e q at same = absurd (cc)
+goes_on todo marked clock clock' tells asked None false e q at same = (at, same)
+
+-- what a round and the wait behind it say does not hang on what is the same behind them
+pub round_then : {K A : Type 0} (tells : K → ℕ → K → Type 0) (clock clock' : K) (ways : Ways A) (kept kept' kept'' asked asked' asked'' : ℕ)
+    (old new new' : SparingView CoreView) (moment moment' : ℕ) (b : Burst) → kept'' ≡ kept' → asked'' ≡ asked' → new' ≡ new → moment' ≡ moment
+    → IsRound clock clock' tells ways kept kept' asked asked' old new moment b → IsRound clock clock' tells ways kept kept'' asked asked'' old new' moment' b
+round_then tells clock clock' ways kept kept' kept'' asked asked' asked'' old new new' moment moment' b e f g h round =
+    let one = subst (λ it. IsRound clock clock' tells ways kept it asked asked' old new moment b) (sym e) round in
+    let two = subst (λ it. IsRound clock clock' tells ways kept kept'' asked it old new moment b) (sym f) one in
+    let three = subst (λ it. IsRound clock clock' tells ways kept kept'' asked asked'' old it moment b) (sym g) two in
+    subst (λ it. IsRound clock clock' tells ways kept kept'' asked asked'' old new' it b) (sym h) three
+
+pub sleeps_then : {K : Type 0} (a b : Agenda) (marked : Bool) (clock clock' : K) (tells : K → ℕ → K → Type 0) (asked asked' : Option ℕ)
+    (fault : Option RunFault) (quiet : Bool) → b ≡ a → asked' ≡ asked → SleepsBehind (IsToDo a) marked clock clock' tells asked fault quiet
+    → SleepsBehind (IsToDo b) marked clock clock' tells asked' fault quiet
+sleeps_then a b marked clock clock' tells asked asked' fault quiet e f h =
+    let one = subst (λ it. SleepsBehind (IsToDo it) marked clock clock' tells asked fault quiet) (sym e) h in
+    subst (λ it. SleepsBehind (IsToDo b) marked clock clock' tells it fault quiet) (sym f) one
+
+-- an agenda, part by part
+pub same_agenda : (asked asked' : ℕ) (looked looked' : Option ℕ) (responses responses' : ℕ) (written written' : Option ℕ)
+    (core core' : SparingView CoreView) (troubles troubles' : Troubles) (count count' : Happened)
+    → asked' ≡ asked → looked' ≡ looked → responses' ≡ responses → written' ≡ written → core' ≡ core → troubles' ≡ troubles → count' ≡ count
+    → agenda asked' looked' responses' written' core' troubles' count' ≡ agenda asked looked responses written core troubles count
+same_agenda asked asked' looked looked' responses responses' written written' core core' troubles troubles' count count' a l r w c t n =
+    ap (λ it. agenda it looked' responses' written' core' troubles' count') a
+    ∙ ap (λ it. agenda asked it responses' written' core' troubles' count') l
+    ∙ ap (λ it. agenda asked looked it written' core' troubles' count') r
+    ∙ ap (λ it. agenda asked looked responses it core' troubles' count') w
+    ∙ ap (λ it. agenda asked looked responses written it troubles' count') c
+    ∙ ap (λ it. agenda asked looked responses written core it count') t
+    ∙ ap (λ it. agenda asked looked responses written core troubles it) n

@@ -27,3 +27,4 @@ pub mod KindPorts
 pub mod RouterPorts
 pub mod WireTotals
 pub mod PortsView
+pub mod SiteMarks

@@ -1,6 +1,6 @@
 -- What one round of a router that runs does to its core and its clock, and how long it waits then. All
 -- of it is own.
-use Rattle.std.specs.Prelude.{◌≡◌, ◌⊎◌, ℕ, ◌+◌, length, Bool, false, true, Option, Some, None}
+use Rattle.std.specs.Prelude.{◌≡◌, ◌⊎◌, ℕ, ◌+◌, length, min, Bool, false, true, if◌then◌else◌, Option, Some, None}
 use Rattle.ipx_carrier.specs.declared.fault.RunFault.{RunFault}
 use Rattle.ipx_carrier.specs.RouterCore.{CoreView, RouterGives, RouterHears, Misses, Withholds}
 use Rattle.ipx_carrier.specs.Turns.{Ways}
@@ -18,7 +18,7 @@ AsksAgain now times times_after old new =
     ⊎ ((IsToAskAgain times now → ⊥) × (times_after ≡ times) × (new ≡ old))
 
 -- one round, at the moment that the clock tells: it asks again where it is time, and takes a burst of
--- at most 256 turns, this one, in which packets are sent these ways, and its ports keep back from the one
+-- at most 32 turns, this one, in which packets are sent these ways, and its ports keep back from the one
 -- count to the other; what comes and goes on its wires does so at that moment. Its core
 -- lets those who ask for all that it knows do so in turn
 abbrev pub IsRound : {K A : Type 0} → K → K → (K → ℕ → K → Type 0) → Ways A → ℕ → ℕ → ℕ → ℕ → SparingView CoreView → SparingView CoreView → ℕ → Burst → Type 0
@@ -26,15 +26,16 @@ IsRound {K} clock clock_after tells ways kept kept_after times times_after old n
     × (mid : SparingView CoreView) × tells clock now tick
     × (moment ≡ now) × AsksAgain now times times_after old mid
     × BurstsBy (HearsSparingly RouterHears) (MissesBelow Misses) (GivesBelow RouterGives) (WithholdsBelow Withholds) tells
-    (length old.core.router.ports) ways 256 b kept kept_after tick clock_after mid new
+    (length old.core.router.ports) ways 32 b kept kept_after tick clock_after mid new
 
--- how long it waits then, and when: 100 ms behind a fault; not at all behind a burst that was not quiet;
--- and behind a quiet one, at the moment that the clock tells, as long as there is nothing to do. What it
--- waited last before is told too
-abbrev pub SleepsBehind : {K : Type 0} → (ℕ → Type 0) → K → K → (K → ℕ → K → Type 0) → Option ℕ → Option ℕ → Option RunFault → Bool → Type 0
-SleepsBehind todo clock clock_after tells asked asked_after (Some f) quiet =
-    (asked_after ≡ Some 100) × (clock_after ≡ clock)
-SleepsBehind todo clock clock_after tells asked asked_after None false =
-    (asked_after ≡ asked) × (clock_after ≡ clock)
-SleepsBehind todo clock clock_after tells asked asked_after None true = (now time : ℕ)
-    × tells clock now clock_after × IsLeisure todo now time × (asked_after ≡ Some time)
+-- how long it waits then, and when: 100 ms behind a fault; not at all behind a burst that was not quiet, in
+-- which it is told where something came; and behind a quiet one, at the moment that the clock tells, as long as
+-- there is nothing to do, and where a port is marked all the same, which fails then, 100 ms at most
+abbrev pub SleepsBehind : {K : Type 0} → (ℕ → Type 0) → Bool → K → K → (K → ℕ → K → Type 0) → Option ℕ → Option RunFault → Bool → Type 0
+SleepsBehind todo marked clock clock_after tells asked (Some f) quiet =
+    (asked ≡ Some 100) × (clock_after ≡ clock)
+SleepsBehind todo marked clock clock_after tells asked None false =
+    (asked ≡ Some 0) × (clock_after ≡ clock)
+SleepsBehind todo marked clock clock_after tells asked None true = (now time : ℕ)
+    × tells clock now clock_after × IsLeisure todo now time
+    × (asked ≡ Some (if marked then min time 100 else time))

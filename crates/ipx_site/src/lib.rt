@@ -26,6 +26,7 @@ mod ipxnet_figures;
 mod ipxnet_port;
 mod ipxnet_ports;
 mod key;
+mod marking;
 mod moments;
 mod neighbours;
 mod origin;

@@ -1,6 +1,6 @@
 //! A device that hears its peers alone, and sends to them alone.
 
-ghost use Rattle.std.specs.Prelude.{◌≡◌, ◌<◌, ◌≤◌, ◌+◌, ◌^◌, [], ◌∷◌, ℕ, true, false, Ok, Option, Some, OnErr, OnOk, IfOk, IfSome, is_err, length, map, slice_get};
+ghost use Rattle.std.specs.Prelude.{◌≡◌, ◌<◌, ◌≤◌, ◌+◌, ◌^◌, [], ◌∷◌, ℕ, true, false, Ok, Option, Some, OnErr, OnOk, IfOk, IfSome, is_err, length, map, replicate, slice_get};
 ghost use Rattle.ipx_wire.specs.Ipx.{packet_view};
 ghost use Rattle.ipx_carrier.specs.Device.{Passes, received_in};
 ghost use Rattle.ipx_carrier.specs.Counting.{raised};
@@ -11,6 +11,7 @@ ghost use Rattle.ipx_site.specs.SitePorts.{access_by};
 
 use crate::own_word::{is_own_word, is_response, is_straight};
 use crate::senders::Senders;
+use crate::sockets::SiteSockets;
 use ipx_carrier::{Datagrams, DeviceFault, KeepsBack, raise};
 use ipx_wire::{Network, Packet, decode};
 
@@ -135,7 +136,7 @@ fn word_on(guard: &Guard, from: Option<[u8; 4]>, bytes: &[u8]) -> Word
 /// counts what it keeps back. A port without a guard hears and sends nothing.
 #[derive(Drop)]
 pub struct PeersOnly<D: Senders + Drop> {
-    device: D,
+    pub(crate) device: D,
     guards: Vec<Guard>,
     kept: KeptBack,
     refused: u64,
@@ -200,6 +201,19 @@ impl<D: Senders + Drop> PeersOnly<D> {
             Some(guard) => is_listed(&guard.sends, Some(to)),
             None => false,
         }
+    }
+}
+
+impl PeersOnly<SiteSockets> {
+    /// Something may have come to any port, as `SiteSockets::mark_all` says.
+    pub fn mark_all(&mut self)
+        ensures { self.new ≡ record self.old {
+          device = record self.old.device {
+            marks = replicate (length self.old.device.marks) true;
+          };
+        } }
+    {
+        self.device.mark_all();
     }
 }
 

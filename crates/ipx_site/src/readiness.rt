@@ -122,6 +122,14 @@ impl Readiness {
             .is_ok()
     }
 
+    /// Where something came at the last wait: of each a token, which is the place of its descriptor
+    /// among all for which it was asked to wait. The first is 0.
+    pub fn events(&self) -> &Events
+        ensures { result.now ≡ self.now.events }
+    {
+        &self.events
+    }
+
     /// Waits until something is readable, a signal comes, or so many milliseconds are over. It
     /// answers whether something is.
     pub fn wait(&mut self, most: u64) -> Result<bool, WaitFault>

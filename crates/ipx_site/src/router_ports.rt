@@ -32,9 +32,9 @@ pub enum Spot {
 /// ipxnet over their sockets, and which of them each is.
 #[derive(Drop)]
 pub struct RouterPorts<D: Datagrams + Drop, E: EndSockets + Drop, L: PlaceSockets + Drop> {
-    datagrams: OnPeers<D>,
-    wires: Wires<E>,
-    lobbies: Lobbies<L>,
+    pub(crate) datagrams: OnPeers<D>,
+    pub(crate) wires: Wires<E>,
+    pub(crate) lobbies: Lobbies<L>,
     spots: Vec<Spot>,
     // So each is there.
     ghost fit: { All (fits (D.port_count datagrams.device)

@@ -1,12 +1,14 @@
 //! A router with its sockets, and what is to be done besides its turns.
 
-ghost use Rattle.std.specs.Prelude.{◌≡◌, length, map};
+ghost use Rattle.std.specs.Prelude.{◌≡◌, Bool, List, OnOk, Some, length, map};
+ghost use Rattle.ipx_carrier.specs.PortMarks.{AreMarked, is_any_marked};
 ghost use Rattle.ipx_carrier.specs.Turns.{peers_of};
 ghost use Rattle.ipx_site.specs.Leisure.{IsLeisure, IsToDo, agenda, counts_told, happened, happened_in, look_after};
 ghost use Rattle.ipx_site.specs.Moments.{AreToldIfDue};
 ghost use Rattle.ipx_site.specs.SitePorts.{access_by};
 ghost use Rattle.ipx_site.specs.PortsView.{kept_in_ports, ways_in};
 ghost use Rattle.ipx_site.specs.RouterRounds.{AsksAgain, IsRound, SleepsBehind};
+ghost use Rattle.ipx_site.specs.SiteMarks.{marks_in, numbers_come};
 ghost use Rattle.ipx_site.specs.Steady.{NeverGoesBack};
 
 use crate::asking::asking_moment;
@@ -14,6 +16,7 @@ use crate::clock::SteadyClock;
 use crate::figures::Figures;
 use crate::frame_figures::{put_frame_figures, tell_encapsulations};
 use crate::ipxnet_figures::put_ipxnet_figures;
+use crate::marking::{is_any_marked, mark_ready};
 use crate::moments::{LONGEST, end_of, is_over, sooner, time_to};
 use crate::readiness::{Readiness, WaitFault};
 use crate::router_counts::RouterCounts;
@@ -33,11 +36,11 @@ const PERIOD: u64 = LONGEST;
 /// How soon one looks again where something was heard, in milliseconds.
 const SOON: u64 = 1000;
 
-/// How long a router rests after a fault, in milliseconds.
+/// How long a router rests after a fault, and where a port goes on failing, in milliseconds.
 const REST: u64 = 100;
 
-/// How many turns are taken before one looks what else there is to do.
-const TURNS: u32 = 256;
+/// How many turns are taken before one looks what else there is to do, and at which ports something came.
+const TURNS: u32 = 32;
 
 /// A router that runs.
 #[derive(Drop)]
@@ -255,11 +258,45 @@ impl<'a, R: SystemClock> RunningRouter<'a, R> {
         burst
     }
 
+    /// How long it waits behind a burst, in milliseconds: for a while after a fault, not at all where
+    /// there may be more to do, and else as long as there is nothing to do. Where a port is marked then,
+    /// it goes on failing, and is asked again after a while.
+    fn rest(&mut self, burst: Burst) -> u64
+        ensures rests { SleepsBehind (IsToDo (agenda self.old.asked self.old.looked self.old.responses
+            self.old.written self.old.core self.old.troubles
+            (happened self.old.tally self.old.core self.old.ports)))
+            (is_any_marked (marks_in self.old.ports))
+            self.old.clock self.new.clock NeverGoesBack (Some result) burst.fault burst.quiet }
+        ensures core { self.new.core ≡ self.old.core }
+        ensures ports { self.new.ports ≡ self.old.ports }
+        ensures ready { self.new.ready ≡ self.old.ready }
+        ensures tally { self.new.tally ≡ self.old.tally }
+        ensures troubles { self.new.troubles ≡ self.old.troubles }
+        ensures asked { self.new.asked ≡ self.old.asked }
+        ensures looked { (self.new.looked ≡ self.old.looked)
+            × (self.new.responses ≡ self.old.responses) × (self.new.written ≡ self.old.written) }
+    {
+        if burst.fault.is_some() {
+            return REST;
+        }
+        if !burst.quiet {
+            return 0;
+        }
+        let now = self.clock.now();
+        let leisure = self.leisure(now);
+        if is_any_marked(&self.ports) {
+            leisure.min(REST)
+        } else {
+            leisure
+        }
+    }
+
     /// Does what is to be done now, takes turns as long as there is something to hear or to send,
-    /// and waits.
+    /// waits, and marks the ports at which something came.
     pub fn step<S: Log + Files>(&mut self, rt: &S, alloc: Global) -> Result<(), WaitFault>
-        // A round, and behind it a wait, as long as there is nothing to do.
-        ensures core { (between : SteadyClock R) × (burst : Burst)
+        // A round, and behind it a wait, as long as there is nothing to do. Then the ports are marked
+        // at which something came.
+        ensures core { (between : SteadyClock R) × (burst : Burst) × (marks : List Bool)
             × IsRound self.old.clock between NeverGoesBack (ways_in self.old.ports)
             (kept_in_ports self.old.ports) (kept_in_ports self.new.ports)
             self.old.asked self.new.asked self.old.core self.new.core
@@ -267,8 +304,10 @@ impl<'a, R: SystemClock> RunningRouter<'a, R> {
             × SleepsBehind (IsToDo (agenda self.new.asked self.new.looked self.new.responses
             self.new.written self.new.core self.new.troubles
             (happened self.new.tally self.new.core self.new.ports)))
+            (is_any_marked marks)
             between self.new.clock NeverGoesBack
-            self.old.ready.asked self.new.ready.asked burst.fault burst.quiet }
+            self.new.ready.asked burst.fault burst.quiet
+            × OnOk result (AreMarked (numbers_come self.new.ready) marks (marks_in self.new.ports)) }
         ensures moments { self.new.ports.lobbies.moment ≡ self.new.ports.wires.moment }
         ensures ways { ways_in self.new.ports ≡ ways_in self.old.ports }
         ensures peers { peers_of self.new.ports.datagrams.peers.items
@@ -278,13 +317,9 @@ impl<'a, R: SystemClock> RunningRouter<'a, R> {
             ≡ map access_by self.old.ports.datagrams.device.guards.items }
     {
         let burst = self.round(rt, alloc);
-        if burst.fault.is_some() {
-            self.ready.wait(REST)?;
-        } else if burst.quiet {
-            let now = self.clock.now();
-            let leisure = self.leisure(now);
-            self.ready.wait(leisure)?;
-        }
+        let time = self.rest(burst);
+        self.ready.wait(time)?;
+        mark_ready(&mut self.ports, &self.ready);
         Ok(())
     }
 }

@@ -1,7 +1,8 @@
 //! Sockets of UDP, one for each port of RFC 1234 of a site.
 
-ghost use Rattle.std.specs.Prelude.{◌≡◌, ◌⊎◌, ◌<◌, ◌≤◌, ◌↔◌, ◌∷◌, [], IfOk, IfSome, IsSome, None, Ok, OnErr, Some, length, map, slice_get};
+ghost use Rattle.std.specs.Prelude.{◌≡◌, ◌⊎◌, ◌<◌, ◌≤◌, ◌↔◌, ◌∷◌, [], IfOk, IfSome, IsSome, None, Ok, OnErr, Some, false, is_some, length, map, replicate, slice_get, slice_set, true};
 ghost use Rattle.ipx_carrier.specs.Counting.{raised};
+ghost use Rattle.ipx_carrier.specs.PortMarks.{AsksMarked, is_port_marked};
 ghost use Rattle.ipx_site.specs.Senders.{ipv4_of_place};
 ghost use Rattle.ipx_site.specs.KindPorts.{datagram_ports};
 ghost use Rattle.ipx_site.specs.SitePorts.{udp_ports};
@@ -10,8 +11,8 @@ use crate::bind_fault::{BindFault, obstacle_of};
 use crate::room::ask_room;
 use crate::senders::Senders;
 use crate::site::PortOfKind;
-use ipx_carrier::{Datagrams, DeviceFault, bound_socket, place_of, raise};
-use std::alloc::Global;
+use ipx_carrier::{Datagrams, DeviceFault, PortMarks, bound_socket, place_of, raise};
+use std::alloc::{AllocError, Global};
 use std::io;
 use std::io::ErrorKind;
 use std::net::{Net, SocketAddr, UdpSocket};
@@ -30,9 +31,13 @@ struct PortSocket {
 /// It tells who sent what it received last: which datagrams come and which arrive is the network's.
 /// A datagram that the system doesn't take is lost as one is on the way, and counted, so that a
 /// peer that can't be reached keeps nothing from the others; it never fails.
+///
+/// It has a mark for each port, at which something may wait, and asks the system at those alone. All
+/// are set at the start. Whoever waits for the sockets marks those at which something came, or all.
 #[derive(Drop)]
 pub struct SiteSockets {
     sockets: Vec<PortSocket>,
+    marks: PortMarks,
     sent: u64,
     faults: u64,
     sender: Option<[u8; 4]>,
@@ -83,16 +88,30 @@ fn bound_port<R: Net>(
     }
 }
 
-/// A device with these sockets.
-fn device_of(sockets: Vec<PortSocket>) -> SiteSockets
-    ensures ports { result.sockets.items ≡ sockets.items }
-    ensures fresh { (result.sent ≡ 0) × (result.faults ≡ 0) × (result.sender ≡ None) }
+/// A device with these sockets, each of which is marked.
+fn device_of(alloc: Global, sockets: Vec<PortSocket>) -> Result<SiteSockets, AllocError>
+    ensures ports { IfOk result (λ d. d.sockets.items ≡ sockets.items) }
+    ensures marks { IfOk result (λ d. d.marks ≡ replicate (length sockets.items) true) }
+    ensures fresh { IfOk result (λ d. (d.sent ≡ 0) × (d.faults ≡ 0) × (d.sender ≡ None)) }
 {
-    SiteSockets {
+    let marks = PortMarks::all(alloc, sockets.len())?;
+    Ok(SiteSockets {
         sockets,
+        marks,
         sent: 0,
         faults: 0,
         sender: None,
+    })
+}
+
+/// The same, or that memory was refused.
+fn bound_device(alloc: Global, sockets: Vec<PortSocket>) -> Result<SiteSockets, BindFault>
+    ensures ports { IfOk result (λ d. d.sockets.items ≡ sockets.items) }
+    ensures marks { IfOk result (λ d. d.marks ≡ replicate (length sockets.items) true) }
+{
+    match device_of(alloc, sockets) {
+        Ok(device) => Ok(device),
+        Err(_) => Err(BindFault::OutOfMemory),
     }
 }
 
@@ -104,8 +123,9 @@ impl SiteSockets {
         alloc: Global,
         ports: &[PortOfKind],
     ) -> Result<SiteSockets, BindFault>
-        ensures { IfOk result (λ d. map (λ s. s.udp_port) d.sockets.items
+        ensures ports { IfOk result (λ d. map (λ s. s.udp_port) d.sockets.items
             ≡ udp_ports (datagram_ports ports.now)) }
+        ensures marks { IfOk result (λ d. d.marks ≡ replicate (length d.sockets.items) true) }
     {
         let mut sockets = Vec::new(alloc);
         for (place, port) in ports.iter().enumerate() {
@@ -116,7 +136,7 @@ impl SiteSockets {
                 }
             }
         }
-        Ok(device_of(sockets))
+        bound_device(alloc, sockets)
     }
 
     /// A device with one port, for a host.
@@ -126,11 +146,12 @@ impl SiteSockets {
         address: [u8; 4],
         udp_port: u16,
     ) -> Result<SiteSockets, BindFault>
-        ensures { IfOk result (λ d. map (λ s. s.udp_port) d.sockets.items ≡ udp_port ∷ []) }
+        ensures ports { IfOk result (λ d. map (λ s. s.udp_port) d.sockets.items ≡ udp_port ∷ []) }
+        ensures marks { IfOk result (λ d. d.marks ≡ true ∷ []) }
     {
         let socket = bound_port(rt, 1, address, udp_port)?;
         match vec![in alloc; socket] {
-            Ok(sockets) => Ok(device_of(sockets)),
+            Ok(sockets) => bound_device(alloc, sockets),
             Err(_) => Err(BindFault::OutOfMemory),
         }
     }
@@ -167,9 +188,34 @@ impl SiteSockets {
         Some(socket.room)
     }
 
+    /// The marks of the ports, in order.
+    pub fn marks(&self) -> &PortMarks
+        ensures { result.now ≡ self.now.marks }
+    {
+        &self.marks
+    }
+
+    /// Something came to a port, as the system said: what waits there is received. Where it has no
+    /// port of that number nothing happens.
+    pub fn mark(&mut self, port: usize)
+        ensures { self.new ≡ record self.old { marks = slice_set self.old.marks port true } }
+    {
+        self.marks.mark(port);
+    }
+
+    /// Something may have come to any port.
+    pub fn mark_all(&mut self)
+        ensures { self.new ≡ record self.old {
+          marks = replicate (length self.old.marks) true;
+        } }
+    {
+        self.marks.mark_all();
+    }
+
     fn count_fault(&mut self)
         ensures counted { self.new.faults ≡ raised self.old.faults }
         ensures sockets { self.new.sockets ≡ self.old.sockets }
+        ensures marks { self.new.marks ≡ self.old.marks }
         ensures sender { self.new.sender ≡ self.old.sender }
         ensures sent { self.new.sent ≡ self.old.sent }
     {
@@ -209,6 +255,7 @@ impl Datagrams for SiteSockets {
             × (self.new.faults ≡ self.old.faults)) ⊎ ((self.new.sent ≡ self.old.sent)
             × (self.new.faults ≡ raised self.old.faults)) }
         ensures sockets { self.new.sockets ≡ self.old.sockets }
+        ensures marks { self.new.marks ≡ self.old.marks }
         ensures goes_on { OnErr result ⊥ }
     {
         let place = place_of(to, self.sockets[port].udp_port);
@@ -221,7 +268,15 @@ impl Datagrams for SiteSockets {
 
     fn receive(&mut self, port: usize, room: &mut [u8]) -> Result<Option<usize>, DeviceFault>
         requires there { port < length self.old.sockets.items }
-        // Nothing but who sent the last, and how often the system refused.
+        // A port without a mark is not asked, and nothing changes.
+        ensures unmarked { is_port_marked self.old.marks port ≡ false
+            → (result ≡ Ok None) × (self.new ≡ self.old) × (room.new ≡ room.old) }
+        // One with a mark is asked until something comes or nothing waits, eight times at most: the
+        // mark goes just where nothing waits.
+        ensures marked { is_port_marked self.old.marks port ≡ true → IfOk result (λ count.
+            AsksMarked port (is_some count) self.old.marks self.new.marks
+            self.old.faults self.new.faults) }
+        // Nothing but that, who sent the last, and how often the system refused.
         ensures sockets { self.new.sockets ≡ self.old.sockets }
         ensures sent { self.new.sent ≡ self.old.sent }
         ensures sender { result ≡ Ok None → self.new.sender ≡ self.old.sender }
@@ -229,13 +284,19 @@ impl Datagrams for SiteSockets {
         ensures within { IfOk result (λ count. IfSome count (λ n. n ≤ length room.old)) }
         ensures goes_on { OnErr result ⊥ }
     {
+        if !self.marks.is_marked(port) {
+            return Ok(None);
+        }
         for _try in 0..TRIES {
             match self.sockets[port].socket.recv_from(room) {
                 Ok((count, from)) => {
                     self.sender = ip_of(from);
                     return Ok(Some(count));
                 }
-                Err(error) if error.kind() == ErrorKind::WouldBlock => return Ok(None),
+                Err(error) if error.kind() == ErrorKind::WouldBlock => {
+                    self.marks.unmark(port);
+                    return Ok(None);
+                }
                 Err(_) => self.count_fault(),
             }
         }

@@ -34,17 +34,42 @@ udp_port = 21391
 peers = []
 ";
 
+const FIRST: &str = "\
+[[port]]
+network = \"00000001\"
+address = \"127.0.91.4\"
+udp_port = 21391
+peers = [\"127.0.91.5\"]
+";
+
+const SECOND: &str = "\
+[[port]]
+network = \"00000001\"
+address = \"127.0.91.5\"
+udp_port = 21391
+peers = [\"127.0.91.4\"]
+";
+
 /// Asks port 1 until a datagram came, some thousand times.
 fn wait_for(device: &mut SiteSockets, room: &mut [u8]) -> Result<Option<usize>, DeviceFault> {
     for _turn in 0..100000u32 {
         if device.ports() == 0 || device.failures() > 1000 {
             return Err(DeviceFault);
         }
+        device.mark_all();
         if let Some(count) = device.receive(0, room)? {
             return Ok(Some(count));
         }
     }
     Ok(None)
+}
+
+/// Asks port 1 once.
+fn receive(device: &mut SiteSockets, room: &mut [u8]) -> Result<Option<usize>, DeviceFault> {
+    if device.ports() == 0 || device.failures() > 1000 {
+        return Err(DeviceFault);
+    }
+    device.receive(0, room)
 }
 
 fn send(device: &mut SiteSockets, to: [u8; 4], bytes: &[u8]) -> Result<(), DeviceFault> {
@@ -70,6 +95,24 @@ fn tells_who_sent(rt: HostRuntime) -> Result<(), Fail> {
     let mut room = [0; 1536];
     assert!(rt; wait_for(&mut there, &mut room)? == Some(3));
     assert!(rt; there.sender() == Some([127, 0, 91, 1]));
+    Ok(())
+}
+
+/// A port is asked only where it is marked, and one that has nothing loses its mark.
+#[test]
+fn a_port_without_a_mark_is_not_asked(rt: HostRuntime) -> Result<(), Fail> {
+    let mut here = bound(&rt, FIRST)?;
+    let mut there = bound(&rt, SECOND)?;
+    let mut room = [0; 1536];
+    assert!(rt; there.marks().is_marked(0));
+    assert!(rt; receive(&mut there, &mut room)? == None);
+    assert!(rt; !there.marks().is_any_marked());
+    send(&mut here, [127, 0, 91, 5], b"abc")?;
+    assert!(rt; receive(&mut there, &mut room)? == None);
+    there.mark(1);
+    assert!(rt; receive(&mut there, &mut room)? == None);
+    assert!(rt; wait_for(&mut there, &mut room)? == Some(3));
+    assert!(rt; there.marks().is_marked(0));
     Ok(())
 }
 

@@ -77,9 +77,13 @@ fn tells_that_something_came(rt: HostRuntime) -> Result<(), Fail> {
     let mut there = socket(&rt, 2)?;
     let mut ready = Readiness::new(&rt, rt.alloc(), &here)?;
     assert!(rt; !ready.wait(0)?);
+    assert_eq!(rt; ready.events().iter().count(), 0);
     send(&mut there, 1)?;
     assert!(rt; ready.wait(5000)?);
+    assert!(rt; ready.events().iter().all(|event| event.token().0 == 0));
+    assert_eq!(rt; ready.events().iter().count(), 1);
     assert!(rt; !ready.wait(0)?);
+    assert_eq!(rt; ready.events().iter().count(), 0);
     Ok(())
 }
 

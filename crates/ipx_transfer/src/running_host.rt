@@ -236,6 +236,8 @@ impl<'a, R: Net + Log + Clock> RunningHost<'a, R> {
             self.new.core.barred self.new.wire.device.device.faults self.new.refused))
             self.new.core.moment self.old.telling.causes self.new.telling.causes }
     {
+        // (a host has one port: it asks there in each turn, whether the wait said so or not)
+        self.wire.device.mark_all();
         let before = self.wire.device.kept_back();
         let ran = turn(
             alloc,

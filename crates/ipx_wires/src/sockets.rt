@@ -1,12 +1,13 @@
 //! Sockets of UDP as those of wires: each datagram is one Ethernet frame.
 
-ghost use Rattle.std.specs.Prelude.{◌≡◌, ◌<◌, ◌≤◌, ◌↔◌, ◌++◌, ◌∷◌, [], IfOk, IfSome, IsSome, OnErr, OnOk, length, slice_index};
+ghost use Rattle.std.specs.Prelude.{◌≡◌, ◌<◌, ◌≤◌, ◌↔◌, ◌++◌, ◌∷◌, [], Bool, IfOk, IfSome, IsSome, None, Ok, OnErr, OnOk, false, is_some, length, slice_index, slice_set, true};
 ghost use Rattle.ipx_carrier.specs.Counting.{raised};
+ghost use Rattle.ipx_carrier.specs.PortMarks.{AsksMarked, IsKeptOrAnswer, is_port_marked};
 ghost use Rattle.ipx_wires.specs.EndTraffic.{failures_counted};
 ghost use Rattle.ipx_wires.specs.WirePlaces.{end_at_place, ends_behind, is_place, places_behind};
 
 use crate::end_sockets::{EndSockets, FrameCame};
-use ipx_carrier::{DeviceFault, bound_socket, place_of, raise};
+use ipx_carrier::{DeviceFault, PortMarks, bound_socket, place_of, raise};
 use std::alloc::Global;
 use std::io;
 use std::io::ErrorKind;
@@ -32,9 +33,13 @@ pub struct WireSocket {
 ///
 /// Which frames come and which arrive is the network's. What the system doesn't take is a failure of
 /// sending; receiving never fails.
+///
+/// They have a mark for each port, at which something may wait, and ask the system at those alone. One
+/// that is bound is marked. Whoever waits for them marks those at which something came.
 #[derive(Drop)]
 pub struct WireSockets {
     wires: Vec<WireSocket>,
+    marks: PortMarks,
     sent: u64,
     failures: u64,
     faults: u64,
@@ -65,12 +70,13 @@ fn end_at(ends: &[Place], from: SocketAddr) -> Option<usize>
 impl WireSockets {
     /// Sockets without a port.
     pub fn new(alloc: Global) -> WireSockets
-        ensures none { result.wires.items ≡ [] }
+        ensures none { (result.wires.items ≡ []) × (result.marks ≡ []) }
         ensures fresh { (result.sent ≡ 0) × (result.failures ≡ 0) × (result.faults ≡ 0)
             × (result.strangers ≡ 0) }
     {
         WireSockets {
             wires: Vec::new(alloc),
+            marks: PortMarks::new(alloc),
             sent: 0,
             failures: 0,
             faults: 0,
@@ -85,11 +91,18 @@ impl WireSockets {
             ≡ ends_behind self.old.wires.items ++ length ends.items ∷ []) }
         ensures places { OnOk result (places_behind self.new.wires.items
             ≡ places_behind self.old.wires.items ++ ends.items ∷ []) }
-        ensures refused { OnErr result (self.new.wires.items ≡ self.old.wires.items) }
+        ensures marks { OnOk result (self.new.marks ≡ self.old.marks ++ true ∷ []) }
+        ensures refused { OnErr result ((self.new.wires.items ≡ self.old.wires.items)
+            × (self.new.marks ≡ self.old.marks)) }
     {
         let socket = bound_socket(rt, at.ip, at.udp_port)?;
         let wire = WireSocket { socket, ends };
+        let count = self.wires.len();
         if self.wires.push(wire).is_err() {
+            return Err(io::Error::from(ErrorKind::OutOfMemory));
+        }
+        if self.marks.add().is_err() {
+            self.wires.truncate(count);
             return Err(io::Error::from(ErrorKind::OutOfMemory));
         }
         Ok(())
@@ -115,6 +128,21 @@ impl WireSockets {
     {
         let wire = self.wires.get(port)?;
         Some(wire.socket.as_raw_fd())
+    }
+
+    /// The marks of the ports, in order.
+    pub fn marks(&self) -> &PortMarks
+        ensures { result.now ≡ self.now.marks }
+    {
+        &self.marks
+    }
+
+    /// Something came to a port, as the system said: what waits there is received. Where there is no
+    /// port of that number nothing happens.
+    pub fn mark(&mut self, port: usize)
+        ensures { self.new ≡ record self.old { marks = slice_set self.old.marks port true } }
+    {
+        self.marks.mark(port);
     }
 }
 
@@ -154,7 +182,7 @@ impl EndSockets for WireSockets {
         ensures refused { OnErr result (self.new.sent ≡ self.old.sent) }
         ensures failures { self.new.failures ≡ failures_counted result self.old.failures }
         ensures rest { (self.new.wires ≡ self.old.wires) × (self.new.faults ≡ self.old.faults)
-            × (self.new.strangers ≡ self.old.strangers) }
+            × (self.new.strangers ≡ self.old.strangers) × (self.new.marks ≡ self.old.marks) }
     {
         let wire = &self.wires[port];
         let to = wire.ends[end];
@@ -172,6 +200,15 @@ impl EndSockets for WireSockets {
 
     fn receive(&mut self, port: usize, room: &mut [u8]) -> Result<Option<FrameCame>, DeviceFault>
         requires { port < length (ends_behind self.old.wires.items) }
+        // A port without a mark is not asked, and nothing changes.
+        ensures unmarked { is_port_marked self.old.marks port ≡ false
+            → (result ≡ Ok None) × (self.new ≡ self.old) × (room.new ≡ room.old) }
+        // One with a mark is asked until something comes or nothing waits, eight times at most: the
+        // mark goes just where nothing waits. What came is answered or counted.
+        ensures marked { is_port_marked self.old.marks port ≡ true → IfOk result (λ answer.
+            (came : Bool) × AsksMarked port came self.old.marks self.new.marks
+            self.old.faults self.new.faults
+            × IsKeptOrAnswer came (is_some answer) self.old.strangers self.new.strangers) }
         // What came from an end is answered, and what came from none is counted.
         ensures end { IfOk result (λ came. IfSome came (λ c.
             c.end < slice_index (ends_behind self.old.wires.items) port)) }
@@ -184,6 +221,9 @@ impl EndSockets for WireSockets {
         ensures rest { (self.new.wires ≡ self.old.wires) × (self.new.sent ≡ self.old.sent)
             × (self.new.failures ≡ self.old.failures) }
     {
+        if !self.marks.is_marked(port) {
+            return Ok(None);
+        }
         for _try in 0..TRIES {
             let wire = &self.wires[port];
             match wire.socket.recv_from(room) {
@@ -194,7 +234,10 @@ impl EndSockets for WireSockets {
                     };
                     return Ok(Some(FrameCame { end, size }));
                 }
-                Err(error) if error.kind() == ErrorKind::WouldBlock => return Ok(None),
+                Err(error) if error.kind() == ErrorKind::WouldBlock => {
+                    self.marks.unmark(port);
+                    return Ok(None);
+                }
                 Err(_) => raise(&mut self.faults),
             }
         }

@@ -1,12 +1,13 @@
 //! Ports on wires.
 
-ghost use Rattle.std.specs.Prelude.{◌≡◌, ◌<◌, ◌≤◌, ◌+◌, ◌^◌, [], Option, None, IfOk, IfSome, OnErr, length, map, min, slice_index};
+ghost use Rattle.std.specs.Prelude.{◌≡◌, ◌<◌, ◌≤◌, ◌+◌, ◌^◌, [], Option, None, IfOk, IfSome, OnErr, length, map, min, slice_index, slice_set, true};
 ghost use Rattle.ipx_carrier.specs.Segments.{copies_count, count_in};
 ghost use Rattle.ipx_wires.specs.EndTraffic.{EndFrame, frame_at};
 ghost use Rattle.ipx_wires.specs.OnWires.{HearsAnswerOf, HearsBehind, SendsPacket, by_frames, wires_view};
 
 use crate::end_sockets::EndSockets;
 use crate::reaching::send_to_ends;
+use crate::sockets::WireSockets;
 use crate::taking::take_packet;
 use ipx_carrier::{DeviceFault, PacketSent, Segments, SegmentsKeepBack, raise};
 use ipx_frames::FRAME_MAX_SIZE;
@@ -122,6 +123,19 @@ impl<D: EndSockets + Drop> Wires<D> {
             raise(&mut self.kept);
         }
         count
+    }
+}
+
+impl Wires<WireSockets> {
+    /// Something came to the socket of a port, as `WireSockets::mark` says.
+    pub fn mark(&mut self, port: usize)
+        ensures { self.new ≡ record self.old {
+          sockets = record self.old.sockets {
+            marks = slice_set self.old.sockets.marks port true;
+          };
+        } }
+    {
+        self.sockets.mark(port);
     }
 }
 

@@ -32,6 +32,7 @@ fn next_frame(
     room: &mut [u8],
 ) -> Result<Option<FrameCame>, DeviceFault> {
     for _ in 0..100_000_u32 {
+        sockets.mark(0);
         let came = sockets.receive(0, room)?;
         if came.is_some() {
             return Ok(came);
@@ -47,6 +48,7 @@ fn next_packet(
 ) -> Result<Option<usize>, DeviceFault> {
     let kept_back = wires.kept_back();
     for _ in 0..100_000_u32 {
+        wires.mark(0);
         let came = wires.receive(0, room)?;
         if came.is_some() || wires.kept_back() != kept_back {
             return Ok(came);
@@ -88,6 +90,24 @@ fn frames_over_sockets(rt: HostRuntime) -> Result<(), Fail> {
     assert_eq!(rt; wires.sockets().sent(), 2);
     assert_eq!(rt; wires.sockets().failures(), 0);
     assert_eq!(rt; wires.sockets().faults(), 0);
+    Ok(())
+}
+
+/// A port is asked only where it is marked, and one that has nothing loses its mark.
+#[test]
+fn a_port_without_a_mark_is_not_asked(rt: HostRuntime) -> Result<(), Fail> {
+    let alloc = rt.alloc();
+    let (here, there) = (place(20_929), place(20_930));
+    let mut end = bound(&rt, alloc, there, &[here])?;
+    let mut sockets = bound(&rt, alloc, here, &[there])?;
+    let mut room = [0; 1536];
+    assert!(rt; sockets.marks().is_marked(0));
+    assert!(rt; sockets.receive(0, &mut room)? == None);
+    assert!(rt; !sockets.marks().is_any_marked());
+    assert!(rt; end.send(0, 0, b"abc").is_ok());
+    assert!(rt; sockets.receive(0, &mut room)? == None);
+    assert!(rt; next_frame(&mut sockets, &mut room)? == Some(FrameCame { end: 0, size: 3 }));
+    assert!(rt; sockets.marks().is_marked(0));
     Ok(())
 }
 

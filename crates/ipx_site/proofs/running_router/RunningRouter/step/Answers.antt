@@ -1,60 +1,58 @@
-use Rattle.std.proofs.Common.{◌∙◌, ℕ, ap, refl, sym}
+use Rattle.std.proofs.Common.{◌∙◌, Some, ap, rules, subst, sym}
+use Rattle.ipx_carrier.specs.PortMarks.{is_any_marked}
 use Rattle.ipx_site.specs.Leisure.{IsToDo, agenda, happened}
+use Rattle.ipx_site.specs.PortsView.{kept_in_ports, ways_in}
+use Rattle.ipx_site.specs.RouterRounds.{SleepsBehind}
+use Rattle.ipx_site.specs.SiteMarks.{marks_in}
 use Rattle.ipx_site.specs.Steady.{NeverGoesBack}
-use Rattle.ipx_site.proofs.Rounds.{goes_on, rests, sleeps}
+use Rattle.ipx_site.proofs.MarksApart.{happened_apart, kept_apart}
+use Rattle.ipx_site.proofs.Rounds.{round_then, same_agenda, sleeps_then}
 use Rattle.ipx_site.proofs.running_router.RunningRouter.step.Goals as goal
 
 pub returns-in_err-wait-clause-core : goal.returns-in_err-wait-clause-core
 returns-in_err-wait-clause-core g c =
+    let old = c.args.self.now in
     let s = c.round-burst.new.self in
-    let todo : ℕ → Type 0 = IsToDo (agenda s.asked s.looked s.responses s.written s.core s.troubles
-    (happened s.tally s.core s.ports)) in (
+    let t = c.rest-time.new.self in
+    let e = c.rest-time.ensures in
+    let b = c.round-burst.result in
+    let same = same_agenda s.asked t.asked s.looked t.looked s.responses t.responses s.written t.written s.core t.core s.troubles t.troubles
+    (happened s.tally s.core s.ports) (happened t.tally t.core t.ports) e.asked e.looked.0 e.looked.1 e.looked.2 e.core e.troubles
+    (ap (λ it. happened it t.core t.ports) e.tally ∙ ap (λ it. happened s.tally it t.ports) e.core ∙ ap (λ it. happened s.tally s.core it) e.ports) in (
       s.clock,
-      c.round-burst.result,
-      c.round-burst.ensures.core,
-      rests todo s.clock s.clock NeverGoesBack _ _ c.round-burst.result.fault c.round-burst.result.quiet (sym c.is_some.ensures ∙ c.if-is_some.true) c.wait.ensures.asked refl,
+      b,
+      marks_in s.ports,
+      round_then NeverGoesBack old.clock s.clock (ways_in old.ports) (kept_in_ports old.ports) (kept_in_ports s.ports) (kept_in_ports t.ports) old.asked s.asked t.asked
+          old.core s.core t.core s.ports.wires.moment t.ports.wires.moment b (ap kept_in_ports e.ports) e.asked e.core (ap (λ it. it.wires.moment) e.ports) c.round-burst.ensures.core,
+      sleeps_then (agenda s.asked s.looked s.responses s.written s.core s.troubles (happened s.tally s.core s.ports))
+          (agenda t.asked t.looked t.responses t.written t.core t.troubles (happened t.tally t.core t.ports)) (is_any_marked (marks_in s.ports)) s.clock t.clock NeverGoesBack
+          (Some c.rest-time.result) c.wait.new.self.asked b.fault b.quiet same c.wait.ensures.asked e.rests,
+      search rules,
     )
 
-pub returns-in_err-wait-2-clause-core : goal.returns-in_err-wait-2-clause-core
-returns-in_err-wait-2-clause-core g c =
+pub returns-clause-core : goal.returns-clause-core
+returns-clause-core g c =
+    let old = c.args.self.now in
     let s = c.round-burst.new.self in
-    let todo : ℕ → Type 0 = IsToDo (agenda s.asked s.looked s.responses s.written s.core s.troubles
-    (happened s.tally s.core s.ports)) in (
+    let t = c.rest-time.new.self in
+    let e = c.rest-time.ensures in
+    let b = c.round-burst.result in
+    let ports = c.mark_ready.new.ports in
+    let m = c.mark_ready.ensures.rest in
+    let count = happened_apart t.ports ports m t.tally t.core ∙ ap (λ it. happened it t.core t.ports) e.tally ∙ ap (λ it. happened s.tally it t.ports) e.core
+    ∙ ap (λ it. happened s.tally s.core it) e.ports in
+    let same = same_agenda s.asked t.asked s.looked t.looked s.responses t.responses s.written t.written s.core t.core s.troubles t.troubles
+    (happened s.tally s.core s.ports) (happened t.tally t.core ports) e.asked e.looked.0 e.looked.1 e.looked.2 e.core e.troubles count in (
       s.clock,
-      c.round-burst.result,
-      c.round-burst.ensures.core,
-      sleeps todo s.clock _ NeverGoesBack _ _ c.round-burst.result.fault c.round-burst.result.quiet (sym c.is_some.ensures ∙ c.if-is_some.false) c.if-burst.true c.now-now.result c.leisure-leisure.result c.now-now.ensures c.leisure-leisure.ensures c.wait-then-burst.ensures.asked,
-    )
-
-pub returns-in_ok-wait-clause-core : goal.returns-in_ok-wait-clause-core
-returns-in_ok-wait-clause-core g c =
-    let s = c.round-burst.new.self in
-    let todo : ℕ → Type 0 = IsToDo (agenda s.asked s.looked s.responses s.written s.core s.troubles
-    (happened s.tally s.core s.ports)) in (
-      s.clock,
-      c.round-burst.result,
-      c.round-burst.ensures.core,
-      rests todo s.clock s.clock NeverGoesBack _ _ c.round-burst.result.fault c.round-burst.result.quiet (sym c.is_some.ensures ∙ c.if-is_some.true) c.wait.ensures.asked refl,
-    )
-
-pub returns-in_ok-wait-2-clause-core : goal.returns-in_ok-wait-2-clause-core
-returns-in_ok-wait-2-clause-core g c =
-    let s = c.round-burst.new.self in
-    let todo : ℕ → Type 0 = IsToDo (agenda s.asked s.looked s.responses s.written s.core s.troubles
-    (happened s.tally s.core s.ports)) in (
-      s.clock,
-      c.round-burst.result,
-      c.round-burst.ensures.core,
-      sleeps todo s.clock _ NeverGoesBack _ _ c.round-burst.result.fault c.round-burst.result.quiet (sym c.is_some.ensures ∙ c.if-is_some.false) c.if-burst.true c.now-now.result c.leisure-leisure.result c.now-now.ensures c.leisure-leisure.ensures c.wait-then-burst.ensures.asked,
-    )
-
-pub returns-else-burst-clause-core : goal.returns-else-burst-clause-core
-returns-else-burst-clause-core g c =
-    let s = c.round-burst.new.self in
-    let todo : ℕ → Type 0 = IsToDo (agenda s.asked s.looked s.responses s.written s.core s.troubles
-    (happened s.tally s.core s.ports)) in (
-      s.clock,
-      c.round-burst.result,
-      c.round-burst.ensures.core,
-      goes_on todo s.clock s.clock NeverGoesBack _ _ c.round-burst.result.fault c.round-burst.result.quiet (sym c.is_some.ensures ∙ c.if-is_some.false) c.if-burst.false (ap (λ r. r.asked) c.round-burst.ensures.ready) refl,
+      b,
+      marks_in t.ports,
+      round_then NeverGoesBack old.clock s.clock (ways_in old.ports) (kept_in_ports old.ports) (kept_in_ports s.ports) (kept_in_ports ports) old.asked s.asked t.asked
+          old.core s.core t.core s.ports.wires.moment ports.wires.moment b (kept_apart t.ports ports m ∙ ap kept_in_ports e.ports) e.asked e.core
+          (ap (λ it. it.moment) m.wires ∙ ap (λ it. it.wires.moment) e.ports) c.round-burst.ensures.core,
+      subst (λ it. SleepsBehind (IsToDo (agenda t.asked t.looked t.responses t.written t.core t.troubles (happened t.tally t.core ports)))
+          (is_any_marked (marks_in it)) s.clock t.clock NeverGoesBack c.wait.new.self.asked b.fault b.quiet) (sym e.ports)
+          (sleeps_then (agenda s.asked s.looked s.responses s.written s.core s.troubles (happened s.tally s.core s.ports))
+          (agenda t.asked t.looked t.responses t.written t.core t.troubles (happened t.tally t.core ports)) (is_any_marked (marks_in s.ports)) s.clock t.clock NeverGoesBack
+          (Some c.rest-time.result) c.wait.new.self.asked b.fault b.quiet same c.wait.ensures.asked e.rests),
+      c.mark_ready.ensures.marks,
     )
