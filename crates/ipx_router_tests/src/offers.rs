@@ -29,6 +29,7 @@ fn offer_rows(rt: HostRuntime) -> Result<(), Fail> {
     the_last_word_for_three_minutes(&rt, rt.alloc())?;
     the_lower_port_and_then_the_lower_neighbour(&rt, rt.alloc())?;
     full_only_for_a_new_key_and_source(&rt, rt.alloc())?;
+    each_offer_by_network_and_neighbour(&rt, rt.alloc())?;
     an_offer_of_a_later_moment_is_young(&rt, rt.alloc())
 }
 
@@ -59,6 +60,25 @@ fn the_lower_port_and_then_the_lower_neighbour(rt: &impl Abort, alloc: Global) -
     assert!(rt; is_best(&table, 0, source(1, 9), route(2, 2)));
     table.hear(alloc, KEY, source(1, 8), route(2, 2), 0)?;
     assert!(rt; is_best(&table, 0, source(1, 8), route(2, 2)));
+    Ok(())
+}
+
+fn each_offer_by_network_and_neighbour(rt: &impl Abort, alloc: Global) -> Result<(), Fail> {
+    let mut table = route_table(alloc);
+    assert!(rt; table.offers().next().is_none());
+    table.hear(alloc, Network(0x33), source(1, 1), route(2, 2), 70_000)?;
+    table.hear(alloc, KEY, source(2, 1), route(3, 5), 40_000)?;
+    table.hear(alloc, KEY, source(1, 9), route(4, 1), 200_000)?;
+    let walked = table
+        .offers()
+        .map(|offer| (offer.key.0, offer.source, offer.metric.ticks, offer.heard))
+        .collect::<Vec<(u32, Source, u16, u64)>>(alloc)?;
+    let expected = [
+        (0x22, source(1, 9), 4, 200_000),
+        (0x22, source(2, 1), 3, 40_000),
+        (0x33, source(1, 1), 2, 70_000),
+    ];
+    assert_eq!(rt; walked.as_slice(), expected.as_slice());
     Ok(())
 }
 

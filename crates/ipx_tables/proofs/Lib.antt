@@ -15,3 +15,4 @@ pub mod Marked
 pub mod Marking
 pub mod Sought
 pub mod Words
+pub mod Inventories

@@ -26,7 +26,7 @@ use Rattle.ipx_tables.proofs.Best.{as_good, rank_total}
 use Rattle.ipx_tables.proofs.Listed.{member_found, found_member}
 use Rattle.ipx_tables.proofs.Ordered.{apart_rising, tail_rising}
 
-is_equal : (r : Ordering) → is_eq r ≡ true → r ≡ Equal
+pub is_equal : (r : Ordering) → is_eq r ≡ true → r ≡ Equal
 is_equal Less h = cc
 is_equal Equal h = refl
 is_equal Greater h = cc

@@ -7,6 +7,7 @@ pub mod Best
 pub mod TableCalls
 pub mod Sorted
 pub mod Listing
+pub mod Inventory
 pub mod OfferScan
 pub mod Walk
 pub mod Expiry

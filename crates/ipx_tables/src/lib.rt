@@ -11,6 +11,7 @@ mod ageing;
 mod by_number;
 mod fault;
 mod finding;
+mod inventory;
 mod laws;
 mod marks;
 mod metric;
@@ -25,6 +26,7 @@ mod tray;
 mod walk;
 
 pub use fault::TableFault;
+pub use inventory::Inventory;
 pub use laws::{
     content_counts, last_word_stands, one_best, one_is_better, one_listing, route_listing_is_one,
     service_listing_is_one, sources_are_apart,

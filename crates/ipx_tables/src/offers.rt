@@ -2,14 +2,16 @@
 
 ghost use Rattle.std.specs.Prelude.{◌≡◌, ℕ, ◌≤◌, ◌<◌, ◌+◌, ◌^◌, ◌↔◌, false, true, [], Some, None, Ok, Err, IsOk, IsSome, OnOk, OnErr, IfSome, IfNone, IfOk, IfErr, length, is_some, count_by, All, if◌then◌else◌};
 ghost use Rattle.std.specs.Ordering.{is_eq};
-ghost use Rattle.ipx_tables.specs.Content.{IsTable, content, heard_key, after_hear, keys_after_hear, after_age, is_young};
+ghost use Rattle.ipx_tables.specs.Content.{IsTable, content, pair_of, heard_key, after_hear, keys_after_hear, after_age, is_young};
 ghost use Rattle.ipx_tables.specs.Room.{Grows, IsFull};
 ghost use Rattle.ipx_tables.specs.Best.{IsBest, NoneCounts};
+ghost use Rattle.ipx_tables.specs.Inventory.{IsInventory};
 ghost use Rattle.ipx_tables.specs.Listing.{IsListing};
 
 use crate::ageing::keep_young;
 use crate::fault::TableFault;
 use crate::finding::best_in;
+use crate::inventory::{Inventory, offers_on};
 use crate::metric::Metric;
 use crate::moments::expiry;
 use crate::offer::Offer;
@@ -183,6 +185,17 @@ impl<K: Ord + Copy, M: Metric + Copy> Offers<K, M> {
     {
         let _offers = self.shelf.len();
         bests_on(&self.shelf, now)
+    }
+
+    /// Walks over each offer, old ones too, by key, and those of a key by source: what was heard, of
+    /// whom and when. It takes no memory.
+    pub fn offers(&self) -> Inventory<'_, K, M>
+        ensures inventory { IsInventory K.cmp (content K.cmp self.now.offers) result }
+        ensures keys { All (λ o. heard_key K.cmp self.now.offers (pair_of o) ≡ Some o.key) result }
+        ensures valid { IsTable K.cmp self.now }
+    {
+        let _offers = self.shelf.len();
+        offers_on(&self.shelf)
     }
 
     /// Each key that has a best, with its best, by key. Its only fault is `OutOfMemory`.

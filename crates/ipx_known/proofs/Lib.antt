@@ -1,0 +1,9 @@
+pub mod Tellings
+pub mod Ranked
+pub mod Rows
+pub mod ReadLines
+pub mod Clean
+pub mod Parted
+pub mod LineWords
+pub mod ReadBack
+pub mod Kept

@@ -1,0 +1,4 @@
+pub mod Standing
+pub mod Tellers
+pub mod TableText
+pub mod TableRead

@@ -1,0 +1,70 @@
+//! What a router knows, as a text.
+
+ghost use Rattle.std.specs.Prelude.{◌++◌, IfOk, string_bytes, true, false};
+ghost use Rattle.ipx_tables.specs.Content.{content};
+ghost use Rattle.ipx_tables.specs.Listing.{IsListing};
+ghost use Rattle.ipx_known.specs.Tellers.{AreTellers, sayings};
+ghost use Rattle.ipx_known.specs.TableText.{IsTables};
+
+use crate::route_lines::{RouteOffer, networks_to_part};
+use crate::sayings::add_sayings;
+use crate::service_lines::{ServiceOffer, services_to_part};
+use crate::standing::offers_at;
+use crate::teller_lines::tellers_to_part;
+use crate::tellers::{Teller, tellers_of};
+use ipx_router::Port;
+use ipx_tables::{Metric, Offers, RouteTable, ServiceTable, Source};
+use std::alloc::{AllocError, Global};
+use std::collections::BTreeMap;
+
+/// The best of each key of a table.
+fn bests<K: Ord + Copy, M: Metric + Copy>(
+    alloc: Global,
+    table: &Offers<K, M>,
+    now: u64,
+) -> Result<Vec<(K, Source, M)>, AllocError>
+    ensures { IfOk result
+        (λ v. IsListing K.cmp M.before (content K.cmp table.now.offers) now v.items) }
+{
+    match table.list(alloc, now) {
+        Ok(listed) => Ok(listed),
+        Err(_) => Err(AllocError),
+    }
+}
+
+/// Who told networks and services.
+fn tellers_in(
+    alloc: Global,
+    networks: &[RouteOffer],
+    services: &[ServiceOffer],
+) -> Result<BTreeMap<Source, Teller>, AllocError>
+    ensures { IfOk result (λ m. AreTellers
+        (sayings true networks.now ++ sayings false services.now) m.entries) }
+{
+    let mut said = Vec::new(alloc);
+    add_sayings(&mut said, true, networks)?;
+    add_sayings(&mut said, false, services)?;
+    tellers_of(alloc, &said)
+}
+
+/// What a router of these ports and tables knows at a moment, in milliseconds, as a text.
+pub fn tables_to_text(
+    alloc: Global,
+    ports: &[Port],
+    routes: &RouteTable,
+    services: &ServiceTable,
+    now: u64,
+) -> Result<String, AllocError>
+    ensures { IfOk result
+        (λ t. IsTables ports.now routes.now services.now now (string_bytes t)) }
+{
+    let known_routes = offers_at(alloc, routes, now)?;
+    let best_routes = bests(alloc, routes, now)?;
+    let known_services = offers_at(alloc, services, now)?;
+    let best_services = bests(alloc, services, now)?;
+    let tellers = tellers_in(alloc, &known_routes, &known_services)?;
+    let network_part = networks_to_part(alloc, ports, now, &best_routes, &known_routes)?;
+    let service_part = services_to_part(alloc, now, &best_services, &known_services)?;
+    let teller_part = tellers_to_part(alloc, now, &tellers)?;
+    format!(in alloc; "{network_part}{service_part}{teller_part}")
+}

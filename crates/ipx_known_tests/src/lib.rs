@@ -1,0 +1,12 @@
+//! Tests of what a router knows as a text, with literal values. They call what `ipx_known` makes
+//! public, and no crate stands on this one.
+#![tactic(auto)]
+
+#[cfg(test)]
+mod fixture;
+#[cfg(test)]
+mod random;
+#[cfg(test)]
+mod refused;
+#[cfg(test)]
+mod texts;
