@@ -1,6 +1,6 @@
 //! A host by its file: its endpoint, its socket and its clock.
 
-ghost use Rattle.std.specs.Prelude.{◌≡◌, ◌<◌, ◌↔◌, ◌∷◌, [], ℕ, false, true, IfOk, IsTrue, None, OnErr, Some, length, map};
+ghost use Rattle.std.specs.Prelude.{◌≡◌, ◌<◌, ◌↔◌, ◌∷◌, [], ℕ, false, true, IfOk, IsTrue, None, OnErr, Some, length, map, replicate};
 ghost use Rattle.ipx_carrier.specs.Mapping.{node_at};
 ghost use Rattle.ipx_carrier.specs.Turns.{peers_of};
 ghost use Rattle.ipx_site.specs.Moments.{AreToldIfDue};
@@ -52,6 +52,21 @@ struct Wire {
     peers: Vec<Vec<[u8; 4]>>,
     ghost one_socket: { length device.device.sockets.items ≡ 1 },
     ghost one_list: { length peers.items ≡ 1 },
+}
+
+impl Wire {
+    /// Something may have come to its port, whether a wait said so or not.
+    fn mark_all(&mut self)
+        ensures { self.new ≡ record self.old {
+          device = record self.old.device {
+            device = record self.old.device.device {
+              marks = replicate (length self.old.device.device.marks) true;
+            };
+          };
+        } }
+    {
+        self.device.mark_all();
+    }
 }
 
 /// A host that runs.
@@ -237,7 +252,7 @@ impl<'a, R: Net + Log + Clock> RunningHost<'a, R> {
             self.new.core.moment self.old.telling.causes self.new.telling.causes }
     {
         // (a host has one port: it asks there in each turn, whether the wait said so or not)
-        self.wire.device.mark_all();
+        self.wire.mark_all();
         let before = self.wire.device.kept_back();
         let ran = turn(
             alloc,
