@@ -7,8 +7,10 @@ use Rattle.ipx_transfer.proofs.running_host.RunningHost.turn.Goals as goal
 
 pub returns-clause-core : goal.returns-clause-core
 returns-clause-core g c =
-    let wire = c.args.self.now.wire in
+    let before = c.args.self.now.wire in
+    let wire = c.mark_all.new.self in
     let can : CanBegin 1 (length wire.device.device.sockets.items) (length c.deref.result.now) 0 =
     (wire.one_socket, ap length c.deref.ensures.value ∙ wire.one_list, omega arith) in
-    took c.args.self.now.clock c.turn-ran.new.clock NeverGoesBack (peers_of wire.peers.items) (peers_of c.deref.result.now) c.args.self.now.core c.turn-ran.new.core c.turn-ran.result c.activity_of.result (ap peers_of c.deref.ensures.value)
+    took c.args.self.now.clock c.turn-ran.new.clock NeverGoesBack (peers_of before.peers.items) (peers_of c.deref.result.now) c.args.self.now.core c.turn-ran.new.core c.turn-ran.result c.activity_of.result
+    (ap peers_of (c.deref.ensures.value ∙ ap (λ it. it.peers.items) c.mark_all.ensures))
     (c.turn-ran.ensures.failures can) (c.turn-ran.ensures.begins can) c.activity_of.ensures.whole c.activity_of.ensures.ended
