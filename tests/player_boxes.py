@@ -202,7 +202,7 @@ class Boxes:
     def old_place(self, box):
         """A client at the place that a box had."""
         ip, port = shown(box.node)
-        return lambda: Client((ip, port), box.place, self.nodes)
+        return lambda: Client((ip, port), box.place)
 
 
 def check_programs(it):

@@ -75,6 +75,5 @@ def check_rows(run):
         run.check(f"{router.name} counts what was dropped, by cause", found == wanted,
                   "" if found == wanted else f"{found}, not {wanted}")
         router.process.end()
-    run.check("a place that did not register was told nothing", clients["v"].told == clients["n"].told == 0)
     for client in clients.values():
         client.end()

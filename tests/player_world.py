@@ -66,10 +66,11 @@ def two_routers(run, names, addresses, udp_port, lobbies, hosts=()):
 
 
 class Client:
-    """Who is at a place, and what comes there but for what routers of these nodes tell and ask all by RIP and SAP."""
+    """Who is at a place, and what comes there but for what routers of these nodes tell and ask all by RIP and SAP: none do a
+    client of ipxnet."""
 
-    def __init__(self, place, server, routers=(ROUTER_NODE,)):
-        self.server, self.routers, self.got, self.told = server, routers, [], 0
+    def __init__(self, place, server, routers=()):
+        self.server, self.routers, self.got = server, routers, []
         self.socket = bound(*place)
         self.socket.setsockopt(socket.SOL_SOCKET, socket.SO_RCVBUF, ROOM)
         self.place = self.socket.getsockname()
@@ -85,10 +86,8 @@ class Client:
                 packet = self.socket.recv(70000)
             except BlockingIOError:
                 return self.got
-            if (packet[10:16].hex() == EVERYBODY and packet[28:30] in (b"\x04\x52", b"\x04\x53")
-                    and packet[22:28].hex() in self.routers):
-                self.told += 1
-            else:
+            if (packet[10:16].hex() != EVERYBODY or packet[28:30] not in (b"\x04\x52", b"\x04\x53")
+                    or packet[22:28].hex() not in self.routers):
                 self.got.append(packet)
 
     def end(self):

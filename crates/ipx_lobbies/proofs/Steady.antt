@@ -1,25 +1,29 @@
 -- What of ports for clients stays where a lobby hears, or gives.
 use Rattle.std.proofs.Common.{◌≡◌, ℕ, Bool, true, false, List, [], ◌∷◌, ◌++◌, Option, Some, None, Result, Ok, Err, cond, filter, length, map, ap, refl, sym, ◌∙◌, subst}
-use Rattle.std.specs.Prelude.{◌&&◌, is_some, nat_lt, slice_get, slice_set}
+use Rattle.std.specs.Prelude.{◌&&◌, is_some, if◌then◌else◌, nat_lt, slice_get, slice_set}
+use Rattle.std.specs.Str.{bytes_eq}
 use Rattle.std.proofs.Math.Seq.{map-set_same}
 use Rattle.std.proofs.lemmas.List.Elements.{All-append, All-cons, All-map, All-nil, All-weaker, filter_passes}
 use Rattle.std.proofs.lemmas.Option.{get_or_from_slice_get}
+use Rattle.ipx_wire.specs.Assigned.{broadcast_node}
+use Rattle.ipx_wire.specs.Ipx.{PacketView}
 use Rattle.ipx_wire.specs.declared.address.Node.{Node}
 use Rattle.ipx_lobby.specs.declared.clients.Client.{Client}
 use Rattle.ipx_lobby.specs.declared.drops.LobbyDrop.{LobbyDrop}
+use Rattle.ipx_lobby.specs.declared.drops.LobbyDrop.TheVariants.{TooLong}
 use Rattle.ipx_lobby.specs.declared.heard.Heard.{Heard}
 use Rattle.ipx_lobby.specs.declared.heard.Heard.TheVariants.{Registered, Pinged, ToClient, ToOthers, ToOthersAndCore, ToCore, ToJoined, FromJoined, Dropped}
 use Rattle.ipx_lobby.specs.declared.place.Place.{Place}
 use Rattle.ipx_lobby.specs.declared.port.LobbyPort.{LobbyPort}
 use Rattle.ipx_lobby.specs.declared.takers.Takers.{Takers}
-use Rattle.ipx_lobby.specs.declared.takers.Takers.TheVariants.{Joined}
-use Rattle.ipx_lobby.specs.LobbyClients.{client_at}
-use Rattle.ipx_lobby.specs.LobbyHears.{LobbyView, answer_of, is_dropped, is_joined_taker, is_taker, lobby_aged, lobby_giving, lobby_hearing, lobby_told, most_client_bytes, notice_of, takers_join, takers_of, takers_reach}
+use Rattle.ipx_lobby.specs.declared.takers.Takers.TheVariants.{Joined, Nobody}
+use Rattle.ipx_lobby.specs.LobbyClients.{client_at, client_of_node}
+use Rattle.ipx_lobby.specs.LobbyHears.{LobbyView, all_get, answer_of, client_gets, is_dropped, is_joined_taker, is_taker, is_to_service, lobby_aged, lobby_gives, lobby_giving, lobby_hearing, lobby_told, most_client_bytes, notice_of, takers_join, takers_of, takers_reach}
 use Rattle.ipx_lobby.specs.LobbyJoined.{is_joined_place}
 use Rattle.ipx_carrier.specs.declared.segments.PacketSent.{PacketSent}
 use Rattle.ipx_carrier.specs.Segments.{copies_count, count_in}
 use Rattle.ipx_carrier.specs.Turns.{Given}
-use Rattle.ipx_lobbies.specs.OnLobbies.{AreForClients, AreForRouters, HearsAtLobby, LobbiesView, SendsThroughLobby, answer_for, by_lobbies, clients_reached, joined_sends, lobbies_view, lobby_ports, lobby_sends, notice_for, packet_said, relayed_on, relayed_to, routers_reached}
+use Rattle.ipx_lobbies.specs.OnLobbies.{AreForClients, AreForRouters, HearsAtLobby, LobbiesView, SendsThroughLobby, answer_for, by_lobbies, clients_reached, joined_sends, lobbies_view, lobby_ports, lobby_sends, notice_for, packet_said, packet_sends, relayed_on, relayed_to, routers_reached, takers_given}
 use Rattle.ipx_lobbies.specs.PlaceTraffic.{HandsOver, PlaceDatagram, PlaceTraffic, PlacesPass, place_datagram}
 use Rattle.ipx_lobbies.proofs.Handing.{hands_behind}
 
@@ -144,10 +148,39 @@ past_by : (r : Place) (kept : List Place) (b : Bool) → b ≡ false → cond b 
 past_by r kept true e = cc
 past_by r kept false e = refl
 
+client_past : (c : Client) (kept : List Client) (b : Bool) → b ≡ false → cond b (c ∷ kept) kept ≡ kept
+client_past c kept true e = cc
+client_past c kept false e = refl
+
 none_joined : (l : LobbyView) (takers : Takers) (rs : List Place) → ((place : Place) → is_joined_taker takers place ≡ false) → filter (λ r. takers_join l takers r) rs ≡ []
 none_joined l takers [] ring = refl
 none_joined l takers (r ∷ rs) ring =
     past_by r (filter (λ r. takers_join l takers r) rs) (takers_join l takers r) (second_false (is_joined_place r l.routers) (is_joined_taker takers r) (ring r)) ∙ none_joined l takers rs ring
+
+none_reached : (l : LobbyView) (cs : List Client) → filter (λ c. takers_reach l Nobody c.place) cs ≡ []
+none_reached l [] = refl
+none_reached l (c ∷ cs) =
+    client_past c (filter (λ c. takers_reach l Nobody c.place) cs) (takers_reach l Nobody c.place) (second_false (is_some (client_at c.place l.clients)) false refl) ∙ none_reached l cs
+
+-- ---- what the core tells or asks all nodes by RIP and SAP goes to nobody
+
+given_to_nobody : (long broad : Bool) (drop : LobbyDrop) (to_service : Bool) (rest : Result Takers LobbyDrop) → broad ≡ true → to_service ≡ true → takers_given (if long then Err drop else if broad then Ok (all_get to_service) else rest) ≡ Nobody
+given_to_nobody true broad drop to_service rest e f = refl
+given_to_nobody false true drop true rest e f = refl
+given_to_nobody false true drop false rest e f = cc
+given_to_nobody false false drop to_service rest e f = cc
+
+is_broadcast : (node : List ℕ) → node ≡ broadcast_node → bytes_eq node broadcast_node ≡ true
+is_broadcast node e = ap (λ (n : List ℕ). bytes_eq n broadcast_node) e ∙ refl
+
+pub told_to_nobody : (port : ℕ) (packet : List ℕ) (l after : LobbyView) (node : Node) (p : PacketView) (given : Result Takers LobbyDrop) → is_to_service p.header ≡ true → node.0 ≡ broadcast_node
+    → given ≡ lobby_gives l node (is_to_service p.header) (length packet) → packet_sends port packet after (takers_given given) ≡ []
+told_to_nobody port packet l after node p given asks all is =
+    let nobody : takers_given given ≡ Nobody =
+    ap takers_given is ∙ given_to_nobody (nat_lt most_client_bytes (length packet)) (bytes_eq node.0 broadcast_node) (TooLong (length packet)) (is_to_service p.header) (client_gets l node (client_of_node node l.clients)) (is_broadcast node.0 all) asks in
+    let first : relayed_to port packet (clients_reached after Nobody) ≡ [] = ap (relayed_to port packet) (none_reached after after.clients) in
+    let second : relayed_on port packet (routers_reached after Nobody) ≡ [] = ap (relayed_on port packet) (none_joined after Nobody after.routers (λ place. refl)) in
+    ap (packet_sends port packet after) nobody ∙ ap (λ (ds : List PlaceDatagram). ds ++ relayed_on port packet (routers_reached after Nobody)) first ∙ second
 
 nothing_noticed : (port : ℕ) (l : LobbyView) (notice : Option (List ℕ)) → is_some notice ≡ false → notice_for port l notice ≡ []
 nothing_noticed port l None e = refl

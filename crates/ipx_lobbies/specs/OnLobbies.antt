@@ -1,6 +1,7 @@
 -- What ports for clients of ipxnet do with what comes from a place, and with the packets of their core.
 -- All of it is own; what a lobby makes of bytes stands with it.
 use Rattle.std.specs.Prelude.{◌≡◌, ◌≤◌, ◌⊎◌, ℕ, List, [], ◌∷◌, ◌++◌, All, Bool, true, false, Option, Some, None, IfSome, Result, Ok, Err, filter, is_some, length, map, nat_lt, slice_get, slice_set, take, if◌then◌else◌}
+use Rattle.ipx_wire.specs.Assigned.{broadcast_node}
 use Rattle.ipx_wire.specs.declared.address.Node.{Node}
 use Rattle.ipx_wire.specs.declared.ipx.fault.IpxFault.{IpxFault}
 use Rattle.ipx_wire.specs.Ipx.{BeginsWith, PacketView, ipx_fault}
@@ -14,7 +15,7 @@ use Rattle.ipx_lobby.specs.declared.port.LobbyPort.{LobbyPort}
 use Rattle.ipx_lobby.specs.declared.takers.Takers.{Takers}
 use Rattle.ipx_lobby.specs.declared.takers.Takers.TheVariants.{Nobody, Joined}
 use Rattle.ipx_lobby.specs.LobbyClients.{EachClientOnce, client_at}
-use Rattle.ipx_lobby.specs.LobbyHears.{IsAnswer, IsNotice, LobbyView, answer_of, goes_to_core, is_taker, lobby_aged, lobby_gives, lobby_giving, lobby_hearing, lobby_hears, most_client_bytes, notice_of, takers_join, takers_of, takers_reach}
+use Rattle.ipx_lobby.specs.LobbyHears.{IsAnswer, IsNotice, LobbyView, answer_of, goes_to_core, is_taker, is_to_service, lobby_aged, lobby_gives, lobby_giving, lobby_hearing, lobby_hears, most_client_bytes, notice_of, takers_join, takers_of, takers_reach}
 use Rattle.ipx_lobby.specs.LobbyJoined.{is_joined_place}
 use Rattle.ipx_carrier.specs.declared.segments.PacketSent.{PacketSent}
 use Rattle.ipx_carrier.specs.declared.segments.PacketSent.TheVariants.{Unmapped, Copies}
@@ -161,17 +162,27 @@ abbrev pub packet_sends : ℕ → List ℕ → LobbyView → Takers → List Pla
 packet_sends port packet l takers = relayed_to port packet (clients_reached l takers)
     ++ relayed_on port packet (routers_reached l takers)
 
+-- whom bytes of the core for a node reach: those of no packet, and those that begin with one
+pub record GivesBytes (l : LobbyView) (node : Node) (bytes : List ℕ) (now : ℕ) (given : Result Takers LobbyDrop) : Type 0 where
+  pub malformed : (f : IpxFault) → ipx_fault bytes ≡ Some f
+      → given ≡ lobby_gives (lobby_aged now l) node false (length bytes)
+  pub packet : (p : PacketView) → BeginsWith bytes p
+      → given ≡ lobby_gives (lobby_aged now l) node (is_to_service p.header) (length bytes)
+
 -- a packet of the core for a node goes, as it is, to each of the clients that the lobby of its port says,
--- who are each at one place, and each of the joined routers; and what the lobby refuses is counted there
+-- who are each at one place, and each of the joined routers; and what the lobby refuses is counted there.
+-- One that tells or asks all nodes by RIP or SAP goes nowhere
 pub record SendsThroughLobby (now port : ℕ) (node : Node) (packet : List ℕ) (sent : PacketSent) (old new : LobbiesView) : Type 0 where
   pub lobby : LobbyView
   pub after : LobbyView
   pub given : Result Takers LobbyDrop
   pub at_port : slice_get old.lobbies port ≡ Some lobby
-  pub gives : given ≡ lobby_gives (lobby_aged now lobby) node (length packet)
+  pub gives : GivesBytes lobby node packet now given
   pub becomes : after ≡ lobby_giving given (lobby_aged now lobby)
   pub gone : HandsOver (packet_sends port packet after (takers_given given)) []
       old.traffic new.traffic old.failed new.failed
+  pub quiet : (p : PacketView) → BeginsWith packet p → is_to_service p.header ≡ true
+      → node.0 ≡ broadcast_node → packet_sends port packet after (takers_given given) ≡ []
   pub once : EachClientOnce after.clients
   pub known : AreForClients after (relayed_to port packet (clients_reached after (takers_given given)))
   pub joined : AreForRouters after (relayed_on port packet (routers_reached after (takers_given given)))

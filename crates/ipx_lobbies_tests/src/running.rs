@@ -2,10 +2,10 @@
 
 use crate::fixture::{ANSWER, FIRST, PORT, REGISTRATION, SECOND, lobby};
 use ipx_carrier::{
-    RouterCore, Segments, SegmentsKeepBack, SteppedClock, burst_segments, turn_segments,
+    Core, RouterCore, Segments, SegmentsKeepBack, SteppedClock, burst_segments, turn_segments,
 };
 use ipx_lobbies::{Lobbies, MemoryDatagram, MemoryPlaces};
-use ipx_lobby::{Lobby, LobbyPort, Place};
+use ipx_lobby::{Lobby, LobbyCounts, LobbyPort, Place};
 use ipx_router::{Port, Router};
 use ipx_wire::{Network, Node};
 use std::alloc::Global;
@@ -45,38 +45,16 @@ const OTHER_ANSWER: [u8; 30] = [
     0, 0, 0, 0x99, 0, 2,
 ];
 
-/// What the router sends to all at its start by the first port: it asks for all routes and for all
-/// services, and tells the other network, 1 hop and 1 tick.
-const ROUTES_ASKED: [u8; 40] = [
-    0xff, 0xff, 0, 0x28, 0, 1, 0, 0, 0xd0, 0x5b, 0xff, 0xff, 0xff, 0xff, 0xff, 0xff, 4, 0x53, 0, 0,
-    0xd0, 0x5b, 2, 0, 0, 0, 0xd0, 0x5b, 4, 0x53, 0, 1, 0xff, 0xff, 0xff, 0xff, 0xff, 0xff, 0xff,
-    0xff,
+/// A request of the first player for all routes.
+const ASKS_ALL: [u8; 40] = [
+    0xff, 0xff, 0, 0x28, 0, 1, 0, 0, 0, 0, 0xff, 0xff, 0xff, 0xff, 0xff, 0xff, 4, 0x53, 0, 0, 0xd0,
+    0x5b, 0x7f, 0, 0, 1, 0xbc, 0x47, 4, 0x53, 0, 1, 0xff, 0xff, 0xff, 0xff, 0xff, 0xff, 0xff, 0xff,
 ];
 
-const SERVICES_ASKED: [u8; 34] = [
-    0xff, 0xff, 0, 0x22, 0, 4, 0, 0, 0xd0, 0x5b, 0xff, 0xff, 0xff, 0xff, 0xff, 0xff, 4, 0x52, 0, 0,
-    0xd0, 0x5b, 2, 0, 0, 0, 0xd0, 0x5b, 4, 0x52, 0, 1, 0xff, 0xff,
-];
-
-const ROUTE_TOLD: [u8; 40] = [
-    0xff, 0xff, 0, 0x28, 0, 1, 0, 0, 0xd0, 0x5b, 0xff, 0xff, 0xff, 0xff, 0xff, 0xff, 4, 0x53, 0, 0,
-    0xd0, 0x5b, 2, 0, 0, 0, 0xd0, 0x5b, 4, 0x53, 0, 2, 0, 0, 0, 0x99, 0, 1, 0, 1,
-];
-
-/// And by the other port.
-const OTHER_ROUTES_ASKED: [u8; 40] = [
-    0xff, 0xff, 0, 0x28, 0, 1, 0, 0, 0, 0x99, 0xff, 0xff, 0xff, 0xff, 0xff, 0xff, 4, 0x53, 0, 0, 0,
-    0x99, 2, 0, 0, 0, 0, 0x99, 4, 0x53, 0, 1, 0xff, 0xff, 0xff, 0xff, 0xff, 0xff, 0xff, 0xff,
-];
-
-const OTHER_SERVICES_ASKED: [u8; 34] = [
-    0xff, 0xff, 0, 0x22, 0, 4, 0, 0, 0, 0x99, 0xff, 0xff, 0xff, 0xff, 0xff, 0xff, 4, 0x52, 0, 0, 0,
-    0x99, 2, 0, 0, 0, 0, 0x99, 4, 0x52, 0, 1, 0xff, 0xff,
-];
-
-const OTHER_ROUTE_TOLD: [u8; 40] = [
-    0xff, 0xff, 0, 0x28, 0, 1, 0, 0, 0, 0x99, 0xff, 0xff, 0xff, 0xff, 0xff, 0xff, 4, 0x53, 0, 0, 0,
-    0x99, 2, 0, 0, 0, 0, 0x99, 4, 0x53, 0, 2, 0, 0, 0xd0, 0x5b, 0, 1, 0, 1,
+/// What a neighbour on network 99 tells before 50 routes, each of 8 bytes.
+const TELLS: [u8; 32] = [
+    0xff, 0xff, 1, 0xb0, 0, 1, 0, 0, 0, 0x99, 0xff, 0xff, 0xff, 0xff, 0xff, 0xff, 4, 0x53, 0, 0, 0,
+    0x99, 0, 0, 0x7f, 0, 0, 5, 4, 0x53, 0, 2,
 ];
 
 /// A router of both ports.
@@ -114,16 +92,16 @@ fn is_for(datagram: Option<&MemoryDatagram>, port: usize, place: Place, bytes: &
     }
 }
 
-/// Whether these went by a port to a place, in this order, and nothing else by it.
-fn went_by(sockets: &MemoryPlaces, port: usize, place: Place, all: &[&[u8]]) -> bool {
-    let count = sockets.went().iter().filter(|it| it.port == port).count();
-    count == all.len()
-        && sockets
-            .went()
-            .iter()
-            .filter(|it| it.port == port)
-            .zip(all.iter())
-            .all(|(it, bytes)| it.place == place && it.bytes.as_slice() == *bytes)
+/// The neighbour tells 50 routes, from a network on, each of 1 hop and 2 ticks.
+fn tells(first: u32) -> [u8; 432] {
+    let mut bytes = [0; 432];
+    bytes[..32].copy_from_slice(&TELLS);
+    for place in 0..50_u32 {
+        let at = 32 + 8 * place as usize;
+        bytes[at..at + 4].copy_from_slice(&(first + place).to_be_bytes());
+        bytes[at + 4..at + 8].copy_from_slice(&[0, 1, 0, 2]);
+    }
+    bytes
 }
 
 /// Of more sockets than lobbies, or fewer, there are as many ports as both are for.
@@ -151,32 +129,22 @@ fn a_router_of_two_lobbies(rt: HostRuntime) -> Result<(), Fail> {
     let mut core = core(alloc)?;
     let mut lobbies = both_lobbies(alloc)?;
     let mut clock = SteppedClock::new(0, 10);
-    // Both registrations are answered first, and then each lobby has the packets of the start: what the
-    // router asks, twice, and the route to the other lobby.
+    // Both registrations are answered. What the router asks and tells at its start goes to nobody.
     let first = turn_segments(alloc, &mut core, &mut lobbies, &mut clock)?;
     assert_eq!(rt; (first.heard, first.sent, first.unmapped), (0, 6, 0));
     let went = lobbies.sockets().went();
-    assert_eq!(rt; went.len(), 8);
+    assert_eq!(rt; went.len(), 2);
     assert!(rt; is_for(went.first(), 0, FIRST, &ANSWER));
     assert!(rt; is_for(went.get(1), 1, SECOND, &OTHER_ANSWER));
-    let by_first: [&[u8]; 4] = [&ANSWER, &ROUTES_ASKED, &SERVICES_ASKED, &ROUTE_TOLD];
-    assert!(rt; went_by(lobbies.sockets(), 0, FIRST, &by_first));
-    let by_other: [&[u8]; 4] = [
-        &OTHER_ANSWER,
-        &OTHER_ROUTES_ASKED,
-        &OTHER_SERVICES_ASKED,
-        &OTHER_ROUTE_TOLD,
-    ];
-    assert!(rt; went_by(lobbies.sockets(), 1, SECOND, &by_other));
     // What the first player asks is answered, to that one alone.
     let second = turn_segments(alloc, &mut core, &mut lobbies, &mut clock)?;
     assert_eq!(rt; (second.heard, second.sent, second.unmapped), (1, 1, 0));
-    assert_eq!(rt; lobbies.sockets().went().len(), 9);
+    assert_eq!(rt; lobbies.sockets().went().len(), 3);
     assert!(rt; is_for(lobbies.sockets().went().last(), 0, FIRST, &TOLD));
     // What it sends to the second one arrives in the other lobby, one hop on.
     let third = turn_segments(alloc, &mut core, &mut lobbies, &mut clock)?;
     assert_eq!(rt; (third.heard, third.sent, third.unmapped), (1, 1, 0));
-    assert_eq!(rt; lobbies.sockets().went().len(), 10);
+    assert_eq!(rt; lobbies.sockets().went().len(), 4);
     assert!(rt; is_for(lobbies.sockets().went().last(), 1, SECOND, &ARRIVES));
     assert_eq!(rt; lobbies.kept_back(), 2);
     Ok(())
@@ -192,7 +160,52 @@ fn a_burst_of_two_lobbies(rt: HostRuntime) -> Result<(), Fail> {
     let burst = burst_segments(alloc, &mut core, &mut lobbies, &mut clock, 100);
     assert_eq!(rt; (burst.heard, burst.sent, burst.unmapped), (2, 8, 0));
     assert!(rt; burst.quiet && burst.fault.is_none());
-    assert_eq!(rt; lobbies.sockets().went().len(), 10);
+    assert_eq!(rt; lobbies.sockets().went().len(), 4);
     assert!(rt; is_for(lobbies.sockets().went().last(), 1, SECOND, &ARRIVES));
+    Ok(())
+}
+
+/// A table of 1,000 routes is told by 21 datagrams a minute, and no player gets one of them; who asks for
+/// all of it gets all, and nobody else does.
+#[test]
+fn a_full_table_is_told_to_nobody(rt: HostRuntime) -> Result<(), Fail> {
+    let alloc = rt.alloc();
+    let mut core = core(alloc)?;
+    let mut sockets = MemoryPlaces::new(alloc, 2);
+    sockets.put(0, FIRST, &REGISTRATION)?;
+    sockets.put(0, SECOND, &REGISTRATION)?;
+    let mut lobbies_of_both = lobby(alloc)?;
+    lobbies_of_both.push(Lobby::new(alloc, OTHER, 64)?)?;
+    let mut lobbies = Lobbies::new(sockets, lobbies_of_both);
+    let start = burst_segments(
+        alloc,
+        &mut core,
+        &mut lobbies,
+        &mut SteppedClock::new(0, 1),
+        100,
+    );
+    assert!(rt; start.quiet && start.fault.is_none());
+    assert_eq!(rt; lobbies.sockets().went().len(), 2);
+    for datagram in 0..20_u32 {
+        core.hear(alloc, 1, &tells(0x1_0000 + 50 * datagram), 100)?;
+    }
+    let minute = burst_segments(
+        alloc,
+        &mut core,
+        &mut lobbies,
+        &mut SteppedClock::new(60_000, 1),
+        200,
+    );
+    assert!(rt; minute.quiet && minute.fault.is_none() && minute.sent > 21);
+    assert_eq!(rt; lobbies.sockets().went().len(), 2);
+    assert_eq!(rt; lobbies.lobbies()[0].counts(), LobbyCounts::new());
+    let mut room = [0; 1536];
+    core.hear(alloc, 0, &ASKS_ALL, 60_300)?;
+    while let Some((port, node, size)) = core.next(alloc, 60_300, &mut room)? {
+        lobbies.send(port, node, &room[..size])?;
+    }
+    let went = lobbies.sockets().went();
+    assert_eq!(rt; went.len(), 23);
+    assert!(rt; went[2..].iter().all(|it| it.port == 0 && it.place == FIRST));
     Ok(())
 }

@@ -1,10 +1,11 @@
 //! Packets of the core, and the players that they go to.
 
 use crate::fixture::{
-    CAME, FIRST, SECOND, SECOND_NODE, STRANGER, THIRD, lobbies, registrations, went_behind,
+    CAME, FIRST, SECOND, SECOND_NODE, STRANGER, THIRD, lobbies, packet, registrations, went_behind,
 };
 use ipx_carrier::{PacketSent, Segments, SegmentsKeepBack};
 use ipx_lobbies::{Lobbies, MemoryPlaces};
+use ipx_lobby::LobbyCounts;
 use ipx_wire::Node;
 use std::alloc::Global;
 use std::test::Fail;
@@ -39,6 +40,33 @@ fn packets_to_players(rt: HostRuntime) -> Result<(), Fail> {
     assert_eq!(rt; lobbies.sockets().went().len(), 8);
     assert_eq!(rt; lobbies.lobbies()[0].counts().no_such_node, 1);
     assert_eq!(rt; lobbies.kept_back(), 3);
+    Ok(())
+}
+
+/// To all nodes: to the sockets of RIP and SAP to nobody, and from them to each, as to NetBIOS. To a
+/// player's node: to that one, whatever the socket.
+#[test]
+fn what_a_router_tells(rt: HostRuntime) -> Result<(), Fail> {
+    let mut lobbies = three_players(rt.alloc())?;
+    for socket in [[4, 0x52], [4, 0x53]] {
+        let mut told = packet(Node::BROADCAST);
+        told[16..18].copy_from_slice(&socket);
+        let sent = lobbies.send(0, Node::BROADCAST, &told);
+        assert!(rt; matches!(sent, Ok(PacketSent::Copies(1))));
+        assert_eq!(rt; lobbies.sockets().went().len(), 3);
+    }
+    assert_eq!(rt; lobbies.lobbies()[0].counts(), LobbyCounts::new());
+    let mut answer = packet(SECOND_NODE);
+    answer[16..18].copy_from_slice(&[4, 0x53]);
+    lobbies.send(0, SECOND_NODE, &answer)?;
+    assert!(rt; went_behind(lobbies.sockets(), 3, &[SECOND], &answer));
+    let mut named = packet(Node::BROADCAST);
+    named[5] = 20;
+    named[16..18].copy_from_slice(&[4, 0x55]);
+    named[28..30].copy_from_slice(&[4, 0x53]);
+    lobbies.send(0, Node::BROADCAST, &named)?;
+    assert!(rt; went_behind(lobbies.sockets(), 4, &[FIRST, SECOND, THIRD], &named));
+    assert_eq!(rt; lobbies.failures(), 0);
     Ok(())
 }
 

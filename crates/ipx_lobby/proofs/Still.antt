@@ -14,11 +14,11 @@ use Rattle.ipx_lobby.specs.declared.drops.LobbyDrop.TheVariants.{NoSuchNode, Too
 use Rattle.ipx_lobby.specs.declared.place.Place.{Place}
 use Rattle.ipx_lobby.specs.declared.joined.FarClient.{FarClient}
 use Rattle.ipx_lobby.specs.declared.takers.Takers.{Takers}
-use Rattle.ipx_lobby.specs.declared.takers.Takers.TheVariants.{All, One}
+use Rattle.ipx_lobby.specs.declared.takers.Takers.TheVariants.{One}
 use Rattle.ipx_wire.specs.Assigned.{broadcast_node}
 use Rattle.ipx_wire.specs.declared.address.Node.{Node}
 use Rattle.ipx_lobby.specs.LobbyClients.{are_one_place, client_at, client_heard, client_of_node, clients_heard, is_client_at}
-use Rattle.ipx_lobby.specs.LobbyHears.{LobbyView, client_gets, is_dropped, is_of_client, is_taker, joined_takers, lobby_gives, lobby_hearing, lobby_told, most_client_bytes, node_given, takers_of}
+use Rattle.ipx_lobby.specs.LobbyHears.{LobbyView, all_get, client_gets, is_dropped, is_of_client, is_taker, joined_takers, lobby_gives, lobby_hearing, lobby_told, most_client_bytes, node_given, takers_of}
 use Rattle.ipx_lobby.specs.LobbyJoined.{far_client_of}
 use Rattle.ipx_lobby.proofs.Hears.{taker_known}
 use Rattle.ipx_lobby.proofs.Once.{fewer, found_passes, same_place}
@@ -182,13 +182,17 @@ none_gives : (alone : Bool) (node : Node) (f : Option FarClient) (place : Place)
 none_gives true node f place e = cc
 none_gives false node f place e = joined_not_one f place (cc e)
 
-gives_by : (long broad : Bool) (drop : LobbyDrop) (l : LobbyView) (node : Node) (o : Option Client) (place : Place) → client_of_node node l.clients ≡ o
-    → (if long then Err drop else if broad then Ok All else client_gets l node o) ≡ Ok (One place) → is_some (client_at place l.clients) ≡ true
-gives_by true broad drop l node o place found e = cc
-gives_by false true drop l node o place found e = cc
-gives_by false false drop l node None place found e = none_gives (length l.routers == 0) node (far_client_of node l.far) place e
-gives_by false false drop l node (Some c) place found e = taker_known node place l.clients c found (cc e)
+all_not_one : (to_service : Bool) (place : Place) {P : Type 0} → all_get to_service ≡ One place → P
+all_not_one true place e = cc
+all_not_one false place e = cc
 
-pub gives_client : (l : LobbyView) (node : Node) (size : ℕ) (place : Place) → lobby_gives l node size ≡ Ok (One place) → is_some (client_at place l.clients) ≡ true
-gives_client l node size place e =
-    gives_by (nat_lt most_client_bytes size) (bytes_eq node.0 broadcast_node) (TooLong size) l node (client_of_node node l.clients) place refl e
+gives_by : (long broad to_service : Bool) (drop : LobbyDrop) (l : LobbyView) (node : Node) (o : Option Client) (place : Place) → client_of_node node l.clients ≡ o
+    → (if long then Err drop else if broad then Ok (all_get to_service) else client_gets l node o) ≡ Ok (One place) → is_some (client_at place l.clients) ≡ true
+gives_by true broad to_service drop l node o place found e = cc
+gives_by false true to_service drop l node o place found e = all_not_one to_service place (cc e)
+gives_by false false to_service drop l node None place found e = none_gives (length l.routers == 0) node (far_client_of node l.far) place e
+gives_by false false to_service drop l node (Some c) place found e = taker_known node place l.clients c found (cc e)
+
+pub gives_client : (l : LobbyView) (node : Node) (to_service : Bool) (size : ℕ) (place : Place) → lobby_gives l node to_service size ≡ Ok (One place) → is_some (client_at place l.clients) ≡ true
+gives_client l node to_service size place e =
+    gives_by (nat_lt most_client_bytes size) (bytes_eq node.0 broadcast_node) to_service (TooLong size) l node (client_of_node node l.clients) place refl e

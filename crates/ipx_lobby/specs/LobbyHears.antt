@@ -341,18 +341,22 @@ IsAnswer heard bytes = (h : IpxHeader) × (answer_of heard ≡ Some h) × IsIpx 
 abbrev pub IsNotice : Heard → List ℕ → Type 0
 IsNotice heard bytes = (h : IpxHeader) × (notice_of heard ≡ Some h) × IsIpx (packet_of h []) bytes []
 
--- whom a packet of the core for a node reaches, of so many bytes: one for all nodes no joined router, so
--- that each tells its own clients
+-- whom a packet of the core for all nodes reaches: each client, and no joined router, so that each
+-- tells its own; and where it is to a service of a router nobody, since no client listens to that
+abbrev pub all_get : Bool → Takers
+all_get to_service = if to_service then Nobody else All
+
+-- whom one for a node reaches, of so many bytes
 abbrev pub client_gets : LobbyView → Node → Option Client → Result Takers LobbyDrop
 client_gets l node None =
     if length l.routers == 0 then Err (NoSuchNode node)
     else Ok (joined_takers (far_client_of node l.far))
 client_gets l node (Some c) = Ok (One c.place)
 
-abbrev pub lobby_gives : LobbyView → Node → ℕ → Result Takers LobbyDrop
-lobby_gives l node size =
+abbrev pub lobby_gives : LobbyView → Node → Bool → ℕ → Result Takers LobbyDrop
+lobby_gives l node to_service size =
     if nat_lt most_client_bytes size then Err (TooLong size)
-    else if bytes_eq node.0 broadcast_node then Ok All
+    else if bytes_eq node.0 broadcast_node then Ok (all_get to_service)
     else client_gets l node (client_of_node node l.clients)
 
 -- ---- what the lobby is then

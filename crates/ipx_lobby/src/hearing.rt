@@ -1,8 +1,9 @@
 //! What becomes of a packet.
 
-ghost use Rattle.std.specs.Prelude.{◌≡◌, nat_lt};
-ghost use Rattle.ipx_wire.specs.Ipx.{packet_view};
-ghost use Rattle.ipx_lobby.specs.LobbyHears.{all_hear, core_hears, has_socket, is_for_lobby, is_from_lobby, is_registration, is_to_all_nodes, is_to_service, joined_takers};
+ghost use Rattle.std.specs.Prelude.{◌≡◌, Some, false, nat_lt};
+ghost use Rattle.ipx_wire.specs.declared.ipx.fault.IpxFault.{IpxFault};
+ghost use Rattle.ipx_wire.specs.Ipx.{BeginsWith, PacketView, ipx_fault, packet_view};
+ghost use Rattle.ipx_lobby.specs.LobbyHears.{all_get, all_hear, core_hears, has_socket, is_for_lobby, is_from_lobby, is_registration, is_to_all_nodes, is_to_service, joined_takers};
 ghost use Rattle.ipx_lobby.specs.LobbyHears.{all_hear_joined, far_source, lobby_header, lobby_hears_elsewhere, may_reach_core, most_client_bytes, one_hears_joined, registration_answer, tells_node, tells_router};
 
 use crate::clients::Client;
@@ -13,7 +14,9 @@ use crate::place::Place;
 use crate::port::LobbyPort;
 use crate::takers::Takers;
 use byteorder::{BigEndian, ByteOrder};
-use ipx_wire::{Address, IPX_HEADER_SIZE, IpxHeader, Network, Node, Packet, Socket, packet_type};
+use ipx_wire::{
+    Address, IPX_HEADER_SIZE, IpxHeader, Network, Node, Packet, Socket, decode, packet_type,
+};
 
 /// The socket of registrations and pings.
 pub const LOBBY_SOCKET: Socket = Socket(2);
@@ -89,6 +92,29 @@ fn asks_router(header: IpxHeader) -> bool
     ensures { result ≡ is_to_service header }
 {
     header.to.socket == Socket::RIP || header.to.socket == Socket::SAP
+}
+
+/// Whether bytes begin with a packet for a service of a router.
+pub fn is_for_service(bytes: &[u8]) -> bool
+    ensures packet { (p : PacketView) → BeginsWith bytes.now p
+        → result ≡ is_to_service p.header }
+    ensures malformed { (f : IpxFault) → ipx_fault bytes.now ≡ Some f → result ≡ false }
+{
+    match decode(bytes) {
+        Ok(packet) => asks_router(packet.header),
+        Err(_) => false,
+    }
+}
+
+/// The clients that a packet of the core for all nodes goes to, which may be for a service of a router.
+pub fn takers_of_all(to_service: bool) -> Takers
+    ensures { result ≡ all_get to_service }
+{
+    if to_service {
+        Takers::Nobody
+    } else {
+        Takers::All
+    }
 }
 
 /// Whether a packet comes from the network of the port.

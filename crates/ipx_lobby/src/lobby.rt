@@ -11,7 +11,7 @@ ghost use Rattle.ipx_wire.specs.declared.address.Node.{Node};
 ghost use Rattle.ipx_lobby.specs.declared.takers.Takers.{Takers};
 ghost use Rattle.ipx_lobby.specs.declared.takers.Takers.TheVariants.{One};
 ghost use Rattle.ipx_lobby.specs.LobbyClients.{EachClientOnce, client_at, client_heard, client_of_node, clients_left, most_lobby_clients, node_of_place};
-ghost use Rattle.ipx_lobby.specs.LobbyHears.{IsAnswer, answer_of, goes_to_core, is_dropped, is_joined_taker, is_of_client, is_taker};
+ghost use Rattle.ipx_lobby.specs.LobbyHears.{IsAnswer, answer_of, goes_to_core, is_dropped, is_joined_taker, is_of_client, is_taker, is_to_service};
 ghost use Rattle.ipx_lobby.specs.LobbyHears.{joined_lobby, lobby_aged, lobby_gives, lobby_giving, lobby_hearing, lobby_knowing, lobby_told};
 ghost use Rattle.ipx_lobby.specs.LobbyHears.{lobby_hears, may_reach_core, new_lobby, node_given, takers_join, takers_of, takers_reach};
 ghost use Rattle.ipx_lobby.specs.LobbyInside.{IsSoundHearing};
@@ -21,7 +21,7 @@ use crate::clients::{Client, Clients, MOST_CLIENTS};
 use crate::counts::LobbyCounts;
 use crate::drops::LobbyDrop;
 use crate::heard::Heard;
-use crate::hearing::{is_too_long, joined_takers_of};
+use crate::hearing::{is_for_service, is_too_long, joined_takers_of, takers_of_all};
 use crate::joined::{FarClient, Joined};
 use crate::place::Place;
 use crate::port::LobbyPort;
@@ -272,16 +272,21 @@ impl Lobby {
     }
 
     /// Which clients and joined routers a packet of the core for a node goes to, at the moment `now`,
-    /// in ms, or why it goes to none. No memory is taken.
+    /// in ms, or why it goes to none. What it tells or asks all nodes by RIP and SAP goes to nobody. No
+    /// memory is taken.
     pub fn give(&mut self, node: Node, packet: &[u8], now: u64) -> Result<Takers, LobbyDrop>
-        ensures takers { result ≡ lobby_gives (lobby_aged now self.old) node (length packet.now) }
+        // A packet may be for a service of a router; bytes that are none are not.
+        ensures packet { (p : PacketView) → BeginsWith packet.now p → result ≡ lobby_gives
+            (lobby_aged now self.old) node (is_to_service p.header) (length packet.now) }
+        ensures malformed { (f : IpxFault) → ipx_fault packet.now ≡ Some f
+            → result ≡ lobby_gives (lobby_aged now self.old) node false (length packet.now) }
         ensures lobby { self.new ≡ lobby_giving result (lobby_aged now self.old) }
         // The one client that it goes to is known.
         ensures taker { (place : Place) → result ≡ Ok (One place)
             → is_some (client_at place self.new.clients) ≡ true }
     {
         self.age(now);
-        let takers = self.takers(node, packet.len());
+        let takers = self.takers(node, is_for_service(packet), packet.len());
         match takers {
             Ok(_) => {}
             Err(drop) => self.counts.count(drop),
@@ -289,15 +294,16 @@ impl Lobby {
         takers
     }
 
-    /// Which clients a packet of the core of so many bytes goes to.
-    fn takers(&self, node: Node, size: usize) -> Result<Takers, LobbyDrop>
-        ensures { result ≡ lobby_gives self.now node size }
+    /// Which clients a packet of the core of so many bytes goes to, which may be for a service of a
+    /// router.
+    fn takers(&self, node: Node, to_service: bool, size: usize) -> Result<Takers, LobbyDrop>
+        ensures { result ≡ lobby_gives self.now node to_service size }
     {
         if is_too_long(size) {
             return Err(LobbyDrop::TooLong(size));
         }
         if node == Node::BROADCAST {
-            return Ok(Takers::All);
+            return Ok(takers_of_all(to_service));
         }
         match self.clients.of_node(node) {
             Some(client) => Ok(Takers::One(client.place)),

@@ -1,8 +1,10 @@
 //! Packets of the core, and the players that they go to.
 
 use crate::caller::reached;
-use crate::fixture::{FIRST, FIRST_NODE, PORT, REGISTRATION, SECOND, SECOND_NODE, register_all};
-use ipx_lobby::{Lobby, LobbyDrop, Takers};
+use crate::fixture::{
+    FIRST, FIRST_NODE, PORT, REGISTRATION, SECOND, SECOND_NODE, packet, register_all,
+};
+use ipx_lobby::{Lobby, LobbyCounts, LobbyDrop, Takers};
 use ipx_wire::Node;
 use std::test::Fail;
 
@@ -31,6 +33,38 @@ fn packets_of_the_core(rt: HostRuntime) -> Result<(), Fail> {
         Err(LobbyDrop::NoSuchNode(PORT.own))
     );
     assert_eq!(rt; lobby.counts().no_such_node, 2);
+    Ok(())
+}
+
+/// What it tells or asks all nodes at the sockets of RIP and SAP goes to nobody, and is no drop; to one
+/// node, or from those sockets to another, it goes, as does what is no packet.
+#[test]
+fn what_a_router_tells(rt: HostRuntime) -> Result<(), Fail> {
+    let mut lobby = Lobby::new(rt.alloc(), PORT, 64)?;
+    register_all(&mut lobby);
+    let rows = [
+        (Node::BROADCAST, 0x453, Takers::Nobody),
+        (Node::BROADCAST, 0x452, Takers::Nobody),
+        (Node::BROADCAST, 0x451, Takers::All),
+        (Node::BROADCAST, 0x455, Takers::All),
+        (Node::BROADCAST, 0x5304, Takers::All),
+        (SECOND_NODE, 0x453, Takers::One(SECOND)),
+        (SECOND_NODE, 0x452, Takers::One(SECOND)),
+    ];
+    for (node, socket, wanted) in rows {
+        for from in [0x4001_u16, 0x452, 0x453] {
+            let mut bytes = packet(node, socket, PORT.own);
+            bytes[28..30].copy_from_slice(&from.to_be_bytes());
+            assert_eq!(rt; lobby.give(node, &bytes, 0), Ok(wanted));
+        }
+    }
+    let mut checksummed = packet(Node::BROADCAST, 0x453, PORT.own);
+    checksummed[0] = 0;
+    assert_eq!(rt;
+        lobby.give(Node::BROADCAST, &checksummed, 0),
+        Ok(Takers::All)
+    );
+    assert_eq!(rt; lobby.counts(), LobbyCounts::new());
     Ok(())
 }
 

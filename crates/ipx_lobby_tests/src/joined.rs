@@ -233,6 +233,9 @@ fn packets_of_the_core(rt: HostRuntime) -> Result<(), Fail> {
     let all = here.give(Node::BROADCAST, &[0; 40], 0)?;
     assert_eq!(rt; reached(&here, all), [true, false, false]);
     assert_eq!(rt; passed(&here, all), [false, false]);
+    let told = packet(Node::BROADCAST, 0x453, PORT.own);
+    assert_eq!(rt; here.give(Node::BROADCAST, &told, 0), Ok(Takers::Nobody));
+    assert_eq!(rt; passed(&here, Takers::Nobody), [false, false]);
     assert_eq!(rt;
         here.give(THIRD_NODE, &[0; 1425], 0),
         Err(LobbyDrop::TooLong(1425))

@@ -3,7 +3,8 @@ use Rattle.std.specs.Prelude.{slice_set}
 use Rattle.std.proofs.lemmas.Option.{slice_get_read}
 use Rattle.ipx_lobbies.specs.OnLobbies.{clients_reached, relayed_on, relayed_to, routers_reached, takers_given}
 use Rattle.ipx_lobbies.proofs.Handing.{hands_both}
-use Rattle.ipx_lobbies.proofs.Steady.{relays_joined, relays_known}
+use Rattle.ipx_lobby.specs.LobbyHears.{lobby_aged}
+use Rattle.ipx_lobbies.proofs.Steady.{relays_joined, relays_known, told_to_nobody}
 use Rattle.ipx_lobbies.proofs.lobbies.Lobbies.send_packet.Goals as goal
 use Rattle.ipx_lobbies.proofs.lobbies.Lobbies.send_packet.Goals.{in-Ok, in-Err}
 
@@ -26,9 +27,10 @@ returns-clause-sent g c =
       after = after;
       given = given;
       at_port = slice_get_read lobbies (length lobbies) c.args.port lobby (refl {a = length lobbies}) c.requires.lobby c.index_mut-lobby.ensures.value;
-      gives = c.give.ensures.takers;
+      gives = record { malformed = c.give.ensures.malformed; packet = c.give.ensures.packet };
       becomes = c.give.ensures.lobby;
       gone = rw takers (hands_both (relayed_to port packet (clients_reached after given_to)) (relayed_on port packet (routers_reached after given_to)) _ _ _ _ _ _ c.send_to_clients.ensures.gone c.send_to_routers.ensures.gone);
+      quiet = λ p begins asks all. told_to_nobody port packet (lobby_aged c.args.self.now.moment lobby) after c.args.node p given asks all (c.give.ensures.packet p begins);
       once = c.send_to_clients.ensures.once;
       known = relays_known port packet after (takers_given given);
       joined = relays_joined port packet after (takers_given given);

@@ -4,4 +4,4 @@ use Rattle.ipx_lobby.proofs.lobby.Lobby.give.Goals as goal
 
 pub returns-in-Ok-clause-taker : goal.returns-in-Ok-clause-taker
 returns-in-Ok-clause-taker c =
-    λ place e. gives_client c.age.new.self c.args.node (length c.args.packet.now) place (sym c.takers-takers.ensures ∙ e)
+    λ place e. gives_client c.age.new.self c.args.node c.is_for_service.result (length c.args.packet.now) place (sym c.takers-takers.ensures ∙ e)
