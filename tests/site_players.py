@@ -28,7 +28,7 @@ class Client:
     """A client at an IP address, whose port of UDP the system chooses where none is given."""
 
     def __init__(self, ip, server, port=0):
-        self.server = server
+        self.ip, self.server = ip, server
         self.socket = socket.socket(socket.AF_INET, socket.SOCK_DGRAM)
         self.socket.bind((ip, port))
         self.socket.setblocking(False)
@@ -146,6 +146,18 @@ def check_again(sites, second):
     again.socket.close()
 
 
+def check_lines(sites, clients):
+    """Each client that came is told once, by its port of the router, its place and its node, and nobody else is."""
+    for name, came in clients.items():
+        lines = [f"port 2: client {it.ip}:{it.port} came as {it.node}" for it in came]
+
+        def told(name=name):
+            return [line.partition("] ")[2] for line in sites.routers[name].said() if ": client " in line]
+
+        until(lambda told=told, lines=lines: len(told()) >= len(lines), 12)
+        sites.check(f"{name} tells which clients came", sorted(told()) == sorted(lines), str(told()))
+
+
 def check_players(sites, clients):
     """All of it, but for the figures."""
     first, second, third, unnamed = clients
@@ -158,6 +170,7 @@ def check_players(sites, clients):
     got = all_came(second, first, third, unnamed, wanted=0)
     sites.check("what speaks in another's name goes nowhere, nor what is of nobody", got == [[], [], [], []], str(got))
     check_again(sites, second)
+    check_lines(sites, {"p1": [first, second], "p2": [third]})
     for client in (first, third, unnamed):
         client.socket.close()
 

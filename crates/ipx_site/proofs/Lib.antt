@@ -21,3 +21,4 @@ pub mod KindLists
 pub mod PortsRun
 pub mod Marked
 pub mod MarksApart
+pub mod Present

@@ -28,3 +28,4 @@ pub mod RouterPorts
 pub mod WireTotals
 pub mod PortsView
 pub mod SiteMarks
+pub mod ClientLines

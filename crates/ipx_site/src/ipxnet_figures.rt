@@ -38,8 +38,8 @@ fn lobby_at(ports: &SiteRouterPorts, spot: Spot) -> Option<&Lobby> {
     }
 }
 
-/// What was dropped at a port, by its cause.
-fn put_drops(text: &mut String, number: usize, counts: LobbyCounts) -> Result<(), AllocError> {
+/// Writes what was dropped at a port with this number, by its cause.
+pub fn put_drops(text: &mut String, number: usize, counts: LobbyCounts) -> Result<(), AllocError> {
     let figures = [
         ("malformed", counts.malformed),
         ("node_taken", counts.node_taken),

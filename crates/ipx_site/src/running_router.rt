@@ -12,6 +12,7 @@ ghost use Rattle.ipx_site.specs.SiteMarks.{marks_in, numbers_come};
 ghost use Rattle.ipx_site.specs.Steady.{NeverGoesBack};
 
 use crate::asking::asking_moment;
+use crate::client_lines::ToldClients;
 use crate::clock::SteadyClock;
 use crate::figures::Figures;
 use crate::frame_figures::{put_frame_figures, tell_encapsulations};
@@ -52,6 +53,7 @@ pub struct RunningRouter<'a, R: SystemClock> {
     status: Option<String>,
     tally: RouterCounts,
     known: Known,
+    clients: ToldClients,
     troubles: Troubles,
     /// How often it asked again.
     asked: usize,
@@ -91,6 +93,7 @@ impl<'a, R: SystemClock> RunningRouter<'a, R> {
             status: parts.status,
             tally: RouterCounts::new(),
             known: Known::new(alloc),
+            clients: ToldClients::new(alloc),
             troubles: Troubles::new(),
             asked: 0,
             looked: None,
@@ -141,7 +144,7 @@ impl<'a, R: SystemClock> RunningRouter<'a, R> {
         }
     }
 
-    /// Tells what is newly known and what is lost, if it is time.
+    /// Tells which clients came and are gone, and what is newly known and what is lost, where it is time.
     fn look<L: Log>(&mut self, rt: &L, alloc: Global, now: u64)
         ensures core { self.new.core ≡ self.old.core }
         ensures ports { self.new.ports ≡ self.old.ports }
@@ -150,6 +153,9 @@ impl<'a, R: SystemClock> RunningRouter<'a, R> {
         ensures troubles { self.new.troubles ≡ self.old.troubles }
         ensures asked { self.new.asked ≡ self.old.asked }
     {
+        if self.clients.tell(rt, alloc, &self.ports, now).is_err() {
+            self.tally.want_memory();
+        }
         if !is_over(self.looked, self.look_period(), now) {
             return;
         }

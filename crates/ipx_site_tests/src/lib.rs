@@ -3,6 +3,8 @@
 #![tactic(auto)]
 
 #[cfg(test)]
+mod client_lines;
+#[cfg(test)]
 mod faults;
 #[cfg(test)]
 mod figures;
@@ -12,6 +14,8 @@ mod files;
 mod fixture;
 #[cfg(test)]
 mod internetworks;
+#[cfg(test)]
+mod lobby_figures;
 #[cfg(test)]
 mod moments;
 #[cfg(test)]

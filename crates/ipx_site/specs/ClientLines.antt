@@ -1,0 +1,62 @@
+-- What a router tells of who comes to its ports for clients of ipxnet, and of who is gone. All of it is
+-- own.
+use Rattle.std.specs.Prelude.{ℕ, ◌+◌, ◌-◌, List, [], ◌∷◌, ◌++◌, Bool, not, ◌==◌, ◌&&◌, filter, length, map, slice_get, take, Option, Some, None}
+use Rattle.std.specs.List.{list_any}
+use Rattle.std.specs.Str.{bytes_eq}
+use Rattle.ipx_lobby.specs.declared.clients.Client.{Client}
+use Rattle.ipx_lobby.specs.LobbyClients.{are_one_place}
+use Rattle.ipx_lobby.specs.LobbyHears.{LobbyView}
+use Rattle.ipx_site.specs.declared.client_lines.PortClient.{PortClient}
+use Rattle.ipx_site.specs.declared.router_ports.Spot.{Spot}
+use Rattle.ipx_site.specs.declared.router_ports.Spot.TheVariants.{Datagrams, Wire, Lobby}
+
+-- so many lines are told at a look at most
+abbrev pub most_client_lines : ℕ
+most_client_lines = 10
+
+-- the same client of the same port, and one of these
+abbrev pub is_one_client : PortClient → PortClient → Bool
+is_one_client a b =
+    (a.port == b.port) && (are_one_place a.place b.place && bytes_eq a.node.0 b.node.0)
+
+abbrev pub is_listed_client : List PortClient → PortClient → Bool
+is_listed_client clients client = list_any (λ one. is_one_client one client) clients
+
+-- those of some clients that are none of these
+abbrev pub clients_without : List PortClient → List PortClient → List PortClient
+clients_without clients these = filter (λ c. not (is_listed_client these c)) clients
+
+-- who is told to be gone at a look: who was told to be there, and is not
+abbrev pub clients_gone : List PortClient → List PortClient → List PortClient
+clients_gone told there = take most_client_lines (clients_without told there)
+
+-- who is told to have come: who is there, and was not told
+abbrev pub clients_come : List PortClient → List PortClient → List PortClient
+clients_come told there =
+    take (most_client_lines - length (clients_gone told there)) (clients_without there told)
+
+-- who is told to be there then, by just what was told
+abbrev pub clients_told : List PortClient → List PortClient → List PortClient
+clients_told told there = clients_without told (clients_gone told there) ++ clients_come told there
+
+-- the clients of a port with this number
+abbrev pub port_clients : ℕ → List Client → List PortClient
+port_clients port clients =
+    map (λ c. record { port = port; place = c.place; node = c.node }) clients
+
+-- the clients of a lobby, if there is one
+abbrev pub lobby_clients : ℕ → Option LobbyView → List PortClient
+lobby_clients port None = []
+lobby_clients port (Some l) = port_clients port l.clients
+
+-- those of the port at a spot: none where it is no port for clients
+abbrev pub spot_clients : ℕ → Spot → List LobbyView → List PortClient
+spot_clients port (Datagrams place) lobbies = []
+spot_clients port (Wire place) lobbies = []
+spot_clients port (Lobby place) lobbies = lobby_clients port (slice_get lobbies place)
+
+-- those of ports in their order, of which the first has this number
+abbrev pub all_clients : ℕ → List Spot → List LobbyView → List PortClient
+all_clients port [] lobbies = []
+all_clients port (s ∷ spots) lobbies =
+    spot_clients port s lobbies ++ all_clients (port + 1) spots lobbies

@@ -1,0 +1,251 @@
+//! What a router tells of who comes to its ports for clients of ipxnet, and of who is gone.
+
+ghost use Rattle.std.specs.Prelude.{◌≡◌, ◌≤◌, ◌+◌, ◌++◌, [], IfOk, None, OnErr, OnOk, Some, length};
+ghost use Rattle.ipx_site.specs.ClientLines.{all_clients, clients_come, clients_gone, clients_told, clients_without};
+ghost use Rattle.ipx_site.specs.ClientLines.{is_listed_client, is_one_client, most_client_lines, port_clients, spot_clients};
+ghost use Rattle.ipx_site.specs.Moments.{HasPassed};
+
+use crate::moments::is_over;
+use crate::router_ports::{SiteRouterPorts, Spot};
+use ipx_lobby::{Client, Lobby, Place};
+use ipx_wire::Node;
+use log::{Log, info};
+use std::alloc::{AllocError, Global};
+
+/// How many lines are told at once at most, and how long it is to the next look, in milliseconds.
+const MOST_LINES: usize = 10;
+
+const PERIOD: u64 = 1000;
+
+/// A client of a port, as it is told.
+#[derive(Clone, Copy, Debug, PartialEq, Eq)]
+pub struct PortClient {
+    /// The number of the port, the first of which is 1.
+    pub port: usize,
+    /// Where the client is.
+    pub place: Place,
+    /// The node that it has.
+    pub node: Node,
+}
+
+/// Which clients are told at a look: those that are gone, and those that came.
+#[derive(Drop)]
+pub struct ClientNews {
+    pub gone: Vec<PortClient>,
+    pub came: Vec<PortClient>,
+}
+
+/// The clients that were told to be there, and when one looked last.
+#[derive(Drop)]
+pub struct ToldClients {
+    told: Vec<PortClient>,
+    looked: Option<u64>,
+}
+
+fn is_one(a: &PortClient, b: &PortClient) -> bool
+    ensures { result ≡ is_one_client a.now b.now }
+{
+    a.port == b.port && a.place == b.place && a.node == b.node
+}
+
+/// Whether a client is one of these.
+fn is_listed(clients: &[PortClient], client: &PortClient) -> bool
+    ensures { result ≡ is_listed_client clients.now client.now }
+{
+    clients.iter().any(|one| is_one(one, client))
+}
+
+/// Those of some clients that are none of these.
+fn without(
+    alloc: Global,
+    clients: &[PortClient],
+    these: &[PortClient],
+) -> Result<Vec<PortClient>, AllocError>
+    ensures { IfOk result (λ v.
+        v.items ≡ clients_without clients.now these.now) }
+{
+    clients
+        .iter()
+        .filter(|client| !is_listed(these, client))
+        .copied()
+        .collect(alloc)
+}
+
+/// Whom to tell, where these were told to be there, and those are: at most ten.
+fn news_of(
+    alloc: Global,
+    told: &[PortClient],
+    there: &[PortClient],
+) -> Result<ClientNews, AllocError>
+    ensures gone { IfOk result (λ n. n.gone.items ≡ clients_gone told.now there.now) }
+    ensures came { IfOk result (λ n. n.came.items ≡ clients_come told.now there.now) }
+{
+    let mut gone = without(alloc, told, there)?;
+    gone.truncate(MOST_LINES);
+    let mut came = without(alloc, there, told)?;
+    came.truncate(MOST_LINES.saturating_sub(gone.len()));
+    Ok(ClientNews { gone, came })
+}
+
+/// Who is told to be there behind these news.
+fn told_behind(
+    alloc: Global,
+    told: &[PortClient],
+    news: &ClientNews,
+) -> Result<Vec<PortClient>, AllocError>
+    ensures { IfOk result (λ v.
+        v.items ≡ clients_without told.now news.now.gone.items ++ news.now.came.items) }
+{
+    let mut all = without(alloc, told, &news.gone)?;
+    all.extend_from_slice(&news.came)?;
+    Ok(all)
+}
+
+/// A client of a port.
+fn port_client(port: usize, client: &Client) -> PortClient
+    ensures { result ≡ record { port = port; place = client.now.place; node = client.now.node } }
+{
+    PortClient {
+        port,
+        place: client.place,
+        node: client.node,
+    }
+}
+
+/// The clients of a lobby, whose port has this number.
+fn clients_of(alloc: Global, port: usize, clients: &[Client]) -> Result<Vec<PortClient>, AllocError>
+    ensures { IfOk result (λ v. v.items ≡ port_clients port clients.now) }
+{
+    clients
+        .iter()
+        .map(|client| port_client(port, client))
+        .collect(alloc)
+}
+
+/// The clients of the port at a spot, which has this number; none where it is no port for clients.
+fn clients_at(
+    alloc: Global,
+    number: usize,
+    spot: Spot,
+    lobbies: &[Lobby],
+) -> Result<Vec<PortClient>, AllocError>
+    ensures { IfOk result (λ v. v.items ≡ spot_clients number spot lobbies.now) }
+{
+    let Spot::Lobby(place) = spot else {
+        return Ok(Vec::new(alloc));
+    };
+    match lobbies.get(place) {
+        Some(lobby) => clients_of(alloc, number, lobby.clients()),
+        None => Ok(Vec::new(alloc)),
+    }
+}
+
+/// The clients of all ports, in their order.
+fn clients_there(
+    alloc: Global,
+    spots: &[Spot],
+    lobbies: &[Lobby],
+) -> Result<Vec<PortClient>, AllocError>
+    ensures { IfOk result (λ v. v.items ≡ all_clients 1 spots.now lobbies.now) }
+{
+    let mut all = Vec::new(alloc);
+    for (place, spot) in spots.iter().enumerate() {
+        let clients = clients_at(alloc, place + 1, *spot, lobbies)?;
+        all.extend_from_slice(&clients)?;
+    }
+    Ok(all)
+}
+
+/// The clients that the ports of a router have.
+fn clients_in(alloc: Global, ports: &SiteRouterPorts) -> Result<Vec<PortClient>, AllocError>
+    ensures { IfOk result (λ v.
+        v.items ≡ all_clients 1 ports.now.spots.items ports.now.lobbies.lobbies.items) }
+{
+    clients_there(alloc, ports.spots(), ports.lobbies().lobbies())
+}
+
+/// Tells who is gone.
+fn tell_gone<R: Log>(rt: &R, gone: &[PortClient]) {
+    for client in gone {
+        let port = client.port;
+        let [a, b, c, d] = client.place.ip;
+        let udp_port = client.place.udp_port;
+        info!(rt; target: "ipx", "port {port}: client {a}.{b}.{c}.{d}:{udp_port} is gone");
+    }
+}
+
+/// Tells who came.
+fn tell_come<R: Log>(rt: &R, came: &[PortClient]) {
+    for client in came {
+        let port = client.port;
+        let [a, b, c, d] = client.place.ip;
+        let udp_port = client.place.udp_port;
+        let node = client.node;
+        info!(rt; target: "ipx", "port {port}: client {a}.{b}.{c}.{d}:{udp_port} came as {node}");
+    }
+}
+
+impl ClientNews {
+    /// Tells a line of each.
+    pub fn tell<R: Log>(&self, rt: &R) {
+        tell_gone(rt, &self.gone);
+        tell_come(rt, &self.came);
+    }
+}
+
+impl ToldClients {
+    /// Nobody was told to be there yet.
+    pub fn new(alloc: Global) -> ToldClients
+        ensures nobody { result.told.items ≡ [] }
+        ensures never { result.looked ≡ None }
+    {
+        ToldClients {
+            told: Vec::new(alloc),
+            looked: None,
+        }
+    }
+
+    /// Whom to tell at a look, at which these clients are there: who was told to be there and is not, and
+    /// who is there and was not told, each once, and no more than ten. What is left waits for the next look,
+    /// as does all where memory is refused.
+    pub fn look(&mut self, alloc: Global, there: &[PortClient]) -> Result<ClientNews, AllocError>
+        ensures gone { IfOk result (λ n. n.gone.items ≡ clients_gone self.old.told.items there.now) }
+        ensures came { IfOk result (λ n. n.came.items ≡ clients_come self.old.told.items there.now) }
+        ensures told { OnOk result (self.new.told.items
+            ≡ clients_told self.old.told.items there.now) }
+        ensures few { IfOk result (λ n.
+            length n.gone.items + length n.came.items ≤ most_client_lines) }
+        ensures looked { self.new.looked ≡ self.old.looked }
+        ensures refused { OnErr result (self.new ≡ self.old) }
+    {
+        let news = news_of(alloc, &self.told, there)?;
+        self.told = told_behind(alloc, &self.told, &news)?;
+        Ok(news)
+    }
+
+    /// Looks which clients the ports of a router have at a moment in milliseconds, and tells a line of
+    /// each that came or is gone, ten at most; unless it looked less than a second ago.
+    pub(crate) fn tell<R: Log>(
+        &mut self,
+        rt: &R,
+        alloc: Global,
+        ports: &SiteRouterPorts,
+        now: u64,
+    ) -> Result<(), AllocError>
+        ensures early { (HasPassed 1000 self.old.looked now → ⊥) → self.new ≡ self.old }
+        ensures looked { HasPassed 1000 self.old.looked now → self.new.looked ≡ Some now }
+        ensures told { HasPassed 1000 self.old.looked now → OnOk result (self.new.told.items
+            ≡ clients_told self.old.told.items
+            (all_clients 1 ports.now.spots.items ports.now.lobbies.lobbies.items)) }
+        ensures refused { OnErr result (self.new.told ≡ self.old.told) }
+    {
+        if !is_over(self.looked, PERIOD, now) {
+            return Ok(());
+        }
+        self.looked = Some(now);
+        let there = clients_in(alloc, ports)?;
+        let news = self.look(alloc, &there)?;
+        news.tell(rt);
+        Ok(())
+    }
+}
