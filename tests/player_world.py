@@ -2,7 +2,8 @@
 import socket
 import time
 
-from site_world import bound, port_table, until
+from site_world import bound, listed, port_table, until
+from wire_world import text_of, with_colons
 
 ROUTER_NODE, EVERYBODY = "0200000000d0", "f" * 12
 BETWEEN, NETWORKS = "00000081", ["0000d05b", "0000d05c"]
@@ -13,10 +14,15 @@ STATUS_SECONDS = 14
 REGISTRATION = bytes.fromhex("ffff001e0000" "000000000000000000000002" "000000000000000000000002")
 
 
-def lobby_table(network, place, more):
+def lobby_table(network, place, more, node=ROUTER_NODE):
     """A port for clients of ipxnet at a place."""
     return (f'[[port]]\nkind = "ipxnet"\nnetwork = "{network}"\naddress = "{place[0]}"\nudp_port = {place[1]}\n'
-            f'node = "02:00:00:00:00:d0"\n{more}')
+            f'node = "{with_colons(node)}"\n{more}')
+
+
+def join_line(places):
+    """The line of such a port that joins it to those at these places."""
+    return listed("join", map(text_of, places)) if places else ""
 
 
 def node_of(place):
@@ -24,9 +30,14 @@ def node_of(place):
     return bytes(map(int, place[0].split("."))).hex() + f"{place[1]:04x}"
 
 
-def answer_to(network, node):
+def answer_to(network, node, router=ROUTER_NODE):
     """The answer to a registration: it tells the network and the node."""
-    return bytes.fromhex(f"ffff001e0000{network}{node}0002{network}{ROUTER_NODE}0002")
+    return bytes.fromhex(f"ffff001e0000{network}{node}0002{network}{router}0002")
+
+
+def notice_of(network, node):
+    """What joined routers are told as a client registers."""
+    return answer_to(network, node, node)
 
 
 class Router:
@@ -67,17 +78,17 @@ def two_routers(run, names, addresses, udp_port, lobbies, hosts=()):
 
 class Client:
     """Who is at a place, and what comes there but for what routers of these nodes tell and ask all by RIP and SAP: none do a
-    client of ipxnet."""
+    client of ipxnet. A packet stands behind so many bytes."""
 
-    def __init__(self, place, server, routers=()):
-        self.server, self.routers, self.got = server, routers, []
+    def __init__(self, place, server, routers=(), behind=0):
+        self.server, self.routers, self.behind, self.got = server, routers, behind, []
         self.socket = bound(*place)
         self.socket.setsockopt(socket.SOL_SOCKET, socket.SO_RCVBUF, ROOM)
         self.place = self.socket.getsockname()
         self.node = node_of(self.place)
 
-    def send(self, packet):
-        self.socket.sendto(packet, self.server)
+    def send(self, packet, server=None):
+        self.socket.sendto(packet, server or self.server)
 
     def take(self):
         """Takes what came."""
@@ -86,8 +97,9 @@ class Client:
                 packet = self.socket.recv(70000)
             except BlockingIOError:
                 return self.got
-            if (packet[10:16].hex() != EVERYBODY or packet[28:30] not in (b"\x04\x52", b"\x04\x53")
-                    or packet[22:28].hex() not in self.routers):
+            header = packet[self.behind:self.behind + 30]
+            if (header[10:16].hex() != EVERYBODY or header[28:30] not in (b"\x04\x52", b"\x04\x53")
+                    or header[22:28].hex() not in self.routers):
                 self.got.append(packet)
 
     def end(self):
