@@ -144,9 +144,9 @@ def told_port():
     return text
 
 
-def table(text, network, place, peers):
+def table(text, network, place, peers, **more):
     """That port with another network, place and peers."""
-    values = {"network": f'"{network}"', "address": f'"{place[0]}"', "udp_port": place[1], "peers": f'["{peers}"]'}
+    values = {"network": f'"{network}"', "address": f'"{place[0]}"', "udp_port": place[1], "peers": f'["{peers}"]', **more}
     for key, value in values.items():
         text, count = re.subn(rf"^{key} = .*$", f"{key} = {value}", text, flags=re.M)
         assert count == 1, key

@@ -8,13 +8,15 @@ import subprocess
 import sys
 import time
 
-from player_world import EVERYBODY, NETWORKS, REGISTRATION, ROUTER_NODE, STATUS_SECONDS, Client, Router, answer_to, lobby_table
+from player_world import (EVERYBODY, NETWORKS, REGISTRATION, ROUTER_NODE, STATUS_SECONDS, Client, Router, answer_to, join_line,
+                          lobby_table)
 from site_packets import ipx
 from site_world import die_with_the_parent, free_port, until
 
 FORGED_AT, FLOODED_AT = "127.0.6.41", "127.0.6.42"
 PLAYERS, FORGER, STRANGER, MANY = ["127.0.6.43", "127.0.6.44"], "127.0.6.45", "127.0.6.46", "127.0.6.47"
 FLOODERS, PACE = ["127.0.6.48", "127.0.6.49", "127.0.6.50", "127.0.6.51"], "127.0.6.52"
+JOINED_FLOODER = "127.0.6.53"
 NETWORK = NETWORKS[0]
 FORGERIES = 500
 # Of so many places that register, so many find room beside those that are there, ten in a second.
@@ -40,21 +42,22 @@ def wait_for(client, seconds=2):
     return client.take()
 
 
-def registered(place, server):
-    """A client that is answered."""
-    client = Client(place, server)
+def registered(place, server, router=ROUTER_NODE):
+    """A client that is answered by a router of this node."""
+    client = Client(place, server, [router])
     client.send(REGISTRATION)
-    client.is_answered = wait_for(client) == [answer_to(NETWORK, client.node)]
+    client.is_answered = wait_for(client) == [answer_to(NETWORK, client.node, router)]
     client.got = []
     return client
 
 
 class Pair:
-    """Two who play: each packet of one is to come to the other, once and in order, and nobody else has a word in its name."""
+    """Two who play: each packet of one is to come to the other, once and in order, and nobody else has a word in its name. By a
+    joined router another network may have its node."""
 
-    def __init__(self, clients):
-        self.clients, self.sent = clients, [[], []]
-        self.came = [[], []]
+    def __init__(self, clients, networks=None):
+        self.clients, self.networks, self.sent = clients, networks, [[], []]
+        self.came, self.other = [[], []], 0
 
     def send(self, who):
         """One of them sends to the other, each tenth time to all."""
@@ -69,7 +72,10 @@ class Pair:
         """Takes what came in the name of the other."""
         for who, client in enumerate(self.clients):
             other = bytes.fromhex(self.clients[1 - who].node)
-            self.came[1 - who] += [packet for packet in client.take() if packet[22:28] == other]
+            came = [packet for packet in client.take() if packet[22:28] == other
+                    and (not self.networks or packet[18:22].hex() in self.networks)]
+            self.came[1 - who] += came
+            self.other += len(client.got) - len(came)
             client.got = []
 
     def missing(self):
@@ -111,21 +117,24 @@ class Forged:
         return sum(figures.get(dropped_for(reason), 0) for reason in ("full", "too_many_new"))
 
 
-def forgeries(it):
-    """Packets and pings in the name of each player, of the router and of nobody."""
-    names = [client.node for client in it.pair.clients] + [ROUTER_NODE, "02000000ffff"]
-    for number, name in enumerate(names):
-        to = it.pair.clients[number % 2].node
-        yield ipx(0, ("00000000", EVERYBODY, "0002"), ("00000000", name, "0002"), b"")
-        yield ipx(4, (NETWORK, to, "4001"), (NETWORK, name, "4001"), b"move 0")
-        yield ipx(4, (NETWORK, EVERYBODY, "4001"), (NETWORK, name, "4001"), b"move 0")
+def in_name_of(name, to):
+    """A ping, a packet for a player and one for all, in this name."""
+    return [ipx(0, ("00000000", EVERYBODY, "0002"), ("00000000", name, "0002"), b""),
+            ipx(4, (NETWORK, to, "4001"), (NETWORK, name, "4001"), b"move 0"),
+            ipx(4, (NETWORK, EVERYBODY, "4001"), (NETWORK, name, "4001"), b"move 0")]
+
+
+def forgeries(pair, *more):
+    """Packets and pings in the name of each player, and of more."""
+    names = [*(client.node for client in pair.clients), *more]
+    return [packet for number, name in enumerate(names) for packet in in_name_of(name, pair.clients[number % 2].node)]
 
 
 def check_forgeries(it):
     """They go nowhere, whether a client sends them or who is none."""
     turns, wanted = 0, answer_to(NETWORK, it.forger.node)
     for _ in range(FORGERIES // 12 + 1):
-        for packet in forgeries(it):
+        for packet in forgeries(it.pair, ROUTER_NODE, "02000000ffff"):
             it.forger.send(packet)
             it.stranger.send(packet)
         turns += 1
@@ -248,16 +257,24 @@ def made(rng, one, node):
     return bytes(packet)
 
 
-def flood(port, seed, window, *nodes):
-    """Sends them from four places, two of which are clients, so many a second. What was sent and not answered, by the
-    answers to registrations of a fifth between, is never more than a window: a router that is kept waiting loses nothing."""
-    rng = random.Random(seed)
-    clients = [registered((ip, 0), (FLOODED_AT, port)) for ip in FLOODERS[:2]]
-    clients += [Client((ip, 0), (FLOODED_AT, port)) for ip in FLOODERS[2:]]
-    pace = registered((PACE, 0), (FLOODED_AT, port))
+def flooders(rng, server, joined):
+    """From where they come, two of them clients, each with its nodes; or a joined router, with a thousand behind it."""
+    if joined:
+        return [(Client((JOINED_FLOODER, joined), server), [rng.randbytes(6).hex() for _ in range(1000)])]
+    clients = [registered((ip, 0), server) for ip in FLOODERS[:2]] + [Client((ip, 0), server) for ip in FLOODERS[2:]]
+    return [(client, [client.node]) for client in clients]
+
+
+def flood(port, joined, seed, window, *nodes):
+    """Sends them from four places, or from that of a joined router, so many a second. What was sent and not answered, by the
+    answers to registrations of another one between, is never more than a window: a router that is kept waiting loses nothing."""
+    rng, server = random.Random(seed), (FLOODED_AT, port)
+    several = flooders(rng, server, joined)
+    clients = [client for client, _ in several]
+    pace = registered((PACE, 0), server)
     answer = answer_to(NETWORK, pace.node)
-    numbers = [rng.randrange(4) for _ in range(PER_SECOND)]
-    datagrams = [made(rng, some_datagram(rng, nodes), clients[number].node) for number in numbers]
+    numbers = [rng.randrange(len(clients)) for _ in range(PER_SECOND)]
+    datagrams = [made(rng, some_datagram(rng, nodes), rng.choice(several[number][1])) for number in numbers]
     each = max(window // 4, 8)
     print("ready", flush=True)
     sys.stdin.readline()
@@ -278,16 +295,17 @@ def flood(port, seed, window, *nodes):
 
 
 class Flooded:
-    """A router with a port for clients that is flooded, and two who play there."""
+    """A router with a port for clients that is flooded, by a joined router where there is one, and two who play there."""
 
-    def __init__(self, run, port):
+    def __init__(self, run, port, joined=0):
         self.run, self.place = run, (FLOODED_AT, port)
-        self.router = Router(run, "flooded", [lobby_table(NETWORK, self.place, 'accept = "any"\n')])
-        self.pair = Pair([registered((ip, 0), self.place) for ip in PLAYERS])
+        more = 'accept = "any"\n' + join_line([(JOINED_FLOODER, joined)] if joined else [])
+        self.router = Router(run, "flooded_joined" if joined else "flooded", [lobby_table(NETWORK, self.place, more)])
+        self.pair = Pair([registered((ip, 0), self.place) for ip in PLAYERS], [NETWORK, "00000000"] if joined else None)
         room = int(self.router.process.said()[0].rsplit(" ", 1)[1])
         script = os.path.join(os.path.dirname(os.path.abspath(__file__)), "players")
-        self.words = [sys.executable, script, "--flood", str(port), str(run.seed), str(min(room // OF_ROOM, 1000)),
-                      *(client.node for client in self.pair.clients)]
+        numbers = (port, joined, run.seed, min(room // OF_ROOM, 1000))
+        self.words = [sys.executable, script, "--flood", *map(str, numbers), *(client.node for client in self.pair.clients)]
 
     def play(self, is_over):
         """They play until that is so, at an even pace; who is behind waits for what was sent."""
@@ -300,7 +318,7 @@ class Flooded:
                 sent += 1
             select.select([client.socket for client in self.pair.clients], [], [], 0.002)
             self.pair.take()
-        self.pair.all_came()
+        self.pair.all_came(SECONDS)
 
     def attempt(self):
         """Floods once. How many datagrams that was, and the memory before, in the middle and at the end."""
@@ -318,10 +336,10 @@ class Flooded:
         return int(flooder.communicate(timeout=60)[0]), memory
 
 
-def check_flood(run, port):
+def check_flood(run, it, who, reasons):
     """In each try nothing of theirs is lost and memory stays; the rate of the flood is reached in one of them."""
-    it, came = Flooded(run, port), []
-    name = f"while {PER_SECOND} random datagrams a second come for {SECONDS} seconds"
+    came = []
+    name = f"while {PER_SECOND} random datagrams a second come {who}for {SECONDS} seconds"
     while len(came) < TRIES and max(came, default=0) < SHARE * PER_SECOND * SECONDS:
         sent, memory = it.attempt()
         came.append(sent)
@@ -333,16 +351,27 @@ def check_flood(run, port):
               f"{sum(map(len, it.pair.sent))} packets, {it.pair.missing()} missing")
     run.check(f"{name}, the router's memory stays level", level, f"{memory} kB")
     run.check("so many came, or nine tenths, in one of the tries", max(came) >= SHARE * PER_SECOND * SECONDS, str(came))
-    return it, sum(came)
+    found = dropped(run, it.router, sum(came) / 2, reasons)
+    run.check("of the flood most is dropped, and for each cause that there is", all(found.values()) and
+              sum(found.values()) >= sum(came) / 2, f"of {sum(came)}: {found}")
+    end_all(run, it.router, it.pair.clients)
 
 
-def dropped(run, router, least):
+def end_all(run, router, clients):
+    """A router goes on until it is ended here."""
+    run.check(f"the router {router.name} goes on", not router.process.is_over())
+    router.process.end()
+    for client in clients:
+        client.end()
+
+
+def dropped(run, router, least, reasons):
     """How much a router dropped, by cause, once it is so much in all, or some time later."""
     found = {}
 
     def is_enough():
         figures = run.world.figures(f"{router.name}.prom")
-        found.update({reason: figures.get(dropped_for(reason), 0) for reason in REASONS})
+        found.update({reason: figures.get(dropped_for(reason), 0) for reason in reasons})
         return sum(found.values()) >= least
 
     until(is_enough, STATUS_SECONDS)
@@ -354,13 +383,6 @@ def check_hostile(run):
     forged = Forged(run)
     check_forgeries(forged)
     many = check_many(forged)
-    it, came = check_flood(run, forged.place[1])
+    check_flood(run, Flooded(run, forged.place[1]), "", REASONS)
     check_counts(forged, many)
-    found = dropped(run, it.router, came / 2)
-    run.check("of the flood most is dropped, and for each cause that there is", all(found.values()) and
-              sum(found.values()) >= came / 2, f"of {came}: {found}")
-    for router in (forged.router, it.router):
-        run.check(f"the router {router.name} goes on", not router.process.is_over())
-        router.process.end()
-    for client in [*forged.pair.clients, *it.pair.clients, forged.forger, forged.stranger]:
-        client.end()
+    end_all(run, forged.router, [*forged.pair.clients, forged.forger, forged.stranger])
