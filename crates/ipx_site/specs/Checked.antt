@@ -141,13 +141,13 @@ peer_remark whose address earlier peer =
 abbrev pub is_same_place : Place → Place → Bool
 is_same_place a b = pointwise nat_eq b.ip a.ip && (b.udp_port == a.udp_port)
 
--- the ends of a wire are elsewhere than its port, and none of them stands twice
+-- the ends of a wire, and joined routers, are elsewhere than the port, and none of them stands twice
 abbrev pub wire_end_remark : List ℕ → Place → List Place → Place → List ℕ
 wire_end_remark whose own earlier end =
     if is_same_place own end
-    then whose ++ (codes "end" ++ (wire_end_text end ++ codes " is its own place\n"))
+    then whose ++ (wire_end_text end ++ codes " is its own place\n")
     else (if list_any (is_same_place end) earlier
-    then whose ++ (codes "end" ++ (wire_end_text end ++ codes " stands twice\n"))
+    then whose ++ (wire_end_text end ++ codes " stands twice\n")
     else [])
 
 -- two ports are bound at one place
@@ -172,12 +172,13 @@ each_behind printed earlier (x ∷ xs) =
     printed earlier x ++ each_behind printed (earlier ++ x ∷ []) xs
 
 -- what is to be remarked on those whom a port sends to, behind the words that say whose they are: of
--- clients nothing
+-- those who may register nothing
 abbrev pub reached_remarks : List ℕ → PortOfKind → List ℕ
 reached_remarks whose (Rfc1234 p) = each_behind (peer_remark whose p.address) [] p.peers.items
 reached_remarks whose (Frames p) =
-    each_behind (wire_end_remark whose (place_of_kind (Frames p))) [] p.ends.items
-reached_remarks whose (Ipxnet p) = []
+    each_behind (wire_end_remark (whose ++ codes "end") (place_of_kind (Frames p))) [] p.ends.items
+reached_remarks whose (Ipxnet p) =
+    each_behind (wire_end_remark (whose ++ codes "joined") (place_of_kind (Ipxnet p))) [] p.join.items
 
 -- the line of a port behind earlier ones, and what is to be remarked
 abbrev pub port_lines : List PortOfKind → PortOfKind → List ℕ

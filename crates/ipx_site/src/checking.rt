@@ -62,7 +62,7 @@ pub fn peers_to_remarks(
     Ok(remarks)
 }
 
-/// What is remarked on an end of a wire, behind the earlier ones.
+/// What is remarked on an end of a wire, or a joined router, behind the earlier ones.
 fn end_to_remark(
     alloc: Global,
     whose: &str,
@@ -74,16 +74,16 @@ fn end_to_remark(
 {
     let reached = end_to_text(alloc, end)?;
     if end == own {
-        return format!(in alloc; "{whose}end{reached} is its own place\n");
+        return format!(in alloc; "{whose}{reached} is its own place\n");
     }
     if earlier.contains(&end) {
-        return format!(in alloc; "{whose}end{reached} stands twice\n");
+        return format!(in alloc; "{whose}{reached} stands twice\n");
     }
     Ok(String::new(alloc))
 }
 
-/// What is remarked on the ends of a wire: a line for each that is the place of the port itself, or
-/// stands twice.
+/// What is remarked on the ends of a wire, or on joined routers: a line for each that is the place of
+/// the port itself, or stands twice.
 fn ends_to_remarks(
     alloc: Global,
     whose: &str,
@@ -108,8 +108,14 @@ fn reached_to_remarks(alloc: Global, whose: &str, port: &PortOfKind) -> Result<S
     let own = port.place();
     match port {
         PortOfKind::Rfc1234(port) => peers_to_remarks(alloc, whose, port.address, &port.peers),
-        PortOfKind::Frames(port) => ends_to_remarks(alloc, whose, own, &port.ends),
-        PortOfKind::Ipxnet(_) => Ok(String::new(alloc)),
+        PortOfKind::Frames(port) => {
+            let end = format!(in alloc; "{whose}end")?;
+            ends_to_remarks(alloc, &end, own, &port.ends)
+        }
+        PortOfKind::Ipxnet(port) => {
+            let joined = format!(in alloc; "{whose}joined")?;
+            ends_to_remarks(alloc, &joined, own, &port.join)
+        }
     }
 }
 
