@@ -41,7 +41,7 @@ class Site:
         self.own, self.name = node_of_place(place), name
         self.table = lobby_table(NETWORK, place, 'accept = "any"\n' + join_line(others), self.own)
         self.start(run)
-        self.clients = [Client((AT_SITES, 0), place, [self.own]) for _ in range(2)]
+        self.clients = [Client((AT_SITES, 0), place) for _ in range(2)]
         self.sent, self.dropped = 0, collections.Counter()
         for client in self.clients:
             client.site, client.wanted = self, []
@@ -50,13 +50,11 @@ class Site:
         self.router = Router(run, self.name, [self.table])
 
     def figures(self):
-        """What the status file says of it, and what it is to say, once that is one, or some time later. What the router tells
-        and asks its clients by itself is sent too."""
+        """What the status file says of it, and what it is to say, once that is one, or some time later."""
         found, wanted = {}, {dropped_for(reason): self.dropped[reason] for reason in ("unregistered", "not_behind", "no_such_node")}
 
         def are_one():
-            told = sum(client.told for client in self.clients if client.take())
-            wanted["ipx_lobby_sent_total"] = self.sent + told
+            wanted["ipx_lobby_sent_total"] = self.sent
             figures = self.router.run.world.figures(f"{self.name}.prom")
             found.update({key: figures.get(key) for key in wanted})
             time.sleep(0.1)
