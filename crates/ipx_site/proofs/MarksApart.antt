@@ -1,7 +1,7 @@
 -- What the ports of a site's router are to its core does not hang on their marks.
 use Rattle.std.proofs.Common.{◌≡◌, ◌∙◌, ◌+◌, ℕ, List, ap, map, refl}
 use Rattle.ipx_carrier.specs.Counting.{counted}
-use Rattle.ipx_carrier.specs.RouterCore.{CoreView}
+use Rattle.ipx_figures.specs.CountedRouter.{CountedView}
 use Rattle.ipx_carrier.specs.Turns.{peers_of}
 use Rattle.ipx_carrier.specs.declared.datagrams.Datagrams as OfDevice
 use Rattle.ipx_lobbies.specs.declared.place_sockets.PlaceSockets as OfPlaces
@@ -25,7 +25,7 @@ use Rattle.ipx_site.specs.Sparing.{SparingView}
 use Rattle.ipx_site.specs.WireTotals.{encapsulated_otherwise_in, unframed_in}
 
 -- how often each cause happened, by what the three kinds of ports say of it
-abbrev of_parts : RouterCounts → SparingView CoreView → KeptBack → ℕ → ℕ → List HubView → ℕ → ℕ → ℕ → Happened
+abbrev of_parts : RouterCounts → SparingView CountedView → KeptBack → ℕ → ℕ → List HubView → ℕ → ℕ → ℕ → Happened
 of_parts tally core kept refused faults hubs strangers wire_faults lobby_faults = record {
   strangers = kept.strangers.count;
   forged = kept.forged.count;
@@ -68,7 +68,7 @@ module _ {gd : OfDevice.Ghosts (PeersOnly SiteSockets)} {ge : OfSockets.Ghosts W
       ∙ ap (λ w. kept_in r.datagrams.device.kept + (w.kept + w.sockets.strangers) + (s.lobbies.kept + s.lobbies.sockets.nowhere)) m.wires
       ∙ ap (λ l. kept_in r.datagrams.device.kept + (r.wires.kept + r.wires.sockets.strangers) + (l.kept + l.sockets.nowhere)) m.lobbies
 
-  pub happened_apart : (tally : RouterCounts) (core : SparingView CoreView) → happened tally core s ≡ happened tally core r
+  pub happened_apart : (tally : RouterCounts) (core : SparingView CountedView) → happened tally core s ≡ happened tally core r
   happened_apart tally core =
       ap (λ d. of_parts tally core d.device.kept d.device.refused d.device.device.faults s.wires.hubs.items s.wires.sockets.strangers
       (s.wires.sockets.failures + s.wires.sockets.faults) (s.lobbies.sockets.failures + s.lobbies.sockets.faults)) m.datagrams

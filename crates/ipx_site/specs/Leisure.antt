@@ -1,6 +1,6 @@
 -- What a router that runs does by itself, and how long it has nothing to do. All of it is own.
 use Rattle.std.specs.Prelude.{◌≡◌, ◌≤◌, ◌<◌, ◌⊎◌, ◌==◌, ◌^◌, ℕ, ◌+◌, List, [], ◌∷◌, map, true, Option, if◌then◌else◌}
-use Rattle.ipx_carrier.specs.RouterCore.{CoreView}
+use Rattle.ipx_figures.specs.CountedRouter.{CountedView}
 use Rattle.ipx_router.specs.Telling.{is_due}
 use Rattle.ipx_site.specs.declared.figures.Figures.{Figures}
 use Rattle.ipx_site.specs.declared.router_counts.RouterCounts.{RouterCounts}
@@ -59,7 +59,7 @@ lost_in r = r.datagrams.device.device.faults + (r.wires.sockets.failures + r.wir
     + (r.lobbies.sockets.failures + r.lobbies.sockets.faults)
 
 -- by what it tallies, what its core counts, and what its ports kept back, did not send and lost
-abbrev pub happened : {gd : OfDevice.Ghosts (PeersOnly SiteSockets)} {ge : OfSockets.Ghosts WireSockets} {gl : OfPlaces.Ghosts LobbySockets} → RouterCounts → SparingView CoreView → SitePortsRun gd ge gl → Happened
+abbrev pub happened : {gd : OfDevice.Ghosts (PeersOnly SiteSockets)} {ge : OfSockets.Ghosts WireSockets} {gl : OfPlaces.Ghosts LobbySockets} → RouterCounts → SparingView CountedView → SitePortsRun gd ge gl → Happened
 happened tally core ports = record {
   strangers = ports.datagrams.device.kept.strangers.count;
   forged = ports.datagrams.device.kept.forged.count;
@@ -95,11 +95,11 @@ pub record Agenda : Type 0 where
   pub responses : ℕ
   -- when it wrote its figures last
   pub written : Option ℕ
-  pub core : SparingView CoreView
+  pub core : SparingView CountedView
   pub troubles : Troubles
   pub count : Happened
 
-abbrev pub agenda : ℕ → Option ℕ → ℕ → Option ℕ → SparingView CoreView → Troubles → Happened → Agenda
+abbrev pub agenda : ℕ → Option ℕ → ℕ → Option ℕ → SparingView CountedView → Troubles → Happened → Agenda
 agenda asked looked responses written core troubles count = record {
   asked = asked;
   looked = looked;

@@ -21,6 +21,7 @@ pub mod Moments
 pub mod Leisure
 pub mod RouterRounds
 pub mod Checked
+pub mod DropLines
 pub mod Senders
 pub mod RouterFigures
 pub mod KindPorts

@@ -11,7 +11,8 @@ use crate::router_ports::SiteRouterPorts;
 use crate::sparing::Sparing;
 use crate::watch::Known;
 use crate::wire_totals::{in_other_encapsulations, unframed};
-use ipx_carrier::{Burst, OutcomeCounts, RouterCore, RunFault, raise};
+use ipx_carrier::{Burst, OutcomeCounts, RunFault, raise};
+use ipx_figures::CountedRouter;
 use ipx_lobbies::PlaceSockets;
 use ipx_wires::EndSockets;
 
@@ -85,7 +86,7 @@ impl RouterCounts {
     /// All figures of a router, at a moment in milliseconds since its start.
     pub fn figures(
         &self,
-        core: &Sparing<RouterCore>,
+        core: &Sparing<CountedRouter>,
         ports: &SiteRouterPorts,
         known: &Known,
         now: u64,

@@ -21,7 +21,8 @@ use crate::sockets::SiteSockets;
 use crate::sparing::Sparing;
 use crate::start_lines::ports_to_texts;
 use crate::wire_ports::wires_of;
-use ipx_carrier::{OnPeers, RouterCore};
+use ipx_carrier::OnPeers;
+use ipx_figures::CountedRouter;
 use ipx_router::{NewFault, Port, Router};
 use log::{Log, info, warn};
 use std::alloc::{AllocError, Global};
@@ -59,7 +60,7 @@ fn router_of(alloc: Global, ports: &[PortOfKind]) -> Result<Router, RouteFault>
 }
 
 /// The core of a router, which answers in turn who asks for all that it knows.
-fn core_of(alloc: Global, ports: &[PortOfKind]) -> Result<Sparing<RouterCore>, RouteFault>
+fn core_of(alloc: Global, ports: &[PortOfKind]) -> Result<Sparing<CountedRouter>, RouteFault>
     requires { All IsOwnNetwork (router_ports ports.now) }
     ensures router { IfOk result (λ c. c.core.router.ports ≡ router_ports ports.now) }
     ensures ports { IfOk result (λ c. c.ports ≡ router_ports ports.now) }
@@ -67,7 +68,7 @@ fn core_of(alloc: Global, ports: &[PortOfKind]) -> Result<Sparing<RouterCore>, R
 {
     let router = router_of(alloc, ports)?;
     let own = own_ports(alloc, ports)?;
-    let core = Sparing::new(alloc, RouterCore::new(alloc, router), own)?;
+    let core = Sparing::new(alloc, CountedRouter::new(alloc, router)?, own)?;
     Ok(core)
 }
 

@@ -3,6 +3,7 @@
 ghost use Rattle.std.specs.Prelude.{◌≡◌, Bool, List, OnOk, Some, length, map};
 ghost use Rattle.ipx_carrier.specs.PortMarks.{AreMarked, is_any_marked};
 ghost use Rattle.ipx_carrier.specs.Turns.{peers_of};
+ghost use Rattle.ipx_site.specs.DropLines.{AreDropsTold};
 ghost use Rattle.ipx_site.specs.Leisure.{IsLeisure, IsToDo, agenda, counts_told, happened, happened_in, look_after};
 ghost use Rattle.ipx_site.specs.Moments.{AreToldIfDue};
 ghost use Rattle.ipx_site.specs.SitePorts.{access_by};
@@ -14,11 +15,13 @@ ghost use Rattle.ipx_site.specs.Steady.{NeverGoesBack};
 use crate::asking::asking_moment;
 use crate::client_lines::ToldClients;
 use crate::clock::SteadyClock;
+use crate::drop_lines::DropLines;
 use crate::figures::Figures;
 use crate::frame_figures::{put_frame_figures, tell_encapsulations};
 use crate::ipxnet_figures::put_ipxnet_figures;
 use crate::marking::{is_any_marked, mark_ready};
 use crate::moments::{LONGEST, end_of, is_over, sooner, time_to};
+use crate::port_figures::put_port_figures;
 use crate::readiness::{Readiness, WaitFault};
 use crate::router_counts::RouterCounts;
 use crate::router_ports::SiteRouterPorts;
@@ -26,7 +29,8 @@ use crate::sparing::Sparing;
 use crate::status::write_whole;
 use crate::troubles::Troubles;
 use crate::watch::Known;
-use ipx_carrier::{Burst, Clock, RouterCore, burst_segments};
+use ipx_carrier::{Burst, Clock, burst_segments};
+use ipx_figures::CountedRouter;
 use log::Log;
 use std::alloc::{AllocError, Global};
 use std::rt::{Clock as SystemClock, Files};
@@ -46,7 +50,7 @@ const TURNS: u32 = 32;
 /// A router that runs.
 #[derive(Drop)]
 pub struct RunningRouter<'a, R: SystemClock> {
-    core: Sparing<RouterCore>,
+    core: Sparing<CountedRouter>,
     ports: SiteRouterPorts,
     clock: SteadyClock<'a, R>,
     ready: Readiness,
@@ -55,6 +59,7 @@ pub struct RunningRouter<'a, R: SystemClock> {
     known: Known,
     clients: ToldClients,
     troubles: Troubles,
+    drops: DropLines,
     /// How often it asked again.
     asked: usize,
     /// When one looked last what it knows, and how many responses it had heard by then.
@@ -69,7 +74,7 @@ pub struct RunningRouter<'a, R: SystemClock> {
 /// The parts of a router that runs.
 #[derive(Drop)]
 pub struct Parts<'a, R: SystemClock> {
-    pub core: Sparing<RouterCore>,
+    pub core: Sparing<CountedRouter>,
     pub ports: SiteRouterPorts,
     pub clock: SteadyClock<'a, R>,
     pub ready: Readiness,
@@ -95,6 +100,7 @@ impl<'a, R: SystemClock> RunningRouter<'a, R> {
             known: Known::new(alloc),
             clients: ToldClients::new(alloc),
             troubles: Troubles::new(),
+            drops: DropLines::new(),
             asked: 0,
             looked: None,
             responses: 0,
@@ -112,6 +118,7 @@ impl<'a, R: SystemClock> RunningRouter<'a, R> {
     /// What its status file says.
     fn status_text(&self, alloc: Global, now: u64) -> Result<String, AllocError> {
         let mut text = self.figures(now).text(alloc)?;
+        put_port_figures(&mut text, self.core.core())?;
         put_frame_figures(&mut text, &self.ports)?;
         put_ipxnet_figures(&mut text, &self.ports)?;
         Ok(text)
@@ -135,6 +142,7 @@ impl<'a, R: SystemClock> RunningRouter<'a, R> {
         ensures clock { self.new.clock ≡ self.old.clock }
         ensures ready { self.new.ready ≡ self.old.ready }
         ensures troubles { self.new.troubles ≡ self.old.troubles }
+        ensures drops { self.new.drops ≡ self.old.drops }
     {
         if let Some(moment) = asking_moment(self.asked) {
             if now >= moment {
@@ -151,6 +159,7 @@ impl<'a, R: SystemClock> RunningRouter<'a, R> {
         ensures clock { self.new.clock ≡ self.old.clock }
         ensures ready { self.new.ready ≡ self.old.ready }
         ensures troubles { self.new.troubles ≡ self.old.troubles }
+        ensures drops { self.new.drops ≡ self.old.drops }
         ensures asked { self.new.asked ≡ self.old.asked }
     {
         if self.clients.tell(rt, alloc, &self.ports, now).is_err() {
@@ -177,6 +186,7 @@ impl<'a, R: SystemClock> RunningRouter<'a, R> {
         ensures clock { self.new.clock ≡ self.old.clock }
         ensures ready { self.new.ready ≡ self.old.ready }
         ensures troubles { self.new.troubles ≡ self.old.troubles }
+        ensures drops { self.new.drops ≡ self.old.drops }
         ensures asked { self.new.asked ≡ self.old.asked }
     {
         if !is_over(self.written, PERIOD, now) {
@@ -205,6 +215,8 @@ impl<'a, R: SystemClock> RunningRouter<'a, R> {
         ensures told { AreToldIfDue (counts_told (happened self.new.tally self.new.core
             self.new.ports)) now
             self.old.troubles.causes self.new.troubles.causes }
+        // So is what it dropped.
+        ensures drops { AreDropsTold self.new.core.core.fates now self.old.drops self.new.drops }
     {
         self.ask(now);
         self.look(rt, alloc, now);
@@ -214,6 +226,8 @@ impl<'a, R: SystemClock> RunningRouter<'a, R> {
             tell_encapsulations(rt, &self.ports);
         }
         self.troubles.tell(rt, &figures, now);
+        let core = self.core.core();
+        self.drops.tell(rt, &core.fates(), core.last(), now);
     }
 
     /// How long there is nothing to do, unless something comes, in milliseconds.

@@ -6,7 +6,8 @@ ghost use Rattle.ipx_site.specs.SitePeers.{none_kept};
 use crate::asker::asker_of;
 use crate::askers::Askers;
 use crate::peers::Kept;
-use ipx_carrier::{Core, RouterCore, ip_of};
+use ipx_carrier::{Core, ip_of};
+use ipx_figures::CountedRouter;
 use ipx_router::Port;
 use ipx_wire::{Node, OutOfMemory};
 use std::alloc::{AllocError, Global};
@@ -72,7 +73,7 @@ impl<C: Core + Drop> Sparing<C> {
     }
 }
 
-impl Sparing<RouterCore> {
+impl Sparing<CountedRouter> {
     /// The router asks its neighbours once more, as `RouterCore::ask_again` says.
     pub fn ask_again(&mut self)
         ensures { self.new ≡ record self.old { core = record self.old.core { started = false } } }

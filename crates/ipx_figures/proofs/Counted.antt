@@ -1,0 +1,113 @@
+use Rattle.std.proofs.Common.{◌≡◌, ◌∙◌, ◌≤◌, ◌+◌, ℕ, Bool, true, false, List, length, nat_le, ◌++◌, Option, Some, None, Result, Ok, Err, cond, ap, arith, inl, inr, refl, subst, sym}
+use Rattle.std.specs.Option.{IfSome}
+use Rattle.std.specs.Result.{OnErr, OnOk}
+use Rattle.std.proofs.lemmas.List.{length-take-le}
+use Rattle.ipx_router.specs.RouterPackets.{SendingView}
+use Rattle.ipx_carrier.specs.Counting.{counted}
+use Rattle.ipx_carrier.specs.OutcomeCounts.{fated}
+use Rattle.ipx_carrier.specs.RouterCore.{CoreView, Misses, RouterGives, RouterHears, Withholds, most_queued, put_in_queue, sendings_of}
+use Rattle.ipx_carrier.specs.Turns.{Given}
+use Rattle.ipx_carrier.specs.declared.outcome_counts.OutcomeCounts.{OutcomeCounts}
+use Rattle.ipx_wire.specs.declared.address.Node.{Node}
+use Rattle.ipx_carrier.specs.GivenPackets.{given_in}
+use Rattle.ipx_figures.specs.CountedRouter.{CountedView, CountsGiven, IsCountedHeard, with_given}
+use Rattle.ipx_figures.specs.LastDrops.{AreNoted}
+use Rattle.ipx_figures.specs.PortCounts.{at_port, with_heard_there, with_sent_there}
+use Rattle.ipx_figures.specs.declared.last_drops.LastDrops.{LastDrops}
+use Rattle.ipx_figures.specs.declared.port_counts.PortCounts.{PortCounts}
+use Rattle.ipx_figures.proofs.Sums.{AreFew, NoneFell, none_fell}
+
+abbrev pub counted_of : CoreView → List PortCounts → LastDrops → CountedView
+counted_of k ports last = record {
+  router = k.router;
+  queue = k.queue;
+  started = k.started;
+  dropped = k.dropped;
+  fates = k.fates;
+  by_port = ports;
+  last = last;
+}
+
+pub ok_with : {T E : Type 0} (r : Result T E) (P Q : Type 0) → Q → OnOk r P → OnOk r (P × Q)
+ok_with (Ok x) P Q q p = (p, q)
+ok_with (Err e) P Q q p = tt
+
+pub err_with : {T E : Type 0} (r : Result T E) (P Q : Type 0) → Q → OnErr r P → OnErr r (P × Q)
+err_with (Ok x) P Q q p = tt
+err_with (Err e) P Q q p = (p, q)
+
+-- what a port counts of what came, and what was dropped last
+pub heard_counted : (k k' : CoreView) (ports lent ports' items' : List PortCounts) (last last' : LastDrops) (port : ℕ) (bytes : List ℕ) (before after : OutcomeCounts)
+    → before ≡ k.fates → after ≡ k'.fates → lent ≡ ports → ports' ≡ at_port lent port (with_heard_there before after (length bytes)) → items' ≡ ports'
+    → AreNoted before after port bytes last last' → IsCountedHeard (counted_of k ports last) port bytes (counted_of k' items' last')
+heard_counted k k' ports lent ports' items' last last' port bytes before after b a l e i n = record {
+  by_port = i ∙ e ∙ ap (λ it. at_port it port (with_heard_there before after (length bytes))) l
+      ∙ ap (λ f. at_port ports port (with_heard_there f after (length bytes))) b ∙ ap (λ f. at_port ports port (with_heard_there k.fates f (length bytes))) a;
+  last = subst (λ f. AreNoted f k'.fates port bytes last last') b (subst (λ f. AreNoted before f port bytes last last') a n);
+}
+
+either : (b : Bool) (x y : CoreView) (f : OutcomeCounts) → x.fates ≡ f → y.fates ≡ f → (cond b x y).fates ≡ f
+either true x y f p q = p
+either false x y f p q = q
+
+-- what is put into the queue leaves the counts
+pub fates_stay : (sent : List SendingView) (k : CoreView) → (put_in_queue sent k).fates ≡ k.fates
+fates_stay sent k =
+    either (nat_le (length k.queue + length sent) most_queued) (record k { queue = k.queue ++ sent }) (record k { dropped = counted (k.dropped + length sent) }) k.fates refl refl
+
+same_fates : (f : OutcomeCounts) → NoneFell f f
+same_fates f = record {
+  forwarded = omega arith;
+  answered = omega arith;
+  heard = omega arith;
+  bad = omega arith;
+  propagated = omega arith;
+  not_ours = omega arith;
+  no_route = omega arith;
+  hop_limit = omega arith;
+  bad_control = omega arith;
+  table_full = omega arith;
+}
+
+heard_fell : (k k' : CoreView) (port : ℕ) (bytes : List ℕ) (now : ℕ) → AreFew k.fates → RouterHears k port bytes now k' → NoneFell k.fates k'.fates
+heard_fell k k' port bytes now few h =
+    let is = ap (λ (v : CoreView). v.fates) h.3 ∙ fates_stay (sendings_of h.0) (record k { router = h.1; fates = fated h.0 k.fates }) in
+    subst (NoneFell k.fates) (sym is) (none_fell h.0 k.fates few)
+
+missed_fell : (k k' : CoreView) (port : ℕ) (bytes : List ℕ) (now : ℕ) → AreFew k.fates → Misses k port bytes now k' → NoneFell k.fates k'.fates
+missed_fell k k' port bytes now few (router, inl x) = subst (NoneFell k.fates) (sym (ap (λ (v : CoreView). v.fates) x.0)) (same_fates k.fates)
+missed_fell k k' port bytes now few (router, inr y) = subst (NoneFell k.fates) (sym (ap (λ (v : CoreView). v.fates) y.1)) (none_fell y.0 k.fates few)
+
+-- no count of a router falls as it hears
+pub fell_by : {T E : Type 0} (r : Result T E) (k k' : CoreView) (port : ℕ) (bytes : List ℕ) (now : ℕ) → AreFew k.fates → OnOk r (RouterHears k port bytes now k') → OnErr r (Misses k port bytes now k') → NoneFell k.fates k'.fates
+fell_by (Ok x) k k' port bytes now few p q = heard_fell k k' port bytes now few p
+fell_by (Err e) k k' port bytes now few p q = missed_fell k k' port bytes now few q
+
+-- nor does any change as it gives
+pub given_same : (k k' : CoreView) (now : ℕ) (given : Option Given) → RouterGives k now given k' → k'.fates ≡ k.fates
+given_same k k' now given h =
+    let first = record k { router = h.2; started = true } in
+    ap (λ (v : CoreView). v.fates) h.5.1 ∙ (fates_stay h.1 (put_in_queue h.0 first) ∙ fates_stay h.0 first)
+
+pub withheld_same : (k k' : CoreView) (now : ℕ) → Withholds k now k' → k'.fates ≡ k.fates
+withheld_same k k' now (inl h) = ap (λ (v : CoreView). v.fates) h.1
+withheld_same k k' now (inr h) = ap (λ (v : CoreView). v.fates) h.3 ∙ fates_stay h.0 (record k { router = h.1; started = true })
+
+pub some_is : {X : Type 0} (o : Option X) (x : X) (P : X → Type 0) → o ≡ Some x → IfSome o P → P x
+some_is o x P e h = subst (λ it. IfSome it P) e h
+
+-- a packet that is given is counted at its port
+pub given_counted : (k k' : CoreView) (ports lent ports' items' : List PortCounts) (last : LastDrops) (now : ℕ) (room : List ℕ) (given : Option (ℕ × Node × ℕ)) (port count : ℕ) (node : Node)
+    → given ≡ Some (port, node, count) → count ≤ length room → RouterGives k now (given_in room given) k' → lent ≡ ports → ports' ≡ at_port lent port (with_sent_there count) → items' ≡ ports'
+    → CountsGiven (counted_of k ports last) now (given_in room given) (counted_of k' items' last)
+given_counted k k' ports lent ports' items' last now room given port count node is few h l e i = (
+  h,
+  i ∙ e ∙ ap (λ it. at_port it port (with_sent_there count)) l ∙ ap (λ n. at_port ports port (with_sent_there n)) (sym (length-take-le count room few))
+      ∙ ap (λ g. with_given (given_in room g) ports) (sym is),
+  refl,
+)
+
+-- and where none is, nothing is counted
+pub none_counted : (k k' : CoreView) (ports : List PortCounts) (last : LastDrops) (now : ℕ) (room : List ℕ) (given : Option (ℕ × Node × ℕ)) → given ≡ None
+    → RouterGives k now (given_in room given) k' → CountsGiven (counted_of k ports last) now (given_in room given) (counted_of k' ports last)
+none_counted k k' ports last now room given is h = (h, ap (λ g. with_given (given_in room g) ports) (sym is), refl)

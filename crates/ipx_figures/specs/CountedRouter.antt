@@ -1,0 +1,63 @@
+-- A router as a core, which counts at each of its ports, and keeps what it dropped last. All of it is own.
+use Rattle.std.specs.Prelude.{◌≡◌, ℕ, Bool, List, length, Option, Some, None}
+use Rattle.ipx_router.specs.RouterPackets.{SendingView}
+use Rattle.ipx_router.specs.RouterView.{RouterView}
+use Rattle.ipx_carrier.specs.RouterCore.{CoreView, Misses, RouterGives, RouterHears, Withholds}
+use Rattle.ipx_carrier.specs.Turns.{Given}
+use Rattle.ipx_carrier.specs.declared.outcome_counts.OutcomeCounts.{OutcomeCounts}
+use Rattle.ipx_figures.specs.LastDrops.{AreNoted}
+use Rattle.ipx_figures.specs.PortCounts.{at_port, with_heard_there, with_sent_there}
+use Rattle.ipx_figures.specs.declared.last_drops.LastDrops.{LastDrops}
+use Rattle.ipx_figures.specs.declared.port_counts.PortCounts.{PortCounts}
+
+-- what a router is as a core, and what it counted at each port and dropped last
+pub record CountedView : Type 0 where
+  pub router : RouterView
+  pub queue : List SendingView
+  pub started : Bool
+  pub dropped : ℕ
+  pub fates : OutcomeCounts
+  pub by_port : List PortCounts
+  pub last : LastDrops
+
+-- without the latter
+abbrev pub carried : CountedView → CoreView
+carried c = record {
+  router = c.router;
+  queue = c.queue;
+  started = c.started;
+  dropped = c.dropped;
+  fates = c.fates;
+}
+
+-- at that port, and at no other, it is counted what the router counted; where it dropped the bytes, they
+-- are what it dropped last
+pub record IsCountedHeard (old : CountedView) (port : ℕ) (bytes : List ℕ) (new : CountedView) : Type 0 where
+  pub by_port :
+      new.by_port ≡ at_port old.by_port port (with_heard_there old.fates new.fates (length bytes))
+  pub last : AreNoted old.fates new.fates port bytes old.last new.last
+
+-- it hears what the router does
+abbrev pub CountsHeard : CountedView → ℕ → List ℕ → ℕ → CountedView → Type 0
+CountsHeard old port bytes now new = RouterHears (carried old) port bytes now (carried new)
+    × IsCountedHeard old port bytes new
+
+-- memory is refused to it as it hears. What came is counted
+abbrev pub CountsMissed : CountedView → ℕ → List ℕ → ℕ → CountedView → Type 0
+CountsMissed old port bytes now new = Misses (carried old) port bytes now (carried new)
+    × IsCountedHeard old port bytes new
+
+-- a packet that is given is counted at its port, and at no other
+abbrev pub with_given : Option Given → List PortCounts → List PortCounts
+with_given None ports = ports
+with_given (Some g) ports = at_port ports g.port (with_sent_there (length g.bytes))
+
+-- it gives what the router does
+abbrev pub CountsGiven : CountedView → ℕ → Option Given → CountedView → Type 0
+CountsGiven old now given new = RouterGives (carried old) now given (carried new)
+    × (new.by_port ≡ with_given given old.by_port) × (new.last ≡ old.last)
+
+-- memory is refused to it as it is asked, and nothing is counted
+abbrev pub CountsWithheld : CountedView → ℕ → CountedView → Type 0
+CountsWithheld old now new = Withholds (carried old) now (carried new)
+    × (new.by_port ≡ old.by_port) × (new.last ≡ old.last)

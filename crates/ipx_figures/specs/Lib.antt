@@ -1,0 +1,3 @@
+pub mod CountedRouter
+pub mod LastDrops
+pub mod PortCounts

@@ -1,0 +1,180 @@
+//! A router as a core, which counts at each of its ports.
+
+ghost use Rattle.std.specs.Prelude.{◌≡◌, [], false, length, replicate, IfOk};
+ghost use Rattle.ipx_carrier.specs.OutcomeCounts.{none};
+ghost use Rattle.ipx_figures.specs.LastDrops.{no_drops};
+ghost use Rattle.ipx_figures.specs.PortCounts.{at_port, fates_over, no_traffic, with_heard_there, with_sent_there};
+
+use crate::last_drops::LastDrops;
+use crate::port_counts::PortCounts;
+use ipx_carrier::{Core, OutcomeCounts, RouterCore};
+use ipx_router::Router;
+use ipx_wire::{Node, OutOfMemory};
+use std::alloc::{AllocError, Global};
+use std::marker::Model;
+
+/// A router that runs over a device, as `RouterCore` is, and counts at each of its ports what passes
+/// and what becomes of it. What became of datagrams by all ports is what the router counts, and what
+/// it dropped last for a reason is kept.
+#[derive(Drop)]
+pub struct CountedRouter {
+    core: RouterCore,
+    ports: Vec<PortCounts>,
+    last: LastDrops,
+}
+
+impl Model for CountedRouter {
+    ghost use Rattle.std.specs.Prelude.{◌≡◌, length};
+    ghost use Rattle.ipx_figures.specs.CountedRouter.{CountedView};
+    ghost use Rattle.ipx_figures.specs.PortCounts.{fates_over};
+
+    ghost Value = { CountedView };
+
+    ghost view = { λ c. record {
+      router = c.core.router;
+      queue = c.core.queue;
+      started = c.core.started;
+      dropped = c.core.dropped;
+      fates = c.core.fates;
+      by_port = c.ports.items;
+      last = c.last;
+    } };
+
+    ghost invariant = { λ c. (length c.ports.items ≡ length c.core.router.ports)
+        × (c.core.fates ≡ fates_over c.ports.items) };
+}
+
+/// Counts at a port what came there.
+fn hear_at(
+    ports: &mut [PortCounts],
+    port: usize,
+    before: &OutcomeCounts,
+    after: &OutcomeCounts,
+    bytes: usize,
+)
+    ensures { ports.new ≡ at_port ports.old port (with_heard_there before.now after.now bytes) }
+{
+    if port < ports.len() {
+        ports[port].hear(before, after, bytes);
+    }
+}
+
+/// Counts at a port what is given to be sent there.
+fn send_at(ports: &mut [PortCounts], port: usize, bytes: usize)
+    ensures { ports.new ≡ at_port ports.old port (with_sent_there bytes) }
+{
+    if port < ports.len() {
+        ports[port].send(bytes);
+    }
+}
+
+impl CountedRouter {
+    /// A router that has sent and heard nothing yet.
+    pub fn new(alloc: Global, router: Router) -> Result<CountedRouter, AllocError>
+        ensures router { IfOk result (λ c. c.router ≡ router) }
+        ensures fresh { IfOk result (λ c.
+            (c.queue ≡ []) × (c.started ≡ false) × (c.dropped ≡ 0)) }
+        ensures unheard { IfOk result (λ c. c.fates ≡ none) }
+        ensures uncounted { IfOk result (λ c.
+            (c.by_port ≡ replicate (length router.ports) no_traffic) × (c.last ≡ no_drops)) }
+    {
+        let ports = vec![in alloc; PortCounts::new(); router.ports().len()]?;
+        Ok(CountedRouter {
+            core: RouterCore::new(alloc, router),
+            ports,
+            last: LastDrops::new(),
+        })
+    }
+
+    /// How many packets were dropped since the queue had no room for them. It stays at the greatest
+    /// u64.
+    pub fn dropped(&self) -> u64
+        ensures { result ≡ self.now.dropped }
+    {
+        self.core.dropped()
+    }
+
+    /// The router, to be asked between two runs.
+    pub fn router(&self) -> &Router
+        ensures { result.now ≡ self.now.router }
+    {
+        self.core.router()
+    }
+
+    /// What became of the datagrams that it heard.
+    pub fn fates(&self) -> OutcomeCounts
+        ensures { result ≡ self.now.fates }
+    {
+        self.core.fates()
+    }
+
+    /// What it counted at each of its ports: of each fate as many together as it counts itself.
+    pub fn by_port(&self) -> &[PortCounts]
+        ensures counts { result.now ≡ self.now.by_port }
+        ensures sums { self.now.fates ≡ fates_over result.now }
+        ensures ports { length result.now ≡ length self.now.router.ports }
+    {
+        &self.ports
+    }
+
+    /// What it dropped last.
+    pub fn last(&self) -> LastDrops
+        ensures { result ≡ self.now.last }
+    {
+        self.last
+    }
+
+    /// The router asks its neighbours once more, as `RouterCore::ask_again` says.
+    pub fn ask_again(&mut self)
+        ensures { self.new ≡ record self.old { started = false } }
+    {
+        self.core.ask_again();
+    }
+}
+
+impl Core for CountedRouter {
+    ghost use Rattle.std.specs.Prelude.{length};
+    ghost use Rattle.ipx_figures.specs.CountedRouter.{CountsGiven, CountsHeard, CountsMissed, CountsWithheld};
+
+    ghost port_count = { λ c. length c.router.ports };
+
+    ghost hears = { CountsHeard };
+
+    ghost gives = { CountsGiven };
+
+    ghost misses = { CountsMissed };
+
+    ghost withholds = { CountsWithheld };
+
+    fn ports(&self) -> usize {
+        self.core.ports()
+    }
+
+    fn hear(
+        &mut self,
+        alloc: Global,
+        port: usize,
+        bytes: &[u8],
+        now: u64,
+    ) -> Result<(), OutOfMemory> {
+        let before = self.core.fates();
+        let heard = self.core.hear(alloc, port, bytes, now);
+        let after = self.core.fates();
+        hear_at(&mut self.ports, port, &before, &after, bytes.len());
+        self.last.note(&before, &after, port, bytes);
+        heard
+    }
+
+    fn next(
+        &mut self,
+        alloc: Global,
+        now: u64,
+        room: &mut [u8],
+    ) -> Result<Option<(usize, Node, usize)>, OutOfMemory> {
+        let given = self.core.next(alloc, now, room)?;
+        if let Some((port, _node, count)) = given {
+            send_at(&mut self.ports, port, count);
+        }
+        Ok(given)
+    }
+}

@@ -1,0 +1,125 @@
+//! The lines of what a router dropped: one a minute for each reason, with the last one of it.
+
+ghost use Rattle.std.specs.Prelude.{◌≡◌};
+ghost use Rattle.ipx_site.specs.DropLines.{AreDropsTold, no_drops_told};
+ghost use Rattle.ipx_site.specs.Moments.{IsToldIfDue};
+
+use crate::causes::Cause;
+use ipx_carrier::OutcomeCounts;
+use ipx_figures::{LastDrop, LastDrops};
+use log::{Log, warn};
+use std::fmt;
+
+/// Why datagrams were dropped of which a line is told.
+#[derive(Clone, Copy, Debug, PartialEq, Eq)]
+pub enum DropReason {
+    Bad,
+    NotOurs,
+    NoRoute,
+    HopLimit,
+    BadControl,
+}
+
+/// What a line says of a reason and of the last datagram of it. Of one to which no route leads it
+/// names the network.
+#[derive(Clone, Copy, Debug, PartialEq, Eq)]
+pub struct DropWords {
+    pub reason: DropReason,
+    pub last: Option<LastDrop>,
+}
+
+/// When a router told what it dropped, for each of five reasons.
+#[derive(Clone, Copy, Debug, PartialEq, Eq)]
+pub struct DropLines {
+    bad: Cause,
+    not_ours: Cause,
+    no_route: Cause,
+    hop_limit: Cause,
+    bad_control: Cause,
+}
+
+fn write_reason<W: fmt::Write>(
+    f: &mut fmt::Formatter<W>,
+    reason: DropReason,
+    last: Option<LastDrop>,
+) -> fmt::Result {
+    match reason {
+        DropReason::Bad => f.write_str("bad"),
+        DropReason::NotOurs => f.write_str("not ours"),
+        DropReason::HopLimit => f.write_str("hop limit"),
+        DropReason::BadControl => f.write_str("bad control"),
+        DropReason::NoRoute => match last.and_then(|last| last.to) {
+            Some(to) => write!(f, "no route {}", to.network),
+            None => f.write_str("no route"),
+        },
+    }
+}
+
+/// Who sent the last one, where its head says so, and the number of the port that it came by.
+fn write_last<W: fmt::Write>(f: &mut fmt::Formatter<W>, last: LastDrop) -> fmt::Result {
+    f.write_str(", the last")?;
+    if let Some(from) = last.from {
+        write!(f, " from {} {} {}", from.network, from.node, from.socket)?;
+    }
+    write!(f, " by port {}", last.port.saturating_add(1))
+}
+
+impl fmt::Display for DropWords {
+    fn fmt<W: fmt::Write>(&self, f: &mut fmt::Formatter<W>) -> fmt::Result {
+        write_reason(f, self.reason, self.last)?;
+        match self.last {
+            Some(last) => write_last(f, last),
+            None => Ok(()),
+        }
+    }
+}
+
+fn tell<R: Log>(rt: &R, cause: &mut Cause, count: u64, words: DropWords, now: u64)
+    ensures { IsToldIfDue count now cause.old cause.new }
+{
+    if let Some(more) = cause.tell(count, now) {
+        warn!(rt; target: "ipx", "dropped {more} ({count} since the start): {words}");
+    }
+}
+
+/// What a line says of a reason.
+fn words(reason: DropReason, last: Option<LastDrop>) -> DropWords {
+    DropWords { reason, last }
+}
+
+impl DropLines {
+    /// None was told yet.
+    pub fn new() -> DropLines
+        ensures { result ≡ no_drops_told }
+    {
+        DropLines {
+            bad: Cause::new(),
+            not_ours: Cause::new(),
+            no_route: Cause::new(),
+            hop_limit: Cause::new(),
+            bad_control: Cause::new(),
+        }
+    }
+
+    /// Tells those for which it is time.
+    pub fn tell<R: Log>(&mut self, rt: &R, fates: &OutcomeCounts, last: LastDrops, now: u64)
+        ensures { AreDropsTold fates.now now self.old self.new }
+    {
+        let bad = words(DropReason::Bad, last.bad);
+        let not_ours = words(DropReason::NotOurs, last.not_ours);
+        let no_route = words(DropReason::NoRoute, last.no_route);
+        let hop_limit = words(DropReason::HopLimit, last.hop_limit);
+        let bad_control = words(DropReason::BadControl, last.bad_control);
+        tell(rt, &mut self.bad, fates.bad, bad, now);
+        tell(rt, &mut self.not_ours, fates.not_ours, not_ours, now);
+        tell(rt, &mut self.no_route, fates.no_route, no_route, now);
+        tell(rt, &mut self.hop_limit, fates.hop_limit, hop_limit, now);
+        tell(
+            rt,
+            &mut self.bad_control,
+            fates.bad_control,
+            bad_control,
+            now,
+        );
+    }
+}
