@@ -1,2 +1,3 @@
 pub mod HandWords
 pub mod ByHand
+pub mod HandOffers

@@ -7,8 +7,10 @@
 
 mod by_hand;
 mod hearing;
+mod laws;
 mod neighbour;
 mod words;
 
 pub use by_hand::ByHand;
+pub use laws::{routes_by_hand_are_offers, services_by_hand_are_offers};
 pub use neighbour::SilentNeighbour;
