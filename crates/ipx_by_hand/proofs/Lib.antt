@@ -5,3 +5,6 @@ pub mod OneKey
 pub mod EachWord
 pub mod WordOffers
 pub mod RoomForWords
+pub mod QuietPackets
+pub mod StandingRuns
+pub mod StandingOffers

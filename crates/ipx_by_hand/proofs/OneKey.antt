@@ -1,8 +1,8 @@
 -- What a table has of a key once lists of entries were heard.
-use Rattle.std.proofs.Common.{◌≡◌, ℕ, zero, suc, ◌<◌, ◌-◌, Bool, true, false, cond, List, [], ◌∷◌, length, take, drop, Contains, Option, Some, None, if◌then◌else◌, refl, sym, ap, ◌∙◌, subst, inl, inr, ◌⊎◌, arith}
+use Rattle.std.proofs.Common.{◌≡◌, ℕ, zero, suc, ◌-◌, Bool, true, false, cond, List, [], ◌∷◌, take, drop, Contains, Option, Some, None, if◌then◌else◌, refl, sym, ap, ◌∙◌, subst, inl, inr, ◌⊎◌, arith}
 use Rattle.std.specs.List.{fold}
 use Rattle.std.specs.Cmp.{IsTotalOrder}
-use Rattle.std.specs.Ordering.{is_eq, nat_cmp, ordering_then}
+use Rattle.std.specs.Ordering.{is_eq, ordering_then}
 use Rattle.std.specs.declared.cmp.Ordering.{Ordering}
 use Rattle.std.specs.declared.cmp.Ordering.TheVariants.{Less, Equal, Greater}
 use Rattle.std.proofs.lemmas.Bool.{lt-ltb}
@@ -139,3 +139,21 @@ module _ {K M E : Type 0} (cmp : K → K → Ordering) (total : IsTotalOrder cmp
     makes_offer source same xs old new h agree among hears_it =
         let heard : Hears own xs old new = subst (λ (s : Source). Hears s xs old new) same h in
         heard (key_of e, own) ∙ makes xs (after_age old now) (agree same) among hears_it
+
+    -- entries that say nothing of its key, where they are of its source, leave what stands there
+    abbrev pub SaysNothing : Source → List E → Type 0
+    SaysNothing source xs = source ≡ own → (x : E) → Contains xs x → key_of x ≡ key_of e → ⊥
+
+    left_by : (x : E) (source : Source) → (source ≡ own → key_of x ≡ key_of e → ⊥) → (h same : Bool) (gone : Bool) (old : Option (M × ℕ))
+        → is_same cmp (key_of x, source) (key_of e, own) ≡ same → one_word h same gone (metric_of x, now) old ≡ old
+    left_by x source quiet false same gone old b = refl
+    left_by x source quiet true false gone old b = refl
+    left_by x source quiet true true gone old b =
+        let parts = same_parts (key_of x, source) (key_of e, own) b in absurd (quiet parts.1 parts.0)
+
+    pub leaves : (source : Source) (xs : List E) (c : Content K M) → SaysNothing source xs → fold (heard_entry source) c xs (key_of e, own) ≡ c (key_of e, own)
+    leaves source [] c quiet = refl
+    leaves source (x ∷ xs) c quiet =
+        leaves source xs (heard_entry source c x) (λ same y m. quiet same y (later x y xs m))
+        ∙ step_is source c x (key_of e, own)
+        ∙ left_by x source (λ same. quiet same x (here x xs)) (hears x) (is_same cmp (key_of x, source) (key_of e, own)) (dead (metric_of x)) (c (key_of e, own)) refl

@@ -1,10 +1,9 @@
 -- What a router does with a word by hand.
-use Rattle.std.proofs.Common.{◌≡◌, ◌≢◌, ◌<◌, ◌≤◌, ◌+◌, ◌-◌, ℕ, Bool, true, false, List, [], ◌∷◌, Contains, length, take, Option, Some, None, MatchOption, refl, sym, ap, ◌∙◌, subst, inl, inr, ◌⊎◌, arith, eqb-true}
+use Rattle.std.proofs.Common.{◌≡◌, ◌≢◌, ◌<◌, ◌≤◌, ◌+◌, ◌-◌, ℕ, Bool, true, false, List, [], ◌∷◌, Contains, length, Option, Some, None, MatchOption, refl, sym, ap, ◌∙◌, subst, inl, inr, ◌⊎◌, arith, eqb-true}
 use Rattle.std.specs.Prelude.{◌&&◌, nat_eq, nat_le}
 use Rattle.std.specs.Cmp.{IsTotalOrder}
 use Rattle.std.specs.Cmp.Lexicographic.{pointwise}
 use Rattle.std.specs.List.{All}
-use Rattle.std.specs.Ordering.{nat_cmp}
 use Rattle.std.specs.declared.cmp.Ordering.TheVariants.{Equal}
 use Rattle.std.proofs.Math.Bool.{or-true}
 use Rattle.std.proofs.lemmas.Cmp.{nat_cmp_total, nat_list_cmp_total, on_total, then_total}
@@ -76,7 +75,7 @@ of_none : {F : Type 0} (P : Type 0) (Q : F → Type 0) (o : Option F) → o ≡ 
 of_none P Q None e h = h
 of_none P Q (Some f) e h = cc
 
-near_enough : (hops : ℕ) → hops < 16 → nat_le 16 hops ≡ false
+pub near_enough : (hops : ℕ) → hops < 16 → nat_le 16 hops ≡ false
 near_enough hops less = elim (bool_cases (nat_le 16 hops)) [
   | inl far ↦ absurd (omega (arith, less, leb-true 16 hops far))
   | inr near ↦ near
@@ -176,13 +175,13 @@ module _ (one_ipx : OneIpx) (no_ipx_fault : NoIpxFault) (number : ℕ) (node : N
       let answers : AnswersByConcern (known_at old now) at (packet_of packet_exchange_type sap_socket own.body) a (tables new) concerns.Sap = by_concern old packet_exchange_type sap_socket own.body s.bytes a new concerns.Sap sap_is own.packet.packet at_near h in
       answers.1
 
-network_total : IsTotalOrder network_cmp
+pub network_total : IsTotalOrder network_cmp
 network_total = on_total (λ (n : Network). n.0) nat_cmp_total
 
-service_key_total : IsTotalOrder service_key_cmp
+pub service_key_total : IsTotalOrder service_key_cmp
 service_key_total = then_total (on_total (λ (k : ServiceKey). k.kind) nat_cmp_total) (on_total (λ (k : ServiceKey). k.name) nat_list_cmp_total)
 
-abbrev Apart : Type 0
+abbrev pub Apart : Type 0
 Apart = (a b : Source) → source_cmp a b ≡ Equal → a ≡ b
 
 abbrev OneRip : Type 0
@@ -218,14 +217,14 @@ module _ (one : OneIpx) (no_fault : NoIpxFault) (apart : Apart) (ports : List Po
       (λ s xs ys less fits mine x m. fits mine x (less x m))
       (λ xs. xs) all_of (λ xs. []) none_of
       (λ n other old new part w a same is room h.
-          let at_near : IsPort old.ports n.port other.0 = subst (λ (ps : List Port). IsPort ps n.port other.0) (sym same) other.1 in
-          let own : IsRipPacket (heard_on n.port n.node rip_socket) (rip.Response part) w = is in
-          λ x. hears_rip one no_fault n.port n.node other.0 other.2 now one_rip no_rip_fault old part w a new is at_near room (moved old new w now a n.port own.port other.1.0 h) x
-              ∙ ap (λ (ps : List Port). after_routes ps (source_by_hand n) now (after_age (routes_in old.routes) now) part x) same)
+      let at_near : IsPort old.ports n.port other.0 = subst (λ (ps : List Port). IsPort ps n.port other.0) (sym same) other.1 in
+      let own : IsRipPacket (heard_on n.port n.node rip_socket) (rip.Response part) w = is in
+      λ x. hears_rip one no_fault n.port n.node other.0 other.2 now one_rip no_rip_fault old part w a new is at_near room (moved old new w now a n.port own.port other.1.0 h) x
+      ∙ ap (λ (ps : List Port). after_routes ps (source_by_hand n) now (after_age (routes_in old.routes) now) part x) same)
       (λ n other old new part w a same is room h.
-          let at_near : IsPort old.ports n.port other.0 = subst (λ (ps : List Port). IsPort ps n.port other.0) (sym same) other.1 in
-          let own : IsSapPacket (heard_on n.port n.node sap_socket) (sap.Response false part) w = is in
-          sap_leaves one no_fault n.port n.node other.0 other.2 now old part w a new is at_near (moved old new w now a n.port own.port other.1.0 h))
+      let at_near : IsPort old.ports n.port other.0 = subst (λ (ps : List Port). IsPort ps n.port other.0) (sym same) other.1 in
+      let own : IsSapPacket (heard_on n.port n.node sap_socket) (sap.Response false part) w = is in
+      sap_leaves one no_fault n.port n.node other.0 other.2 now old part w a new is at_near (moved old new w now a n.port own.port other.1.0 h))
       ns others words old new same are heard
       (λ m among. (λ is. agree m among is, λ is x none. absurd (omega (arith, none.1))))
       n there refl (inl among)
@@ -247,13 +246,13 @@ module _ (one : OneIpx) (no_fault : NoIpxFault) (apart : Apart) (ports : List Po
       (λ s xs ys less fits mine x m. fits mine x (less x m))
       (λ xs. []) none_of (λ xs. xs) all_of
       (λ n other old new part w a same is room h.
-          let at_near : IsPort old.ports n.port other.0 = subst (λ (ps : List Port). IsPort ps n.port other.0) (sym same) other.1 in
-          let own : IsRipPacket (heard_on n.port n.node rip_socket) (rip.Response part) w = is in
-          rip_leaves one no_fault n.port n.node other.0 other.2 now old part w a new is at_near (moved old new w now a n.port own.port other.1.0 h))
+      let at_near : IsPort old.ports n.port other.0 = subst (λ (ps : List Port). IsPort ps n.port other.0) (sym same) other.1 in
+      let own : IsRipPacket (heard_on n.port n.node rip_socket) (rip.Response part) w = is in
+      rip_leaves one no_fault n.port n.node other.0 other.2 now old part w a new is at_near (moved old new w now a n.port own.port other.1.0 h))
       (λ n other old new part w a same is room h.
-          let at_near : IsPort old.ports n.port other.0 = subst (λ (ps : List Port). IsPort ps n.port other.0) (sym same) other.1 in
-          let own : IsSapPacket (heard_on n.port n.node sap_socket) (sap.Response false part) w = is in
-          hears_sap one no_fault n.port n.node other.0 other.2 now one_sap no_sap_fault old part w a new is at_near room (moved old new w now a n.port own.port other.1.0 h))
+      let at_near : IsPort old.ports n.port other.0 = subst (λ (ps : List Port). IsPort ps n.port other.0) (sym same) other.1 in
+      let own : IsSapPacket (heard_on n.port n.node sap_socket) (sap.Response false part) w = is in
+      hears_sap one no_fault n.port n.node other.0 other.2 now one_sap no_sap_fault old part w a new is at_near room (moved old new w now a n.port own.port other.1.0 h))
       ns others words old new same are heard
       (λ m among. (λ is x none. absurd (omega (arith, none.1)), λ is. agree m among is))
       n there refl (inr among)
