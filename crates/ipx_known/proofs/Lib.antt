@@ -1,3 +1,4 @@
+pub mod FirstOf
 pub mod Tellings
 pub mod Ranked
 pub mod Rows

@@ -2,3 +2,4 @@ pub mod Standing
 pub mod Tellers
 pub mod TableText
 pub mod TableRead
+pub mod FirstTellers

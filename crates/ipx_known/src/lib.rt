@@ -1,10 +1,11 @@
 //! What a router knows, as a text.
 //!
 //! [`tables_to_text`] writes the networks and services that a router heard of, whom it heard them
-//! from and how long ago.
+//! from and how long ago; [`first_tellers`] are the first neighbours, and how much each told.
 #![tactic(auto)]
 
 mod laws;
+mod neighbours;
 mod reading;
 mod route_lines;
 mod sayings;
@@ -16,5 +17,7 @@ mod words;
 mod writing;
 
 pub use laws::bests_are_read_back;
+pub use neighbours::first_tellers;
 pub use reading::{NetworkWords, ServiceWords, networks_of_text, services_of_text};
+pub use tellers::Teller;
 pub use writing::tables_to_text;

@@ -33,7 +33,7 @@ fn bests<K: Ord + Copy, M: Metric + Copy>(
 }
 
 /// Who told networks and services.
-fn tellers_in(
+pub fn tellers_in(
     alloc: Global,
     networks: &[RouteOffer],
     services: &[ServiceOffer],

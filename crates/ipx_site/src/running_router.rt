@@ -21,6 +21,7 @@ use crate::frame_figures::{put_frame_figures, tell_encapsulations};
 use crate::ipxnet_figures::put_ipxnet_figures;
 use crate::marking::{is_any_marked, mark_ready};
 use crate::moments::{LONGEST, end_of, is_over, sooner, time_to};
+use crate::neighbour_figures::put_neighbour_figures;
 use crate::port_figures::put_port_figures;
 use crate::readiness::{Readiness, WaitFault};
 use crate::router_counts::RouterCounts;
@@ -118,7 +119,9 @@ impl<'a, R: SystemClock> RunningRouter<'a, R> {
     /// What its status file says.
     fn status_text(&self, alloc: Global, now: u64) -> Result<String, AllocError> {
         let mut text = self.figures(now).text(alloc)?;
-        put_port_figures(&mut text, self.core.core())?;
+        let core = self.core.core();
+        put_port_figures(&mut text, core)?;
+        put_neighbour_figures(&mut text, alloc, core.router(), now)?;
         put_frame_figures(&mut text, &self.ports)?;
         put_ipxnet_figures(&mut text, &self.ports)?;
         Ok(text)

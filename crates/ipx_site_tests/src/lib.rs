@@ -23,6 +23,8 @@ mod peers;
 #[cfg(test)]
 mod players;
 #[cfg(test)]
+mod port_figures;
+#[cfg(test)]
 mod refused;
 #[cfg(test)]
 mod refused_device;
