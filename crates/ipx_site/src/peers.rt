@@ -134,12 +134,22 @@ fn word_on(guard: &Guard, from: Option<[u8; 4]>, bytes: &[u8]) -> Word
 
 /// A device over another one, which asks the guard of a port of all that comes and goes there. It
 /// counts what it keeps back. A port without a guard hears and sends nothing.
-#[derive(Drop)]
 pub struct PeersOnly<D: Senders + Drop> {
     pub(crate) device: D,
     guards: Vec<Guard>,
     kept: KeptBack,
     refused: u64,
+}
+
+impl<D: Senders + Drop> Drop for PeersOnly<D> {
+    fn drop(self) {
+        let PeersOnly {
+            device: _,
+            guards: _,
+            kept: _,
+            refused: _,
+        } = self;
+    }
 }
 
 impl<D: Senders + Drop> PeersOnly<D> {

@@ -29,7 +29,6 @@ const EVENTS: usize = 32;
 
 /// Waits for sockets. It tells that something came once: before the next wait everything is read,
 /// until nothing is there.
-#[derive(Drop)]
 pub struct Readiness {
     poll: Poll,
     events: Events,
@@ -37,6 +36,17 @@ pub struct Readiness {
     watched: usize,
     /// How many milliseconds it was asked to wait at most when it waited last.
     asked: Option<u64>,
+}
+
+impl Drop for Readiness {
+    fn drop(self) {
+        let Readiness {
+            poll: _,
+            events: _,
+            watched: _,
+            asked: _,
+        } = self;
+    }
 }
 
 impl Readiness {

@@ -30,7 +30,6 @@ pub enum Spot {
 
 /// The ports of a router: those of RFC 1234 over a device, those on wires and those for clients of
 /// ipxnet over their sockets, and which of them each is.
-#[derive(Drop)]
 pub struct RouterPorts<D: Datagrams + Drop, E: EndSockets + Drop, L: PlaceSockets + Drop> {
     pub(crate) datagrams: OnPeers<D>,
     pub(crate) wires: Wires<E>,
@@ -40,6 +39,18 @@ pub struct RouterPorts<D: Datagrams + Drop, E: EndSockets + Drop, L: PlaceSocket
     ghost fit: { All (fits (D.port_count datagrams.device)
         (min (length wires.hubs.items) (length (E.ends_of wires.sockets)))
         (min (length lobbies.lobbies.items) (L.port_count lobbies.sockets))) spots.items },
+}
+
+impl<D: Datagrams + Drop, E: EndSockets + Drop, L: PlaceSockets + Drop> Drop
+    for RouterPorts<D, E, L> {
+    fn drop(self) {
+        let RouterPorts {
+            datagrams: _,
+            wires: _,
+            lobbies: _,
+            spots: _,
+        } = self;
+    }
 }
 
 /// The ports of a site.

@@ -49,7 +49,6 @@ const REST: u64 = 100;
 const TURNS: u32 = 32;
 
 /// A router that runs.
-#[derive(Drop)]
 pub struct RunningRouter<'a, R: SystemClock> {
     core: Sparing<CountedRouter>,
     ports: SiteRouterPorts,
@@ -70,6 +69,25 @@ pub struct RunningRouter<'a, R: SystemClock> {
     written: Option<u64>,
     // So a turn can always be begun.
     ghost spots: { length ports.spots.items ≡ length core.core.router.ports },
+}
+
+impl<'a, R: SystemClock> Drop for RunningRouter<'a, R> {
+    fn drop(self) {
+        let RunningRouter {
+            core: _,
+            ports: _,
+            clock: _,
+            ready: _,
+            status: _,
+            tally: _,
+            known: _,
+            troubles: _,
+            asked: _,
+            looked: _,
+            responses: _,
+            written: _,
+        } = self;
+    }
 }
 
 /// The parts of a router that runs.

@@ -20,12 +20,22 @@ use std::marker::Model;
 /// An asker is a node at a port. It has 8 turns, of which one comes back each second; all together
 /// have 16, of which 16 come back each second. At most 1,024 askers whose turns are not all back
 /// are known, and where there are so many a new one has none.
-#[derive(Drop)]
 pub struct Sparing<C: Core + Drop> {
     core: C,
     ports: Vec<Port>,
     askers: Askers,
     kept: Kept,
+}
+
+impl<C: Core + Drop> Drop for Sparing<C> {
+    fn drop(self) {
+        let Sparing {
+            core: _,
+            ports: _,
+            askers: _,
+            kept: _,
+        } = self;
+    }
 }
 
 impl<C: Core + Drop> Model for Sparing<C> {
