@@ -40,7 +40,6 @@ pub enum Came {
 /// A host of one port, as `HostCore` of the carrier is, that says who may ask it for a connection.
 /// It keeps what came last, and the moment at which it was called last. The connection that it paces
 /// goes by hand, as its pacer plans.
-#[derive(Drop)]
 pub struct EndCore {
     pub endpoint: Endpoint,
     /// The network that it is on.
@@ -53,6 +52,20 @@ pub struct EndCore {
     /// The requests of those who may not ask.
     barred: u64,
     moment: u64,
+}
+
+impl Drop for EndCore {
+    fn drop(self) {
+        let EndCore {
+            endpoint: _,
+            network: _,
+            from: _,
+            came: _,
+            paced: _,
+            barred: _,
+            moment: _,
+        } = self;
+    }
 }
 
 /// How long it is till a moment, and no longer than `most`, in milliseconds.

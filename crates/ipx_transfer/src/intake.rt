@@ -27,7 +27,6 @@ const MOST_AHEAD: u64 = 16_384;
 const STDIN: RawFd = 0;
 
 /// What is read and handed into a link, and what of it is acknowledged.
-#[derive(Drop)]
 pub struct Intake {
     pub gate: Gate,
     pub room: Vec<u8>,
@@ -40,6 +39,18 @@ pub struct Intake {
     ghost order: { closed ≡ true → read ≡ true },
     /// A read always has room.
     ghost roomy: { 0 < length room.items },
+}
+
+impl Drop for Intake {
+    fn drop(self) {
+        let Intake {
+            gate: _,
+            room: _,
+            ledger: _,
+            read: _,
+            closed: _,
+        } = self;
+    }
 }
 
 impl Intake {

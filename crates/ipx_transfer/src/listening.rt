@@ -71,10 +71,18 @@ impl From<WaitFault> for ListenOutcome {
 }
 
 /// A host that listens.
-#[derive(Drop)]
 pub struct ListeningHost<'a, R: Clock> {
     pub station: RunningHost<'a, R>,
     pub callers: Callers,
+}
+
+impl<'a, R: Clock> Drop for ListeningHost<'a, R> {
+    fn drop(self) {
+        let ListeningHost {
+            station: _,
+            callers: _,
+        } = self;
+    }
 }
 
 impl<'a, R: Net + Log + Clock> ListeningHost<'a, R> {

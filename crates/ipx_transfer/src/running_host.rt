@@ -70,7 +70,6 @@ impl Wire {
 }
 
 /// A host that runs.
-#[derive(Drop)]
 pub struct RunningHost<'a, R: Clock> {
     pub core: EndCore,
     wire: Wire,
@@ -79,6 +78,19 @@ pub struct RunningHost<'a, R: Clock> {
     /// How often memory was refused.
     refused: u64,
     telling: Telling,
+}
+
+impl<'a, R: Clock> Drop for RunningHost<'a, R> {
+    fn drop(self) {
+        let RunningHost {
+            core: _,
+            wire: _,
+            clock: _,
+            readiness: _,
+            refused: _,
+            telling: _,
+        } = self;
+    }
 }
 
 impl Wire {

@@ -43,7 +43,6 @@ const SECOND: u64 = 1000;
 const LONG: u64 = 3_600_000;
 
 /// A host that sends.
-#[derive(Drop)]
 pub struct SendingHost<'a, R: Clock> {
     pub station: RunningHost<'a, R>,
     pub id: u16,
@@ -54,6 +53,20 @@ pub struct SendingHost<'a, R: Clock> {
     pub left: Option<u64>,
     pub shows: bool,
     pub next_shown: u64,
+}
+
+impl<'a, R: Clock> Drop for SendingHost<'a, R> {
+    fn drop(self) {
+        let SendingHost {
+            station: _,
+            id: _,
+            intake: _,
+            joined: _,
+            left: _,
+            shows: _,
+            next_shown: _,
+        } = self;
+    }
 }
 
 impl<'a, R: Net + Log + Clock + Eprint> SendingHost<'a, R> {

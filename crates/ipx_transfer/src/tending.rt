@@ -57,7 +57,6 @@ fn stop_of(once: bool, fate: CallerAction, standing: Standing) -> Result<(), Lis
 }
 
 /// The connections that a host that listens holds, and what was taken of them and is left to write.
-#[derive(Drop)]
 pub struct Callers {
     pub held: Vec<Caller>,
     pub outlet: Outlet,
@@ -68,6 +67,18 @@ pub struct Callers {
     of_never_spoke: Cause,
     ghost room: { 16 ≤ vec_capacity held },
     ghost one: { KeepsOne once held.items (left_of outlet) } by { keeps_one_prop once held.items (left_of outlet) },
+}
+
+impl Drop for Callers {
+    fn drop(self) {
+        let Callers {
+            held: _,
+            outlet: _,
+            once: _,
+            never_spoke: _,
+            of_never_spoke: _,
+        } = self;
+    }
 }
 
 impl Callers {
