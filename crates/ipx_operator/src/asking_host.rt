@@ -24,13 +24,24 @@ use std::rt::Clock;
 pub const LOOK: u64 = 20;
 
 /// A host that asks.
-#[derive(Drop)]
 pub struct AskingHost<'a, R: Clock> {
     pub core: AskCore,
     wire: AskingWire,
     clock: SteadyClock<'a, R>,
     readiness: Readiness,
     times: AnswerTimes<'a, R>,
+}
+
+impl<'a, R: Clock> Drop for AskingHost<'a, R> {
+    fn drop(self) {
+        let AskingHost {
+            core: _,
+            wire: _,
+            clock: _,
+            readiness: _,
+            times: _,
+        } = self;
+    }
 }
 
 /// The core of the host of a file that asks at these IP addresses.

@@ -11,12 +11,20 @@ use std::alloc::Global;
 use std::net::Net;
 
 /// The socket of a host that asks, with its guard. No broadcast goes anywhere.
-#[derive(Drop)]
 pub struct AskingWire {
     device: PeersOnly<SiteSockets>,
     peers: Vec<Vec<[u8; 4]>>,
     ghost one_socket: { length device.device.sockets.items ≡ 1 },
     ghost one_list: { length peers.items ≡ 1 },
+}
+
+impl Drop for AskingWire {
+    fn drop(self) {
+        let AskingWire {
+            device: _,
+            peers: _,
+        } = self;
+    }
 }
 
 /// Whether a turn heard or sent anything.

@@ -28,7 +28,6 @@ use std::net::Net;
 use std::rt::Clock;
 
 /// A host that pings, and the times of the answers, in tenths of a millisecond.
-#[derive(Drop)]
 pub struct PingingHost<'a, R: Clock> {
     pub core: PingCore,
     to: Address,
@@ -37,6 +36,20 @@ pub struct PingingHost<'a, R: Clock> {
     clock: SteadyClock<'a, R>,
     readiness: Readiness,
     watch: StopWatch<'a, R>,
+}
+
+impl<'a, R: Clock> Drop for PingingHost<'a, R> {
+    fn drop(self) {
+        let PingingHost {
+            core: _,
+            to: _,
+            times: _,
+            wire: _,
+            clock: _,
+            readiness: _,
+            watch: _,
+        } = self;
+    }
 }
 
 /// Writes a text whole, so that whoever reads has it.
