@@ -31,12 +31,22 @@ use std::io::Write;
 
 /// A network, the names of its members, the moment in milliseconds, and which parcels were
 /// delivered.
-#[derive(Drop)]
 pub struct Simulation {
     net: Net,
     map: Map,
     moment: u64,
     delivered: Delivered,
+}
+
+impl Drop for Simulation {
+    fn drop(self) {
+        let Simulation {
+            net: _,
+            map: _,
+            moment: _,
+            delivered: _,
+        } = self;
+    }
 }
 
 fn say<W: Write>(writer: &mut W, line: Result<String, AllocError>) -> Result<(), ScriptFault>
