@@ -83,9 +83,9 @@ fn bound_host<R: Net>(
 ) -> Result<Runner<HostCore>, UdpScriptFault>
     ensures { IfOk result (IsHostOf ground.entry.map.now.spots.items number host.now) }
 {
-    let endpoint = endpoint_of(alloc, host)?;
     let peers = peers_of_host(alloc, ground.map, number, host)?;
     let device = socket_of(rt, alloc, host, ground.port)?;
+    let endpoint = endpoint_of(alloc, host)?;
     Ok(Runner::new(HostCore::new(endpoint), device, peers))
 }
 
@@ -146,9 +146,9 @@ fn bound_router<R: Net>(
 ) -> Result<Runner<RouterCore>, UdpScriptFault>
     requires { All IsOwnNetwork ports.now }
 {
-    let router = router_of(alloc, ports)?;
     let peers = peers_of_ports(alloc, ground.map, number, ports)?;
     let device = sockets_of(rt, alloc, ports, ground.port)?;
+    let router = router_of(alloc, ports)?;
     Ok(Runner::new(RouterCore::new(alloc, router), device, peers))
 }
 

@@ -230,16 +230,17 @@ fn run_bound<W: Write>(
     }
 }
 
-fn run_whole<R: Net + Log, W: Write>(
+/// Runs the lines of a script from that number on, over the sockets of its layout.
+fn run_laid_out<R: Net + Log, W: Write>(
     rt: &R,
     alloc: Global,
+    layout: &Layout,
+    first: u32,
     input: &[u8],
     writer: &mut W,
     port: u16,
 ) -> Result<u8, Stopped> {
-    let mut layout = Layout::new(alloc);
-    let first = lay_out(alloc, &mut layout, input)?;
-    let mut site = match UdpNet::bind(rt, alloc, &layout, port) {
+    let mut site = match UdpNet::bind(rt, alloc, layout, port) {
         Ok(site) => site,
         Err(stop) => return Err(Stopped { line: first, stop }),
     };
@@ -249,6 +250,18 @@ fn run_whole<R: Net + Log, W: Write>(
         warn!(rt; "unmapped {unmapped}");
     }
     done
+}
+
+fn run_whole<R: Net + Log, W: Write>(
+    rt: &R,
+    alloc: Global,
+    input: &[u8],
+    writer: &mut W,
+    port: u16,
+) -> Result<u8, Stopped> {
+    let mut layout = Layout::new(alloc);
+    let first = lay_out(alloc, &mut layout, input)?;
+    run_laid_out(rt, alloc, &layout, first, input, writer, port)
 }
 
 fn run_script<R: Net + Log, W: Write>(
