@@ -10,9 +10,9 @@ use Rattle.ipx_carrier.specs.Turns.{Given}
 use Rattle.ipx_carrier.specs.declared.outcome_counts.OutcomeCounts.{OutcomeCounts}
 use Rattle.ipx_wire.specs.declared.address.Node.{Node}
 use Rattle.ipx_carrier.specs.GivenPackets.{given_in}
-use Rattle.ipx_figures.specs.CountedRouter.{CountedView, CountsGiven, IsCountedHeard, with_given}
+use Rattle.ipx_figures.specs.CountedRouter.{CountedView, CountsAsItGives, IsCountedHeard, with_given}
 use Rattle.ipx_figures.specs.LastDrops.{AreNoted}
-use Rattle.ipx_figures.specs.PortCounts.{at_port, with_heard_there, with_sent_there}
+use Rattle.ipx_figures.specs.PortCounts.{changed_at, with_heard_there, with_sent_there}
 use Rattle.ipx_figures.specs.declared.last_drops.LastDrops.{LastDrops}
 use Rattle.ipx_figures.specs.declared.port_counts.PortCounts.{PortCounts}
 use Rattle.ipx_figures.proofs.Sums.{AreFew, NoneFell, none_fell}
@@ -38,11 +38,11 @@ err_with (Err e) P Q q p = (p, q)
 
 -- what a port counts of what came, and what was dropped last
 pub heard_counted : (k k' : CoreView) (ports lent ports' items' : List PortCounts) (last last' : LastDrops) (port : ℕ) (bytes : List ℕ) (before after : OutcomeCounts)
-    → before ≡ k.fates → after ≡ k'.fates → lent ≡ ports → ports' ≡ at_port lent port (with_heard_there before after (length bytes)) → items' ≡ ports'
+    → before ≡ k.fates → after ≡ k'.fates → lent ≡ ports → ports' ≡ changed_at lent port (with_heard_there before after (length bytes)) → items' ≡ ports'
     → AreNoted before after port bytes last last' → IsCountedHeard (counted_of k ports last) port bytes (counted_of k' items' last')
 heard_counted k k' ports lent ports' items' last last' port bytes before after b a l e i n = record {
-  by_port = i ∙ e ∙ ap (λ it. at_port it port (with_heard_there before after (length bytes))) l
-      ∙ ap (λ f. at_port ports port (with_heard_there f after (length bytes))) b ∙ ap (λ f. at_port ports port (with_heard_there k.fates f (length bytes))) a;
+  by_port = i ∙ e ∙ ap (λ it. changed_at it port (with_heard_there before after (length bytes))) l
+      ∙ ap (λ f. changed_at ports port (with_heard_there f after (length bytes))) b ∙ ap (λ f. changed_at ports port (with_heard_there k.fates f (length bytes))) a;
   last = subst (λ f. AreNoted f k'.fates port bytes last last') b (subst (λ f. AreNoted before f port bytes last last') a n);
 }
 
@@ -98,16 +98,16 @@ some_is o x P e h = subst (λ it. IfSome it P) e h
 
 -- a packet that is given is counted at its port
 pub given_counted : (k k' : CoreView) (ports lent ports' items' : List PortCounts) (last : LastDrops) (now : ℕ) (room : List ℕ) (given : Option (ℕ × Node × ℕ)) (port count : ℕ) (node : Node)
-    → given ≡ Some (port, node, count) → count ≤ length room → RouterGives k now (given_in room given) k' → lent ≡ ports → ports' ≡ at_port lent port (with_sent_there count) → items' ≡ ports'
-    → CountsGiven (counted_of k ports last) now (given_in room given) (counted_of k' items' last)
+    → given ≡ Some (port, node, count) → count ≤ length room → RouterGives k now (given_in room given) k' → lent ≡ ports → ports' ≡ changed_at lent port (with_sent_there count) → items' ≡ ports'
+    → CountsAsItGives (counted_of k ports last) now (given_in room given) (counted_of k' items' last)
 given_counted k k' ports lent ports' items' last now room given port count node is few h l e i = (
   h,
-  i ∙ e ∙ ap (λ it. at_port it port (with_sent_there count)) l ∙ ap (λ n. at_port ports port (with_sent_there n)) (sym (length-take-le count room few))
+  i ∙ e ∙ ap (λ it. changed_at it port (with_sent_there count)) l ∙ ap (λ n. changed_at ports port (with_sent_there n)) (sym (length-take-le count room few))
       ∙ ap (λ g. with_given (given_in room g) ports) (sym is),
   refl,
 )
 
 -- and where none is, nothing is counted
 pub none_counted : (k k' : CoreView) (ports : List PortCounts) (last : LastDrops) (now : ℕ) (room : List ℕ) (given : Option (ℕ × Node × ℕ)) → given ≡ None
-    → RouterGives k now (given_in room given) k' → CountsGiven (counted_of k ports last) now (given_in room given) (counted_of k' ports last)
+    → RouterGives k now (given_in room given) k' → CountsAsItGives (counted_of k ports last) now (given_in room given) (counted_of k' ports last)
 none_counted k k' ports last now room given is h = (h, ap (λ g. with_given (given_in room g) ports) (sym is), refl)

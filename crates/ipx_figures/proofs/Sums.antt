@@ -7,7 +7,7 @@ use Rattle.ipx_router.specs.OutcomeView.{OutcomeView, Forward, Replies, Heard, D
 use Rattle.ipx_carrier.specs.Counting.{counted, raised}
 use Rattle.ipx_carrier.specs.OutcomeCounts.{fated, fated_by}
 use Rattle.ipx_carrier.specs.declared.outcome_counts.OutcomeCounts.{OutcomeCounts}
-use Rattle.ipx_figures.specs.PortCounts.{at_port, fates_over, no_traffic, with_heard_there, with_sent_there}
+use Rattle.ipx_figures.specs.PortCounts.{changed_at, fates_over, no_traffic, with_heard_there, with_sent_there}
 use Rattle.ipx_figures.specs.declared.port_counts.PortCounts.{PortCounts}
 
 raised_grows : (n : ℕ) → n < 2 ^ 64 → n ≤ raised n
@@ -208,12 +208,12 @@ counts_same a b e0 e1 e2 e3 e4 e5 e6 e7 e8 e9 =
 
 -- counts of ports make up those of the whole, and still do where one port counts what the whole does
 pub still_sums : (ports : List PortCounts) (i n : ℕ) (before after : OutcomeCounts) → i < length ports → before ≡ fates_over ports → NoneFell before after → AreFew after
-    → after ≡ fates_over (at_port ports i (with_heard_there before after n))
+    → after ≡ fates_over (changed_at ports i (with_heard_there before after n))
 still_sums ports i n before after h e up few =
     let y = with_heard_there before after n (get_or ports i no_traffic) in
     let each = λ (of : OutcomeCounts → ℕ) (le : of before ≤ of after) (fits : of after < 2 ^ 64) (is : of y.fates ≡ counted (of (get_or ports i no_traffic).fates + (of after - of before))) (sum : of before ≡ sum_by (λ p. of p.fates) ports).
     moved_sum (λ p. of p.fates) ports i y no_traffic (of before) (of after) h sum le fits is in
-    counts_same after (fates_over (at_port ports i (with_heard_there before after n)))
+    counts_same after (fates_over (changed_at ports i (with_heard_there before after n)))
     (each (λ f. f.forwarded) up.forwarded few.forwarded refl (ap (λ f. f.forwarded) e))
     (each (λ f. f.answered) up.answered few.answered refl (ap (λ f. f.answered) e))
     (each (λ f. f.heard) up.heard few.heard refl (ap (λ f. f.heard) e))
@@ -226,10 +226,10 @@ still_sums ports i n before after h e up few =
     (each (λ f. f.table_full) up.table_full few.table_full refl (ap (λ f. f.table_full) e))
 
 -- a port that sends changes no count of what came
-pub sums_sent : (ports : List PortCounts) (i n : ℕ) → i < length ports → fates_over (at_port ports i (with_sent_there n)) ≡ fates_over ports
+pub sums_sent : (ports : List PortCounts) (i n : ℕ) → i < length ports → fates_over (changed_at ports i (with_sent_there n)) ≡ fates_over ports
 sums_sent ports i n h =
     let y = with_sent_there n (get_or ports i no_traffic) in
     let each : (of : OutcomeCounts → ℕ) → sum_by (λ p. of p.fates) (slice_set ports i y) ≡ sum_by (λ p. of p.fates) ports = λ of. unmoved_sum (λ p. of p.fates) ports i y no_traffic h refl in
-    counts_same (fates_over (at_port ports i (with_sent_there n))) (fates_over ports)
+    counts_same (fates_over (changed_at ports i (with_sent_there n))) (fates_over ports)
     (each (λ f. f.forwarded)) (each (λ f. f.answered)) (each (λ f. f.heard)) (each (λ f. f.bad)) (each (λ f. f.propagated))
     (each (λ f. f.not_ours)) (each (λ f. f.no_route)) (each (λ f. f.hop_limit)) (each (λ f. f.bad_control)) (each (λ f. f.table_full))

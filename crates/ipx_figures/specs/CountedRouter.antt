@@ -6,7 +6,7 @@ use Rattle.ipx_carrier.specs.RouterCore.{CoreView, Misses, RouterGives, RouterHe
 use Rattle.ipx_carrier.specs.Turns.{Given}
 use Rattle.ipx_carrier.specs.declared.outcome_counts.OutcomeCounts.{OutcomeCounts}
 use Rattle.ipx_figures.specs.LastDrops.{AreNoted}
-use Rattle.ipx_figures.specs.PortCounts.{at_port, with_heard_there, with_sent_there}
+use Rattle.ipx_figures.specs.PortCounts.{changed_at, with_heard_there, with_sent_there}
 use Rattle.ipx_figures.specs.declared.last_drops.LastDrops.{LastDrops}
 use Rattle.ipx_figures.specs.declared.port_counts.PortCounts.{PortCounts}
 
@@ -21,8 +21,8 @@ pub record CountedView : Type 0 where
   pub last : LastDrops
 
 -- without the latter
-abbrev pub carried : CountedView → CoreView
-carried c = record {
+abbrev pub without_counts : CountedView → CoreView
+without_counts c = record {
   router = c.router;
   queue = c.queue;
   started = c.started;
@@ -34,30 +34,30 @@ carried c = record {
 -- are what it dropped last
 pub record IsCountedHeard (old : CountedView) (port : ℕ) (bytes : List ℕ) (new : CountedView) : Type 0 where
   pub by_port :
-      new.by_port ≡ at_port old.by_port port (with_heard_there old.fates new.fates (length bytes))
+      new.by_port ≡ changed_at old.by_port port (with_heard_there old.fates new.fates (length bytes))
   pub last : AreNoted old.fates new.fates port bytes old.last new.last
 
 -- it hears what the router does
 abbrev pub CountsHeard : CountedView → ℕ → List ℕ → ℕ → CountedView → Type 0
-CountsHeard old port bytes now new = RouterHears (carried old) port bytes now (carried new)
+CountsHeard old port bytes now new = RouterHears (without_counts old) port bytes now (without_counts new)
     × IsCountedHeard old port bytes new
 
 -- memory is refused to it as it hears. What came is counted
 abbrev pub CountsMissed : CountedView → ℕ → List ℕ → ℕ → CountedView → Type 0
-CountsMissed old port bytes now new = Misses (carried old) port bytes now (carried new)
+CountsMissed old port bytes now new = Misses (without_counts old) port bytes now (without_counts new)
     × IsCountedHeard old port bytes new
 
 -- a packet that is given is counted at its port, and at no other
 abbrev pub with_given : Option Given → List PortCounts → List PortCounts
 with_given None ports = ports
-with_given (Some g) ports = at_port ports g.port (with_sent_there (length g.bytes))
+with_given (Some g) ports = changed_at ports g.port (with_sent_there (length g.bytes))
 
 -- it gives what the router does
-abbrev pub CountsGiven : CountedView → ℕ → Option Given → CountedView → Type 0
-CountsGiven old now given new = RouterGives (carried old) now given (carried new)
+abbrev pub CountsAsItGives : CountedView → ℕ → Option Given → CountedView → Type 0
+CountsAsItGives old now given new = RouterGives (without_counts old) now given (without_counts new)
     × (new.by_port ≡ with_given given old.by_port) × (new.last ≡ old.last)
 
 -- memory is refused to it as it is asked, and nothing is counted
 abbrev pub CountsWithheld : CountedView → ℕ → CountedView → Type 0
-CountsWithheld old now new = Withholds (carried old) now (carried new)
+CountsWithheld old now new = Withholds (without_counts old) now (without_counts new)
     × (new.by_port ≡ old.by_port) × (new.last ≡ old.last)

@@ -8,8 +8,8 @@ use Rattle.ipx_figures.specs.declared.last_drops.LastDrop.{LastDrop}
 use Rattle.ipx_figures.specs.declared.last_drops.LastDrops.{LastDrops}
 
 -- none was dropped yet
-abbrev pub no_drops : LastDrops
-no_drops = record { bad = None; not_ours = None; no_route = None; hop_limit = None; bad_control = None }
+abbrev pub nothing_dropped : LastDrops
+nothing_dropped = record { bad = None; not_ours = None; no_route = None; hop_limit = None; bad_control = None }
 
 -- the address that stands at a place of bytes, where these are as long as a head; else none
 abbrev pub IsHeadAddress : ℕ → List ℕ → Option Address → Type 0

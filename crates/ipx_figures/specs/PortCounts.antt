@@ -40,8 +40,8 @@ with_sent_there bytes p = record p {
 }
 
 -- the counts of one port change so, and those of no other
-abbrev pub at_port : List PortCounts → ℕ → (PortCounts → PortCounts) → List PortCounts
-at_port ports port change = slice_set ports port (change (slice_index_or ports port no_traffic))
+abbrev pub changed_at : List PortCounts → ℕ → (PortCounts → PortCounts) → List PortCounts
+changed_at ports port change = slice_set ports port (change (slice_index_or ports port no_traffic))
 
 -- a count of each port, added up
 abbrev pub over_ports : (OutcomeCounts → ℕ) → List PortCounts → ℕ

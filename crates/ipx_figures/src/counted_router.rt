@@ -2,8 +2,8 @@
 
 ghost use Rattle.std.specs.Prelude.{◌≡◌, [], false, length, replicate, IfOk};
 ghost use Rattle.ipx_carrier.specs.OutcomeCounts.{none};
-ghost use Rattle.ipx_figures.specs.LastDrops.{no_drops};
-ghost use Rattle.ipx_figures.specs.PortCounts.{at_port, fates_over, no_traffic, with_heard_there, with_sent_there};
+ghost use Rattle.ipx_figures.specs.LastDrops.{nothing_dropped};
+ghost use Rattle.ipx_figures.specs.PortCounts.{changed_at, fates_over, no_traffic, with_heard_there, with_sent_there};
 
 use crate::last_drops::LastDrops;
 use crate::port_counts::PortCounts;
@@ -52,7 +52,7 @@ fn hear_at(
     after: &OutcomeCounts,
     bytes: usize,
 )
-    ensures { ports.new ≡ at_port ports.old port (with_heard_there before.now after.now bytes) }
+    ensures { ports.new ≡ changed_at ports.old port (with_heard_there before.now after.now bytes) }
 {
     if port < ports.len() {
         ports[port].hear(before, after, bytes);
@@ -61,7 +61,7 @@ fn hear_at(
 
 /// Counts at a port what is given to be sent there.
 fn send_at(ports: &mut [PortCounts], port: usize, bytes: usize)
-    ensures { ports.new ≡ at_port ports.old port (with_sent_there bytes) }
+    ensures { ports.new ≡ changed_at ports.old port (with_sent_there bytes) }
 {
     if port < ports.len() {
         ports[port].send(bytes);
@@ -76,7 +76,7 @@ impl CountedRouter {
             (c.queue ≡ []) × (c.started ≡ false) × (c.dropped ≡ 0)) }
         ensures unheard { IfOk result (λ c. c.fates ≡ none) }
         ensures uncounted { IfOk result (λ c.
-            (c.by_port ≡ replicate (length router.ports) no_traffic) × (c.last ≡ no_drops)) }
+            (c.by_port ≡ replicate (length router.ports) no_traffic) × (c.last ≡ nothing_dropped)) }
     {
         let ports = vec![in alloc; PortCounts::new(); router.ports().len()]?;
         Ok(CountedRouter {
@@ -134,13 +134,13 @@ impl CountedRouter {
 
 impl Core for CountedRouter {
     ghost use Rattle.std.specs.Prelude.{length};
-    ghost use Rattle.ipx_figures.specs.CountedRouter.{CountsGiven, CountsHeard, CountsMissed, CountsWithheld};
+    ghost use Rattle.ipx_figures.specs.CountedRouter.{CountsAsItGives, CountsHeard, CountsMissed, CountsWithheld};
 
     ghost port_count = { λ c. length c.router.ports };
 
     ghost hears = { CountsHeard };
 
-    ghost gives = { CountsGiven };
+    ghost gives = { CountsAsItGives };
 
     ghost misses = { CountsMissed };
 

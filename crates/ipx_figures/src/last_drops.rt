@@ -1,7 +1,7 @@
 //! The last datagrams that a router dropped.
 
 ghost use Rattle.std.specs.Prelude.{◌≡◌};
-ghost use Rattle.ipx_figures.specs.LastDrops.{AreNoted, IsDropOf, IsHeadAddress, IsNotedIf, no_drops};
+ghost use Rattle.ipx_figures.specs.LastDrops.{AreNoted, IsDropOf, IsHeadAddress, IsNotedIf, nothing_dropped};
 
 use ipx_carrier::OutcomeCounts;
 use ipx_wire::{Address, IPX_HEADER_SIZE, address_at};
@@ -74,7 +74,7 @@ fn note_if(last: &mut Option<LastDrop>, before: u64, after: u64, port: usize, by
 impl LastDrops {
     /// None was dropped yet.
     pub fn new() -> LastDrops
-        ensures { result ≡ no_drops }
+        ensures { result ≡ nothing_dropped }
     {
         LastDrops {
             bad: None,

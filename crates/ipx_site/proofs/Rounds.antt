@@ -1,7 +1,7 @@
 -- One round of a router that runs.
 use Rattle.std.proofs.Common.{◌≡◌, ◌∙◌, ℕ, length, min, Bool, true, false, if◌then◌else◌, Option, Some, None, is_some, sym, ap, subst, inl, inr}
 use Rattle.ipx_carrier.specs.declared.fault.RunFault.{RunFault}
-use Rattle.ipx_figures.specs.CountedRouter.{CountedView, CountsGiven, CountsHeard, CountsMissed, CountsWithheld}
+use Rattle.ipx_figures.specs.CountedRouter.{CountedView, CountsAsItGives, CountsHeard, CountsMissed, CountsWithheld}
 use Rattle.ipx_carrier.specs.Turns.{Ways}
 use Rattle.ipx_carrier.specs.declared.report.Burst.{Burst}
 use Rattle.ipx_carrier.specs.Driving.{BurstsBy}
@@ -19,13 +19,13 @@ same_ports now times times_after old mid (inr h) = ap (λ (v : SparingView Count
 pub is_round : {K A : Type 0} (tells : K → ℕ → K → Type 0) (clock told tick clock_after : K) (ways here : Ways A)
     (i j n : ℕ) (now moment times times_after : ℕ) (old mid new : SparingView CountedView) (b : Burst) → tells clock now told → tick ≡ told → moment ≡ now
     → AsksAgain now times times_after old mid → here ≡ ways → j ≡ i
-    → BurstsBy (HearsSparingly CountsHeard) (MissesBelow CountsMissed) (GivesBelow CountsGiven) (WithholdsBelow CountsWithheld) tells (length mid.core.router.ports) here 32 b j n tick clock_after mid new
+    → BurstsBy (HearsSparingly CountsHeard) (MissesBelow CountsMissed) (GivesBelow CountsAsItGives) (WithholdsBelow CountsWithheld) tells (length mid.core.router.ports) here 32 b j n tick clock_after mid new
     → IsRound clock clock_after tells ways i n times times_after old new moment b
 is_round {A = A} tells clock told tick clock_after ways here i j n now moment times times_after old mid new b h e m asks f g bursts =
-    let at = subst (λ ports. BurstsBy (HearsSparingly CountsHeard) (MissesBelow CountsMissed) (GivesBelow CountsGiven) (WithholdsBelow CountsWithheld) tells ports here 32 b j n tick clock_after mid new)
+    let at = subst (λ ports. BurstsBy (HearsSparingly CountsHeard) (MissesBelow CountsMissed) (GivesBelow CountsAsItGives) (WithholdsBelow CountsWithheld) tells ports here 32 b j n tick clock_after mid new)
     (same_ports now times times_after old mid asks) bursts in
-    let by = subst (λ (it : Ways A). BurstsBy (HearsSparingly CountsHeard) (MissesBelow CountsMissed) (GivesBelow CountsGiven) (WithholdsBelow CountsWithheld) tells (length old.core.router.ports) it 32 b j n tick clock_after mid new) f at in
-    let kept = subst (λ it. BurstsBy (HearsSparingly CountsHeard) (MissesBelow CountsMissed) (GivesBelow CountsGiven) (WithholdsBelow CountsWithheld) tells (length old.core.router.ports) ways 32 b it n tick clock_after mid new) g by in
+    let by = subst (λ (it : Ways A). BurstsBy (HearsSparingly CountsHeard) (MissesBelow CountsMissed) (GivesBelow CountsAsItGives) (WithholdsBelow CountsWithheld) tells (length old.core.router.ports) it 32 b j n tick clock_after mid new) f at in
+    let kept = subst (λ it. BurstsBy (HearsSparingly CountsHeard) (MissesBelow CountsMissed) (GivesBelow CountsAsItGives) (WithholdsBelow CountsWithheld) tells (length old.core.router.ports) ways 32 b it n tick clock_after mid new) g by in
     (now, tick, mid, subst (λ it. tells clock now it) (sym e) h, m, asks, kept)
 
 -- how long a router waits, by how its burst ended

@@ -2,7 +2,7 @@
 -- of it is own.
 use Rattle.std.specs.Prelude.{◌≡◌, ◌⊎◌, ℕ, ◌+◌, length, min, Bool, false, true, if◌then◌else◌, Option, Some, None}
 use Rattle.ipx_carrier.specs.declared.fault.RunFault.{RunFault}
-use Rattle.ipx_figures.specs.CountedRouter.{CountedView, CountsGiven, CountsHeard, CountsMissed, CountsWithheld}
+use Rattle.ipx_figures.specs.CountedRouter.{CountedView, CountsAsItGives, CountsHeard, CountsMissed, CountsWithheld}
 use Rattle.ipx_carrier.specs.Turns.{Ways}
 use Rattle.ipx_carrier.specs.declared.report.Burst.{Burst}
 use Rattle.ipx_carrier.specs.Driving.{BurstsBy}
@@ -25,7 +25,7 @@ abbrev pub IsRound : {K A : Type 0} → K → K → (K → ℕ → K → Type 0)
 IsRound {K} clock clock_after tells ways kept kept_after times times_after old new moment b = (now : ℕ) × (tick : K)
     × (mid : SparingView CountedView) × tells clock now tick
     × (moment ≡ now) × AsksAgain now times times_after old mid
-    × BurstsBy (HearsSparingly CountsHeard) (MissesBelow CountsMissed) (GivesBelow CountsGiven) (WithholdsBelow CountsWithheld) tells
+    × BurstsBy (HearsSparingly CountsHeard) (MissesBelow CountsMissed) (GivesBelow CountsAsItGives) (WithholdsBelow CountsWithheld) tells
     (length old.core.router.ports) ways 32 b kept kept_after tick clock_after mid new
 
 -- how long it waits then, and when: 100 ms behind a fault; not at all behind a burst that was not quiet, in

@@ -67,7 +67,10 @@ fn ports_make_up_the_whole(rt: HostRuntime) -> Result<(), Fail> {
     hear_all(alloc, &mut core)?;
     let all = core.fates();
     assert_eq!(rt; (all.bad, all.not_ours, all.hop_limit), (1, 1, 1));
-    assert_eq!(rt; (all.propagated, all.bad_control, all.no_route, all.forwarded), (1, 1, 2, 3));
+    assert_eq!(rt;
+        (all.propagated, all.bad_control, all.no_route, all.forwarded),
+        (1, 1, 2, 3)
+    );
     assert_eq!(rt; sum(&core, |fates| fates.bad), all.bad);
     assert_eq!(rt; sum(&core, |fates| fates.not_ours), all.not_ours);
     assert_eq!(rt; sum(&core, |fates| fates.hop_limit), all.hop_limit);
@@ -102,11 +105,7 @@ fn figures_of_ports_in_text(rt: HostRuntime) -> Result<(), Fail> {
     Ok(())
 }
 
-fn said(
-    alloc: Global,
-    reason: DropReason,
-    last: Option<LastDrop>,
-) -> Result<String, AllocError> {
+fn said(alloc: Global, reason: DropReason, last: Option<LastDrop>) -> Result<String, AllocError> {
     let words = DropWords { reason, last };
     format!(in alloc; "{words}")
 }
@@ -120,16 +119,25 @@ fn lines_of_what_was_dropped(rt: HostRuntime) -> Result<(), Fail> {
     let bad = said(alloc, DropReason::Bad, last.bad)?;
     assert_eq!(rt; bad.as_str(), "bad, the last by port 1");
     let not_ours = said(alloc, DropReason::NotOurs, last.not_ours)?;
-    assert_eq!(rt; not_ours.as_str(), "not ours, the last from 00000011 00000a010014 4003 by port 1");
+    assert_eq!(rt;
+        not_ours.as_str(),
+        "not ours, the last from 00000011 00000a010014 4003 by port 1"
+    );
     let no_route = said(alloc, DropReason::NoRoute, last.no_route)?;
-    assert_eq!(rt; no_route.as_str(),
-        "no route 00000044, the last from 00000022 00000a010014 4003 by port 2");
+    assert_eq!(rt;
+        no_route.as_str(),
+        "no route 00000044, the last from 00000022 00000a010014 4003 by port 2"
+    );
     let hop_limit = said(alloc, DropReason::HopLimit, last.hop_limit)?;
-    assert_eq!(rt; hop_limit.as_str(),
-        "hop limit, the last from 00000011 00000a010014 4003 by port 1");
+    assert_eq!(rt;
+        hop_limit.as_str(),
+        "hop limit, the last from 00000011 00000a010014 4003 by port 1"
+    );
     let control = said(alloc, DropReason::BadControl, last.bad_control)?;
-    assert_eq!(rt; control.as_str(),
-        "bad control, the last from 00000011 00000a010014 4003 by port 1");
+    assert_eq!(rt;
+        control.as_str(),
+        "bad control, the last from 00000011 00000a010014 4003 by port 1"
+    );
     assert_eq!(rt; said(alloc, DropReason::Bad, None)?.as_str(), "bad");
     Ok(())
 }
@@ -181,7 +189,10 @@ fn of_300_neighbours_the_first_256_have_figures(rt: HostRuntime) -> Result<(), F
     }
     let mut text = String::new(alloc);
     put_neighbour_figures(&mut text, alloc, core.router(), 2000)?;
-    let lines = text.as_str().lines().filter(|line| line.starts_with("ipx_neighbour_services{"));
+    let lines = text
+        .as_str()
+        .lines()
+        .filter(|line| line.starts_with("ipx_neighbour_services{"));
     assert_eq!(rt; lines.count(), 256);
     Ok(())
 }

@@ -3,8 +3,8 @@ use Rattle.std.specs.Vec.{with_items}
 use Rattle.std.proofs.lemmas.List.{with_items_is}
 use Rattle.std.proofs.lemmas.Result.{err_from_is_err_and}
 use Rattle.ipx_carrier.specs.GivenPackets.{given_in}
-use Rattle.ipx_figures.specs.CountedRouter.{CountedView, CountsGiven, CountsWithheld}
-use Rattle.ipx_figures.specs.PortCounts.{at_port, fates_over, with_sent_there}
+use Rattle.ipx_figures.specs.CountedRouter.{CountedView, CountsAsItGives, CountsWithheld}
+use Rattle.ipx_figures.specs.PortCounts.{changed_at, fates_over, with_sent_there}
 use Rattle.ipx_figures.proofs.Counted.{counted_of, given_counted, given_same, none_counted, some_is}
 use Rattle.ipx_figures.proofs.Sums.{sums_sent}
 use Rattle.ipx_figures.proofs.counted_router.CountedRouterCore.next.Goals as goal
@@ -27,7 +27,7 @@ invariant_of-self-in-Some c =
     let at : c.in-Some.port < length i.core.router.ports = some_is c.in_ok-given.given _ (λ g. g.0 < length i.core.router.ports) c.in-Some.is c.in_ok-given.ensures.there in
     let there : c.in-Some.port < length i.ports.items = omega (arith, at, c.self.invariant.0) in
     let sums = sums_sent i.ports.items c.in-Some.port c.in-Some.count there in
-    let counts = is ∙ c.send_at.ensures ∙ ap (λ l. at_port l c.in-Some.port (with_sent_there c.in-Some.count)) c.deref_mut.ensures.value in (
+    let counts = is ∙ c.send_at.ensures ∙ ap (λ l. changed_at l c.in-Some.port (with_sent_there c.in-Some.count)) c.deref_mut.ensures.value in (
       omega (arith, ap length is, c.send_at.auto.ports, ap length c.deref_mut.ensures.value, c.self.invariant.0, c.next.ensures.ports),
       given_same i.core k' c.args.now (given_in c.next.new.room c.in_ok-given.given) c.in_ok-given.ensures.given ∙ c.self.invariant.1 ∙ sym (ap fates_over counts ∙ sums),
     )
@@ -41,7 +41,7 @@ returns-in-Some-clause-given c =
     let within : c.in-Some.count ≤ length c.args.room.now = some_is c.in_ok-given.given _ (λ g. g.2 ≤ length c.args.room.now) c.in-Some.is c.in_ok-given.ensures.within in
     let few : c.in-Some.count ≤ length c.next.new.room = omega (arith, within, c.next.auto.room) in
     let new = counted_of k' (with_items i.ports ports').items i.last in
-    subst (λ (v : CountedView). CountsGiven v c.args.now (given_in c.next.new.room c.in_ok-given.given) new) c.self.view_is
+    subst (λ (v : CountedView). CountsAsItGives v c.args.now (given_in c.next.new.room c.in_ok-given.given) new) c.self.view_is
     (given_counted i.core k' i.ports.items c.deref_mut.result.now ports' (with_items i.ports ports').items i.last c.args.now c.next.new.room c.in_ok-given.given c.in-Some.port c.in-Some.count c.in-Some._node
     c.in-Some.is few c.in_ok-given.ensures.given c.deref_mut.ensures.value c.send_at.ensures (with_items_is i.ports ports' len))
 
@@ -50,5 +50,5 @@ returns-in_default-clause-given c =
     let i = c.self.inside in
     let k' = c.next.new.self in
     let new = counted_of k' i.ports.items i.last in
-    subst (λ (v : CountedView). CountsGiven v c.args.now (given_in c.next.new.room c.in_ok-given.given) new) c.self.view_is
+    subst (λ (v : CountedView). CountsAsItGives v c.args.now (given_in c.next.new.room c.in_ok-given.given) new) c.self.view_is
     (none_counted i.core k' i.ports.items i.last c.args.now c.next.new.room c.in_ok-given.given c.in_default.is c.in_ok-given.ensures.given)
