@@ -8,3 +8,4 @@ pub mod Parted
 pub mod LineWords
 pub mod ReadBack
 pub mod Kept
+pub mod OwnBack

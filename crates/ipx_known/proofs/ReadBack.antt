@@ -19,11 +19,11 @@ use Rattle.ipx_known.proofs.LineWords.{best_route_read, best_service_read, neigh
 
 module _ {Y : Type 0} (h : List (List ℕ) → Option Y) where
   -- lines of which nothing is read
-  skip_all : {X : Type 0} (f : X → List ℕ) → ((x : X) (rest : List ℕ) → read_of h (f x ++ rest) ≡ read_of h rest) → (xs : List X) (rest : List ℕ) → read_of h (flat_map f xs ++ rest) ≡ read_of h rest
+  pub skip_all : {X : Type 0} (f : X → List ℕ) → ((x : X) (rest : List ℕ) → read_of h (f x ++ rest) ≡ read_of h rest) → (xs : List X) (rest : List ℕ) → read_of h (flat_map f xs ++ rest) ≡ read_of h rest
   skip_all f skips [] rest = refl
   skip_all f skips (x ∷ xs) rest = ap (read_of h) (append_assoc (f x) (flat_map f xs) rest) ∙ skips x (flat_map f xs ++ rest) ∙ skip_all f skips xs rest
 
-  skip_owns : ((number : ℕ) (p : Port) (rest : List ℕ) → read_of h (own_line number p ++ rest) ≡ read_of h rest) → (number : ℕ) (ports : List Port) (rest : List ℕ) → read_of h (own_lines number ports ++ rest) ≡ read_of h rest
+  pub skip_owns : ((number : ℕ) (p : Port) (rest : List ℕ) → read_of h (own_line number p ++ rest) ≡ read_of h rest) → (number : ℕ) (ports : List Port) (rest : List ℕ) → read_of h (own_lines number ports ++ rest) ≡ read_of h rest
   skip_owns skips number [] rest = refl
   skip_owns skips number (p ∷ ports) rest =
       ap (read_of h) (append_assoc (own_line number p) (own_lines (number + 1) ports) rest)

@@ -3,3 +3,4 @@ pub mod Tellers
 pub mod TableText
 pub mod TableRead
 pub mod FirstTellers
+pub mod TableParts

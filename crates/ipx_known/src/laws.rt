@@ -1,6 +1,6 @@
-//! A law of a text of tables, which says what is read of it again. It does nothing.
+//! Laws of a text of tables, which say what is read of it again. They do nothing.
 
-ghost use Rattle.std.specs.Prelude.{◌≡◌, ℕ, List, map};
+ghost use Rattle.std.specs.Prelude.{◌≡◌, ℕ, List, map, true};
 ghost use Rattle.ipx_wire.specs.declared.address.Network.{Network};
 ghost use Rattle.ipx_tables.specs.declared.route.RouteMetric.{RouteMetric};
 ghost use Rattle.ipx_tables.specs.declared.service.ServiceKey.{ServiceKey};
@@ -12,6 +12,7 @@ ghost use Rattle.ipx_tables.specs.Route.{network_cmp, route_before};
 ghost use Rattle.ipx_tables.specs.Service.{service_before, service_key_cmp};
 ghost use Rattle.ipx_router.specs.declared.port.Port.{Port};
 ghost use Rattle.ipx_router.specs.Knowledge.{routes_in, services_in};
+ghost use Rattle.ipx_known.specs.TableParts.{has_all_titles, own_networks_read, owns_in_words};
 ghost use Rattle.ipx_known.specs.TableRead.{network_in_words, networks_read, service_in_words, services_read};
 ghost use Rattle.ipx_known.specs.TableText.{IsTables};
 
@@ -37,3 +38,15 @@ pub fn bests_are_read_back()
     route_listing_is_one();
     service_listing_is_one();
 }
+
+/// Of such a text the network of each port is read too, in order, and it has the titles of its parts.
+pub fn own_networks_are_read_back()
+    ensures networks { (ports : List Port) (routes : Table Network RouteMetric)
+        (services : Table ServiceKey ServiceMetric) (now : ℕ) (text : List ℕ)
+        → IsTables ports routes services now text
+        → own_networks_read text ≡ owns_in_words 1 ports }
+    ensures titles { (ports : List Port) (routes : Table Network RouteMetric)
+        (services : Table ServiceKey ServiceMetric) (now : ℕ) (text : List ℕ)
+        → IsTables ports routes services now text
+        → has_all_titles text ≡ true }
+{}

@@ -34,21 +34,21 @@ pub struct ServiceWords<'a> {
 }
 
 /// Whether a word is this one.
-fn is_word(word: &[u8], known: &[u8]) -> bool
+pub(crate) fn is_word(word: &[u8], known: &[u8]) -> bool
     ensures { result ≡ bytes_eq word.now known.now }
 {
     word == known
 }
 
 /// The lines of a text.
-fn lines_of<'a>(alloc: Global, text: &'a [u8]) -> Result<Vec<&'a [u8]>, AllocError>
+pub(crate) fn lines_of<'a>(alloc: Global, text: &'a [u8]) -> Result<Vec<&'a [u8]>, AllocError>
     ensures { IfOk result (λ v. parts_view v.items ≡ lines_in text.now) }
 {
     text.split(|byte| *byte == b'\n').collect(alloc)
 }
 
 /// The words of a line.
-fn words_of<'a>(alloc: Global, line: &'a [u8]) -> Result<Vec<&'a [u8]>, AllocError>
+pub(crate) fn words_of<'a>(alloc: Global, line: &'a [u8]) -> Result<Vec<&'a [u8]>, AllocError>
     ensures { IfOk result (λ v. parts_view v.items ≡ words_in line.now) }
 {
     line.split(|byte| *byte == b' ').collect(alloc)

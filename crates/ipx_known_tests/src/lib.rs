@@ -5,6 +5,10 @@
 #[cfg(test)]
 mod fixture;
 #[cfg(test)]
+mod heard;
+#[cfg(test)]
+mod hearings;
+#[cfg(test)]
 mod random;
 #[cfg(test)]
 mod refused;

@@ -1,7 +1,9 @@
 //! What a router knows, as literal texts.
 
 use crate::fixture::{FAR, NEAR, PORT, files, hear_both, route, service};
-use ipx_known::{networks_of_text, services_of_text, tables_to_text};
+use ipx_known::{
+    has_all_titles, networks_of_text, own_networks_of_text, services_of_text, tables_to_text,
+};
 use ipx_router::Port;
 use ipx_tables::{route_table, service_table};
 use ipx_wire::{Network, Node};
@@ -122,5 +124,25 @@ fn a_text_is_read_again(rt: HostRuntime) -> Result<(), Fail> {
     let other = b"00000022 port 1 next 0000c6336407 hops 1 ticks 6 since 31\nnetworks 1\n\n";
     assert!(rt; networks_of_text(alloc, other)?.is_empty());
     assert!(rt; services_of_text(alloc, other)?.is_empty());
+    Ok(())
+}
+
+/// The networks of ports are read too, and a text that is cut before its last title is told apart.
+#[test]
+fn own_networks_are_read_again(rt: HostRuntime) -> Result<(), Fail> {
+    let alloc = rt.alloc();
+    let (mut routes, mut services) = (route_table(alloc), service_table(alloc));
+    hear_both(alloc, &mut routes, &mut services)?;
+    let text = tables_to_text(alloc, &[PORT], &routes, &services, 100_000)?;
+    let owns = own_networks_of_text(alloc, text.as_bytes())?;
+    assert_eq!(rt; owns.len(), 1);
+    assert_eq!(rt; owns[0].network, "00000001".as_bytes());
+    assert_eq!(rt; owns[0].port, "1".as_bytes());
+    assert_eq!(rt; owns[0].cost, "6".as_bytes());
+    assert!(rt; has_all_titles(alloc, text.as_bytes())?);
+    let half = b"networks 1\n00000001 own port 1 cost 6\nservices 0\nneighbours";
+    assert!(rt; !has_all_titles(alloc, half)?);
+    assert!(rt; !has_all_titles(alloc, b"services 0\nnetworks 0\nneighbours 0\n")?);
+    assert!(rt; own_networks_of_text(alloc, b"00000001 own port 1 price 6\n")?.is_empty());
     Ok(())
 }
