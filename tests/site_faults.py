@@ -32,7 +32,7 @@ router = "127.0.1.1"
 udp_port = 20999
 socket = "4002"
 """
-KEYS = ("a router has status and port, a host network, address, router, udp_port, socket, buffers, peers, routers, from and "
+KEYS = ("a router has status, tables and port, a host network, address, router, udp_port, socket, buffers, peers, routers, from and "
         "accept")
 PORT_KEYS = ('the keys are kind, network, address, udp_port, cost, for kind = "rfc1234" also peers, routers and accept, '
              'for kind = "frames" frame, ends, node and hub, for kind = "ipxnet" node, clients, accept, peers and join')
@@ -58,6 +58,7 @@ FRAME = '"802.3", "802.2", "snap" or "ethernet-ii"'
 ENDS = 'a list of 1 to 256 places, as ["127.0.0.1:24001"]'
 STATION = 'the address of one station, as "02:00:00:00:00:22"'
 STATUS = 'the name of a file, as "/run/ipx/hq/hq.prom"'
+TABLES = 'the name of a file, as "/run/ipx/hq/hq.tables"'
 
 
 USED = "address and udp_port are in use: end what has them, or take others"
@@ -92,6 +93,7 @@ ROUTER_FILES = [
     ("port = [1]\n", f"port 1: port is to be {PORTS}"),
     ("".join(PORT.replace("11", f"{number:02x}") for number in range(1, 18)), f"port is to be {PORTS}"),
     ("status = 1\n" + PORT, f"status is to be {STATUS}"),
+    ("tables = []\nport = 1", f"tables is to be {TABLES}"),
     ("peers = []\n" + PORT, f"peers is no key here: {KEYS}"),
     (PORT + "peer = []\n", f"port 1: peer is no key here: {PORT_KEYS}"),
     (PORT + SECOND + "Accept = \"any\"\n", f"port 2: Accept is no key here: {PORT_KEYS}"),
@@ -263,6 +265,7 @@ def check_faults(sites):
 # Files without a fault, and what --check says of them: two ports with a status file; one port of which
 # all is to be remarked; two ports that are reached at one place, and so on wires; a host, and one that is its own router.
 OWN = """status = "/run/ipx/h q\\u001b.prom"
+tables = "/run/ipx/hq.tables"
 
 [[port]]
 network = "00000001"
@@ -326,7 +329,7 @@ REMARKS = ["port 1: peer 10.1.0.1 is its own address", "port 1: peer 10.1.0.20 s
 CHECKED = [
     ("route", OWN, ["port 1 network 00000001 node 0000c000020a udp 192.0.2.10:213 cost 6 peers 2",
                     "port 2 network 000000ab node 00000a010001 udp 10.1.0.1:2130 cost 1 peers 0 accept any",
-                    "it.toml: 2 ports, status /run/ipx/h q..prom"]),
+                    "it.toml: 2 ports, status /run/ipx/h q..prom, tables /run/ipx/hq.tables"]),
     ("route", ODD, [PORT_11, *REMARKS, "it.toml: 1 port, no status file"]),
     ("route", SHARED, [PORT_11, *REMARKS, "port 2 network 00000022 node 00000a010001 udp 10.1.0.1:213 cost 1 peers 2",
                        "port 2: address and udp_port are those of port 1", "it.toml: 2 ports, no status file"]),

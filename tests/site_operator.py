@@ -7,6 +7,7 @@ import threading
 import time
 
 from site_packets import ipx, rip_response
+from site_tables import check_tables
 from site_world import bound, listed, node, port_table, until
 
 # Three routers in a chain, with a host and a server at each end; and one that knows as much as it may.
@@ -96,8 +97,9 @@ def ask(sites, name, command, *words):
 def start_operator(sites):
     """The routers, of which the middle one is the last; and what the servers and the teller say to theirs."""
     for name, ports in CHAIN.items():
-        sites.world.write(f"{name}.toml", "".join(port_table(network, address, sites.port, peers) + f"cost = {cost}\n"
-                                                  for network, address, peers, cost in ports))
+        tables = f'tables = "{sites.world.path(name + ".tables")}"\n'
+        sites.world.write(f"{name}.toml", tables + "".join(port_table(network, address, sites.port, peers) + f"cost = {cost}\n"
+                                                           for network, address, peers, cost in ports))
     for name, network, address, router in (("near-asker", "00000071", NEAR_HOST, NEAR), ("far-asker", "00000074", FAR_HOST, FAR),
                                            ("much-asker", "00000075", MUCH_HOST, MUCH)):
         sites.host(name, network, address, router, "4003")
@@ -263,5 +265,6 @@ def check_operator(sites, ends, has_room):
                 and process.said() == [f"no answer from {node(SILENT)}, or it knows nothing besides this network"],
                 f"{status}, {process.said()}")
     check_much(sites, has_room)
+    check_tables(sites, has_room)
     for one in ends.values():
         one.close()

@@ -19,6 +19,8 @@ unsafe extern "C" {
 
     fn ipx_bench_tell(heard: *const u8, count: usize, size: usize, rounds: u32) -> u64;
 
+    fn ipx_bench_known(heard: *const u8, count: usize, size: usize, rounds: u32) -> u64;
+
     fn ipx_bench_answers(
         records: *const u8,
         count: usize,
@@ -88,6 +90,11 @@ pub fn receive(heard: &Records, records: &Records, rounds: u32, pace: Pace) -> u
 pub fn tell(heard: &Records, rounds: u32) -> u64 {
     // SAFETY: the pointer and the length are one slice, which is only read.
     unsafe { ipx_bench_tell(heard.bytes.as_ptr(), heard.bytes.len(), heard.size, rounds) }
+}
+
+pub fn known(heard: &Records, rounds: u32) -> u64 {
+    // SAFETY: the pointer and the length are one slice, which is only read.
+    unsafe { ipx_bench_known(heard.bytes.as_ptr(), heard.bytes.len(), heard.size, rounds) }
 }
 
 /// What a new router answers to each record, and what it tells then, as bytes.

@@ -224,6 +224,18 @@ fn tell() -> Row {
     }
 }
 
+/// The text of what a router knows whose tables are full.
+fn known() -> Row {
+    let heard = Rc::new(routes_and_services(ROUTES, SERVICES));
+    let same = Rc::clone(&heard);
+    Row {
+        name: format!("text, {ROUTES} routes, {SERVICES} services"),
+        calls: 1,
+        ours: Box::new(move |rounds| ours::known(&heard, rounds)),
+        theirs: Box::new(move |rounds| theirs::known(&same, rounds)),
+    }
+}
+
 /// Bytes that pass over a pair of links that stands, at least as many as one call offers. A call is
 /// a unit. Neither side's compiler knows how many are offered and how many buffers there are.
 pub fn pass((offered, buffers): (usize, u16)) -> Row {
@@ -277,7 +289,7 @@ pub fn all() -> Vec<Row> {
         .chain(hear_all())
         .chain(learn_all())
         .chain(ask_all())
-        .chain([tell()])
+        .chain([tell(), known()])
         .chain(PASSES.map(pass))
         .chain([deliver()])
         .collect()

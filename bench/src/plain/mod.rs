@@ -9,6 +9,7 @@
 
 pub mod control;
 pub mod endpoint;
+pub mod known;
 pub mod link;
 pub mod links;
 pub mod offers;

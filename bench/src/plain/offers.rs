@@ -19,10 +19,10 @@ pub trait Metric: Ord + Copy {
 }
 
 #[derive(Clone, Copy, Debug)]
-struct Offer<M> {
-    source: Source,
-    metric: M,
-    heard: u64,
+pub(super) struct Offer<M> {
+    pub(super) source: Source,
+    pub(super) metric: M,
+    pub(super) heard: u64,
 }
 
 impl<M> Offer<M> {
@@ -121,6 +121,19 @@ impl<K: Ord + Copy, M: Metric> Offers<K, M> {
     /// The best of the offers of this key that count.
     pub fn best(&self, key: &K, now: u64) -> Option<(Source, M)> {
         Self::best_of(self.by_key.get(key)?, now)
+    }
+
+    /// Each offer that counts, by key and source, and whether it is the best of its key.
+    pub(super) fn standing(&self, now: u64) -> Vec<(K, Offer<M>, bool)> {
+        let mut all = Vec::new();
+        for (key, offers) in &self.by_key {
+            let best = Self::best_of(offers, now).map(|(source, _)| source);
+            let first = all.len();
+            let counting = offers.iter().filter(|offer| offer.counts(now));
+            all.extend(counting.map(|offer| (*key, *offer, Some(offer.source) == best)));
+            all[first..].sort_by_key(|(_, offer, _)| offer.source);
+        }
+        all
     }
 
     /// Each key that has a best, with its best, by key.

@@ -111,9 +111,9 @@ impl Recipient {
 }
 
 pub struct Router {
-    ports: Vec<Port>,
-    routes: Offers<Network, RouteMetric>,
-    services: Offers<ServiceKey, ServiceMetric>,
+    pub(super) ports: Vec<Port>,
+    pub(super) routes: Offers<Network, RouteMetric>,
+    pub(super) services: Offers<ServiceKey, ServiceMetric>,
     told: Option<u64>,
 }
 

@@ -40,6 +40,13 @@ fn reply_digest(reply: &Reply) -> u64 {
     mixed(place ^ ends, count as u64)
 }
 
+/// The digest of a text: how long it is, and bytes of it.
+pub fn bytes_digest(bytes: &[u8]) -> u64 {
+    let count = bytes.len();
+    let ends = mixed(byte_at(bytes, 9), byte_at(bytes, count / 2));
+    mixed(ends, count as u64)
+}
+
 /// The digest of packets that leave.
 pub fn replies_digest(replies: &[Reply]) -> u64 {
     let mut digest = 0;

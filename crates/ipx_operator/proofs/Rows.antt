@@ -15,6 +15,8 @@ use Rattle.ipx_site.specs.SitePeers.{is_peer}
 use Rattle.ipx_site.specs.Steady.{NeverGoesBack}
 use Rattle.ipx_site.specs.declared.clock.SteadyClock.{SteadyClock}
 use Rattle.ipx_operator.specs.AskRuns.{AsksOn, PassBetween, hears_answer}
+use Rattle.ipx_known.specs.TableRead.{ServiceSpelled}
+use Rattle.ipx_operator.specs.KnownLines.{known_name_width}
 use Rattle.ipx_operator.specs.OperatorLines.{ToldService, answering_nodes, name_width}
 use Rattle.ipx_operator.specs.WhoIsAsked.{new_ips}
 
@@ -23,6 +25,40 @@ pub texts_more : {X : Type 0} (f : X → List ℕ) (xs : List X) (i : ℕ) (d : 
     → old ++ part ≡ flat_map f (take (i + 1) xs)
 texts_more f xs i d old part lt was is =
     rw (was, is) (flat_map_more f [] (take i xs) (get_or xs i d) ∙ ap (flat_map f) (sym (take_more xs i d lt)))
+
+-- the text of one more element, by its words
+flat_map_twice : {X W : Type 0} (f : W → List ℕ) (g : X → W) (xs : List X) → flat_map f (map g xs) ≡ flat_map (λ x. f (g x)) xs
+flat_map_twice f g [] = refl
+flat_map_twice f g (x ∷ xs) = ap (λ t. f (g x) ++ t) (flat_map_twice f g xs)
+
+pub words_more : {X W : Type 0} (f : W → List ℕ) (g : X → W) (xs : List X) (i : ℕ) (d : X) (old part : List ℕ) → i < length xs → old ≡ flat_map f (map g (take i xs)) → part ≡ f (g (get_or xs i d))
+    → old ++ part ≡ flat_map f (map g (take (i + 1) xs))
+words_more f g xs i d old part lt was is =
+    texts_more (λ x. f (g x)) xs i d old part lt (was ∙ flat_map_twice f g (take i xs)) is ∙ sym (flat_map_twice f g (take (i + 1) xs))
+
+-- one more element that is kept, and one that is not
+kept_last : {X W : Type 0} (p : W → Bool) (g : X → W) (xs : List X) (x : X) → filter p (map g (xs ++ x ∷ [])) ≡ filter p (map g xs) ++ (if p (g x) then g x ∷ [] else [])
+kept_last p g [] x = elim (p (g x)) as (λ b. (if b then g x ∷ [] else []) ≡ (if b then g x ∷ [] else [])) [ true ↦ refl | false ↦ refl ]
+kept_last p g (y ∷ xs) x =
+    let later = kept_last p g xs x in
+    elim (p (g y)) as (λ b. (if b then g y ∷ filter p (map g (xs ++ x ∷ [])) else filter p (map g (xs ++ x ∷ []))) ≡ (if b then g y ∷ filter p (map g xs) else filter p (map g xs)) ++ (if p (g x) then g x ∷ [] else [])) [
+      | true ↦ ap (λ t. g y ∷ t) later
+      | false ↦ later
+    ]
+
+module _ {X W : Type 0} (p : W → Bool) (g : X → W) (xs : List X) (i : ℕ) (d : X) (lt : i < length xs) (items : List X) (was : map g items ≡ filter p (map g (take i xs))) where
+  kept_more : filter p (map g (take (i + 1) xs)) ≡ map g items ++ (if p (g (get_or xs i d)) then g (get_or xs i d) ∷ [] else [])
+  kept_more =
+      ap (λ ys. filter p (map g ys)) (take_more xs i d lt) ∙ kept_last p g (take i xs) (get_or xs i d)
+      ∙ ap (λ l. l ++ (if p (g (get_or xs i d)) then g (get_or xs i d) ∷ [] else [])) (sym was)
+
+  pub pushed_kept : (new : List X) → p (g (get_or xs i d)) ≡ true → new ≡ items ++ get_or xs i d ∷ [] → map g new ≡ filter p (map g (take (i + 1) xs))
+  pushed_kept new is more =
+      ap (map g) more ∙ map-append g items (get_or xs i d ∷ [])
+      ∙ sym (kept_more ∙ ap (λ b. map g items ++ (if b then g (get_or xs i d) ∷ [] else [])) is)
+
+  pub passed_kept : p (g (get_or xs i d)) ≡ false → map g items ≡ filter p (map g (take (i + 1) xs))
+  passed_kept is = sym (kept_more ∙ ap (λ b. map g items ++ (if b then g (get_or xs i d) ∷ [] else [])) is ∙ append-nil (map g items))
 
 -- of one more IP address it is told whether it is new
 abbrev pub if_new : List (List ℕ) → List ℕ → List (List ℕ)
@@ -70,6 +106,17 @@ pub width_more : (xs : List ToldService) (i : ℕ) (d : ToldService) (old wide :
     → wide ≡ length (name_text (get_or xs i d).0.name) → max old wide ≡ name_width (take (i + 1) xs)
 width_more xs i d old wide lt was is =
     rw (was, is) (sym (wide_more (take i xs) (get_or xs i d)) ∙ ap name_width (sym (take_more xs i d lt)))
+
+-- the column of known names is as wide as one more name wants
+known_wide_more : (xs : List ServiceSpelled) (x : ServiceSpelled) → known_name_width (xs ++ x ∷ []) ≡ max (known_name_width xs) (length x.name)
+known_wide_more [] x = omega arith
+known_wide_more (y ∷ xs) x = omega (arith, known_wide_more xs x)
+
+pub known_width_more : {X : Type 0} (g : X → ServiceSpelled) (xs : List X) (i : ℕ) (d : X) (old wide : ℕ) → i < length xs → old ≡ known_name_width (map g (take i xs))
+    → wide ≡ length (g (get_or xs i d)).name → max old wide ≡ known_name_width (map g (take (i + 1) xs))
+known_width_more g xs i d old wide lt was is =
+    rw (was, is) (sym (known_wide_more (map g (take i xs)) (g (get_or xs i d)))
+    ∙ ap known_name_width (sym (map-append g (take i xs) (get_or xs i d ∷ [])) ∙ ap (map g) (sym (take_more xs i d lt))))
 
 -- moments, and later ones
 between_on : (from : ℕ) (ms ns : List ℕ) (mid to : ℕ) → PassBetween from ms mid → PassBetween mid ns to → PassBetween from (ms ++ ns) to

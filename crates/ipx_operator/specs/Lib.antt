@@ -5,3 +5,5 @@ pub mod PingLines
 pub mod PingRuns
 pub mod WhoIsAsked
 pub mod WhoIsPinged
+pub mod KnownLines
+pub mod KnownListed

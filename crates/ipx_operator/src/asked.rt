@@ -1,19 +1,16 @@
 //! A question, asked by the host of a file until it is over.
 
-ghost use Rattle.std.specs.Prelude.{◌≡◌, ◌⊎◌, ℕ, List, IfErr, IfOk};
-ghost use Rattle.ipx_site.specs.Host.{IsHostText};
-ghost use Rattle.ipx_site.specs.Loading.{IsFileText};
-ghost use Rattle.ipx_site.specs.declared.host.HostFile.{HostFile as AHostFile};
+ghost use Rattle.std.specs.Prelude.{◌≡◌, IfErr, IfOk};
 ghost use Rattle.ipx_operator.specs.AskRuns.{HasAsked};
 ghost use Rattle.ipx_operator.specs.Listed.{printed_status};
 
 use crate::asking_host::AskingHost;
 use crate::fault::{AskFault, tell_fault};
 use ipx_asking::{AskCore, Question};
-use ipx_site::{HostFile, load_host};
+use ipx_site::HostFile;
 use std::alloc::Global;
 use std::net::Net;
-use std::rt::{Clock, Files};
+use std::rt::Clock;
 
 /// A host that asked, and the moment at which that was over, in milliseconds.
 #[derive(Drop)]
@@ -36,20 +33,19 @@ fn ask_by<'a, R: Net + Clock>(
     Ok(Asked { host, over })
 }
 
-/// Asks a question by the host of the file at a path. What is wrong is told, and the status
-/// answered: 2 for a fault of the file, else 1.
-pub fn ask<'a, R: Net + Files + Clock + Eprint>(
+/// Asks a question by the host of the file at a path, which was read. What is wrong is told, and the
+/// status answered.
+pub fn ask<'a, R: Net + Clock + Eprint>(
     rt: &'a R,
     alloc: Global,
     path: &str,
+    file: &HostFile,
     question: Question,
 ) -> Result<Asked<'a, R>, u8>
-    ensures asked { IfOk result (λ a. (text : List ℕ) × (file : AHostFile)
-        × IsFileText text × IsHostText text file × HasAsked file question a.host.core a.over) }
-    ensures fault { IfErr result (λ status. (status ≡ 1) ⊎ (status ≡ 2)) }
+    ensures asked { IfOk result (λ a. HasAsked file.now question a.host.core a.over) }
+    ensures fault { IfErr result (λ status. status ≡ 1) }
 {
-    let file = load_host(rt, alloc, path)?;
-    match ask_by(rt, alloc, &file, question) {
+    match ask_by(rt, alloc, file, question) {
         Ok(asked) => Ok(asked),
         Err(fault) => Err(tell_fault(rt, path, fault)),
     }

@@ -16,7 +16,7 @@ fn blanks_beside(alloc: Global, width: usize, text: &str) -> Result<String, Allo
 }
 
 /// A text at the right of a column so wide.
-fn at_right(alloc: Global, width: usize, text: &str) -> Result<String, AllocError>
+pub fn at_right(alloc: Global, width: usize, text: &str) -> Result<String, AllocError>
     ensures { IfOk result (λ t. string_bytes t ≡ at_right width text.now) }
 {
     let blanks = blanks_beside(alloc, width, text)?;

@@ -1,6 +1,6 @@
-//! Why an asking does not come to its end.
+//! Why an asking does not come to its end, or a file of tables is not printed.
 
-ghost use Rattle.std.specs.Prelude.{◌≡◌};
+ghost use Rattle.std.specs.Prelude.{◌≡◌, ◌⊎◌};
 
 use ipx_site::{BindFault, Obstacle, WaitFault};
 use ipx_wire::OutOfMemory;
@@ -65,4 +65,35 @@ pub fn tell_fault<R: Eprint>(rt: &R, path: &str, fault: AskFault) -> u8
         AskFault::Unwritten => eprintln!(rt; "standard output can't be written"),
     };
     1
+}
+
+/// Why there are no lines of a file of tables.
+#[derive(Clone, Copy, Debug, PartialEq, Eq)]
+pub enum KnownFault {
+    OutOfMemory,
+    /// A word of it is no text.
+    NoText,
+}
+
+impl From<AllocError> for KnownFault {
+    fn from(_error: AllocError) -> KnownFault {
+        KnownFault::OutOfMemory
+    }
+}
+
+/// Prints why there are no lines of the file of tables at a place, and answers the status: 1 for want
+/// of memory, and else 2.
+pub fn tell_known_fault<R: Eprint>(rt: &R, place: &str, fault: KnownFault) -> u8
+    ensures { (result ≡ 1) ⊎ (result ≡ 2) }
+{
+    match fault {
+        KnownFault::OutOfMemory => {
+            let _ = eprintln!(rt; "{place}: out of memory");
+            1
+        }
+        KnownFault::NoText => {
+            let _ = eprintln!(rt; "{place}: the file is to be text in UTF-8");
+            2
+        }
+    }
 }

@@ -2,7 +2,8 @@
 //! or a listener whether it is there.
 //!
 //! [`do_networks`] is the command `ipx networks`, and [`do_services`] `ipx services`; they print a
-//! table, or lines of JSON. [`do_ping`] is `ipx ping`. Each runs by the file of a host.
+//! table, or lines of JSON. [`do_ping`] is `ipx ping`. Each runs by the file of a host; the first two
+//! by that of a router too, and print what it wrote down, and ask nobody.
 #![tactic(auto)]
 
 mod answer_times;
@@ -11,6 +12,10 @@ mod asking_host;
 mod asking_wire;
 mod columns;
 mod fault;
+mod known;
+mod known_laws;
+mod known_lines;
+mod known_service_lines;
 mod last_line;
 mod names;
 mod network_lines;
@@ -26,6 +31,10 @@ mod stop_watch;
 mod whom;
 
 pub use answer_times::AnswerTime;
+pub use fault::KnownFault;
+pub use known_laws::known_networks_are_the_bests;
+pub use known_lines::known_networks_to_text;
+pub use known_service_lines::known_services_to_text;
 pub use network_lines::networks_to_text;
 pub use networks::do_networks;
 pub use ping_lines::{news_to_text, totals_to_line};

@@ -61,7 +61,7 @@ pub fn name_to_text(alloc: Global, name: &[u8]) -> Result<String, AllocError>
 }
 
 /// A byte of a name within quotes of JSON, where a quote or a backslash has a backslash before it.
-fn json_byte_to_text(alloc: Global, byte: u8) -> Result<String, AllocError>
+pub fn json_byte_to_text(alloc: Global, byte: u8) -> Result<String, AllocError>
     ensures { IfOk result (λ t. string_bytes t ≡ json_byte byte) }
 {
     if byte == b'"' {

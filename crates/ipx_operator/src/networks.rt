@@ -6,15 +6,15 @@ ghost use Rattle.ipx_asking.specs.AskEnds.{ask_status};
 ghost use Rattle.ipx_asking.specs.AskView.{AskView};
 ghost use Rattle.ipx_asking.specs.declared.question.Question.TheVariants.{Networks};
 ghost use Rattle.ipx_operator.specs.AskRuns.{HasAsked};
+ghost use Rattle.ipx_operator.specs.KnownListed.{ListsAsked, ListsKnownNetworks, ListsWritten};
 ghost use Rattle.ipx_operator.specs.Listed.{ListsNetworks};
-ghost use Rattle.ipx_site.specs.Host.{IsHostText};
 ghost use Rattle.ipx_site.specs.Loading.{IsFileText};
-ghost use Rattle.ipx_site.specs.declared.host.HostFile.{HostFile as AHostFile};
 
 use crate::asked::{Asked, ask, status_of};
+use crate::known::networks_by_router;
 use crate::network_lines::networks_to_text;
 use ipx_asking::Question;
-use ipx_site::write_checked;
+use ipx_site::{HostFile, StationFile, load_station, write_checked};
 use std::alloc::{AllocError, Global};
 use std::io::Write;
 use std::net::Net;
@@ -56,14 +56,36 @@ fn print_asked<R: Net + Clock + Eprint, W: Write>(
     status_of(written, &asked.host.core)
 }
 
+/// Asks by the host of a file, and prints what it was told.
+fn networks_by_host<R: Net + Clock + Eprint, W: Write>(
+    rt: &R,
+    alloc: Global,
+    path: &str,
+    file: &HostFile,
+    json: bool,
+    writer: &mut W,
+) -> u8
+    ensures few { result ≤ 1 }
+    ensures listed { result ≡ 0 → (ask : AskView) × (over : ℕ) × (lines : List ℕ)
+        × HasAsked file.now Networks ask over × (ask_status ask ≡ 0)
+        × ListsNetworks json ask over lines
+        × Appends (W.contents writer.old) (W.contents writer.new) lines }
+{
+    match ask(rt, alloc, path, file, Question::Networks) {
+        Ok(asked) => print_asked(rt, alloc, path, json, &asked, writer),
+        Err(status) => status,
+    }
+}
+
 /// The command `networks`: asks the router of a host's file, and the routers that it names, which
 /// networks they know, and writes each with the least of what they told: a table, or with `json` a
 /// line of JSON for each. The host's address and socket are taken meanwhile. It takes up to four
-/// seconds.
+/// seconds. By the file of a router it prints what this wrote into its file of tables, and asks
+/// nobody.
 ///
 /// The answer is the status: 0 where each router that was asked answered, and all is written; 1
 /// where one did not, more was told than there is room for, the writer fails, the socket can't be
-/// had or memory is refused; 2 for a fault of the file. What is wrong is a line on standard error.
+/// had or memory is refused; 2 for a fault of a file. What is wrong is a line on standard error.
 pub fn do_networks<R: Net + Files + Clock + Eprint, W: Write>(
     rt: &R,
     alloc: Global,
@@ -73,17 +95,17 @@ pub fn do_networks<R: Net + Files + Clock + Eprint, W: Write>(
 ) -> u8
     ensures few { result ≤ 2 }
     // Where it ends well, the host of some text of a file has asked, each router answered, and what
-    // is written is the listing of what they told.
-    ensures listed { result ≡ 0 → (text : List ℕ) × (file : AHostFile) × (ask : AskView)
-        × (over : ℕ) × (lines : List ℕ) × IsFileText text × IsHostText text file
-        × HasAsked file Networks ask over × (ask_status ask ≡ 0)
-        × ListsNetworks json ask over lines
+    // is written is the listing of what they told; or it lists what the router of that text wrote.
+    ensures listed { result ≡ 0 → (text : List ℕ) × (lines : List ℕ) × IsFileText text
+        × (ListsAsked Networks (ListsNetworks json) text lines
+        ⊎ ListsWritten (ListsKnownNetworks json) text lines)
         × Appends (W.contents writer.old) (W.contents writer.new) lines }
-    // For a fault of the file nothing is written.
+    // For a fault of a file nothing is written.
     ensures untouched { result ≡ 2 → writer.new ≡ writer.old }
 {
-    match ask(rt, alloc, path, Question::Networks) {
-        Ok(asked) => print_asked(rt, alloc, path, json, &asked, writer),
+    match load_station(rt, alloc, path) {
+        Ok(StationFile::Host(file)) => networks_by_host(rt, alloc, path, &file, json, writer),
+        Ok(StationFile::Router(site)) => networks_by_router(rt, alloc, path, &site, json, writer),
         Err(status) => status,
     }
 }

@@ -18,7 +18,7 @@ use std::alloc::{AllocError, Global};
 type ToldService = (ServiceKey, Source, ServiceMetric);
 
 /// The width of the column of names, at least that of its head.
-const HEAD: usize = 4;
+pub const HEAD: usize = 4;
 
 /// How wide the column of names is.
 fn name_width(alloc: Global, listed: &[ToldService]) -> Result<usize, AllocError>
@@ -104,7 +104,8 @@ fn services_to_json(alloc: Global, listed: &[ToldService]) -> Result<String, All
     Ok(lines)
 }
 
-fn head_to_line(alloc: Global, width: usize) -> Result<String, AllocError>
+/// The head of a table whose column of names is so wide.
+pub fn head_to_line(alloc: Global, width: usize) -> Result<String, AllocError>
     ensures { IfOk result (λ t. string_bytes t ≡ service_head width) }
 {
     let name = at_left(alloc, width, "name")?;

@@ -7,15 +7,15 @@ ghost use Rattle.ipx_asking.specs.AskEnds.{ask_status};
 ghost use Rattle.ipx_asking.specs.AskView.{AskView};
 ghost use Rattle.ipx_asking.specs.declared.question.Question.TheVariants.{Services};
 ghost use Rattle.ipx_operator.specs.AskRuns.{HasAsked};
+ghost use Rattle.ipx_operator.specs.KnownListed.{ListsAsked, ListsKnownServices, ListsWritten};
 ghost use Rattle.ipx_operator.specs.Listed.{IsTypeWord, ListsServices};
-ghost use Rattle.ipx_site.specs.Host.{IsHostText};
 ghost use Rattle.ipx_site.specs.Loading.{IsFileText};
-ghost use Rattle.ipx_site.specs.declared.host.HostFile.{HostFile as AHostFile};
 
 use crate::asked::{Asked, ask, status_of};
+use crate::known::services_by_router;
 use crate::service_lines::services_to_text;
 use ipx_asking::Question;
-use ipx_site::write_checked;
+use ipx_site::{HostFile, StationFile, load_station, write_checked};
 use ipx_wire::Socket;
 use std::alloc::{AllocError, Global};
 use std::io::Write;
@@ -75,7 +75,29 @@ fn print_asked<R: Net + Clock + Eprint, W: Write>(
     status_of(written, &asked.host.core)
 }
 
-/// Asks for the services of a type by the host of the file at a path, and prints them.
+/// Asks for the services of a type by the host of a file, and prints what it was told.
+fn services_by_host<R: Net + Clock + Eprint, W: Write>(
+    rt: &R,
+    alloc: Global,
+    path: &str,
+    file: &HostFile,
+    kind: u16,
+    json: bool,
+    writer: &mut W,
+) -> u8
+    ensures few { result ≤ 1 }
+    ensures listed { result ≡ 0 → (ask : AskView) × (over : ℕ) × (lines : List ℕ)
+        × HasAsked file.now (Services kind) ask over × (ask_status ask ≡ 0)
+        × ListsServices json ask over lines
+        × Appends (W.contents writer.old) (W.contents writer.new) lines }
+{
+    match ask(rt, alloc, path, file, Question::Services(kind)) {
+        Ok(asked) => print_asked(rt, alloc, path, json, &asked, writer),
+        Err(status) => status,
+    }
+}
+
+/// Prints the services of a type by the file at a path, of a host or of a router.
 fn list_services<R: Net + Files + Clock + Eprint, W: Write>(
     rt: &R,
     alloc: Global,
@@ -85,15 +107,19 @@ fn list_services<R: Net + Files + Clock + Eprint, W: Write>(
     writer: &mut W,
 ) -> u8
     ensures few { result ≤ 2 }
-    ensures listed { result ≡ 0 → (text : List ℕ) × (file : AHostFile) × (ask : AskView)
-        × (over : ℕ) × (lines : List ℕ) × IsFileText text × IsHostText text file
-        × HasAsked file (Services kind) ask over × (ask_status ask ≡ 0)
-        × ListsServices json ask over lines
+    ensures listed { result ≡ 0 → (text : List ℕ) × (lines : List ℕ) × IsFileText text
+        × (ListsAsked (Services kind) (ListsServices json) text lines
+        ⊎ ListsWritten (ListsKnownServices json kind) text lines)
         × Appends (W.contents writer.old) (W.contents writer.new) lines }
     ensures untouched { result ≡ 2 → writer.new ≡ writer.old }
 {
-    match ask(rt, alloc, path, Question::Services(kind)) {
-        Ok(asked) => print_asked(rt, alloc, path, json, &asked, writer),
+    match load_station(rt, alloc, path) {
+        Ok(StationFile::Host(file)) => {
+            services_by_host(rt, alloc, path, &file, kind, json, writer)
+        }
+        Ok(StationFile::Router(site)) => {
+            services_by_router(rt, alloc, path, &site, kind, json, writer)
+        }
         Err(status) => status,
     }
 }
@@ -101,11 +127,12 @@ fn list_services<R: Net + Files + Clock + Eprint, W: Write>(
 /// The command `services`: asks the router of a host's file, and the routers that it names, which
 /// services of a type they know, a word of four hex digits, or of all types where there is none. It
 /// writes each with the least of what they told: a table, or with `json` a line of JSON for each.
-/// The host's address and socket are taken meanwhile. It takes up to four seconds.
+/// The host's address and socket are taken meanwhile. It takes up to four seconds. By the file of a
+/// router it prints what this wrote into its file of tables, and asks nobody.
 ///
 /// The answer is the status: 0 where each router that was asked answered, and all is written; 1
 /// where one did not, more was told than there is room for, the writer fails, the socket can't be
-/// had or memory is refused; 2 for a fault of the word or the file. What is wrong is a line on
+/// had or memory is refused; 2 for a fault of the word or of a file. What is wrong is a line on
 /// standard error.
 pub fn do_services<R: Net + Files + Clock + Eprint, W: Write>(
     rt: &R,
@@ -120,13 +147,14 @@ pub fn do_services<R: Net + Files + Clock + Eprint, W: Write>(
         → (result ≡ 2) × (writer.new ≡ writer.old) }
     ensures few { result ≤ 2 }
     // Where it ends well, the host of some text of a file has asked for the services of the type,
-    // each router answered, and what is written is the listing of what they told.
-    ensures listed { result ≡ 0 → (text : List ℕ) × (file : AHostFile) × (kind : ℕ)
-        × (ask : AskView) × (over : ℕ) × (lines : List ℕ) × IsFileText text × IsHostText text file
-        × IsTypeWord (option_map (λ w. w.now) word.entry) kind × HasAsked file (Services kind) ask over
-        × (ask_status ask ≡ 0) × ListsServices json ask over lines
+    // each router answered, and what is written is the listing of what they told; or it lists what
+    // the router of that text wrote.
+    ensures listed { result ≡ 0 → (text : List ℕ) × (lines : List ℕ) × (kind : ℕ)
+        × IsFileText text × IsTypeWord (option_map (λ w. w.now) word.entry) kind
+        × (ListsAsked (Services kind) (ListsServices json) text lines
+        ⊎ ListsWritten (ListsKnownServices json kind) text lines)
         × Appends (W.contents writer.old) (W.contents writer.new) lines }
-    // For a fault of the word or of the file nothing is written.
+    // For a fault of the word or of a file nothing is written.
     ensures untouched { result ≡ 2 → writer.new ≡ writer.old }
 {
     match type_of(word) {

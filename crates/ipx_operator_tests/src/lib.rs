@@ -3,6 +3,8 @@
 #![tactic(auto)]
 
 #[cfg(test)]
+mod known;
+#[cfg(test)]
 mod lines;
 #[cfg(test)]
 mod pings;

@@ -9,7 +9,7 @@ use Rattle.ipx_site.specs.declared.fault.FileFault.{FileFault}
 use Rattle.ipx_site.specs.declared.fault.FileFault.TheVariants.{Missing, NotToml, OtherKind, OutOfMemory, Twin, Unknown, Wrong}
 use Rattle.ipx_site.specs.declared.key.Key.{Key}
 use Rattle.ipx_site.specs.declared.site.PortOfKind.{PortOfKind}
-use Rattle.ipx_site.specs.declared.key.Key.TheVariants.{Status}
+use Rattle.ipx_site.specs.declared.key.Key.{Key}
 use Rattle.ipx_site.specs.Keys.{key_text}
 use Rattle.ipx_site.specs.Values.{IsText}
 use Rattle.ipx_site.specs.Loading.{IsStatus, fault_status}
@@ -65,11 +65,11 @@ one_more_port earlier seen new same p more ds d left is port alone rest are =
     rw is (p, rest, refl, port, first, behind)
 
 -- a text that was read, or that is not there, has no fault
-pub status_right : (ms : Members) (found : Option (String Global))
-    → MatchOption found (get_member (key_text Status) ms ≡ None) (Holds IsText Status ms)
-    → IsRightOr IsText Status ms
-status_right ms None absent = inl absent
-status_right ms (Some text) holds = inr (text, holds)
+pub text_right : (key : Key) (ms : Members) (found : Option (String Global))
+    → MatchOption found (get_member (key_text key) ms ≡ None) (Holds IsText key ms)
+    → IsRightOr IsText key ms
+text_right key ms None absent = inl absent
+text_right key ms (Some text) holds = inr (text, holds)
 
 pub count_is : (vs : List Value) → item_count (items_view vs) ≡ length vs
 count_is [] = refl

@@ -194,11 +194,16 @@ abbrev pub status_text : Option (String Global) → List ℕ
 status_text None = codes "no status file"
 status_text (Some text) = codes "status " ++ shown_text (string_bytes text)
 
+-- where what it knows is written, where the file says
+abbrev pub tables_place_text : Option (String Global) → List ℕ
+tables_place_text None = []
+tables_place_text (Some text) = codes ", tables " ++ shown_text (string_bytes text)
+
 -- the line of the file itself
 abbrev pub file_line : List ℕ → SiteFile → List ℕ
 file_line path s =
     path ++ (codes ": " ++ (count_text (length s.ports.items)
-    ++ (codes ", " ++ (status_text s.status ++ 10 ∷ []))))
+    ++ (codes ", " ++ (status_text s.status ++ (tables_place_text s.tables ++ 10 ∷ [])))))
 
 -- all that is printed of a router's file
 abbrev pub site_lines : List ℕ → SiteFile → List ℕ

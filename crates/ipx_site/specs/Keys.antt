@@ -4,13 +4,14 @@ use Rattle.std.specs.List.{list_any}
 use Rattle.std.specs.Cmp.Lexicographic.{pointwise}
 use Rattle.toml.specs.Data.{Members, no_members, member}
 use Rattle.ipx_site.specs.declared.key.Key.{Key}
-use Rattle.ipx_site.specs.declared.key.Key.TheVariants.{Status, Port, Network, Address, UdpPort, Cost, Peers, Routers, Accept, Router, Socket, Buffers, From, Kind, Frame, Ends, Node, Hub, Clients, Join}
+use Rattle.ipx_site.specs.declared.key.Key.TheVariants.{Status, Tables, Port, Network, Address, UdpPort, Cost, Peers, Routers, Accept, Router, Socket, Buffers, From, Kind, Frame, Ends, Node, Hub, Clients, Join}
 use Rattle.ipx_site.specs.declared.site.Kind.{Kind as PortKind}
 use Rattle.ipx_site.specs.declared.site.Kind.TheVariants as Of
 
 -- how a key is written
 abbrev pub key_text : Key → List ℕ
 key_text Status = codes "status"
+key_text Tables = codes "tables"
 key_text Port = codes "port"
 key_text Network = codes "network"
 key_text Address = codes "address"
@@ -69,7 +70,7 @@ keys_of_other_kinds Of.Frames = Peers ∷ Routers ∷ Accept ∷ Clients ∷ Joi
 keys_of_other_kinds Of.Ipxnet = Routers ∷ Frame ∷ Ends ∷ Hub ∷ []
 
 abbrev pub site_keys : List Key
-site_keys = Status ∷ Port ∷ []
+site_keys = Status ∷ Tables ∷ Port ∷ []
 
 abbrev pub host_keys : List Key
 host_keys =

@@ -30,3 +30,5 @@ pub mod WireTotals
 pub mod PortsView
 pub mod SiteMarks
 pub mod ClientLines
+pub mod KnownFile
+pub mod Stations

@@ -60,15 +60,18 @@ pub record IsSite (ms : Members) (s : SiteFile) : Type 0 where
   pub known : first_unknown site_keys ms ≡ None
   pub status : MatchOption s.status (get_member (key_text Key.Status) ms ≡ None)
       (Holds IsText Key.Status ms)
+  pub tables : MatchOption s.tables (get_member (key_text Key.Tables) ms ≡ None)
+      (Holds IsText Key.Tables ms)
   pub ports : (ds : Items) × Holds IsPortList Key.Port ms ds × ArePorts [] ds s.ports.items
 
--- its first fault: a name that is no key, the status file, and then the ports in order
+-- its first fault: a name that is no key, the status file, the file of tables, and then the ports in order
 abbrev pub IsSiteFault : Members → FileFault → Type 0
 IsSiteFault ms f =
     IsUnknown site_keys ms 0 f
     ⊎ ((first_unknown site_keys ms ≡ None) × (IsWrong IsText Key.Status ms 0 f
-    ⊎ (IsRightOr IsText Key.Status ms × (IsFault IsPortList Key.Port ms 0 f
-    ⊎ ((ds : Items) × Holds IsPortList Key.Port ms ds × IsFirstFault [] 1 ds f)))))
+    ⊎ (IsRightOr IsText Key.Status ms × (IsWrong IsText Key.Tables ms 0 f
+    ⊎ (IsRightOr IsText Key.Tables ms × (IsFault IsPortList Key.Port ms 0 f
+    ⊎ ((ds : Items) × Holds IsPortList Key.Port ms ds × IsFirstFault [] 1 ds f)))))))
 
 -- a text is the file of a router
 abbrev pub IsSiteText : List ℕ → SiteFile → Type 0

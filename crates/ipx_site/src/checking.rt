@@ -2,7 +2,7 @@
 
 ghost use Rattle.std.specs.Prelude.{◌≡◌, ◌<◌, ◌≤◌, ℕ, List, [], IfOk, IfSome, IsOkAnd, length, position, string_bytes};
 ghost use Rattle.std.specs.Io.KnownBytes.{Appends};
-ghost use Rattle.ipx_site.specs.Checked.{count_text, each_behind, file_line, is_one_place, peer_remark, place_remark, port_lines, reached_remarks, remark, site_lines, status_text, wire_end_remark};
+ghost use Rattle.ipx_site.specs.Checked.{count_text, each_behind, file_line, is_one_place, peer_remark, place_remark, port_lines, reached_remarks, remark, site_lines, status_text, tables_place_text, wire_end_remark};
 ghost use Rattle.ipx_site.specs.Loading.{IsFileText};
 ghost use Rattle.ipx_site.specs.Site.{IsSiteText};
 ghost use Rattle.ipx_site.specs.declared.site.SiteFile.{SiteFile as ASiteFile};
@@ -195,13 +195,26 @@ fn status_to_text(alloc: Global, status: &Option<String>) -> Result<String, Allo
     }
 }
 
+fn tables_to_text(alloc: Global, tables: &Option<String>) -> Result<String, AllocError>
+    ensures { IfOk result (λ t. string_bytes t ≡ tables_place_text tables.now) }
+{
+    match tables {
+        Some(path) => {
+            let path = Shown(path.as_bytes());
+            format!(in alloc; ", tables {path}")
+        }
+        None => Ok(String::new(alloc)),
+    }
+}
+
 /// The line of the file itself.
 fn file_to_line(alloc: Global, path: &str, site: &SiteFile) -> Result<String, AllocError>
     ensures { IfOk result (λ t. string_bytes t ≡ file_line path.now site.now) }
 {
     let count = count_to_text(alloc, site.ports.len())?;
     let status = status_to_text(alloc, &site.status)?;
-    format!(in alloc; "{path}: {count}, {status}\n")
+    let tables = tables_to_text(alloc, &site.tables)?;
+    format!(in alloc; "{path}: {count}, {status}{tables}\n")
 }
 
 fn site_to_lines(alloc: Global, path: &str, site: &SiteFile) -> Result<String, AllocError>

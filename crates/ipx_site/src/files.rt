@@ -18,17 +18,17 @@ use std::rt::Files;
 use std::{io, str};
 
 /// The longest file, in bytes.
-const MOST: usize = 65_536;
+pub(crate) const MOST: usize = 65_536;
 
 /// Tells what is wrong with a file, and answers the status that goes with it.
-fn tell<R: Eprint>(rt: &R, path: &str, what: &str) -> u8
+pub(crate) fn tell<R: Eprint>(rt: &R, path: &str, what: &str) -> u8
     ensures { result ≡ 2 }
 {
     let _ = eprintln!(rt; "{path}: {what}");
     2
 }
 
-fn tell_no_memory<R: Eprint>(rt: &R, path: &str) -> u8
+pub(crate) fn tell_no_memory<R: Eprint>(rt: &R, path: &str) -> u8
     ensures { result ≡ 1 }
 {
     let _ = eprintln!(rt; "{path}: out of memory");
@@ -58,15 +58,20 @@ fn tell_unread<R: Eprint>(rt: &R, path: &str, kind: io::ErrorKind) -> u8
     }
 }
 
-/// The bytes of a file.
-fn read_bytes<R: Files + Eprint>(rt: &R, alloc: Global, path: &str) -> Result<Vec<u8>, u8>
+/// The bytes of a file, so many at most.
+pub(crate) fn read_bytes<R: Files + Eprint>(
+    rt: &R,
+    alloc: Global,
+    path: &str,
+    most: usize,
+) -> Result<Vec<u8>, u8>
     ensures { IfErr result (λ status. (status ≡ 1) ⊎ (status ≡ 2)) }
 {
     let mut file = match File::open(rt, path) {
         Ok(file) => file,
         Err(error) => return Err(tell_unread(rt, path, error.kind())),
     };
-    match read_up_to(alloc, &mut file, MOST + 1) {
+    match read_up_to(alloc, &mut file, most) {
         Ok(bytes) => Ok(bytes),
         Err(InputFault::Memory) => Err(tell_no_memory(rt, path)),
         Err(InputFault::Read) => Err(tell(rt, path, "the file can't be read")),
@@ -88,7 +93,12 @@ fn text_of<'a, R: Eprint>(rt: &R, path: &str, bytes: &'a [u8]) -> Result<&'a str
 }
 
 /// What the bytes of a router's file describe.
-fn site_in<R: Eprint>(rt: &R, alloc: Global, path: &str, bytes: &[u8]) -> Result<SiteFile, u8>
+pub(crate) fn site_in<R: Eprint>(
+    rt: &R,
+    alloc: Global,
+    path: &str,
+    bytes: &[u8],
+) -> Result<SiteFile, u8>
     ensures site { IfOk result (λ s. IsFileText bytes.now × IsSiteText bytes.now s) }
     ensures own { IfOk result (λ s. All IsOwnNetwork (router_ports s.ports.items)) }
     ensures no_text { (IsFileText bytes.now → ⊥) → result ≡ Err 2 }
@@ -102,7 +112,12 @@ fn site_in<R: Eprint>(rt: &R, alloc: Global, path: &str, bytes: &[u8]) -> Result
 }
 
 /// What the bytes of a host's file describe.
-fn host_in<R: Eprint>(rt: &R, alloc: Global, path: &str, bytes: &[u8]) -> Result<HostFile, u8>
+pub(crate) fn host_in<R: Eprint>(
+    rt: &R,
+    alloc: Global,
+    path: &str,
+    bytes: &[u8],
+) -> Result<HostFile, u8>
     ensures host { IfOk result (λ h. IsFileText bytes.now × IsHostText bytes.now h) }
     ensures no_text { (IsFileText bytes.now → ⊥) → result ≡ Err 2 }
     ensures fault { IfErr result (IsStatus (IsHostTextFault bytes.now) bytes.now) }
@@ -122,7 +137,7 @@ pub fn load_site<R: Files + Eprint>(rt: &R, alloc: Global, path: &str) -> Result
     ensures own { IfOk result (λ s. All IsOwnNetwork (router_ports s.ports.items)) }
     ensures fault { IfErr result (λ status. (status ≡ 1) ⊎ (status ≡ 2)) }
 {
-    let bytes = read_bytes(rt, alloc, path)?;
+    let bytes = read_bytes(rt, alloc, path, MOST + 1)?;
     site_in(rt, alloc, path, &bytes)
 }
 
@@ -131,6 +146,6 @@ pub fn load_host<R: Files + Eprint>(rt: &R, alloc: Global, path: &str) -> Result
     ensures host { IfOk result (λ h. (text : List ℕ) × IsFileText text × IsHostText text h) }
     ensures fault { IfErr result (λ status. (status ≡ 1) ⊎ (status ≡ 2)) }
 {
-    let bytes = read_bytes(rt, alloc, path)?;
+    let bytes = read_bytes(rt, alloc, path, MOST + 1)?;
     host_in(rt, alloc, path, &bytes)
 }

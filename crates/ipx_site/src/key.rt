@@ -9,6 +9,7 @@ use crate::site::Kind;
 #[derive(Clone, Copy, Debug, PartialEq, Eq)]
 pub enum Key {
     Status,
+    Tables,
     Port,
     Network,
     Address,
@@ -37,6 +38,7 @@ impl Key {
     {
         match self {
             Key::Status => "status",
+            Key::Tables => "tables",
             Key::Port => "port",
             Key::Network => "network",
             Key::Address => "address",
@@ -63,6 +65,7 @@ impl Key {
     pub(crate) fn right(&self) -> &'static str {
         match self {
             Key::Status => "the name of a file, as \"/run/ipx/hq/hq.prom\"",
+            Key::Tables => "the name of a file, as \"/run/ipx/hq/hq.tables\"",
             Key::Port => "one to sixteen tables, each begun by [[port]]",
             Key::Network => "eight hex digits, neither all 0 nor all f, as \"00000011\"",
             Key::Address => "an IP address of this machine, as \"192.0.2.10\"",

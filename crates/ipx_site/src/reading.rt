@@ -18,7 +18,7 @@ use std::alloc::Global;
 use toml::{Table, Value};
 
 /// The keys of the file, in the order in which their faults are told.
-const KEYS: [Key; 2] = [Key::Status, Key::Port];
+const KEYS: [Key; 3] = [Key::Status, Key::Tables, Key::Port];
 
 /// The port that a value describes.
 fn item_of(alloc: Global, value: &Value, number: usize) -> Result<PortOfKind, FileFault>
@@ -107,9 +107,14 @@ fn site_of(alloc: Global, table: &Table) -> Result<SiteFile, FileFault>
 {
     refuse_unknown(alloc, table, 0, &KEYS)?;
     let status = text_in(alloc, table, Key::Status)?;
+    let tables = text_in(alloc, table, Key::Tables)?;
     let values = port_values(table)?;
     let ports = ports_of(alloc, values)?;
-    Ok(SiteFile { status, ports })
+    Ok(SiteFile {
+        status,
+        tables,
+        ports,
+    })
 }
 
 /// Reads the text of a router's file, or answers its first fault: ports are read in the order of

@@ -287,6 +287,7 @@ fn start<'a, R: Net + Log + SystemClock>(
         clock: SteadyClock::new(rt),
         ready,
         status: site.status,
+        tables: site.tables,
     };
     Ok(RunningRouter::new(alloc, parts))
 }

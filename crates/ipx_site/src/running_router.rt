@@ -1,11 +1,12 @@
 //! A router with its sockets, and what is to be done besides its turns.
 
-ghost use Rattle.std.specs.Prelude.{◌≡◌, Bool, List, OnOk, Some, length, map};
+ghost use Rattle.std.specs.Prelude.{◌≡◌, Bool, List, IfOk, OnOk, Some, length, map, string_bytes};
 ghost use Rattle.ipx_carrier.specs.PortMarks.{AreMarked, is_any_marked};
 ghost use Rattle.ipx_carrier.specs.Turns.{peers_of};
 ghost use Rattle.ipx_site.specs.DropLines.{AreDropsTold};
 ghost use Rattle.ipx_site.specs.Leisure.{IsLeisure, IsToDo, agenda, counts_told, happened, happened_in, look_after};
 ghost use Rattle.ipx_site.specs.Moments.{AreToldIfDue};
+ghost use Rattle.ipx_site.specs.KnownFile.{TellsKnown};
 ghost use Rattle.ipx_site.specs.SitePorts.{access_by};
 ghost use Rattle.ipx_site.specs.PortsView.{kept_in_ports, ways_in};
 ghost use Rattle.ipx_site.specs.RouterRounds.{AsksAgain, IsRound, SleepsBehind};
@@ -19,6 +20,7 @@ use crate::drop_lines::DropLines;
 use crate::figures::Figures;
 use crate::frame_figures::{put_frame_figures, tell_encapsulations};
 use crate::ipxnet_figures::put_ipxnet_figures;
+use crate::known_text::known_to_text;
 use crate::marking::{is_any_marked, mark_ready};
 use crate::moments::{LONGEST, end_of, is_over, sooner, time_to};
 use crate::neighbour_figures::put_neighbour_figures;
@@ -55,6 +57,7 @@ pub struct RunningRouter<'a, R: SystemClock> {
     clock: SteadyClock<'a, R>,
     ready: Readiness,
     status: Option<String>,
+    tables: Option<String>,
     tally: RouterCounts,
     known: Known,
     clients: ToldClients,
@@ -79,6 +82,7 @@ impl<'a, R: SystemClock> Drop for RunningRouter<'a, R> {
             clock: _,
             ready: _,
             status: _,
+            tables: _,
             tally: _,
             known: _,
             clients: _,
@@ -100,6 +104,7 @@ pub struct Parts<'a, R: SystemClock> {
     pub clock: SteadyClock<'a, R>,
     pub ready: Readiness,
     pub status: Option<String>,
+    pub tables: Option<String>,
 }
 
 impl<'a, R: SystemClock> RunningRouter<'a, R> {
@@ -117,6 +122,7 @@ impl<'a, R: SystemClock> RunningRouter<'a, R> {
             clock: parts.clock,
             ready: parts.ready,
             status: parts.status,
+            tables: parts.tables,
             tally: RouterCounts::new(),
             known: Known::new(alloc),
             clients: ToldClients::new(alloc),
@@ -202,7 +208,36 @@ impl<'a, R: SystemClock> RunningRouter<'a, R> {
         }
     }
 
-    /// Writes the figures, if it is time and there is a file for them.
+    /// What it knows at a moment, as its file of tables says it.
+    fn tables_text(&self, alloc: Global, now: u64) -> Result<String, AllocError>
+        ensures { IfOk result (λ t. TellsKnown self.now.core.core.router now (string_bytes t)) }
+    {
+        known_to_text(alloc, self.core.core().router(), now)
+    }
+
+    /// Writes what it knows, if there is a file for that.
+    fn write_tables<F: Files>(&mut self, rt: &F, alloc: Global, now: u64)
+        ensures core { self.new.core ≡ self.old.core }
+        ensures ports { self.new.ports ≡ self.old.ports }
+        ensures clock { self.new.clock ≡ self.old.clock }
+        ensures ready { self.new.ready ≡ self.old.ready }
+        ensures troubles { self.new.troubles ≡ self.old.troubles }
+        ensures drops { self.new.drops ≡ self.old.drops }
+        ensures asked { self.new.asked ≡ self.old.asked }
+    {
+        let Some(path) = &self.tables else {
+            return;
+        };
+        let Ok(text) = self.tables_text(alloc, now) else {
+            self.tally.want_memory();
+            return;
+        };
+        if !write_whole(rt, alloc, path.as_str(), text.as_str()) {
+            self.tally.fail_file();
+        }
+    }
+
+    /// Writes the figures and what it knows, if it is time and there are files for them.
     fn write_figures<F: Files>(&mut self, rt: &F, alloc: Global, now: u64)
         ensures core { self.new.core ≡ self.old.core }
         ensures ports { self.new.ports ≡ self.old.ports }
@@ -216,6 +251,7 @@ impl<'a, R: SystemClock> RunningRouter<'a, R> {
             return;
         }
         self.written = Some(now);
+        self.write_tables(rt, alloc, now);
         let Some(path) = &self.status else {
             return;
         };

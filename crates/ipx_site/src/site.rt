@@ -152,6 +152,8 @@ impl PortOfKind {
 pub struct SiteFile {
     /// Where its figures are written, if anywhere.
     pub status: Option<String>,
+    /// Where what it knows is written, if anywhere.
+    pub tables: Option<String>,
     /// Its ports, 1 to 16. The first is port 1.
     pub ports: Vec<PortOfKind>,
 }

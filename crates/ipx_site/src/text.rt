@@ -9,7 +9,7 @@ use std::fmt;
 /// The keys of a table, by its number.
 fn keys_of(table: usize) -> &'static str {
     if table == 0 {
-        return "a router has status and port, \
+        return "a router has status, tables and port, \
             a host network, address, router, udp_port, socket, buffers, peers, routers, from and \
             accept";
     }

@@ -120,7 +120,7 @@ fn troubles_in(f: &Figures) -> [Trouble; CAUSES]
         Trouble::of_nobody(f.queue_full, "packets found no room to wait"),
         Trouble::of_nobody(f.device_faults, "datagrams the system refused"),
         Trouble::of_nobody(f.memory_faults, "times memory was refused"),
-        Trouble::of_nobody(f.file_faults, "times the status file could not be written"),
+        Trouble::of_nobody(f.file_faults, "times a file could not be written"),
         Trouble::of_nobody(f.frame_strangers, "datagrams came from no end of a wire"),
         Trouble::of_nobody(f.unframed, "packets no frame could carry"),
         Trouble::of_nobody(f.other_encapsulation, "frames of another encapsulation"),

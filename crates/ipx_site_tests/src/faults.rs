@@ -16,7 +16,7 @@ peers = []
 ";
 
 /// Files of routers with what is printed of them.
-const SITES: [(&str, &str); 9] = [
+const SITES: [(&str, &str); 10] = [
     (TWIN, "port 2: network 00000001 is already that of port 1"),
     (
         "",
@@ -32,11 +32,15 @@ const SITES: [(&str, &str); 9] = [
     ),
     (
         "Status = \"a\"",
-        "Status is no key here: a router has status and port, a host network, address, router, udp_port, socket, buffers, peers, routers, from and accept",
+        "Status is no key here: a router has status, tables and port, a host network, address, router, udp_port, socket, buffers, peers, routers, from and accept",
     ),
     (
         "status = 1",
         "status is to be the name of a file, as \"/run/ipx/hq/hq.prom\"",
+    ),
+    (
+        "tables = 1\nport = 1",
+        "tables is to be the name of a file, as \"/run/ipx/hq/hq.tables\"",
     ),
     (
         "[[port]]\npeer = []",
@@ -104,7 +108,7 @@ const HOSTS: [(&str, &str); 3] = [
     ),
     (
         "port = 1",
-        "port is no key here: a router has status and port, a host network, address, router, udp_port, socket, buffers, peers, routers, from and accept",
+        "port is no key here: a router has status, tables and port, a host network, address, router, udp_port, socket, buffers, peers, routers, from and accept",
     ),
 ];
 

@@ -7,6 +7,7 @@ use ipx_wire::{Address, Network, Node, Socket};
 const SITE: &str = "\
 # the router of one site
 status = \"/run/ipx/hq/hq.prom\"
+tables = \"/run/ipx/hq/hq.tables\"
 
 [[port]]
 network = \"00000001\"
@@ -112,7 +113,7 @@ fn reads_routers(rt: HostRuntime) {
 }
 
 #[test]
-fn reads_a_status_file(rt: HostRuntime) {
+fn reads_both_files(rt: HostRuntime) {
     let Some(site) = site(rt.alloc(), SITE) else {
         panic!(rt; "the file has a fault");
     };
@@ -120,6 +121,10 @@ fn reads_a_status_file(rt: HostRuntime) {
         panic!(rt; "it has no status file");
     };
     assert_eq!(rt; status.as_str(), "/run/ipx/hq/hq.prom");
+    let Some(tables) = &site.tables else {
+        panic!(rt; "it has no file of tables");
+    };
+    assert_eq!(rt; tables.as_str(), "/run/ipx/hq/hq.tables");
 }
 
 #[test]

@@ -6,6 +6,7 @@ use ipx_site::{FileFault, PortOfKind, read_host, read_site};
 /// A router with two ports, one on a wire and one for clients of ipxnet.
 const SITE: &str = "\
 status = \"/run/ipx/hq.prom\"
+tables = \"/run/ipx/hq.tables\"
 
 [[port]]
 network = \"00000001\"
@@ -65,7 +66,7 @@ fn reached(port: &PortOfKind) -> usize {
 fn refused_site(rt: HostRuntime) {
     match read_site(rt.alloc(), SITE) {
         Ok(site) => {
-            assert!(rt; site.ports.len() == 4 && site.status.is_some());
+            assert!(rt; site.ports.len() == 4 && site.status.is_some() && site.tables.is_some());
             assert!(rt; site.ports.first().is_some_and(|port| reached(port) == 2));
             assert!(rt; site.ports.last().is_some_and(|port| reached(port) == 2));
         }

@@ -88,6 +88,13 @@ const HOST_FILE: WordShape = WordShape {
     wanted: true,
 };
 
+const KNOWING_FILE: WordShape = WordShape {
+    name: "HOST",
+    help: "The file of the host, or of a router",
+    unless: None,
+    wanted: true,
+};
+
 const NET: WordShape = WordShape {
     name: "NET",
     help: "The network to dial, eight hex digits",
@@ -220,20 +227,20 @@ const SEND_SHAPE: &CommandShape = &CommandShape {
 
 const NETWORKS_SHAPE: &CommandShape = &CommandShape {
     name: NETWORKS,
-    about: "The networks that the routers of a host know",
+    about: "The networks that a router knows, or the routers of a host",
     long_about: texts::NETWORKS,
     statuses: texts::NETWORKS_STATUSES,
-    words: &[HOST_FILE],
+    words: &[KNOWING_FILE],
     options: &[PRINTS_JSON],
 };
 
 const SERVICES_SHAPE: &CommandShape = &CommandShape {
     name: SERVICES,
-    about: "The services that the routers of a host know",
+    about: "The services that a router knows, or the routers of a host",
     long_about: texts::SERVICES,
     statuses: texts::SERVICES_STATUSES,
     words: &[
-        HOST_FILE,
+        KNOWING_FILE,
         WordShape {
             name: "TYPE",
             help: "The type of the services, four hex digits; all where it is left out",

@@ -153,8 +153,10 @@ or for clients of DOSBox, which connect by ipxnet,
   accept    \"any\": from everywhere, and peers may be left out
   join      a list of places, as [\"198.51.100.7:2130\"]: other routers' such ports,
             on the same network, whose players are in one game with those here
-and before the first port, if figures are wanted,
-  status    the name of a file, which it writes anew every ten seconds
+and before the first port, if figures are wanted, or what it knows,
+  status    the name of a file of figures, which it writes anew every ten seconds
+  tables    the name of a file of what it knows, which it writes so too: networks and
+            services read it
 It tells each port, and what becomes known or is lost, on standard error.";
 
 pub const ROUTE_STATUSES: &str = "\
@@ -233,17 +235,23 @@ and hops of those that were told, and by whom:
   00000022     2      8  00000a010001
 and behind them how many there are, who answered, and how soon. A router tells a host nothing that
 lies on the host's own network, or behind others of it.
-No listen or send of the same address may run meanwhile, since a router answers to its port alone.";
+No listen or send of the same address may run meanwhile, since a router answers to its port alone.
+
+Where HOST is the file of a router, which has ports, nobody is asked: it prints what the router
+wrote last into the file of its key tables, first the networks of its ports, 0 hops and 0 ticks away
+by nobody, a dash, and then the best of each other one, by the neighbour that told it.";
 
 pub const NETWORKS_STATUSES: &str = "\
 It is over where each answer came to its end and 200 ms passed without more, or after four seconds.
 Status 0: each router that was asked answered. 1: one did not, which a line on standard error tells,
 or knows nothing besides the host's own network, since then it sends nothing; or more was told than
 there is room for, writing failed, the socket can't be had, or memory ran out. 2: the file has a
-fault, which one line tells, and nothing was bound.
+fault, which one line tells, and nothing was bound; or a router's has no tables, or the file that
+they name is not there, or not whole.
 
-Example:
-  $ ipx networks /etc/ipx/host.toml";
+Examples:
+  $ ipx networks /etc/ipx/host.toml
+  $ ipx networks /etc/ipx/hq.toml";
 
 pub const SERVICES: &str = "\
 The services that the routers of a host know, and where they are
@@ -253,7 +261,8 @@ for each service, the least by hops and address of those that were told, and by 
   type  name      network   node          socket  hops  by
   0004  HQ-FILES  00000a01  000000000001  0451       1  00000a010001
 and behind them how many there are, who answered, and how soon. Names print as show prints them. A
-router tells a host nothing that lies on the host's own network, or behind others of it.";
+router tells a host nothing that lies on the host's own network, or behind others of it.
+Where HOST is the file of a router, it prints what the router wrote last, as networks does.";
 
 pub const SERVICES_STATUSES: &str = "\
 It is over, and the status is, as of networks: 1 too where a router knows no service of the type,

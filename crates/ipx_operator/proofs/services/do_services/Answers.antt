@@ -3,4 +3,4 @@ use Rattle.ipx_operator.proofs.services.do_services.Goals as goal
 pub returns-in-Some-clause-listed : goal.returns-in-Some-clause-listed
 returns-in-Some-clause-listed g c = λ zero.
     let l = c.list_services.ensures.listed zero in
-    (l.0, l.1, c.in-Some.kind, l.2, l.3, l.4, l.5, l.6, c.in-Some.ensures.known, l.7, l.8, l.9, l.10)
+    (l.0, l.1, c.in-Some.kind, l.2, c.in-Some.ensures.known, l.3, l.4)

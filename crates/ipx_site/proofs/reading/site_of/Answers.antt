@@ -1,21 +1,44 @@
 use Rattle.std.proofs.Common.{inl, inr, []}
 use Rattle.std.proofs.lemmas.Result.{err_from_is_err_and}
 use Rattle.toml.specs.View.{items_view, table_view}
-use Rattle.ipx_site.proofs.Faults.{or_memory, status_right}
+use Rattle.ipx_site.specs.declared.key.Key.TheVariants as Key
+use Rattle.ipx_site.proofs.Faults.{or_memory, text_right}
 use Rattle.ipx_site.proofs.Own.{own_of}
 use Rattle.ipx_site.proofs.reading.site_of.Goals as goal
+
+pub returns-in_err-tables-clause-fault : goal.returns-in_err-tables-clause-fault
+returns-in_err-tables-clause-fault c =
+    let p = err_from_is_err_and c.from_residual-in_err-tables.result c.from_residual-in_err-tables.ensures.1 in
+    let ms = table_view c.args.table.now in
+    rw (p.1, p.2)
+    (or_memory _ (λ fault. inr (c.in_ok-refuse_unknown.ensures.known, inr (text_right Key.Status ms c.in_ok-status.status c.in_ok-status.ensures, inl fault)))
+    c.in_err-tables.ensures)
 
 pub returns-in_err-values-clause-fault : goal.returns-in_err-values-clause-fault
 returns-in_err-values-clause-fault c =
     let p = err_from_is_err_and c.from_residual-in_err-values.result c.from_residual-in_err-values.ensures.1 in
+    let ms = table_view c.args.table.now in
     rw (p.1, p.2)
-    (inr (inr (c.in_ok-refuse_unknown.ensures.known, inr (status_right (table_view c.args.table.now) c.in_ok-status.status c.in_ok-status.ensures, inl c.in_err-values.ensures))))
+    (inr (inr (
+      c.in_ok-refuse_unknown.ensures.known,
+      inr (
+        text_right Key.Status ms c.in_ok-status.status c.in_ok-status.ensures,
+        inr (text_right Key.Tables ms c.in_ok-tables.tables c.in_ok-tables.ensures, inl c.in_err-values.ensures),
+      ),
+    )))
 
 pub returns-in_err-ports-clause-fault : goal.returns-in_err-ports-clause-fault
 returns-in_err-ports-clause-fault c =
     let p = err_from_is_err_and c.from_residual-in_err-ports.result c.from_residual-in_err-ports.ensures.1 in
+    let ms = table_view c.args.table.now in
     rw (p.1, p.2)
-    (or_memory _ (λ fault. inr (c.in_ok-refuse_unknown.ensures.known, inr (status_right (table_view c.args.table.now) c.in_ok-status.status c.in_ok-status.ensures, inr (items_view c.in_ok-values.values.now, c.in_ok-values.ensures, fault))))
+    (or_memory _ (λ fault. inr (
+      c.in_ok-refuse_unknown.ensures.known,
+      inr (
+        text_right Key.Status ms c.in_ok-status.status c.in_ok-status.ensures,
+        inr (text_right Key.Tables ms c.in_ok-tables.tables c.in_ok-tables.ensures, inr (items_view c.in_ok-values.values.now, c.in_ok-values.ensures, fault)),
+      ),
+    ))
     c.in_err-ports.ensures.fault)
 
 pub returns-clause-own : goal.returns-clause-own

@@ -1,0 +1,24 @@
+use Rattle.std.proofs.Common.{◌≡◌, ◌∙◌, true, false, ap, map, rules}
+use Rattle.std.specs.Prelude.{◌==◌, ◌||◌}
+use Rattle.std.specs.Str.{bytes_eq}
+use Rattle.ipx_known.specs.TableRead.{ServiceSpelled, service_spelled}
+use Rattle.ipx_operator.specs.OperatorLines.{type_digits}
+use Rattle.ipx_operator.proofs.Rows.{passed_kept, pushed_kept}
+use Rattle.ipx_operator.proofs.known_service_lines.services_of_type.Goals.{then-is_of_type+in_ok-push, else-is_of_type}
+use Rattle.ipx_operator.proofs.known_service_lines.services_of_type.Goals as goal
+
+pub loop-service-preserved : goal.loop-service-preserved
+loop-service-preserved c =
+    let services = c.args.services.now in
+    let kind = c.args.kind in
+    let i = c.loop-service.service-index in
+    let old = c.loop-service.found.items in
+    let is = λ (s : ServiceSpelled). (kind == 0xffff) || bytes_eq s.kind (type_digits kind) in
+    elim c.if-is_of_type.branch [
+      | then-is_of_type+in_ok-push w ↦
+          ap (λ v. map service_spelled v.items) w.found-is
+          ∙ pushed_kept is service_spelled services i _ c.loop-service-test.true old c.loop-service.invariant w.push.new.self.items (search rules) w.in_ok-push.ensures.items
+      | else-is_of_type w ↦
+          ap (λ v. map service_spelled v.items) w.found-is
+          ∙ passed_kept is service_spelled services i _ c.loop-service-test.true old c.loop-service.invariant (search rules)
+    ]

@@ -1,0 +1,21 @@
+//! The text of a router's file of tables.
+
+ghost use Rattle.std.specs.Prelude.{IfOk, string_bytes};
+ghost use Rattle.ipx_site.specs.KnownFile.{TellsKnown};
+
+use ipx_known::tables_to_text;
+use ipx_router::Router;
+use std::alloc::{AllocError, Global};
+
+/// What a router knows at a moment, in milliseconds.
+pub fn known_to_text(alloc: Global, router: &Router, now: u64) -> Result<String, AllocError>
+    ensures { IfOk result (λ t. TellsKnown router.now now (string_bytes t)) }
+{
+    tables_to_text(
+        alloc,
+        router.ports(),
+        router.routes(),
+        router.services(),
+        now,
+    )
+}

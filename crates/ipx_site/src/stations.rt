@@ -1,0 +1,87 @@
+//! Files that may be those of a router or of a host, and the file of tables of a router.
+
+ghost use Rattle.std.specs.Prelude.{◌≡◌, ◌⊎◌, ℕ, List, IfErr, IfOk, OnOk, false, true};
+ghost use Rattle.ipx_known.specs.TableParts.{has_all_titles};
+ghost use Rattle.ipx_site.specs.Loading.{IsFileText};
+ghost use Rattle.ipx_site.specs.Stations.{IsStationText};
+
+use crate::files::{MOST, host_in, read_bytes, site_in, tell, tell_no_memory};
+use crate::host::HostFile;
+use crate::key::Key;
+use crate::site::SiteFile;
+use crate::toml_text::table_of;
+use ipx_known::has_all_titles;
+use std::alloc::Global;
+use std::rt::Files;
+use std::str;
+
+/// The longest file of tables, in bytes. Full tables are less than half of it.
+const MOST_TABLES: usize = 4_194_304;
+
+/// The file of a router or of a host.
+#[derive(Drop)]
+pub enum StationFile {
+    Router(SiteFile),
+    Host(HostFile),
+}
+
+/// Whether bytes are the file of a router: it has ports, and a host has none.
+fn has_ports(alloc: Global, bytes: &[u8]) -> bool {
+    let Ok(text) = str::from_utf8(bytes) else {
+        return false;
+    };
+    match table_of(alloc, text) {
+        Ok(table) => table.contains_key(Key::Port.text()),
+        Err(_) => false,
+    }
+}
+
+/// What the bytes of a file describe.
+fn station_in<R: Eprint>(rt: &R, alloc: Global, path: &str, bytes: &[u8]) -> Result<StationFile, u8>
+    ensures station { IfOk result (λ s. IsFileText bytes.now × IsStationText bytes.now s) }
+    ensures fault { IfErr result (λ status. (status ≡ 1) ⊎ (status ≡ 2)) }
+{
+    if bytes.len() <= MOST && has_ports(alloc, bytes) {
+        let site = site_in(rt, alloc, path, bytes)?;
+        return Ok(StationFile::Router(site));
+    }
+    let host = host_in(rt, alloc, path, bytes)?;
+    Ok(StationFile::Host(host))
+}
+
+/// Reads the file of a router or of a host, as `load_site` and `load_host` do.
+pub fn load_station<R: Files + Eprint>(rt: &R, alloc: Global, path: &str) -> Result<StationFile, u8>
+    ensures station { IfOk result (λ s. (text : List ℕ) × IsFileText text × IsStationText text s) }
+    ensures fault { IfErr result (λ status. (status ≡ 1) ⊎ (status ≡ 2)) }
+{
+    let bytes = read_bytes(rt, alloc, path, MOST + 1)?;
+    station_in(rt, alloc, path, &bytes)
+}
+
+/// Refuses bytes that are no whole text of tables.
+fn refuse_half<R: Eprint>(rt: &R, alloc: Global, path: &str, bytes: &[u8]) -> Result<(), u8>
+    ensures whole { OnOk result (has_all_titles bytes.now ≡ true) }
+    ensures fault { IfErr result (λ status. (status ≡ 1)
+        ⊎ ((status ≡ 2) × (has_all_titles bytes.now ≡ false))) }
+{
+    match has_all_titles(alloc, bytes) {
+        Ok(true) => Ok(()),
+        Ok(false) => Err(tell(
+            rt,
+            path,
+            "the file is not all that a router writes of its tables",
+        )),
+        Err(_) => Err(tell_no_memory(rt, path)),
+    }
+}
+
+/// Reads the file of tables that a router wrote. What is wrong is told in one line on standard error
+/// that begins with the path; the error is the status then: 2, or 1 for want of memory.
+pub fn load_tables<R: Files + Eprint>(rt: &R, alloc: Global, path: &str) -> Result<Vec<u8>, u8>
+    ensures whole { IfOk result (λ v. has_all_titles v.items ≡ true) }
+    ensures fault { IfErr result (λ status. (status ≡ 1) ⊎ (status ≡ 2)) }
+{
+    let bytes = read_bytes(rt, alloc, path, MOST_TABLES)?;
+    refuse_half(rt, alloc, path, &bytes)?;
+    Ok(bytes)
+}
