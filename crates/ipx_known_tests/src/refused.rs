@@ -1,7 +1,7 @@
 //! Want of memory: the text is the same, or there is none.
 
 use crate::fixture::{PORT, hear_both};
-use ipx_known::{networks_of_text, services_of_text, tables_to_text};
+use ipx_known::{first_tellers, networks_of_text, services_of_text, tables_to_text};
 use ipx_tables::{route_table, service_table};
 use std::test::Fail;
 
@@ -36,5 +36,23 @@ fn refused_memory_for_reading(rt: HostRuntime) -> Result<(), Fail> {
         Err(_) => services_of_text(alloc, text)?,
     };
     assert_eq!(rt; services.len(), 1);
+    Ok(())
+}
+
+#[test]
+fn refused_memory_for_tellers(rt: HostRuntime) -> Result<(), Fail> {
+    let alloc = rt.alloc();
+    let (mut routes, mut services) = (route_table(alloc), service_table(alloc));
+    if hear_both(alloc, &mut routes, &mut services).is_err() {
+        hear_both(alloc, &mut routes, &mut services)?;
+    }
+    let tellers = match first_tellers(alloc, &routes, &services, 100_000) {
+        Ok(tellers) => tellers,
+        Err(_) => first_tellers(alloc, &routes, &services, 100_000)?,
+    };
+    let told = tellers
+        .iter()
+        .map(|(_, teller)| (teller.networks, teller.services));
+    assert!(rt; told.eq([(1, 0), (1, 1)]));
     Ok(())
 }

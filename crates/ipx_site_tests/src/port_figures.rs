@@ -196,3 +196,60 @@ fn of_300_neighbours_the_first_256_have_figures(rt: HostRuntime) -> Result<(), F
     assert_eq!(rt; lines.count(), 256);
     Ok(())
 }
+
+/// The same, or none where memory is refused.
+fn two_ports_if_memory(alloc: Global) -> Option<CountedRouter> {
+    let ports = vec![in alloc; port(0x11, 1), port(0x22, 2)].ok()?;
+    let router = Router::new(alloc, ports).ok()?;
+    CountedRouter::new(alloc, router).ok()
+}
+
+/// The same, made once more where memory was refused.
+fn two_ports_at_last(alloc: Global) -> Result<CountedRouter, Fail> {
+    match two_ports_if_memory(alloc) {
+        Some(core) => Ok(core),
+        None => two_ports(alloc),
+    }
+}
+
+/// A router counts at each of its ports from its start on, or memory is wanted.
+#[test]
+fn refused_counted_router(rt: HostRuntime) -> Result<(), Fail> {
+    let core = two_ports_at_last(rt.alloc())?;
+    assert_eq!(rt; core.by_port().len(), 2);
+    assert_eq!(rt; core.last().bad, None);
+    Ok(())
+}
+
+/// The text is whole, or memory is wanted.
+#[test]
+fn refused_figures_of_ports(rt: HostRuntime) -> Result<(), Fail> {
+    let alloc = rt.alloc();
+    let core = two_ports_at_last(alloc)?;
+    let mut text = String::new(alloc);
+    if put_port_figures(&mut text, &core).is_err() {
+        text = String::new(alloc);
+        put_port_figures(&mut text, &core)?;
+    }
+    let end = "ipx_port_dropped_total{port=\"2\",reason=\"table_full\"} 0\n";
+    assert!(rt; text.as_str().ends_with(end));
+    Ok(())
+}
+
+/// Likewise of neighbours.
+#[test]
+fn refused_figures_of_neighbours(rt: HostRuntime) -> Result<(), Fail> {
+    let alloc = rt.alloc();
+    let mut core = two_ports_at_last(alloc)?;
+    if core.hear(alloc, 0, &response(3, 0x71), 1000).is_err() {
+        core.hear(alloc, 0, &response(3, 0x71), 1000)?;
+    }
+    let mut text = String::new(alloc);
+    if put_neighbour_figures(&mut text, alloc, core.router(), 10_500).is_err() {
+        text = String::new(alloc);
+        put_neighbour_figures(&mut text, alloc, core.router(), 10_500)?;
+    }
+    let end = "ipx_neighbour_heard_seconds{port=\"1\",node=\"00000a010003\"} 9\n";
+    assert!(rt; text.as_str().ends_with(end), "{text}");
+    Ok(())
+}
