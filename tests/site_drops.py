@@ -1,0 +1,110 @@
+"""A router with two ports that drops datagrams for each reason, for tests/sites."""
+import glob
+import os
+import re
+import shutil
+import subprocess
+import time
+
+from site_packets import ipx
+from site_world import bound, node, port_table, until
+
+# What the peer of a port sends comes to its address: the network, the address, the peer.
+PORTS = [("000000d1", "127.0.1.100", "127.0.1.101"), ("000000d2", "127.0.1.102", "127.0.1.103")]
+DROPPING = [address for _, *ends in PORTS for address in ends]
+NAME = "drops"
+# So many datagrams for each reason come by the first port, and a moment later so many by the second.
+FIRST, MORE = 1, 11
+# What is told of a reason, and whether the last datagram says who sent it.
+REASONS = {"bad": ("bad", False), "not_ours": ("not ours", True), "no_route": ("no route 00000033", True),
+           "hop_limit": ("hop limit", True), "bad_control": ("bad control", True)}
+# A cause is told once a minute, ten seconds late at most.
+SECONDS_TO_THE_SECOND_LINE = 72
+
+
+def datagrams(place):
+    """One for each reason by the port at that place, in the order above."""
+    (network, _, peer), (away, *_) = PORTS[place], PORTS[1 - place]
+    source = (network, node(peer), "4003")
+    return [
+        b"\1\2\3",
+        ipx(4, (network, "000000000009", "4002"), source, b"no node of the router"),
+        ipx(4, ("00000033", "000000000001", "4002"), source, b"no network"),
+        ipx(4, (away, node(PORTS[1 - place][2]), "4002"), source, b"too far", 15),
+        ipx(1, (network, "f" * 12, "0453"), source, b"\0\5"),
+    ]
+
+
+def broadcast(place):
+    """A packet that no router of ours passes on, of which there is no line."""
+    network, _, peer = PORTS[place]
+    return ipx(20, (network, "f" * 12, "4002"), (network, node(peer), "4003"), b"\0" * 32)
+
+
+def line_of(place, reason, count, whole):
+    """The line that is told of a reason, where the last datagram came by the port at that place."""
+    words, has_sender = REASONS[reason]
+    network, _, peer = PORTS[place]
+    sender = f" from {network} {node(peer)} 4003" if has_sender else ""
+    return f"[WARN  ipx] dropped {count} ({whole} since the start): {words}, the last{sender} by port {place + 1}"
+
+
+def lines_of(place, count, whole):
+    return [line_of(place, reason, count, whole) for reason in REASONS]
+
+
+def told(sites):
+    """What was told of drops so far."""
+    return [it for it in sites.routers[NAME].said() if re.search(r"\] dropped \d", it)]
+
+
+def start_drops(sites):
+    """Sends the router what it drops, and answers when it did so."""
+    text = f'status = "{sites.world.path(NAME + ".prom")}"\n'
+    for network, address, peer in PORTS:
+        text += port_table(network, address, sites.port, [peer])
+    sites.world.write(f"{NAME}.toml", text)
+    sites.start_router(NAME)
+    until(lambda: len(sites.routers[NAME].said()) >= len(PORTS), 10)
+    for place, count in enumerate((FIRST, MORE)):
+        with bound(PORTS[place][2], sites.port) as peer:
+            for datagram in datagrams(place) * count:
+                peer.sendto(datagram, (PORTS[place][1], sites.port))
+            # Behind it the router looks what is to be told.
+            time.sleep(0.2)
+            peer.sendto(broadcast(place), (PORTS[place][1], sites.port))
+        until(lambda: len(told(sites)) >= len(REASONS), 12)
+    return time.monotonic()
+
+
+def check_drops(sites, sent):
+    """What was told: at once of the first datagrams, a minute later of the others."""
+    until(lambda: len(told(sites)) >= 2 * len(REASONS), sent + SECONDS_TO_THE_SECOND_LINE - time.monotonic())
+    got, wanted = told(sites), [*lines_of(0, FIRST, FIRST), *lines_of(1, MORE, FIRST + MORE)]
+    sites.check("a router tells what it dropped last for each reason, once a minute", got == wanted,
+                f"{len(got)} lines" if got == wanted else str(got))
+
+
+def check_drops_figures(sites, figures):
+    """What was dropped by each port, and by both together, once the figures were written."""
+    of_router = figures[NAME]
+    wanted = {**{reason: [FIRST, MORE] for reason in REASONS}, "propagated": [1, 1], "table_full": [0, 0]}
+    by_port = {reason: [of_router.get(f'ipx_port_dropped_total{{port="{number}",reason="{reason}"}}') for number in (1, 2)]
+               for reason in wanted}
+    sites.check("it counts what it dropped by port and by reason", by_port == wanted, str(by_port))
+    whole = {reason: of_router.get(f'ipx_dropped_total{{reason="{reason}"}}') for reason in wanted}
+    sites.check("and by its ports together as much as at all", whole == {it: sum(wanted[it]) for it in wanted}, str(whole))
+
+
+def check_promtool(sites):
+    """What promtool says of all status files, where it is installed."""
+    if not shutil.which("promtool"):
+        print("left out: what promtool finds in status files: it is not installed (apt-get install prometheus)")
+        return
+    found = {}
+    for path in glob.glob(sites.world.path("*.prom")):
+        with open(path, "rb") as it:
+            ran = subprocess.run(["promtool", "check", "metrics"], stdin=it, capture_output=True, check=False)
+        found[os.path.basename(path)] = (ran.returncode, (ran.stdout + ran.stderr).decode()[:300])
+    wrong = {name: it for name, it in found.items() if it != (0, "")}
+    sites.check("promtool finds nothing in status files", found and not wrong, str(wrong) if wrong else f"{len(found)} files")
