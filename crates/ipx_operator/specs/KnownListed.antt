@@ -1,5 +1,5 @@
 -- What the commands of an operator print by the file of a router. All of it is own.
-use Rattle.std.specs.Prelude.{String, string_bytes, ◌≡◌, ◌⊎◌, ℕ, List, Bool, Some, true}
+use Rattle.std.specs.Prelude.{String, string_bytes, ◌≡◌, ℕ, List, Bool, Some, true}
 use Rattle.std.specs.Global.{Global}
 use Rattle.ipx_asking.specs.AskEnds.{ask_status}
 use Rattle.ipx_asking.specs.AskView.{AskView}

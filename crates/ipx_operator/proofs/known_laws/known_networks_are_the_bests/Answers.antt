@@ -1,10 +1,10 @@
-use Rattle.std.proofs.Common.{◌≡◌, ℕ, suc, ◌+◌, Bool, true, false, List, ◌++◌, [], ◌∷◌, length, map, sym, ap, ◌∙◌, refl}
+use Rattle.std.proofs.Common.{◌≡◌, ℕ, suc, ◌+◌, true, false, List, ◌++◌, [], ◌∷◌, length, map, ap, ◌∙◌, refl}
 use Rattle.std.specs.Prelude.{codes}
 use Rattle.std.specs.List.{flat_map}
 use Rattle.std.proofs.lemmas.List.{length-map}
 use Rattle.ipx_router.specs.declared.port.Port.{Port}
-use Rattle.ipx_known.specs.TableParts.{OwnSpelled, owns_in_words}
-use Rattle.ipx_known.specs.TableRead.{NetworkSpelled, network_in_words}
+use Rattle.ipx_known.specs.TableParts.{owns_in_words}
+use Rattle.ipx_known.specs.TableRead.{network_in_words}
 use Rattle.ipx_operator.specs.KnownLines.{direct_network_json, direct_network_row, known_network_json, known_network_row, known_networks_table, port_json, port_row, written_in}
 use Rattle.ipx_operator.specs.OperatorLines.{ToldNetwork, network_json, network_row, told_count}
 use Rattle.ipx_operator.proofs.known_laws.known_networks_are_the_bests.Goals as goal
