@@ -9,11 +9,17 @@ mod failing;
 #[cfg(test)]
 mod fixture;
 #[cfg(test)]
+mod joined_rows;
+#[cfg(test)]
 mod long;
 #[cfg(test)]
 mod moments;
 #[cfg(test)]
 mod refused;
+#[cfg(test)]
+mod row_world;
+#[cfg(test)]
+mod rows;
 #[cfg(test)]
 mod running;
 #[cfg(test)]
