@@ -94,13 +94,20 @@ fn ten_at_a_look(rt: HostRuntime) -> Result<(), Fail> {
 #[test]
 fn refused_client_lines(rt: HostRuntime) -> Result<(), Fail> {
     let alloc = rt.alloc();
-    let both = clients(alloc, 2, &[48199, 48200])?;
+    let both = match clients(alloc, 2, &[48199, 48200]) {
+        Ok(both) => both,
+        Err(_) => clients(alloc, 2, &[48199, 48200])?,
+    };
     let mut told = ToldClients::new(alloc);
     let news = match told.look(alloc, &both) {
         Ok(news) => news,
         Err(_) => told.look(alloc, &both)?,
     };
     assert!(rt; news.came.as_slice() == both.as_slice());
-    assert_eq!(rt; counts(alloc, &mut told, &both)?, (0, 0));
+    let counted = match counts(alloc, &mut told, &both) {
+        Ok(counted) => counted,
+        Err(_) => counts(alloc, &mut told, &both)?,
+    };
+    assert_eq!(rt; counted, (0, 0));
     Ok(())
 }
