@@ -212,6 +212,8 @@ impl<K: Ord + Copy, M: Metric + Copy> Offers<K, M> {
         ensures valid { IsTable K.cmp self.now }
     {
         let mut listed = Vec::new(alloc);
+        // Room for all at once. Where it is refused, as much is taken as there are items.
+        let _room = listed.reserve(self.shelf.len());
         for item in self.bests(now) {
             listed.push(item)?;
         }
