@@ -1,0 +1,3 @@
+pub mod CutWords
+pub mod WordSteps
+pub mod HearingWords

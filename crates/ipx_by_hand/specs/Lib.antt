@@ -1,0 +1,2 @@
+pub mod HandWords
+pub mod ByHand

@@ -1,0 +1,126 @@
+//! A core that hears what silent neighbours are to have said.
+
+ghost use Rattle.std.specs.Prelude.{◌≡◌, false, None, All, IfOk, OnOk, OnErr};
+ghost use Rattle.ipx_router.specs.Ports.{IsPortNumber};
+ghost use Rattle.ipx_by_hand.specs.ByHand.{HearsIfDue, MissesIfDue};
+ghost use Rattle.ipx_by_hand.specs.HandWords.{AreWordsOf};
+
+use crate::hearing::{hear_words, is_time};
+use crate::neighbour::SilentNeighbour;
+use crate::words::words_of;
+use ipx_carrier::{Core, RouterCore};
+use ipx_router::Reply;
+use ipx_wire::{Node, OutOfMemory};
+use std::alloc::Global;
+use std::marker::Model;
+
+/// A core over another one, which hears what silent neighbours are to have said as it is asked for
+/// a packet first, and then when a minute has passed since the last time. After want of memory it
+/// hears them again a minute later. All else is the core's below.
+#[derive(Drop)]
+pub struct ByHand<C: Core + Drop> {
+    core: C,
+    words: Vec<Reply>,
+    said: Option<u64>,
+}
+
+impl<C: Core + Drop> Model for ByHand<C> {
+    ghost use Rattle.ipx_router.specs.Ports.{AreOnPorts};
+    ghost use Rattle.ipx_router.specs.RouterPackets.{sendings};
+    ghost use Rattle.ipx_by_hand.specs.ByHand.{ByHandView};
+
+    ghost Value = { ByHandView C };
+
+    ghost view = { λ s. record { core = s.core; words = sendings s.words.items; said = s.said } };
+
+    ghost invariant = { λ s. AreOnPorts (C.port_count s.core) (sendings s.words.items) };
+}
+
+impl<C: Core + Drop> ByHand<C> {
+    /// A core over this one, which has heard nothing by hand yet. The caller owes ports that are
+    /// there, of numbers from 1 on.
+    pub fn new(
+        alloc: Global,
+        core: C,
+        neighbours: &[SilentNeighbour],
+    ) -> Result<ByHand<C>, OutOfMemory>
+        requires { All (λ n. IsPortNumber (C.port_count core) n.port) neighbours.now }
+        ensures core { IfOk result (λ s. s.core ≡ core) }
+        ensures words { IfOk result (λ s. AreWordsOf neighbours.now s.words) }
+        ensures unsaid { IfOk result (λ s. s.said ≡ None) }
+    {
+        let words = words_of(alloc, neighbours)?;
+        Ok(ByHand {
+            core,
+            words,
+            said: None,
+        })
+    }
+
+    /// The core below, to be asked between two runs.
+    pub fn core(&self) -> &C
+        ensures { result.now ≡ self.now.core }
+    {
+        &self.core
+    }
+
+    /// Lets the core below hear the words, if it is time.
+    fn say(&mut self, alloc: Global, now: u64) -> Result<(), OutOfMemory>
+        ensures heard { OnOk result (HearsIfDue C.hears self.old now self.new) }
+        ensures refused { OnErr result (MissesIfDue C.hears C.misses self.old now self.new) }
+        ensures ports { C.port_count self.new.core ≡ C.port_count self.old.core }
+    {
+        if !is_time(self.said, now) {
+            return Ok(());
+        }
+        self.said = Some(now);
+        hear_words(alloc, &mut self.core, &self.words, now)
+    }
+}
+
+impl ByHand<RouterCore> {
+    /// The router asks its neighbours once more, as `RouterCore::ask_again` says.
+    pub fn ask_again(&mut self)
+        ensures { self.new ≡ record self.old { core = record self.old.core { started = false } } }
+    {
+        self.core.ask_again();
+    }
+}
+
+impl<C: Core + Drop> Core for ByHand<C> {
+    ghost use Rattle.ipx_by_hand.specs.ByHand.{GivesByHand, HearsUnder, MissesUnder, WithholdsByHand};
+
+    ghost port_count = { λ s. C.port_count s.core };
+
+    ghost hears = { HearsUnder C.hears };
+
+    ghost gives = { GivesByHand C.hears C.gives };
+
+    ghost misses = { MissesUnder C.misses };
+
+    ghost withholds = { WithholdsByHand C.hears C.misses C.withholds };
+
+    fn ports(&self) -> usize {
+        self.core.ports()
+    }
+
+    fn hear(
+        &mut self,
+        alloc: Global,
+        port: usize,
+        bytes: &[u8],
+        now: u64,
+    ) -> Result<(), OutOfMemory> {
+        self.core.hear(alloc, port, bytes, now)
+    }
+
+    fn next(
+        &mut self,
+        alloc: Global,
+        now: u64,
+        room: &mut [u8],
+    ) -> Result<Option<(usize, Node, usize)>, OutOfMemory> {
+        self.say(alloc, now)?;
+        self.core.next(alloc, now, room)
+    }
+}

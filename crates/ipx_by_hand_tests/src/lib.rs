@@ -1,0 +1,16 @@
+//! Tests of routes and services by hand, with literal values. They call what `ipx_by_hand` makes
+//! public, and no crate stands on this one.
+#![tactic(auto)]
+
+#[cfg(test)]
+mod ears;
+#[cfg(test)]
+mod fixture;
+#[cfg(test)]
+mod moments;
+#[cfg(test)]
+mod refused;
+#[cfg(test)]
+mod routers;
+#[cfg(test)]
+mod words;
