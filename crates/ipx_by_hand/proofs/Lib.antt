@@ -1,3 +1,10 @@
 pub mod CutWords
 pub mod WordSteps
 pub mod HearingWords
+pub mod OneKey
+pub mod EachWord
+pub mod WordOffers
+pub mod RoomForWords
+pub mod QuietPackets
+pub mod StandingRuns
+pub mod StandingOffers

@@ -1,2 +1,4 @@
 pub mod HandWords
 pub mod ByHand
+pub mod HandOffers
+pub mod HandRuns

@@ -1,10 +1,10 @@
 //! Want of memory. Run it with each request refused.
 
 use crate::fixture::ask;
-use crate::routers::router;
+use crate::routers::{by_hand, has_service, router, way};
 use std::test::Fail;
 
-/// The words are there a minute later at the latest.
+/// Whichever request is refused, the route and the service are there two minutes later.
 #[test]
 fn refused_memory_for_words(rt: HostRuntime) -> Result<(), Fail> {
     let alloc = rt.alloc();
@@ -12,10 +12,14 @@ fn refused_memory_for_words(rt: HostRuntime) -> Result<(), Fail> {
         Ok(core) => core,
         Err(_) => router(alloc, 1)?,
     };
-    if ask(alloc, &mut core, 0).is_err() {
-        ask(alloc, &mut core, 60_000)?;
+    let mut refused = 0;
+    for now in [0, 60_000, 120_000] {
+        if ask(alloc, &mut core, now).is_err() {
+            refused += 1;
+        }
     }
-    ask(alloc, &mut core, 120_000)?;
-    assert!(rt; core.core().fates().heard >= 2);
+    assert!(rt; refused <= 1);
+    assert!(rt; way(&core, 120_000) == by_hand());
+    assert!(rt; has_service(&core, 120_000));
     Ok(())
 }

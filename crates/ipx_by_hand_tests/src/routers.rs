@@ -48,12 +48,12 @@ fn given(alloc: Global, core: &mut ByHand<RouterCore>, now: u64) -> Result<Strin
 }
 
 /// How many hops AA is away, and over whom.
-fn way(core: &ByHand<RouterCore>, now: u64) -> Option<(Source, u16)> {
+pub fn way(core: &ByHand<RouterCore>, now: u64) -> Option<(Source, u16)> {
     let best = core.core().router().routes().best(&BEHIND, now)?;
     Some((best.0, best.1.hops))
 }
 
-fn has_service(core: &ByHand<RouterCore>, now: u64) -> bool {
+pub fn has_service(core: &ByHand<RouterCore>, now: u64) -> bool {
     let key = ServiceKey {
         kind: backup().kind,
         name: backup().name,
@@ -62,7 +62,7 @@ fn has_service(core: &ByHand<RouterCore>, now: u64) -> bool {
     services.best(&key, now).is_some()
 }
 
-fn by_hand() -> Option<(Source, u16)> {
+pub fn by_hand() -> Option<(Source, u16)> {
     Some((
         Source {
             port: 1,

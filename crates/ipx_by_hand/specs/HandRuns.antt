@@ -1,0 +1,117 @@
+-- A router that hears by hand, over a run of calls.
+-- The entry points are `RoutesByHandStand` and `ServicesByHandStand`.
+use Rattle.std.specs.Prelude.{◌≡◌, ◌<◌, ◌≤◌, ◌+◌, ◌^◌, ℕ, Bool, true, List, [], ◌∷◌, All, Contains, Option, Some}
+use Rattle.ipx_wire.specs.declared.address.Network.{Network}
+use Rattle.ipx_wire.specs.Ipx.{IsIpx, PacketView}
+use Rattle.ipx_control.specs.declared.rip.packet.RipEntry.{RipEntry}
+use Rattle.ipx_control.specs.declared.sap.packet.ServiceEntry.{ServiceEntry}
+use Rattle.ipx_control.specs.Rip.{IsRip}
+use Rattle.ipx_control.specs.Rip as rip
+use Rattle.ipx_control.specs.Sap.{IsSap}
+use Rattle.ipx_control.specs.Sap as sap
+use Rattle.ipx_tables.specs.declared.service.ServiceKey.{ServiceKey}
+use Rattle.ipx_tables.specs.Content.{is_young}
+use Rattle.ipx_router.specs.Hearing.{is_heard, route_metric, service_metric}
+use Rattle.ipx_router.specs.Knowledge.{routes_in, services_in}
+use Rattle.ipx_router.specs.Telling.{is_due}
+use Rattle.ipx_router.specs.Told.{key_of_service, route_key}
+use Rattle.ipx_carrier.specs.RouterCore.{CoreView, RouterGives, RouterHears}
+use Rattle.ipx_carrier.specs.Turns.{Given}
+use Rattle.ipx_by_hand.specs.declared.neighbour.SilentNeighbour.{SilentNeighbour}
+use Rattle.ipx_by_hand.specs.ByHand.{ByHandView, GivesByHand, HearsUnder}
+use Rattle.ipx_by_hand.specs.HandOffers.{IsAnotherNode, SaysNoOther, source_by_hand}
+use Rattle.ipx_by_hand.specs.HandWords.{AreWordsOf}
+
+-- bytes come in on a port; or it is asked for a packet, and gives one or none
+pub data HandCall : Type 0 where
+  Comes : (port : ℕ) → (bytes : List ℕ) → HandCall
+  Asked : (given : Option Given) → HandCall
+
+pub record HandCallAt : Type 0 where
+  pub moment : ℕ
+  pub call : HandCall
+
+-- what a call does, and what calls do, one after another
+abbrev pub DoesHandCall : ℕ → HandCall → ByHandView CoreView → ByHandView CoreView → Type 0
+DoesHandCall now (Comes port bytes) old new = HearsUnder RouterHears old port bytes now new
+DoesHandCall now (Asked given) old new = GivesByHand RouterHears RouterGives old now given new
+
+abbrev pub DoHandCalls : List HandCallAt → ByHandView CoreView → ByHandView CoreView → Type 0
+DoHandCalls [] old new = new ≡ old
+DoHandCalls (c ∷ cs) old new = (mid : ByHandView CoreView)
+    × DoesHandCall c.moment c.call old mid × DoHandCalls cs mid new
+
+-- when it was asked last, by these calls
+abbrev pub asked_by : ℕ → HandCall → ℕ → ℕ
+asked_by now (Comes port bytes) asked = asked
+asked_by now (Asked given) asked = now
+
+abbrev pub asked_in : List HandCallAt → ℕ → ℕ
+asked_in [] asked = asked
+asked_in (c ∷ cs) asked = asked_in cs (asked_by c.moment c.call asked)
+
+-- each call comes within a minute of the last question, and what comes in is such
+abbrev pub ComesAs : (ℕ → List ℕ → Type 0) → HandCall → Type 0
+ComesAs IsSuch (Comes port bytes) = IsSuch port bytes
+ComesAs IsSuch (Asked given) = Unit {0}
+
+abbrev pub IsAskedEachMinute : (ℕ → List ℕ → Type 0) → List HandCallAt → ℕ → Type 0
+IsAskedEachMinute IsSuch [] asked = Unit {0}
+IsAskedEachMinute IsSuch (c ∷ cs) asked = (c.moment ≤ asked + 60000) × ComesAs IsSuch c.call
+    × IsAskedEachMinute IsSuch cs (asked_by c.moment c.call asked)
+
+-- bytes are a RIP response of the neighbour itself that names a network, or a SAP response of it that
+-- names a service
+abbrev pub TellsItself : SilentNeighbour → Network → ℕ → List ℕ → Type 0
+TellsItself n network port bytes = (port + 1 ≡ n.port) × (p : PacketView) × (tail : List ℕ)
+    × IsIpx p bytes tail × (p.header.from.node ≡ n.node) × (entries : List RipEntry)
+    × (rest : List ℕ) × IsRip (rip.Response entries) p.body rest
+    × (x : RipEntry) × Contains entries x × (x.network ≡ network)
+
+abbrev pub OffersItself : SilentNeighbour → ServiceKey → ℕ → List ℕ → Type 0
+OffersItself n key port bytes = (port + 1 ≡ n.port) × (p : PacketView) × (tail : List ℕ)
+    × IsIpx p bytes tail × (p.header.from.node ≡ n.node) × (nearest : Bool)
+    × (entries : List ServiceEntry) × (rest : List ℕ)
+    × IsSap (sap.Response nearest entries) p.body rest
+    × (x : ServiceEntry) × Contains entries x × (key_of_service x ≡ key)
+
+-- a run that begins with a question at which words are due, and never finds a table full
+pub record RunsByHand (ns : List SilentNeighbour) (start : ℕ) (calls : List HandCallAt)
+    (old new : ByHandView CoreView) : Type 0 where
+  pub words : AreWordsOf ns old.words
+  pub others : All (IsAnotherNode old.core.router.ports) ns
+  pub due : is_due old.said start ≡ true
+  pub given : Option Given
+  pub first : ByHandView CoreView
+  pub begins : DoesHandCall start (Asked given) old first
+  pub goes_on : DoHandCalls calls first new
+  pub room : new.core.fates.table_full ≡ old.core.fates.table_full
+  pub countable : old.core.fates.table_full + 1 < 2 ^ 64
+
+-- where it is asked each minute, and the neighbour tells nothing itself of a network that stands in its
+-- routes, and nothing else is said there of it by hand, that route is an offer of the neighbour that
+-- counts, up to a minute after the last question
+abbrev pub RoutesByHandStand : Type 0
+RoutesByHandStand = (ns : List SilentNeighbour) (start : ℕ) (calls : List HandCallAt)
+    (old new : ByHandView CoreView) → RunsByHand ns start calls old new
+    → (n : SilentNeighbour) → Contains ns n → (e : RipEntry) → Contains n.routes.items e
+    → ((m : SilentNeighbour) → Contains ns m → source_by_hand m ≡ source_by_hand n
+    → SaysNoOther route_key route_metric m.routes.items e)
+    → is_heard old.core.router.ports e ≡ true → e.hops < 16
+    → IsAskedEachMinute (λ port bytes. TellsItself n e.network port bytes → ⊥) calls start
+    → (now : ℕ) → now ≤ asked_in calls start + 60000 → (heard : ℕ)
+    × (routes_in new.core.router.routes (e.network, source_by_hand n) ≡ Some (route_metric e, heard))
+    × (is_young now heard ≡ true)
+
+-- and so is each of its services
+abbrev pub ServicesByHandStand : Type 0
+ServicesByHandStand = (ns : List SilentNeighbour) (start : ℕ) (calls : List HandCallAt)
+    (old new : ByHandView CoreView) → RunsByHand ns start calls old new
+    → (n : SilentNeighbour) → Contains ns n → (e : ServiceEntry) → Contains n.services.items e
+    → ((m : SilentNeighbour) → Contains ns m → source_by_hand m ≡ source_by_hand n
+    → SaysNoOther key_of_service service_metric m.services.items e)
+    → e.hops < 16
+    → IsAskedEachMinute (λ port bytes. OffersItself n (key_of_service e) port bytes → ⊥) calls start
+    → (now : ℕ) → now ≤ asked_in calls start + 60000 → (heard : ℕ)
+    × (services_in new.core.router.services (key_of_service e, source_by_hand n)
+    ≡ Some (service_metric e, heard)) × (is_young now heard ≡ true)
