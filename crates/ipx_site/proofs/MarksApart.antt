@@ -12,6 +12,7 @@ use Rattle.ipx_lobbies.specs.declared.sockets.LobbySockets.{LobbySockets}
 use Rattle.ipx_wires.specs.declared.end_sockets.EndSockets as OfSockets
 use Rattle.ipx_wires.specs.declared.sockets.WireSockets.{WireSockets}
 use Rattle.ipx_hub.specs.Heard.{HubView}
+use Rattle.ipx_by_hand.specs.ByHand.{ByHandView}
 use Rattle.ipx_site.specs.declared.peers.KeptBack.{KeptBack}
 use Rattle.ipx_site.specs.declared.peers.PeersOnly.{PeersOnly}
 use Rattle.ipx_site.specs.declared.router_counts.RouterCounts.{RouterCounts}
@@ -25,15 +26,15 @@ use Rattle.ipx_site.specs.Sparing.{SparingView}
 use Rattle.ipx_site.specs.WireTotals.{encapsulated_otherwise_in, unframed_in}
 
 -- how often each cause happened, by what the three kinds of ports say of it
-abbrev of_parts : RouterCounts → SparingView CoreView → KeptBack → ℕ → ℕ → List HubView → ℕ → ℕ → ℕ → Happened
+abbrev of_parts : RouterCounts → SparingView (ByHandView CoreView) → KeptBack → ℕ → ℕ → List HubView → ℕ → ℕ → ℕ → Happened
 of_parts tally core kept refused faults hubs strangers wire_faults lobby_faults = record {
   strangers = kept.strangers.count;
   forged = kept.forged.count;
   no_router = kept.no_router.count;
   too_often = core.kept.count;
   refused = refused;
-  table_full = core.core.fates.table_full;
-  queue_full = core.core.dropped;
+  table_full = core.core.core.fates.table_full;
+  queue_full = core.core.core.dropped;
   device = counted (tally.device_faults + (faults + wire_faults + lobby_faults));
   memory = tally.memory_faults;
   file = tally.file_faults;
@@ -68,7 +69,7 @@ module _ {gd : OfDevice.Ghosts (PeersOnly SiteSockets)} {ge : OfSockets.Ghosts W
       ∙ ap (λ w. kept_in r.datagrams.device.kept + (w.kept + w.sockets.strangers) + (s.lobbies.kept + s.lobbies.sockets.nowhere)) m.wires
       ∙ ap (λ l. kept_in r.datagrams.device.kept + (r.wires.kept + r.wires.sockets.strangers) + (l.kept + l.sockets.nowhere)) m.lobbies
 
-  pub happened_apart : (tally : RouterCounts) (core : SparingView CoreView) → happened tally core s ≡ happened tally core r
+  pub happened_apart : (tally : RouterCounts) (core : SparingView (ByHandView CoreView)) → happened tally core s ≡ happened tally core r
   happened_apart tally core =
       ap (λ d. of_parts tally core d.device.kept d.device.refused d.device.device.faults s.wires.hubs.items s.wires.sockets.strangers
       (s.wires.sockets.failures + s.wires.sockets.faults) (s.lobbies.sockets.failures + s.lobbies.sockets.faults)) m.datagrams

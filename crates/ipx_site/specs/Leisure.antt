@@ -2,6 +2,7 @@
 use Rattle.std.specs.Prelude.{◌≡◌, ◌≤◌, ◌<◌, ◌⊎◌, ◌==◌, ◌^◌, ℕ, ◌+◌, List, [], ◌∷◌, map, true, Option, if◌then◌else◌}
 use Rattle.ipx_carrier.specs.RouterCore.{CoreView}
 use Rattle.ipx_router.specs.Telling.{is_due}
+use Rattle.ipx_by_hand.specs.ByHand.{ByHandView}
 use Rattle.ipx_site.specs.declared.figures.Figures.{Figures}
 use Rattle.ipx_site.specs.declared.router_counts.RouterCounts.{RouterCounts}
 use Rattle.ipx_carrier.specs.declared.datagrams.Datagrams as OfDevice
@@ -59,15 +60,15 @@ lost_in r = r.datagrams.device.device.faults + (r.wires.sockets.failures + r.wir
     + (r.lobbies.sockets.failures + r.lobbies.sockets.faults)
 
 -- by what it tallies, what its core counts, and what its ports kept back, did not send and lost
-abbrev pub happened : {gd : OfDevice.Ghosts (PeersOnly SiteSockets)} {ge : OfSockets.Ghosts WireSockets} {gl : OfPlaces.Ghosts LobbySockets} → RouterCounts → SparingView CoreView → SitePortsRun gd ge gl → Happened
+abbrev pub happened : {gd : OfDevice.Ghosts (PeersOnly SiteSockets)} {ge : OfSockets.Ghosts WireSockets} {gl : OfPlaces.Ghosts LobbySockets} → RouterCounts → SparingView (ByHandView CoreView) → SitePortsRun gd ge gl → Happened
 happened tally core ports = record {
   strangers = ports.datagrams.device.kept.strangers.count;
   forged = ports.datagrams.device.kept.forged.count;
   no_router = ports.datagrams.device.kept.no_router.count;
   too_often = core.kept.count;
   refused = ports.datagrams.device.refused;
-  table_full = core.core.fates.table_full;
-  queue_full = core.core.dropped;
+  table_full = core.core.core.fates.table_full;
+  queue_full = core.core.core.dropped;
   device = counted (tally.device_faults + lost_in ports);
   memory = tally.memory_faults;
   file = tally.file_faults;
@@ -95,11 +96,11 @@ pub record Agenda : Type 0 where
   pub responses : ℕ
   -- when it wrote its figures last
   pub written : Option ℕ
-  pub core : SparingView CoreView
+  pub core : SparingView (ByHandView CoreView)
   pub troubles : Troubles
   pub count : Happened
 
-abbrev pub agenda : ℕ → Option ℕ → ℕ → Option ℕ → SparingView CoreView → Troubles → Happened → Agenda
+abbrev pub agenda : ℕ → Option ℕ → ℕ → Option ℕ → SparingView (ByHandView CoreView) → Troubles → Happened → Agenda
 agenda asked looked responses written core troubles count = record {
   asked = asked;
   looked = looked;
@@ -119,8 +120,8 @@ look_after heard responses = if heard == responses then 10000 else 1000
 -- tell a line
 abbrev pub IsToDo : Agenda → ℕ → Type 0
 IsToDo a now = IsToAskAgain a.asked now
-    ⊎ (is_due a.core.core.router.told now ≡ true)
-    ⊎ HasPassed (look_after a.core.core.fates.heard a.responses) a.looked now
+    ⊎ (is_due a.core.core.core.router.told now ≡ true)
+    ⊎ HasPassed (look_after a.core.core.core.fates.heard a.responses) a.looked now
     ⊎ HasPassed 10000 a.written now
     ⊎ IsLineDue a.troubles a.count now
 

@@ -21,6 +21,7 @@ use crate::sockets::SiteSockets;
 use crate::sparing::Sparing;
 use crate::start_lines::ports_to_texts;
 use crate::wire_ports::wires_of;
+use ipx_by_hand::ByHand;
 use ipx_carrier::{OnPeers, RouterCore};
 use ipx_router::{NewFault, Port, Router};
 use log::{Log, info, warn};
@@ -59,15 +60,18 @@ fn router_of(alloc: Global, ports: &[PortOfKind]) -> Result<Router, RouteFault>
 }
 
 /// The core of a router, which answers in turn who asks for all that it knows.
-fn core_of(alloc: Global, ports: &[PortOfKind]) -> Result<Sparing<RouterCore>, RouteFault>
+fn core_of(alloc: Global, ports: &[PortOfKind]) -> Result<Sparing<ByHand<RouterCore>>, RouteFault>
     requires { All IsOwnNetwork (router_ports ports.now) }
-    ensures router { IfOk result (λ c. c.core.router.ports ≡ router_ports ports.now) }
+    ensures router { IfOk result (λ c. c.core.core.router.ports ≡ router_ports ports.now) }
     ensures ports { IfOk result (λ c. c.ports ≡ router_ports ports.now) }
     ensures fresh { IfOk result (λ c. (c.askers.askers ≡ []) × (c.askers.back ≡ 0)) }
 {
     let router = router_of(alloc, ports)?;
     let own = own_ports(alloc, ports)?;
-    let core = Sparing::new(alloc, RouterCore::new(alloc, router), own)?;
+    let Ok(core) = ByHand::new(alloc, RouterCore::new(alloc, router), &[]) else {
+        return Err(RouteFault::OutOfMemory(AllocError));
+    };
+    let core = Sparing::new(alloc, core, own)?;
     Ok(core)
 }
 
@@ -264,7 +268,7 @@ fn start<'a, R: Net + Log + SystemClock>(
 ) -> Result<RunningRouter<'a, R>, RouteFault>
     requires { All IsOwnNetwork (router_ports site.ports.items) }
     // The router has the ports of the file.
-    ensures ports { IfOk result (λ s. s.core.core.router.ports ≡ router_ports site.ports.items) }
+    ensures ports { IfOk result (λ s. s.core.core.core.router.ports ≡ router_ports site.ports.items) }
     // So those who ask at these have their turns, and nobody has asked yet.
     ensures askers { IfOk result (λ s. (s.core.ports ≡ router_ports site.ports.items)
         × (s.core.askers.askers ≡ []) × (s.core.askers.back ≡ 0)) }

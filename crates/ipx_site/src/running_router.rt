@@ -25,6 +25,7 @@ use crate::sparing::Sparing;
 use crate::status::write_whole;
 use crate::troubles::Troubles;
 use crate::watch::Known;
+use ipx_by_hand::ByHand;
 use ipx_carrier::{Burst, Clock, RouterCore, burst_segments};
 use log::Log;
 use std::alloc::{AllocError, Global};
@@ -45,7 +46,7 @@ const TURNS: u32 = 32;
 /// A router that runs.
 #[derive(Drop)]
 pub struct RunningRouter<'a, R: SystemClock> {
-    core: Sparing<RouterCore>,
+    core: Sparing<ByHand<RouterCore>>,
     ports: SiteRouterPorts,
     clock: SteadyClock<'a, R>,
     ready: Readiness,
@@ -61,13 +62,13 @@ pub struct RunningRouter<'a, R: SystemClock> {
     /// When the figures were written last.
     written: Option<u64>,
     // So a turn can always be begun.
-    ghost spots: { length ports.spots.items ≡ length core.core.router.ports },
+    ghost spots: { length ports.spots.items ≡ length core.core.core.router.ports },
 }
 
 /// The parts of a router that runs.
 #[derive(Drop)]
 pub struct Parts<'a, R: SystemClock> {
-    pub core: Sparing<RouterCore>,
+    pub core: Sparing<ByHand<RouterCore>>,
     pub ports: SiteRouterPorts,
     pub clock: SteadyClock<'a, R>,
     pub ready: Readiness,
@@ -77,7 +78,7 @@ pub struct Parts<'a, R: SystemClock> {
 impl<'a, R: SystemClock> RunningRouter<'a, R> {
     /// A router that begins to run. The caller owes a spot for each port.
     pub fn new(alloc: Global, parts: Parts<'a, R>) -> RunningRouter<'a, R>
-        requires { length parts.ports.spots.items ≡ length parts.core.core.router.ports }
+        requires { length parts.ports.spots.items ≡ length parts.core.core.core.router.ports }
         ensures core { result.core ≡ parts.entry.core }
         ensures ports { result.ports ≡ parts.entry.ports }
         ensures clock { result.clock ≡ parts.entry.clock }
@@ -116,9 +117,9 @@ impl<'a, R: SystemClock> RunningRouter<'a, R> {
 
     /// How long to wait for the next look: shortly, where a response was heard since.
     fn look_period(&self) -> u64
-        ensures { result ≡ look_after self.now.core.core.fates.heard self.now.responses }
+        ensures { result ≡ look_after self.now.core.core.core.fates.heard self.now.responses }
     {
-        if self.core.core().fates().heard == self.responses {
+        if self.core.core().core().fates().heard == self.responses {
             PERIOD
         } else {
             SOON
@@ -154,10 +155,10 @@ impl<'a, R: SystemClock> RunningRouter<'a, R> {
             return;
         }
         self.looked = Some(now);
-        self.responses = self.core.core().fates().heard;
+        self.responses = self.core.core().core().fates().heard;
         if self
             .known
-            .look(rt, alloc, self.core.core().router(), now)
+            .look(rt, alloc, self.core.core().core().router(), now)
             .is_err()
         {
             self.tally.want_memory();
@@ -216,7 +217,7 @@ impl<'a, R: SystemClock> RunningRouter<'a, R> {
             self.now.written self.now.core self.now.troubles
             (happened self.now.tally self.now.core self.now.ports))) now result }
     {
-        let telling = self.core.core().router().next_telling();
+        let telling = self.core.core().core().router().next_telling();
         let packets = sooner(asking_moment(self.asked), telling);
         let look = end_of(self.looked, self.look_period());
         let figures = sooner(

@@ -11,13 +11,13 @@ returns g c =
     let count = happened self.tally self.core self.ports in
     let asks = λ (t : ℕ). subst (λ o. IsReached c.asking_moment.result t ↔ ((moment : ℕ) × (o ≡ Some moment) × (moment ≤ t)))
     {y = slice_get askings self.asked} c.asking_moment.ensures.moment (reached c.asking_moment.result t) in
-    let told = subst (λ (l : Option ℕ). IsNextTelling l c.next_telling-telling.result) (ap (λ r. r.told) (c.router.ensures ∙ ap (λ k. k.router) c.core.ensures)) c.next_telling-telling.ensures in
+    let told = subst (λ (l : Option ℕ). IsNextTelling l c.next_telling-telling.result) (ap (λ r. r.told) (c.router.ensures ∙ ap (λ k. k.router) (c.core-2.ensures ∙ ap (λ k. k.core) c.core.ensures))) c.next_telling-telling.ensures in
     let looks = subst (λ period. (t : ℕ) → t < 2 ^ 64 → IsReached c.end_of-look.result t ↔ HasPassed period self.looked t) c.look_period.ensures c.end_of-look.ensures in
     let lines = subst (λ n. (t : ℕ) → t < 2 ^ 64 → IsReached c.next.result t ↔ IsLineDue self.troubles n t) {y = count} c.figures.ensures c.next.ensures in
     as_long (IsReached c.sooner-2.result) (IsToDo (agenda self.asked self.looked self.responses self.written self.core self.troubles count))
     c.args.now c.time_to.result
     (λ t h.
-    let packets = both (c.sooner-packets.ensures t) (asks t) (telling self.core.core.router.told c.next_telling-telling.result t told h) in
+    let packets = both (c.sooner-packets.ensures t) (asks t) (telling self.core.core.core.router.told c.next_telling-telling.result t told h) in
     let figures = both (c.sooner-figures.ensures t) (c.end_of.ensures t h) (lines t h) in
     then (both (c.sooner-2.ensures t) packets (both (c.sooner.ensures t) (looks t h) figures)) regrouped)
     c.time_to.ensures
