@@ -1,8 +1,9 @@
 -- From what is picked of what is told to what was asked for.
-use Rattle.std.proofs.Common.{◌≡◌, ◌≢◌, ℕ, Bool, true, false, cond, List, [], ◌∷◌, ◌++◌, Option, Some, None, Result, Ok, Err, refl, sym, subst, ap, ◌∙◌, inl, inr}
+use Rattle.std.proofs.Common.{◌≡◌, ◌≢◌, ℕ, Bool, true, false, List, [], ◌∷◌, ◌++◌, Option, Some, None, refl, sym, subst, ap, ◌∙◌, inl, inr}
 use mathlib.Core.Bool.{true≢false}
-use Rattle.std.specs.Prelude.{IfOk, MatchOption, ◌==◌, ◌||◌}
-use Rattle.std.specs.List.{cons_option, filter}
+use Rattle.std.specs.Prelude.{MatchOption, ◌==◌}
+use Rattle.std.specs.List.{cons_option, filter, list_any}
+use Rattle.std.proofs.lemmas.Bool.{or_left, or_right}
 use Rattle.std.specs.declared.cmp.Ordering.{Ordering}
 use Rattle.std.specs.declared.cmp.Ordering.TheVariants.{Less}
 use Rattle.std.proofs.lemmas.List.Kept.{AllPairs-filter}
@@ -42,6 +43,12 @@ pub named_more : (ys : List RipEntry) (e : RipEntry) → asks_all ys ≡ false �
 named_more ys e before other =
     list_any-append (λ (x : RipEntry). x.network.0 == all_networks) ys (e ∷ []) ∙ rw (before, other) refl
 
+-- one entry that asks for all
+pub asks_all_by : (ys : List RipEntry) (e : RipEntry) (later asked : List RipEntry) → ys ++ (e ∷ later) ≡ asked → (e.network.0 == all_networks) ≡ true → asks_all asked ≡ true
+asks_all_by ys e later asked are all =
+    let test = λ (x : RipEntry). x.network.0 == all_networks in
+    subst (λ (es : List RipEntry). asks_all es ≡ true) are (list_any-append test ys (e ∷ later) ∙ or_right (list_any test ys) (list_any test (e ∷ later)) (or_left (test e) (list_any test later) all))
+
 module _ (one : OneBest) (ports : List Port) (routes : Routes) (at : PortNow) (network : Network) where
   -- nothing is told of a network that has no route
   pub no_route_told : IsRouteOrNone ports routes at.now network None → IsToldOf (IsToldRoute ports routes at) network None
@@ -77,14 +84,3 @@ module _ (services : Services) (at : PortNow) (told : List ServiceEntry) (are : 
   -- the services of a kind
   pub services_picked : AreServicesAsked services at false kind (filter (is_of_kind kind) told)
   services_picked = list_of_passing service_key_cmp key_of_service (IsToldService services at) (is_of_kind kind) told are
-
-  pub services_ok : {V X : Type 0} (items : V → List ServiceEntry) (o : Result V X) → IfOk o (λ v. items v ≡ filter (is_of_kind kind) told) → IfOk o (λ v. AreServicesAsked services at false kind (items v))
-  services_ok items (Ok v) e = subst (AreServicesAsked services at false kind) (sym e) services_picked
-  services_ok items (Err e) n = tt
-
--- every service is of kind FFFF
-pub all_of_kind : (kind : ℕ) → kind ≡ 65535 → (es : List ServiceEntry) → filter (is_of_kind kind) es ≡ es
-all_of_kind kind every [] = refl
-all_of_kind kind every (e ∷ es) =
-    ap (λ (b : Bool). cond (b || (e.kind == kind)) (e ∷ filter (is_of_kind kind) es) (filter (is_of_kind kind) es)) (ap (λ k. k == 65535) every)
-    ∙ ap (λ l. e ∷ l) (all_of_kind kind every es)

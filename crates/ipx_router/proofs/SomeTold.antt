@@ -1,11 +1,9 @@
 -- Whether some route is told on a port, and whether it is asked for.
-use Rattle.std.proofs.Common.{◌≡◌, ℕ, ◌<◌, Bool, true, false, List, [], ◌∷◌, ◌++◌, length, get_or, Option, Some, None, Result, Ok, Err, refl, sym, ap, ◌∙◌, subst, inl, inr, arith}
-use mathlib.Core.Bool.{true≢false}
-use Rattle.std.specs.Prelude.{Contains, OnErr, MatchBool, MatchOption, ◌==◌}
-use Rattle.std.specs.List.{list_any}
+use Rattle.std.proofs.Common.{◌≡◌, ◌<◌, Bool, true, false, List, [], ◌∷◌, ◌++◌, length, Result, Ok, Err, refl, subst, inl, inr, arith}
+use Rattle.std.specs.Prelude.{Contains, OnErr, MatchBool, ◌==◌}
 use borrow.Author.Tests.{eqb-true}
-use Rattle.std.proofs.lemmas.List.Folds.{Any-from_list_any, list_any_at}
-use Rattle.std.proofs.lemmas.List.Elements.{Contains-append_right, Contains-get_or}
+use Rattle.std.proofs.lemmas.List.Folds.{Any-from_list_any}
+use Rattle.std.proofs.lemmas.List.Elements.{Contains-append_right}
 use Rattle.ipx_wire.specs.Assigned.{all_networks}
 use Rattle.ipx_wire.specs.declared.address.Network.{Network}
 use Rattle.ipx_control.specs.declared.rip.packet.RipEntry.{RipEntry}
@@ -15,16 +13,12 @@ use Rattle.ipx_tables.specs.Listing.{IsListing}
 use Rattle.ipx_tables.specs.Route.{network_cmp, route_before}
 use Rattle.ipx_router.specs.declared.port.Port.{Port}
 use Rattle.ipx_router.specs.declared.port.PortNow.{PortNow}
-use Rattle.ipx_router.specs.declared.route.Route.{Route}
 use Rattle.ipx_router.specs.Knowledge.{Routes}
-use Rattle.ipx_router.specs.RouteChoice.{IsHeardRoute, direct_route, over_port}
-use Rattle.ipx_router.specs.Told.{AreToldRoutes, IsToldRoute, route_key, told_route}
-use Rattle.ipx_router.specs.Placing.{is_told_item, is_told_port, no_way}
-use Rattle.ipx_router.specs.Picking.{NoRouteIsTold}
+use Rattle.ipx_router.specs.Told.{AreToldRoutes, IsToldRoute, told_route}
+use Rattle.ipx_router.specs.Placing.{is_told_item}
 use Rattle.ipx_router.specs.Replying.{AreRoutesAsked, AreToldOf, asks_all}
 use Rattle.ipx_router.specs.WantOfMemory.{HasRouteToReply}
-use Rattle.ipx_router.proofs.LonePort.{list_of_none}
-use Rattle.ipx_router.proofs.ToldRoutes.{OneBest, item_says, item_told, no_port, port_says, port_told}
+use Rattle.ipx_router.proofs.ToldRoutes.{item_told}
 
 pub any_err : {T E P : Type 0} (r : Result T E) → P → OnErr r P
 any_err (Ok x) p = tt
@@ -44,16 +38,6 @@ module _ (ports : List Port) (routes : Routes) (at : PortNow) where
   abbrev SomeTold : Type 0
   SomeTold = (t : RipEntry) × IsToldRoute ports routes at t
 
-  abbrev told_by_port : Port → Bool
-  told_by_port p = is_told_port ports at p.network
-
-  -- the network of another port
-  pub some_by_port : list_any told_by_port ports ≡ true → SomeTold
-  some_by_port e =
-      let w = Any-from_list_any told_by_port ports e in
-      let t = told_route w.1.network no_way at in
-      (t, port_told ports routes at t (w.4, refl))
-
   module _ (heard : List (Network × Source × RouteMetric)) (listing : IsListing network_cmp route_before routes at.now heard) where
     -- a best offer that came by another port
     pub some_by_item : (item : Network × Source × RouteMetric) → Contains heard item → is_told_item ports at item ≡ true → SomeTold
@@ -61,33 +45,12 @@ module _ (ports : List Port) (routes : Routes) (at : PortNow) where
         let t = told_route item.0 item.2 at in
         (t, item_told ports routes at heard listing t (item, c, e, refl))
 
-    -- and nothing else is told
-    module _ (one : OneBest) (no_ports : list_any told_by_port ports ≡ false) (no_items : (item : Network × Source × RouteMetric) → Contains heard item → is_told_item ports at item ≡ false) where
-      none_by : (x : RipEntry) (t : IsToldRoute ports routes at x) (o : Option ℕ) → direct_route ports x.network ≡ o → MatchOption o (IsHeardRoute routes at.now x.network t.route) (λ place. t.route ≡ over_port place) → ⊥
-      none_by x t None none r =
-          let w = item_says ports routes at heard listing one x t none r in
-          true≢false (sym w.4 ∙ no_items (get_or heard w.0 w.1) (Contains-get_or heard w.0 w.1 w.2))
-      none_by x t (Some place) there is =
-          let w = port_says ports routes at x t place there is in
-          true≢false (sym (list_any_at told_by_port ports place no_port w.0 w.2) ∙ no_ports)
-
-      pub none_told : NoRouteIsTold ports routes at
-      none_told x t = none_by x t (direct_route ports x.network) refl t.leads
-
-  -- where none is told, none are
-  pub no_routes_told : NoRouteIsTold ports routes at → AreToldRoutes ports routes at []
-  no_routes_told none = list_of_none network_cmp route_key (IsToldRoute ports routes at) none
-
   -- ---- what is told and asked for
 
   abbrev IsTold : RipEntry → Type 0
   IsTold = IsToldRoute ports routes at
 
-  -- an entry that asks for all does so for any
-  pub asked_by_all : (ys : List RipEntry) (e : RipEntry) (later asked : List RipEntry) → ys ++ e ∷ later ≡ asked → e.network.0 ≡ all_networks → SomeTold → HasRouteToReply ports routes at asked
-  asked_by_all ys e later asked are all t = (e, t.0, stands_in ys e later asked are, t.1, inl all)
-
-  -- and one that names a network for that
+  -- an entry asks for the network that it names
   pub asked_by_name : (ys : List RipEntry) (e : RipEntry) (later asked : List RipEntry) → ys ++ e ∷ later ≡ asked → (t : RipEntry) → IsTold t → t.network ≡ e.network → HasRouteToReply ports routes at asked
   asked_by_name ys e later asked are t told named = (e, t, stands_in ys e later asked are, told, inr named)
 

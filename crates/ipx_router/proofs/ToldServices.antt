@@ -17,8 +17,7 @@ use Rattle.ipx_tables.specs.Service.{service_before, service_key_cmp, service_ke
 use Rattle.ipx_router.specs.declared.port.PortNow.{PortNow}
 use Rattle.ipx_router.specs.Knowledge.{Services}
 use Rattle.ipx_router.specs.Told.{AreToldServices, IsToldService, key_of_service, told_service}
-use Rattle.ipx_router.specs.Replying.{is_asked}
-use Rattle.ipx_router.specs.Picking.{NoneIsAsked, is_item_asked}
+use Rattle.ipx_router.specs.Picking.{is_item_asked}
 use Rattle.ipx_router.specs.WantOfMemory.{HasToReply}
 use Rattle.ipx_router.proofs.Members.{rising_map, map_has, map_only, filter_has, filter_only}
 use Rattle.ipx_router.proofs.ToldRoutes.{both, not_itself}
@@ -83,11 +82,3 @@ module _ (services : Services) (at : PortNow) (heard : List (ServiceKey × Sourc
         let parts = both _ _ e in
         let there : Contains told (told_service item) = map_has told_service (filter comes_elsewhere heard) item (filter_has comes_elsewhere heard item c.0 c.1 c.2 parts.0) in
         (told_service item, told_is (told_service item) there, parts.1)
-
-    -- what is told is an item, which is asked for if that is
-    pub none_replied : ((item : ServiceKey × Source × ServiceMetric) → Contains heard item → test item ≡ false) → NoneIsAsked services at nearest kind
-    none_replied none e t =
-        let from = map_only told_service (filter comes_elsewhere heard) e (told_has e t) in
-        let item = from.0 in
-        let kept = filter_only comes_elsewhere heard item from.1 in
-        ap (is_asked nearest kind) from.2 ∙ and_false _ _ kept.1 (none item kept.0)

@@ -1,5 +1,5 @@
 -- Words of the private functions that add packets to replies, one after another.
-use Rattle.std.specs.Prelude.{◌≡◌, List, ◌++◌}
+use Rattle.std.specs.Prelude.{◌≡◌, ◌≤◌, List, ◌++◌, length}
 use Rattle.ipx_router.specs.declared.outcome.Reply.{Reply}
 use Rattle.ipx_router.specs.RouterPackets.{SendingView, sendings}
 
@@ -15,3 +15,11 @@ abbrev pub IsLeftToAdd : {E : Type 0} → (List E → List SendingView → Type 
 IsLeftToAdd ArePackets entries rest old new =
     (later : List SendingView) → ArePackets rest later → (added : List SendingView)
     × (sendings new ++ later ≡ sendings old ++ added) × ArePackets entries added
+
+-- all entries so far are in the packets sent and, the last of them, in the packet in hand: whatever
+-- entries follow, packets of those in hand and them are, behind the sent ones, packets of all
+pub record ArePacked {E : Type 0} (ArePackets : List E → List SendingView → Type 0)
+    (entries : List E) (sent : List Reply) (hand : List E) : Type 0 where
+  pub last : length hand ≤ length entries
+  pub packed : (rest : List E) (later : List SendingView) → ArePackets (hand ++ rest) later
+      → ArePackets (entries ++ rest) (sendings sent ++ later)

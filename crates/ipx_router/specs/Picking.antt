@@ -1,15 +1,13 @@
 -- Words of the private functions that pick from what is told.
-use Rattle.std.specs.Prelude.{◌≡◌, ◌≢◌, ℕ, ◌==◌, ◌&&◌, Bool, false, not, List, Option, Some, None, if◌then◌else◌}
+use Rattle.std.specs.Prelude.{◌≡◌, ◌≢◌, ℕ, ◌==◌, ◌&&◌, Bool, not, Option, Some, None, if◌then◌else◌}
 use Rattle.ipx_wire.specs.declared.address.Network.{Network}
 use Rattle.ipx_control.specs.declared.rip.packet.RipEntry.{RipEntry}
 use Rattle.ipx_control.specs.declared.sap.packet.ServiceEntry.{ServiceEntry}
 use Rattle.ipx_tables.specs.declared.service.ServiceKey.{ServiceKey}
 use Rattle.ipx_tables.specs.declared.service.ServiceMetric.{ServiceMetric}
 use Rattle.ipx_tables.specs.declared.source.Source.{Source}
-use Rattle.ipx_router.specs.declared.port.Port.{Port}
 use Rattle.ipx_router.specs.declared.port.PortNow.{PortNow}
-use Rattle.ipx_router.specs.Knowledge.{Routes, Services}
-use Rattle.ipx_router.specs.Told.{IsToldRoute, IsToldService, told_service}
+use Rattle.ipx_router.specs.Told.{told_service}
 use Rattle.ipx_router.specs.Replying.{is_asked, is_nearer}
 
 -- what is told of a network, or that nothing is
@@ -17,19 +15,10 @@ abbrev pub IsToldOf : (RipEntry → Type 0) → Network → Option RipEntry → 
 IsToldOf IsTold network None = (t : RipEntry) → IsTold t → t.network ≢ network
 IsToldOf IsTold network (Some t) = IsTold t × (t.network ≡ network)
 
--- no route is told on a port
-abbrev pub NoRouteIsTold : List Port → Routes → PortNow → Type 0
-NoRouteIsTold ports routes at = (t : RipEntry) → IsToldRoute ports routes at t → ⊥
-
 -- the nearer of a service and the one that is held, if there is one
 abbrev pub nearer : Option ServiceEntry → ServiceEntry → ServiceEntry
 nearer None service = service
 nearer (Some held) service = if is_nearer service held then service else held
-
--- no told service is asked for
-abbrev pub NoneIsAsked : Services → PortNow → Bool → ℕ → Type 0
-NoneIsAsked services at nearest kind =
-    (e : ServiceEntry) → IsToldService services at e → is_asked nearest kind e ≡ false
 
 -- the best offer of a service came by another port, and is asked for
 abbrev pub is_item_asked : PortNow → Bool → ℕ → ServiceKey × Source × ServiceMetric → Bool

@@ -1,5 +1,5 @@
 -- Words of the private functions that make the list of told routes.
-use Rattle.std.specs.Prelude.{◌≡◌, ◌<◌, ◌⊎◌, ℕ, ◌+◌, ◌==◌, ◌&&◌, Bool, true, false, not, List, slice_index_or, Option, Some, None, is_none, Contains}
+use Rattle.std.specs.Prelude.{◌≡◌, ◌<◌, ◌⊎◌, ℕ, ◌+◌, ◌==◌, ◌&&◌, Bool, true, false, not, List, slice_index_or, Option, Some, None, is_none, Contains, nat_lt}
 use Rattle.ipx_wire.specs.declared.address.Network.{Network}
 use Rattle.ipx_control.specs.declared.rip.packet.RipEntry.{RipEntry}
 use Rattle.ipx_tables.specs.declared.route.RouteMetric.{RouteMetric}
@@ -65,3 +65,7 @@ pub record AddsHeard (ports : List Port) (at : PortNow)
   pub all : (k : ℕ) (d : Network × Source × RouteMetric) → k < n
       → is_told_item ports at (slice_index_or heard k d) ≡ true
       → HasNetwork new (slice_index_or heard k d).0
+
+-- an entry of a lower network
+abbrev pub is_below : Network → RipEntry → Bool
+is_below network entry = nat_lt entry.network.0 network.0

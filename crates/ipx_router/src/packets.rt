@@ -1,10 +1,10 @@
 //! The packets of a router's own.
 
-ghost use Rattle.std.specs.Prelude.{◌≡◌, ◌≤◌, ◌+◌, ◌++◌, ℕ, Bool, List, [], ◌∷◌, length, OnOk, IfOk, map};
-ghost use Rattle.ipx_wire.specs.Ipx.{IsBytes, IsIpx};
+ghost use Rattle.std.specs.Prelude.{◌≡◌, ◌≤◌, ◌+◌, [], drop, length, OnOk, IfOk};
+ghost use Rattle.ipx_wire.specs.Ipx.{IsBytes, IsIpx, packet_of};
 ghost use Rattle.ipx_control.specs.Rip.{Response as routes_response, rip_entries, rip_view};
 ghost use Rattle.ipx_control.specs.Sap.{IsSapWithinLimit, Response as services_response, sap_view};
-ghost use Rattle.ipx_router.specs.RouterPackets.{AreBytesOf, AreRoutePackets, AreServicePackets, IsRipPacket, IsSapPacket, all_nodes, recipient_at, own_header, sending_of, sendings};
+ghost use Rattle.ipx_router.specs.RouterPackets.{AreBytesOf, AreRoutePackets, AreServicePackets, IsRipPacket, IsSapPacket, all_nodes, recipient_at, own_header, sending_of};
 ghost use Rattle.ipx_router.specs.Adding.{AddsPackets};
 
 use crate::outcome::Reply;
@@ -13,13 +13,23 @@ use ipx_control::{
     Rip, RipEntry, Sap, ServiceEntry, encode_rip_into, encode_routes_into, encode_sap_into,
     encode_services_into,
 };
-use ipx_wire::{Address, IpxHeader, Node, OutOfMemory, Packet, Socket, encode_into, packet_type};
+use ipx_wire::{
+    Address, IPX_HEADER_SIZE, IpxHeader, Node, OutOfMemory, Packet, Socket, encapsulate,
+    encode_into, packet_type,
+};
 use std::alloc::Global;
 
 /// How many entries a packet holds at most.
-const MOST_ROUTES_A_PACKET: usize = 50;
+pub const MOST_ROUTES_A_PACKET: usize = 50;
 
-const MOST_SERVICES_A_PACKET: usize = 7;
+pub const MOST_SERVICES_A_PACKET: usize = 7;
+
+/// The bytes of an operation, of a route and of a service.
+const OPERATION_SIZE: usize = 2;
+
+const ROUTE_SIZE: usize = 8;
+
+const SERVICE_SIZE: usize = 64;
 
 /// Whom a packet of the router's own goes to: a node and socket of the network of a port.
 #[derive(Clone, Copy)]
@@ -138,24 +148,42 @@ pub fn sap_packet(alloc: Global, to: Recipient, message: &Sap) -> Result<Reply, 
     })
 }
 
-/// A response of routes that stand in a longer list.
-fn routes_packet(alloc: Global, to: Recipient, routes: &[RipEntry]) -> Result<Reply, OutOfMemory>
-    requires { length routes.now ≤ 50 }
-    ensures { IfOk result (λ r. IsRipPacket to (routes_response routes.now) (sending_of r)) }
+/// A packet whose body stands in its place already: the header goes in front of it.
+fn closed(to: Recipient, header: IpxHeader, mut bytes: Vec<u8>) -> Reply
+    requires some { 30 ≤ length bytes.items }
+    requires limit { length bytes.items ≤ 1500 }
+    ensures port { result.port ≡ to.number }
+    ensures next { result.next ≡ to.node }
+    ensures bytes { AreBytesOf (packet_of header (drop 30 bytes.items)) result.bytes.items }
 {
-    let mut body = [0u8; 402];
-    let count = encode_routes_into(routes, &mut body);
-    let header = header_to(to, packet_type::RIP, Socket::RIP);
-    let bytes = packet_bytes(alloc, header, &body[..count])?;
-    Ok(Reply {
+    let body_length = bytes.len() - IPX_HEADER_SIZE;
+    encapsulate(&header, body_length, &mut bytes);
+    are_bytes(&bytes);
+    Reply {
         port: to.number,
         next: to.node,
         bytes,
-    })
+    }
+}
+
+/// A response of routes that stand in a longer list.
+pub fn routes_packet(
+    alloc: Global,
+    to: Recipient,
+    routes: &[RipEntry],
+) -> Result<Reply, OutOfMemory>
+    requires { length routes.now ≤ 50 }
+    ensures { IfOk result (λ r. IsRipPacket to (routes_response routes.now) (sending_of r)) }
+{
+    let size = IPX_HEADER_SIZE + OPERATION_SIZE + ROUTE_SIZE * routes.len();
+    let mut bytes = vec![in alloc; 0; size]?;
+    encode_routes_into(routes, &mut bytes[IPX_HEADER_SIZE..]);
+    let header = header_to(to, packet_type::RIP, Socket::RIP);
+    Ok(closed(to, header, bytes))
 }
 
 /// A response of services that stand in a longer list.
-fn services_packet(
+pub fn services_packet(
     alloc: Global,
     to: Recipient,
     nearest: bool,
@@ -165,15 +193,11 @@ fn services_packet(
     ensures { IfOk result (λ r.
         IsSapPacket to (services_response nearest services.now) (sending_of r)) }
 {
-    let mut body = [0u8; 450];
-    let count = encode_services_into(nearest, services, &mut body);
+    let size = IPX_HEADER_SIZE + OPERATION_SIZE + SERVICE_SIZE * services.len();
+    let mut bytes = vec![in alloc; 0; size]?;
+    encode_services_into(nearest, services, &mut bytes[IPX_HEADER_SIZE..]);
     let header = header_to(to, packet_type::PACKET_EXCHANGE, Socket::SAP);
-    let bytes = packet_bytes(alloc, header, &body[..count])?;
-    Ok(Reply {
-        port: to.number,
-        next: to.node,
-        bytes,
-    })
+    Ok(closed(to, header, bytes))
 }
 
 /// Adds the packets of a list of routes.

@@ -1,48 +1,82 @@
 //! What a router answers to a request for routes, and to a query for services.
 
-ghost use Rattle.std.specs.Prelude.{◌≡◌, ◌≤◌, Bool, Contains, IfNone, IfOk, IfSome, OnErr, filter, length};
-ghost use Rattle.std.specs.Bool.{OnFalse, OnTrue};
+ghost use Rattle.std.specs.Prelude.{◌≡◌, ◌≤◌, IfNone, IfOk, IfSome, List, OnErr, length, true, false};
+ghost use Rattle.ipx_control.specs.declared.rip.packet.RipEntry.{RipEntry};
 ghost use Rattle.ipx_router.specs.Knowledge.{routes_in, services_in};
-ghost use Rattle.ipx_router.specs.RouterPackets.{sendings};
-ghost use Rattle.ipx_router.specs.Told.{IsToldService};
-ghost use Rattle.ipx_router.specs.Replying.{IsNearest, NoneIsNear, AreNearest, AreRoutesAsked, AreServicesAsked, RepliesRoutes, RepliesServices, is_asked, is_near, is_nearer, is_of_kind};
-ghost use Rattle.ipx_router.specs.Picking.{NoneIsAsked, is_item_asked, nearer};
+ghost use Rattle.ipx_router.specs.RouterPackets.{AreRoutePackets, sendings};
+ghost use Rattle.ipx_router.specs.Told.{AreToldRoutes, IsToldRoute, IsToldService};
+ghost use Rattle.ipx_router.specs.Replying.{IsNearest, NoneIsNear, AreRoutesAsked, RepliesRoutes, RepliesServices, asks_all, is_asked, is_near, is_nearer, is_of_kind};
+ghost use Rattle.ipx_router.specs.Picking.{is_item_asked, nearer};
 ghost use Rattle.ipx_router.specs.WantOfMemory.{HasRouteToReply, HasToReply};
 
 use crate::outcome::Reply;
 use crate::packets::{Recipient, add_route_packets, add_service_packets};
+use crate::packing::{RoutePackets, ServicePackets};
 use crate::port::{Port, PortNow};
-use crate::told::{told_of, told_routes, told_service_of, told_services};
+use crate::told::{is_over_other_neighbour, told_entry, told_of, told_ports, told_service_of};
 use ipx_control::{RipEntries, RipEntry, ServiceEntry};
-use ipx_tables::{RouteTable, ServiceKey, ServiceMetric, ServiceTable, Source, one_best};
+use ipx_tables::{
+    RouteMetric, RouteTable, ServiceKey, ServiceMetric, ServiceTable, Source, one_best,
+};
 use ipx_wire::{Network, OutOfMemory};
 use std::alloc::Global;
 
-/// The told routes that a request asks for: all of them, or those of the named networks, in the
-/// order asked. Each of those is looked up, and none is listed.
-fn asked_routes(
+/// What is told of the networks that a request names, in the order asked, or nothing where it asks
+/// for all. Each of them is looked up, and none is listed.
+fn named_routes(
     alloc: Global,
     ports: &[Port],
     routes: &RouteTable,
     at: PortNow,
     asked: RipEntries<'_>,
-) -> Result<Vec<RipEntry>, OutOfMemory>
+) -> Result<Option<Vec<RipEntry>>, OutOfMemory>
     requires { length ports.now ≤ 16 }
-    ensures asked { IfOk result (λ v.
-        AreRoutesAsked ports.now (routes_in routes.now) at asked.entry v.items) }
+    ensures all { IfOk result (λ named. IfNone named (asks_all asked.entry ≡ true)) }
+    ensures named { IfOk result (λ named. IfSome named (λ v.
+        AreRoutesAsked ports.now (routes_in routes.now) at asked.entry v.items)) }
     ensures refused { OnErr result
         (HasRouteToReply ports.now (routes_in routes.now) at asked.entry) }
 {
     let mut told = Vec::new(alloc);
     for entry in asked {
         if entry.network == Network::ALL {
-            return told_routes(alloc, ports, routes, at);
+            return Ok(None);
         }
         if let Some(route) = told_of(ports, routes, entry.network, at) {
             told.push(route)?;
         }
     }
-    Ok(told)
+    Ok(Some(told))
+}
+
+/// The packets of all routes that are told on a port: those of the other ports have their places
+/// among the best offers.
+fn route_replies(
+    alloc: Global,
+    ports: &[Port],
+    routes: &RouteTable,
+    at: PortNow,
+    to: Recipient,
+) -> Result<Vec<Reply>, OutOfMemory>
+    ensures replies { IfOk result (λ v. (entries : List RipEntry)
+        × AreToldRoutes ports.now (routes_in routes.now) at entries
+        × AreRoutePackets to entries (sendings v.items)) }
+    ensures refused { OnErr result
+        ((t : RipEntry) × IsToldRoute ports.now (routes_in routes.now) at t) }
+{
+    one_best::<Network, RouteMetric>();
+    let own = told_ports(alloc, ports, at)?;
+    let mut rest = own.as_slice();
+    let mut packets = RoutePackets::new(alloc, to);
+    for item in routes.bests(at.now) {
+        if is_over_other_neighbour(ports, item, at) {
+            let later = packets.put_below(alloc, rest, item.0)?;
+            packets.put(alloc, told_entry(item.0, item.2, at))?;
+            rest = later;
+        }
+    }
+    packets.put_all(alloc, rest)?;
+    packets.finish(alloc)
 }
 
 fn is_of_kind_asked(kind: u16, service: &ServiceEntry) -> bool
@@ -100,59 +134,6 @@ fn nearest_service(services: &ServiceTable, at: PortNow, kind: u16) -> Option<Se
     nearest
 }
 
-/// The nearest told service of a kind, alone, or nothing.
-fn nearest_alone(
-    alloc: Global,
-    services: &ServiceTable,
-    at: PortNow,
-    kind: u16,
-) -> Result<Vec<ServiceEntry>, OutOfMemory>
-    ensures { IfOk result (λ v.
-        AreNearest (IsToldService (services_in services.now) at) kind v.items) }
-{
-    match nearest_service(services, at, kind) {
-        None => Ok(Vec::new(alloc)),
-        Some(service) => Ok(vec![in alloc; service]?),
-    }
-}
-
-/// The told services of a kind.
-fn services_of_kind(
-    alloc: Global,
-    told: Vec<ServiceEntry>,
-    kind: u16,
-) -> Result<Vec<ServiceEntry>, OutOfMemory>
-    ensures { IfOk result (λ v. v.items ≡ filter (is_of_kind kind) told.items) }
-{
-    if kind == 0xffff {
-        return Ok(told);
-    }
-    let found = told
-        .iter()
-        .copied()
-        .filter(|service| is_of_kind_asked(kind, service))
-        .collect::<Vec<ServiceEntry>>(alloc)?;
-    Ok(found)
-}
-
-/// The told services that a query asks for.
-fn asked_services(
-    alloc: Global,
-    services: &ServiceTable,
-    at: PortNow,
-    nearest: bool,
-    kind: u16,
-) -> Result<Vec<ServiceEntry>, OutOfMemory>
-    ensures { IfOk result (λ v.
-        AreServicesAsked (services_in services.now) at nearest kind v.items) }
-{
-    if nearest {
-        return nearest_alone(alloc, services, at, kind);
-    }
-    let told = told_services(alloc, services, at)?;
-    services_of_kind(alloc, told, kind)
-}
-
 /// The packets that answer a request for routes. Where no route is to be sent, there are none, and
 /// that takes no memory.
 pub fn reply_routes(
@@ -169,7 +150,10 @@ pub fn reply_routes(
     ensures refused { OnErr result
         (HasRouteToReply ports.now (routes_in routes.now) at asked.entry) }
 {
-    let entries = asked_routes(alloc, ports, routes, at, asked)?;
+    let named = named_routes(alloc, ports, routes, at, asked)?;
+    let Some(entries) = named else {
+        return route_replies(alloc, ports, routes, at, to);
+    };
     let mut replies = Vec::new(alloc);
     if entries.is_empty() {
         return Ok(replies);
@@ -201,39 +185,50 @@ fn is_best_asked(
     item.1.port != at.number && is_asked_for(nearest, kind, &service)
 }
 
-/// Whether some service is to be sent. It takes no memory.
-fn has_to_reply(services: &ServiceTable, at: PortNow, nearest: bool, kind: u16) -> bool
-    ensures some { OnTrue result (HasToReply (services_in services.now) at nearest kind) }
-    ensures none { OnFalse result (NoneIsAsked (services_in services.now) at nearest kind) }
+/// The packet of the nearest told service of a kind, if there is one.
+fn nearest_replies(
+    alloc: Global,
+    services: &ServiceTable,
+    at: PortNow,
+    to: Recipient,
+    kind: u16,
+) -> Result<Vec<Reply>, OutOfMemory>
+    ensures replies { IfOk result (λ v.
+        RepliesServices (services_in services.now) at to true kind (sendings v.items)) }
+    ensures refused { OnErr result (HasToReply (services_in services.now) at true kind) }
 {
-    one_best::<ServiceKey, ServiceMetric>();
-    for item in services.bests(at.now) {
-        if is_best_asked(item, at, nearest, kind) {
-            return true;
-        }
-    }
-    false
+    let mut replies = Vec::new(alloc);
+    let Some(service) = nearest_service(services, at, kind) else {
+        return Ok(replies);
+    };
+    add_service_packets(alloc, &mut replies, to, true, &[service])?;
+    Ok(replies)
 }
 
+/// The packets of the told services of a kind.
 fn service_replies(
     alloc: Global,
     services: &ServiceTable,
     at: PortNow,
     to: Recipient,
-    nearest: bool,
     kind: u16,
 ) -> Result<Vec<Reply>, OutOfMemory>
-    ensures { IfOk result (λ v.
-        RepliesServices (services_in services.now) at to nearest kind (sendings v.items)) }
+    ensures replies { IfOk result (λ v.
+        RepliesServices (services_in services.now) at to false kind (sendings v.items)) }
+    ensures refused { OnErr result (HasToReply (services_in services.now) at false kind) }
 {
-    let entries = asked_services(alloc, services, at, nearest, kind)?;
-    let mut replies = Vec::new(alloc);
-    add_service_packets(alloc, &mut replies, to, nearest, &entries)?;
-    Ok(replies)
+    one_best::<ServiceKey, ServiceMetric>();
+    let mut packets = ServicePackets::new(alloc, to);
+    for item in services.bests(at.now) {
+        if is_best_asked(item, at, false, kind) {
+            packets.put(alloc, told_service_of(&item))?;
+        }
+    }
+    packets.finish(alloc)
 }
 
-/// The packets that answer a query for services. Where memory is wanted and no service is to be
-/// sent, there are none.
+/// The packets that answer a query for services. Where no service is to be sent, there are none,
+/// and that takes no memory.
 pub fn reply_services(
     alloc: Global,
     services: &ServiceTable,
@@ -246,11 +241,8 @@ pub fn reply_services(
         RepliesServices (services_in services.now) at to nearest kind (sendings v.items)) }
     ensures refused { OnErr result (HasToReply (services_in services.now) at nearest kind) }
 {
-    if let Ok(replies) = service_replies(alloc, services, at, to, nearest, kind) {
-        return Ok(replies);
+    if nearest {
+        return nearest_replies(alloc, services, at, to, kind);
     }
-    if has_to_reply(services, at, nearest, kind) {
-        return Err(OutOfMemory);
-    }
-    Ok(Vec::new(alloc))
+    service_replies(alloc, services, at, to, kind)
 }

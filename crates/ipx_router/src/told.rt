@@ -1,30 +1,25 @@
 //! What a router tells on a port.
 
-ghost use Rattle.std.specs.Prelude.{◌≡◌, ◌≢◌, ◌⊎◌, ◌<◌, ◌≤◌, ℕ, List, Contains, OnOk, OnErr, IfErr, IfOk, Some, None, length, slice_index_or, filter, map, not, ◌==◌};
-ghost use Rattle.std.specs.Bool.{OnFalse, OnTrue};
-ghost use Rattle.std.specs.List.{list_any};
+ghost use Rattle.std.specs.Prelude.{◌≡◌, ◌<◌, ◌≤◌, OnOk, OnErr, IfErr, IfOk, Some, None, length, filter, map, not, ◌==◌};
 ghost use Rattle.ipx_tables.specs.Sorted.{IsAtKey, IsGapFor, IsRising};
 ghost use Rattle.ipx_tables.specs.Listing.{IsListing};
 ghost use Rattle.ipx_tables.specs.Route.{network_cmp, route_before};
 ghost use Rattle.ipx_tables.specs.Service.{service_before, service_key_cmp};
-ghost use Rattle.ipx_router.specs.Knowledge.{Routes, Services, routes_in, services_in};
-ghost use Rattle.ipx_router.specs.RouteChoice.{direct_route};
+ghost use Rattle.ipx_router.specs.Knowledge.{Routes, Services, routes_in};
 ghost use Rattle.ipx_router.specs.Told.{AreToldRoutes, AreToldServices, IsToldRoute, route_key, told_route, told_service};
-ghost use Rattle.ipx_router.specs.Placing.{AddsHeard, AreToldPorts, PutsEntry, is_told_item, is_told_port};
-ghost use Rattle.ipx_router.specs.Picking.{IsToldOf, NoRouteIsTold};
+ghost use Rattle.ipx_router.specs.Placing.{AddsHeard, AreToldPorts, IsToldPort, PutsEntry, is_told_item, is_told_port};
+ghost use Rattle.ipx_router.specs.Picking.{IsToldOf};
 
 use crate::networks::direct_port;
 use crate::port::{Port, PortNow};
 use crate::route::route_to;
 use ipx_control::{RipEntry, ServiceEntry};
-use ipx_tables::{
-    Metric, RouteMetric, RouteTable, ServiceKey, ServiceMetric, ServiceTable, Source, one_best,
-};
+use ipx_tables::{Metric, RouteMetric, RouteTable, ServiceKey, ServiceMetric, Source, one_best};
 use ipx_wire::{Network, OutOfMemory};
 use std::alloc::Global;
 
 /// A route as it is told on a port.
-fn told_entry(network: Network, metric: RouteMetric, at: PortNow) -> RipEntry
+pub fn told_entry(network: Network, metric: RouteMetric, at: PortNow) -> RipEntry
     ensures { result ≡ told_route network metric at }
 {
     let onward = metric.one_more();
@@ -66,8 +61,9 @@ fn is_over_other_port(ports: &[Port], network: Network, at: PortNow) -> bool
 }
 
 /// The networks of the other ports, as they are told.
-fn told_ports(alloc: Global, ports: &[Port], at: PortNow) -> Result<Vec<RipEntry>, OutOfMemory>
-    ensures { IfOk result (λ v. AreToldPorts ports.now at (length ports.now) v.items) }
+pub fn told_ports(alloc: Global, ports: &[Port], at: PortNow) -> Result<Vec<RipEntry>, OutOfMemory>
+    ensures told { IfOk result (λ v. AreToldPorts ports.now at (length ports.now) v.items) }
+    ensures refused { OnErr result ((x : RipEntry) × IsToldPort ports.now at x) }
 {
     let mut told = Vec::new(alloc);
     for port in ports {
@@ -80,7 +76,7 @@ fn told_ports(alloc: Global, ports: &[Port], at: PortNow) -> Result<Vec<RipEntry
 }
 
 /// Whether the best offer of a network is its route, and came by another port.
-fn is_over_other_neighbour(
+pub fn is_over_other_neighbour(
     ports: &[Port],
     item: (Network, Source, RouteMetric),
     at: PortNow,
@@ -124,70 +120,6 @@ pub fn routes_as_told(
     add_heard(&mut told, ports, heard, at)?;
     one_best::<Network, RouteMetric>();
     Ok(told)
-}
-
-/// The routes that are told on a port, by network.
-fn listed_routes(
-    alloc: Global,
-    ports: &[Port],
-    routes: &RouteTable,
-    at: PortNow,
-) -> Result<Vec<RipEntry>, OutOfMemory>
-    ensures { IfOk result (λ v. AreToldRoutes ports.now (routes_in routes.now) at v.items) }
-{
-    let Ok(heard) = routes.list(alloc, at.now) else {
-        return Err(OutOfMemory);
-    };
-    let told = routes_as_told(alloc, ports, &heard, at)?;
-    Ok(told)
-}
-
-/// Whether the network of another port is told.
-fn is_some_port_told(ports: &[Port], at: PortNow) -> bool
-    ensures { result ≡ list_any (λ p. is_told_port ports.now at p.network) ports.now }
-{
-    ports
-        .iter()
-        .any(|port| is_over_other_port(ports, port.network, at))
-}
-
-/// Whether some route is told on a port. It takes no memory.
-fn is_some_route_told(ports: &[Port], routes: &RouteTable, at: PortNow) -> bool
-    ensures some { OnTrue result
-        ((t : RipEntry) × IsToldRoute ports.now (routes_in routes.now) at t) }
-    ensures none { OnFalse result (NoRouteIsTold ports.now (routes_in routes.now) at) }
-{
-    one_best::<Network, RouteMetric>();
-    if is_some_port_told(ports, at) {
-        return true;
-    }
-    for item in routes.bests(at.now) {
-        if is_over_other_neighbour(ports, item, at) {
-            return true;
-        }
-    }
-    false
-}
-
-/// The routes that are told on a port, by network. Where memory is wanted and no route is told,
-/// there are none.
-pub fn told_routes(
-    alloc: Global,
-    ports: &[Port],
-    routes: &RouteTable,
-    at: PortNow,
-) -> Result<Vec<RipEntry>, OutOfMemory>
-    ensures told { IfOk result (λ v. AreToldRoutes ports.now (routes_in routes.now) at v.items) }
-    ensures refused { OnErr result
-        ((t : RipEntry) × IsToldRoute ports.now (routes_in routes.now) at t) }
-{
-    if let Ok(told) = listed_routes(alloc, ports, routes, at) {
-        return Ok(told);
-    }
-    if is_some_route_told(ports, routes, at) {
-        return Err(OutOfMemory);
-    }
-    Ok(Vec::new(alloc))
 }
 
 /// What is told on a port of a network: its route, unless that leaves by the port.
@@ -252,20 +184,5 @@ pub fn services_as_told(
 {
     let told = services_by_other_ports(alloc, heard, at)?;
     one_best::<ServiceKey, ServiceMetric>();
-    Ok(told)
-}
-
-/// The services that are told on a port, by kind and name.
-pub fn told_services(
-    alloc: Global,
-    services: &ServiceTable,
-    at: PortNow,
-) -> Result<Vec<ServiceEntry>, OutOfMemory>
-    ensures { IfOk result (λ v. AreToldServices (services_in services.now) at v.items) }
-{
-    let Ok(heard) = services.list(alloc, at.now) else {
-        return Err(OutOfMemory);
-    };
-    let told = services_as_told(alloc, &heard, at)?;
     Ok(told)
 }

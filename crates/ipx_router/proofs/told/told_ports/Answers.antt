@@ -17,7 +17,7 @@ loop-port-preserved c =
           rw w.told-is (port_skip c.args.ports.now c.args.at i no_port c.loop-port-test.true told c.loop-port.invariant (sym c.is_over_other_port.ensures ∙ w.if-is_over_other_port.false))
     ]
 
-pub returns : goal.returns
-returns c =
+pub returns-clause-told : goal.returns-clause-told
+returns-clause-told c =
     let all : c.loop-port.port-index ≡ length c.args.ports.now = omega arith in
     subst (λ (n : ℕ). AreToldPorts c.args.ports.now c.args.at n c.loop-port.told.items) all c.loop-port.invariant

@@ -2,7 +2,7 @@ use Rattle.std.proofs.Common.{◌≡◌, ◌++◌, false}
 use Rattle.ipx_router.specs.Knowledge.{routes_in}
 use Rattle.ipx_router.specs.Told.{IsToldRoute}
 use Rattle.ipx_router.specs.Replying.{AreToldOf, asks_all}
-use Rattle.ipx_router.proofs.replying.asked_routes.Given as goal
+use Rattle.ipx_router.proofs.replying.named_routes.Given as goal
 
 -- the entries so far each name a network, and what is told of those was found
 abbrev pub invariant-loop-entry : goal.invariant-loop-entry

@@ -1,17 +1,15 @@
 use Rattle.std.proofs.Common.{◌≡◌, ◌∙◌, List, [], ◌∷◌, ◌++◌, Option, sym, subst, arith}
-use borrow.Author.Tests.{eqb-true}
 use Rattle.std.specs.List.{cons_option}
 use Rattle.std.proofs.lemmas.Grind.{common_steps}
 use Rattle.std.proofs.lemmas.List.{append-nil}
-use Rattle.std.proofs.lemmas.Result.{on_err_weaker}
 use Rattle.ipx_control.specs.declared.rip.packet.RipEntry.{RipEntry}
 use Rattle.ipx_router.specs.Knowledge.{routes_in}
 use Rattle.ipx_router.specs.Told.{IsToldRoute}
 use Rattle.ipx_router.specs.Replying.{AreToldOf}
 use Rattle.ipx_router.specs.Picking.{IsToldOf}
-use Rattle.ipx_router.proofs.Picked.{asked_more, named_more}
-use Rattle.ipx_router.proofs.SomeTold.{any_err, asked_by_all, asked_by_name}
-use Rattle.ipx_router.proofs.replying.asked_routes.Goals as goal
+use Rattle.ipx_router.proofs.Picked.{asked_more, asks_all_by, named_more}
+use Rattle.ipx_router.proofs.SomeTold.{any_err, asked_by_name}
+use Rattle.ipx_router.proofs.replying.named_routes.Goals as goal
 
 pub loop-entry-preserved-in-Continue-1 : goal.loop-entry-preserved-in-Continue-1
 loop-entry-preserved-in-Continue-1 c =
@@ -41,14 +39,12 @@ loop-entry-preserved c =
       told = subst (λ (es : List RipEntry). AreToldOf IsTold (ys ++ e ∷ []) es) (append-nil told) none;
     }
 
-pub returns-then-eq-clause-refused : goal.returns-then-eq-clause-refused
-returns-then-eq-clause-refused c =
+pub returns-then-eq-clause-all : goal.returns-then-eq-clause-all
+returns-then-eq-clause-all c =
     let ys = c.loop-entry.yielded in
     let e = c.in-Some.entry in
-    let later = c.next.new.self in
-    let all : ys ++ (e ∷ later) ≡ c.args.asked = grind (arith, common_steps) in
-    on_err_weaker c.told_routes.result
-    (asked_by_all c.args.ports.now (routes_in c.args.routes.now) c.args.at ys e later c.args.asked all (eqb-true _ _ (sym c.eq.ensures ∙ c.if-eq.true))) c.told_routes.ensures.refused
+    let all : ys ++ (e ∷ c.next.new.self) ≡ c.args.asked = grind (arith, common_steps) in
+    asks_all_by ys e c.next.new.self c.args.asked all (sym c.eq.ensures ∙ c.if-eq.true)
 
 pub returns-in_err-push-clause-refused : goal.returns-in_err-push-clause-refused
 returns-in_err-push-clause-refused c =
