@@ -3,6 +3,8 @@
 #![tactic(auto)]
 
 #[cfg(test)]
+mod all_asked;
+#[cfg(test)]
 mod fixture;
 #[cfg(test)]
 mod full;

@@ -9,7 +9,7 @@ use std::process::Abort;
 use std::test::Fail;
 
 /// A router that heard networks 1000 to 2023 on port 2: as many as it may hold.
-fn full_of_routes(alloc: Global) -> Result<Router, Fail> {
+pub fn full_of_routes(alloc: Global) -> Result<Router, Fail> {
     let mut router = three_ports(alloc)?;
     for i in 0..21u32 {
         let _ = answer(
@@ -96,7 +96,7 @@ const TYPE_5: &str = "ffff0060000400000022ffffffffffff04520000002200007f00000904
     0000004400000000000104510001";
 
 /// A router that heard 4,096 services on port 2, one of type 5: as many as it may hold.
-fn full_of_services(alloc: Global) -> Result<Router, Fail> {
+pub fn full_of_services(alloc: Global) -> Result<Router, Fail> {
     let mut router = three_ports(alloc)?;
     let _ = answer(alloc, &mut router, 2, TYPE_5, 0)?;
     for i in 0..585u64 {
