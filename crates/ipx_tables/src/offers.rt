@@ -211,10 +211,20 @@ impl<K: Ord + Copy, M: Metric + Copy> Offers<K, M> {
             → NoneCounts (content K.cmp self.now.offers) key now) → IsOk result }
         ensures valid { IsTable K.cmp self.now }
     {
-        let mut listed = Vec::new(alloc);
+        let mut listed = with_room(alloc, self.shelf.len());
         for item in self.bests(now) {
             listed.push(item)?;
         }
         Ok(listed)
+    }
+}
+
+/// An empty list, with room for so many items where as much memory is given at once.
+fn with_room<T>(alloc: Global, count: usize) -> Vec<T>
+    ensures { result.items ≡ [] }
+{
+    match Vec::with_capacity(alloc, count) {
+        Ok(list) => list,
+        Err(_) => Vec::new(alloc),
     }
 }
