@@ -26,7 +26,10 @@ fn own_networks_among_others(rt: HostRuntime) -> Result<(), Fail> {
     let alloc = rt.alloc();
     let mut router = three_ports(alloc)?;
     assert!(rt; hears(alloc, &mut router, NETWORKS_44_5_15, 3)?);
-    assert_eq!(rt; replies_to(alloc, &mut router, 1, ALL_ROUTES_1)?.as_str(), IN_ORDER);
+    assert_eq!(rt;
+        replies_to(alloc, &mut router, 1, ALL_ROUTES_1)?.as_str(),
+        IN_ORDER
+    );
     Ok(())
 }
 
