@@ -1,32 +1,30 @@
 -- Where a core counts no table that was full, its router had room for each packet.
-use Rattle.std.proofs.Common.{◌≡◌, ◌≢◌, ◌<◌, ◌≤◌, ◌+◌, ◌-◌, ◌^◌, ℕ, Bool, true, false, List, [], ◌∷◌, Some, if◌then◌else◌, refl, sym, ap, ◌∙◌, subst, inl, inr, ◌⊎◌, arith}
-use Rattle.std.specs.Prelude.{nat_le, length, ◌++◌, MatchBool}
+use Rattle.std.proofs.Common.{◌≡◌, ◌≢◌, ◌<◌, ◌≤◌, ◌+◌, ◌-◌, ◌^◌, ℕ, Bool, true, false, List, [], ◌∷◌, Some, refl, sym, ap, ◌∙◌, subst, inl, inr, ◌⊎◌, arith}
+use Rattle.std.specs.Prelude.{MatchBool}
 use Rattle.ipx_router.specs.declared.reason.Reason.TheVariants.{Bad, Propagated, NotOurs, NoRoute, HopLimit, BadControl, TableFull}
 use Rattle.ipx_router.specs.OutcomeView.{OutcomeView, Forward, Replies, Heard, Dropped}
 use Rattle.ipx_router.specs.RouterPackets.{SendingView}
 use Rattle.ipx_router.specs.RouterView.{RouterView}
 use Rattle.ipx_router.specs.Telling.{is_due}
 use Rattle.ipx_carrier.specs.declared.outcome_counts.OutcomeCounts.{OutcomeCounts}
-use Rattle.ipx_carrier.specs.Counting.{counted, raised}
+use Rattle.ipx_carrier.specs.Counting.{raised}
 use Rattle.ipx_carrier.specs.OutcomeCounts.{fated}
-use Rattle.ipx_carrier.specs.RouterCore.{CoreView, RouterHears, most_queued, put_in_queue, sendings_of}
+use Rattle.ipx_carrier.specs.RouterCore.{CoreView, RouterHears, put_answer}
 use Rattle.ipx_by_hand.specs.ByHand.{ByHandView, HearsIfDue, HearsWords}
 use Rattle.ipx_by_hand.proofs.EachWord.{FindsRoomForEach}
 
--- the queue is nothing to the router and its counts
-either_router : (b : Bool) (x y : CoreView) → x.router ≡ y.router → (if b then x else y).router ≡ y.router
-either_router true x y e = e
-either_router false x y e = refl
+-- the queues are nothing to the router and its counts
+answer_router : (a : OutcomeView) (c : CoreView) → (put_answer a c).router ≡ c.router
+answer_router (Forward port next bytes) c = refl
+answer_router (Replies sent) c = refl
+answer_router (Heard n) c = refl
+answer_router (Dropped reason) c = refl
 
-either_fates : (b : Bool) (x y : CoreView) → x.fates ≡ y.fates → (if b then x else y).fates ≡ y.fates
-either_fates true x y e = e
-either_fates false x y e = refl
-
-pub put_router : (sent : List SendingView) (c : CoreView) → (put_in_queue sent c).router ≡ c.router
-put_router sent c = either_router (nat_le (length c.queue + length sent) most_queued) (record c { queue = c.queue ++ sent }) (record c { dropped = counted (c.dropped + length sent) }) refl
-
-pub put_fates : (sent : List SendingView) (c : CoreView) → (put_in_queue sent c).fates ≡ c.fates
-put_fates sent c = either_fates (nat_le (length c.queue + length sent) most_queued) (record c { queue = c.queue ++ sent }) (record c { dropped = counted (c.dropped + length sent) }) refl
+answer_fates : (a : OutcomeView) (c : CoreView) → (put_answer a c).fates ≡ c.fates
+answer_fates (Forward port next bytes) c = refl
+answer_fates (Replies sent) c = refl
+answer_fates (Heard n) c = refl
+answer_fates (Dropped reason) c = refl
 
 -- an answer is that a table was full, or the count of that stays
 full_or_not : (a : OutcomeView) (f : OutcomeCounts) → ((a ≢ Dropped TableFull) × ((fated a f).table_full ≡ f.table_full)) ⊎ ((fated a f).table_full ≡ raised f.table_full)
@@ -45,10 +43,10 @@ abbrev pub full : CoreView → ℕ
 full c = c.fates.table_full
 
 heard_fates : (old new : CoreView) (port : ℕ) (bytes : List ℕ) (now : ℕ) (h : RouterHears old port bytes now new) → full new ≡ (fated h.0 old.fates).table_full
-heard_fates old new port bytes now h = ap full h.3 ∙ ap (λ (f : OutcomeCounts). f.table_full) (put_fates (sendings_of h.0) (record old { router = h.1; fates = fated h.0 old.fates }))
+heard_fates old new port bytes now h = ap full h.3 ∙ ap (λ (f : OutcomeCounts). f.table_full) (answer_fates h.0 (record old { router = h.1; fates = fated h.0 old.fates }))
 
 pub heard_router : (old new : CoreView) (port : ℕ) (bytes : List ℕ) (now : ℕ) (h : RouterHears old port bytes now new) → new.router ≡ h.1
-heard_router old new port bytes now h = ap (λ (c : CoreView). c.router) h.3 ∙ put_router (sendings_of h.0) (record old { router = h.1; fates = fated h.0 old.fates })
+heard_router old new port bytes now h = ap (λ (c : CoreView). c.router) h.3 ∙ answer_router h.0 (record old { router = h.1; fates = fated h.0 old.fates })
 
 raised_by : (n : ℕ) → n < 2 ^ 64 → (n ≤ raised n) × (raised n < 2 ^ 64)
 raised_by n less = (omega (arith, less), omega (arith, less))

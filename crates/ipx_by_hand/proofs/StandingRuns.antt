@@ -9,11 +9,11 @@ use Rattle.ipx_router.specs.OutcomeView.{OutcomeView}
 use Rattle.ipx_router.specs.RouterPackets.{SendingView}
 use Rattle.ipx_router.specs.RouterView.{RouterView}
 use Rattle.ipx_router.specs.Telling.{is_due}
-use Rattle.ipx_carrier.specs.RouterCore.{CoreView, RouterGives, RouterHears, TellsNow, put_in_queue}
+use Rattle.ipx_carrier.specs.RouterCore.{CoreView, RouterGives, RouterHears, TellsNow}
 use Rattle.ipx_carrier.specs.Turns.{Given}
 use Rattle.ipx_by_hand.specs.ByHand.{ByHandView, GivesByHand, HearsIfDue, HearsUnder, HearsWords}
 use Rattle.ipx_by_hand.specs.HandRuns.{Asked, ComesAs, DoHandCalls, DoesHandCall, HandCall, HandCallAt, IsAskedEachMinute, asked_by, asked_in, Comes}
-use Rattle.ipx_by_hand.proofs.RoomForWords.{all_on, full, heard_router, of_false, of_true, one_on, put_fates, put_router}
+use Rattle.ipx_by_hand.proofs.RoomForWords.{all_on, full, heard_router, of_false, of_true, one_on}
 
 bool_cases : (b : Bool) → (b ≡ true) ⊎ (b ≡ false)
 bool_cases true = inl refl
@@ -27,14 +27,10 @@ words_ports now (w ∷ ws) old new h =
     words_ports now ws h.0 new h.2 ∙ ap (λ (r : RouterView). r.ports) (heard_router old h.0 (w.port - 1) w.bytes now h.1) ∙ h.1.2.rest.ports
 
 gives_router : (old new : CoreView) (now : ℕ) (given : Option Given) (h : RouterGives old now given new) → new.router ≡ h.2
-gives_router old new now given h =
-    let begun : CoreView = record old { router = h.2; started = true } in
-    ap (λ (c : CoreView). c.router) h.5.1 ∙ put_router h.1 (put_in_queue h.0 begun) ∙ put_router h.0 begun
+gives_router old new now given h = ap (λ (c : CoreView). c.router) h.5.1
 
 gives_full : (old new : CoreView) (now : ℕ) (given : Option Given) → RouterGives old now given new → full new ≡ full old
-gives_full old new now given h =
-    let begun : CoreView = record old { router = h.2; started = true } in
-    ap full h.5.1 ∙ ap (λ f. f.table_full) (put_fates h.1 (put_in_queue h.0 begun)) ∙ ap (λ f. f.table_full) (put_fates h.0 begun)
+gives_full old new now given h = ap full h.5.1
 
 due_full : (old new : ByHandView CoreView) (now : ℕ) → HearsIfDue RouterHears old now new → full old.core < 2 ^ 64 → (full old.core ≤ full new.core) × (full new.core < 2 ^ 64)
 due_full old new now h less = elim (bool_cases (is_due old.said now)) [

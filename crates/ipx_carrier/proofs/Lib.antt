@@ -7,3 +7,4 @@ pub mod Putting
 pub mod Waiting
 pub mod Draining
 pub mod Bursting
+pub mod Leaving

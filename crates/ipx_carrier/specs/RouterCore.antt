@@ -1,6 +1,8 @@
--- A router as a core: it hears datagrams and gives packets by a queue, which holds 16,384 of them.
+-- A router as a core: it hears datagrams and gives packets by two queues, one of what is forwarded and one
+-- of its own, of which each holds 16,384. Which of them leave is own.
 -- The entry points are `RouterHears` and `RouterGives`, and `Misses` and `Withholds` where memory is refused.
-use Rattle.std.specs.Prelude.{◌≡◌, ◌<◌, ◌≤◌, ◌⊎◌, ℕ, ◌+◌, ◌-◌, Bool, true, false, List, [], ◌∷◌, ◌++◌, All, length, drop, nat_le, Option, Some, None, if◌then◌else◌, MatchBool}
+use Rattle.std.specs.Prelude.{◌≡◌, ◌<◌, ◌≤◌, ◌⊎◌, ℕ, ◌+◌, ◌-◌, Bool, true, false, List, [], ◌∷◌, ◌++◌, All, length, map, nat_le, Option, Some, None, option_map, if◌then◌else◌, MatchBool}
+use Rattle.ipx_wire.specs.declared.address.Node.{Node}
 use Rattle.ipx_router.specs.RouterView.{RouterView}
 use Rattle.ipx_router.specs.RouterPackets.{SendingView}
 use Rattle.ipx_router.specs.Ports.{IsPortNumber}
@@ -13,15 +15,26 @@ use Rattle.ipx_router.specs.Telling as telling
 use Rattle.ipx_carrier.specs.declared.outcome_counts.OutcomeCounts.{OutcomeCounts}
 use Rattle.ipx_carrier.specs.Counting.{counted}
 use Rattle.ipx_carrier.specs.OutcomeCounts.{fated}
-use Rattle.ipx_carrier.specs.Turns.{Given}
+use Rattle.ipx_carrier.specs.Turns.{Given, GivesEach}
+
+-- the packets that are to be sent, the first one first
+pub record CoreQueues : Type 0 where
+  -- those that are forwarded
+  pub forwarded : List SendingView
+  -- those by which the router answers, starts and tells
+  pub own : List SendingView
+  -- how many of its own were given in a row
+  pub in_a_row : ℕ
+
+abbrev pub nothing_waits : CoreQueues
+nothing_waits = record { forwarded = []; own = []; in_a_row = 0 }
 
 pub record CoreView : Type 0 where
   pub router : RouterView
-  -- the packets that are to be sent, the first one first
-  pub queue : List SendingView
+  pub queues : CoreQueues
   -- whether the router's packets of its start were asked for
   pub started : Bool
-  -- how many packets found no room in the queue
+  -- how many packets found no room in their queue
   pub dropped : ℕ
   -- what became of the datagrams that came in
   pub fates : OutcomeCounts
@@ -29,38 +42,70 @@ pub record CoreView : Type 0 where
 abbrev pub most_queued : ℕ
 most_queued = 16384
 
--- packets go behind those that are there if there is room for all of them; else none of them does,
--- and they are counted, as far as a count of 64 bits goes
-abbrev pub put_in_queue : List SendingView → CoreView → CoreView
-put_in_queue sent core =
-    if nat_le (length core.queue + length sent) most_queued
-    then record core { queue = core.queue ++ sent }
-    else record core { dropped = counted (core.dropped + length sent) }
+-- packets go behind those that wait, if there is room for all of them; else none of them does
+abbrev pub put_behind : List SendingView → List SendingView → List SendingView
+put_behind queue sent =
+    if nat_le (length queue + length sent) most_queued then queue ++ sent else queue
 
--- what a router's answer gives to be sent
-abbrev pub sendings_of : OutcomeView → List SendingView
-sendings_of (Forward port next bytes) = record { port = port; next = next; bytes = bytes } ∷ []
-sendings_of (Replies sent) = sent
-sendings_of (Heard n) = []
-sendings_of (Dropped reason) = []
+-- and then they are counted, as far as a count of 64 bits goes
+abbrev pub dropped_behind : List SendingView → List SendingView → ℕ → ℕ
+dropped_behind queue sent dropped =
+    if nat_le (length queue + length sent) most_queued
+    then dropped
+    else counted (dropped + length sent)
+
+-- so they go into the queue of what is forwarded, or into that of the router's own
+abbrev pub put_forwarded : List SendingView → CoreView → CoreView
+put_forwarded sent core = record core {
+  queues = record core.queues { forwarded = put_behind core.queues.forwarded sent };
+  dropped = dropped_behind core.queues.forwarded sent core.dropped;
+}
+
+abbrev pub put_own : List SendingView → CoreView → CoreView
+put_own sent core = record core {
+  queues = record core.queues { own = put_behind core.queues.own sent };
+  dropped = dropped_behind core.queues.own sent core.dropped;
+}
+
+-- the one packet that is forwarded
+abbrev pub one_forwarded : ℕ → Node → List ℕ → List SendingView
+one_forwarded port next bytes = record { port = port; next = next; bytes = bytes } ∷ []
+
+-- what a router's answer gives to be sent goes into its queue
+abbrev pub put_answer : OutcomeView → CoreView → CoreView
+put_answer (Forward port next bytes) core = put_forwarded (one_forwarded port next bytes) core
+put_answer (Replies sent) core = put_own sent core
+put_answer (Heard n) core = core
+put_answer (Dropped reason) core = core
 
 -- the router's port of a number is the device's of one less
 abbrev pub RouterHears : CoreView → ℕ → List ℕ → ℕ → CoreView → Type 0
 RouterHears old port bytes now new = (a : OutcomeView) × (router : RouterView)
     × Receives old.router (port + 1) bytes now a router
-    × (new ≡ put_in_queue (sendings_of a) (record old { router = router; fates = fated a old.fates }))
+    × (new ≡ put_answer a (record old { router = router; fates = fated a old.fates }))
 
 abbrev pub given_of : SendingView → Given
 given_of s = record { port = s.port - 1; node = s.next; bytes = s.bytes }
 
-abbrev pub first_given : List SendingView → Option Given
-first_given [] = None
-first_given (s ∷ ss) = Some (given_of s)
+-- which packet leaves next, and what waits then: the first of those that are forwarded; where there is none,
+-- the first of the router's own, unless 8 of these left in a row; else none, and another row begins
+abbrev pub Leaves : CoreQueues → Option SendingView → CoreQueues → Type 0
+Leaves old (Some s) new = ((old.forwarded ≡ s ∷ new.forwarded)
+    × (new ≡ record old { forwarded = new.forwarded; in_a_row = 0 }))
+    ⊎ ((old.forwarded ≡ []) × (old.own ≡ s ∷ new.own) × (old.in_a_row < 8)
+    × (new ≡ record old { own = new.own; in_a_row = old.in_a_row + 1 }))
+Leaves old None new = (old.forwarded ≡ []) × ((old.own ≡ []) ⊎ (8 ≤ old.in_a_row))
+    × (new ≡ record old { in_a_row = 0 })
 
--- the first packet of the queue leaves it
+-- it is given
+abbrev pub GivesNext : CoreQueues → Option Given → CoreQueues → Type 0
+GivesNext old given new = (leaving : Option SendingView) × Leaves old leaving new
+    × (given ≡ option_map given_of leaving)
+
+-- and nothing else changes
 abbrev pub TakesFirst : CoreView → Option Given → CoreView → Type 0
 TakesFirst core given new =
-    (given ≡ first_given core.queue) × (new ≡ record core { queue = drop 1 core.queue })
+    GivesNext core.queues given new.queues × (new ≡ record core { queues = new.queues })
 
 -- the packets of the router's start, which are asked for once
 abbrev pub AreFirst : CoreView → List SendingView → Type 0
@@ -71,28 +116,37 @@ abbrev pub TellsNow : RouterView → ℕ → List SendingView → RouterView →
 TellsNow old now sent new = telling.TellsIfDue (known_at old now) old.told now sent new.told
     × HoldsKnown (known_at old now) (tables new) × KeepsAllButOffers old new
 
--- the packets of the start are put into the queue, then those that are told, and the first leaves
+-- the packets of the start are put behind its own, then those that are told, and the next one leaves
 abbrev pub RouterGives : CoreView → ℕ → Option Given → CoreView → Type 0
 RouterGives old now given new = (first told : List SendingView) × (router : RouterView)
     × AreFirst old first × TellsNow old.router now told router
-    × TakesFirst (put_in_queue told (put_in_queue first (record old { router = router; started = true }))) given new
+    × TakesFirst (put_own told (put_own first (record old { router = router; started = true }))) given new
 
 -- there are packets to put into a queue, and they would pass no limit of it
 abbrev pub IsRoomFor : List SendingView → List SendingView → Type 0
 IsRoomFor queue sent = (0 < length sent) × (length queue + length sent ≤ most_queued)
+
+-- so it is with the packets of an answer, and their queue
+abbrev pub IsRoomForAnswer : List SendingView → List SendingView → OutcomeView → Type 0
+IsRoomForAnswer forwarded own (Forward port next bytes) =
+    IsRoomFor forwarded (one_forwarded port next bytes)
+IsRoomForAnswer forwarded own (Replies sent) = IsRoomFor own sent
+IsRoomForAnswer forwarded own (Heard n) = ⊥
+IsRoomForAnswer forwarded own (Dropped reason) = ⊥
 
 -- memory is refused to a router for what comes in
 abbrev pub ReceivesInVain : RouterView → ℕ → List ℕ → ℕ → RouterView → Type 0
 ReceivesInVain old port bytes now new =
     WantsMemory old port bytes now new × KeepsAllButOffers old new × (new.told ≡ old.told)
 
--- memory is refused to the router, or to the queue for what the router answers, which is lost
+-- memory is refused to the router, or to a queue for what the router answers, which is lost
 abbrev pub Misses : CoreView → ℕ → List ℕ → ℕ → CoreView → Type 0
 Misses old port bytes now new = (router : RouterView)
     × (((new ≡ record old { router = router })
     × ReceivesInVain old.router (port + 1) bytes now router)
     ⊎ ((a : OutcomeView) × (new ≡ record old { router = router; fates = fated a old.fates })
-    × Receives old.router (port + 1) bytes now a router × IsRoomFor old.queue (sendings_of a)))
+    × Receives old.router (port + 1) bytes now a router
+    × IsRoomForAnswer old.queues.forwarded old.queues.own a))
 
 -- memory is refused for the packets of the start, which are lost: they are asked for once
 abbrev pub StartsInVain : CoreView → CoreView → Type 0
@@ -106,16 +160,16 @@ TellsInVain old now new = (telling.is_due old.told now ≡ true)
 
 -- the same, or memory is refused to the queue for what the router tells, which is lost
 abbrev pub IsNotTold : RouterView → ℕ → List SendingView → RouterView → Type 0
-IsNotTold old now queue new = TellsInVain old now new
-    ⊎ ((told : List SendingView) × TellsNow old now told new × IsRoomFor queue told)
+IsNotTold old now own new = TellsInVain old now new
+    ⊎ ((told : List SendingView) × TellsNow old now told new × IsRoomFor own told)
 
--- memory is refused for the packets of the start; or these are put into the queue, and memory is
+-- memory is refused for the packets of the start; or these are put behind its own, and memory is
 -- refused for those that are told
 abbrev pub Withholds : CoreView → ℕ → CoreView → Type 0
 Withholds old now new = StartsInVain old new
     ⊎ ((first : List SendingView) × (router : RouterView) × AreFirst old first
-    × (new ≡ put_in_queue first (record old { router = router; started = true }))
-    × IsNotTold old.router now new.queue router)
+    × (new ≡ put_own first (record old { router = router; started = true }))
+    × IsNotTold old.router now new.queues.own router)
 
 -- a packet leaves by a port that is there, and fits the room
 abbrev pub IsGivable : ℕ → SendingView → Type 0
@@ -123,3 +177,10 @@ IsGivable ports s = IsPortNumber ports s.port × (length s.bytes ≤ 1500)
 
 abbrev pub AreGivable : ℕ → List SendingView → Type 0
 AreGivable ports = All (IsGivable ports)
+
+-- asked until it gives none, a router gives all that is forwarded, in order, and behind that at most 8 of
+-- its own
+abbrev pub ForwardedLeaveFirst : Type 0
+ForwardedLeaveFirst = (now : ℕ) (packets : List Given) (old last new : CoreView)
+    → GivesEach RouterGives now packets old last → RouterGives last now None new
+    → (own : List Given) × (packets ≡ map given_of old.queues.forwarded ++ own) × (length own ≤ 8)

@@ -47,7 +47,7 @@ pub use on_peers::OnPeers;
 pub use outcome_counts::OutcomeCounts;
 pub use port_marks::PortMarks;
 pub use report::{Burst, Report};
-pub use router_core::RouterCore;
+pub use router_core::{RouterCore, forwarded_packets_leave_first};
 pub use running::{run, run_segments};
 pub use segments::{PacketSent, Segments, SegmentsKeepBack};
 pub use udp::{UDP_PORT, UdpDatagrams, bound_socket, place_of};

@@ -1,11 +1,11 @@
 //! The packets of a router that are to be sent.
 
-ghost use Rattle.std.specs.Prelude.{◌≡◌, ℕ, ◌<◌, ◌≤◌, ◌∷◌, [], length, drop, true, false, OnOk, OnErr, IfSome};
-ghost use Rattle.ipx_router.specs.RouterPackets.{sendings};
+ghost use Rattle.std.specs.Prelude.{◌≡◌, ℕ, ◌<◌, ◌≤◌, ◌∷◌, [], length, true, false, Some, option_map, OnOk, OnErr, IfSome};
+ghost use Rattle.ipx_router.specs.RouterPackets.{sending_of, sendings};
 ghost use Rattle.ipx_carrier.specs.GivenPackets.{given_in};
 ghost use Rattle.ipx_router.specs.OutcomeView.{router_outcome};
-ghost use Rattle.ipx_carrier.specs.RouterCore.{AreGivable, IsNotTold, IsRoomFor, first_given, most_queued, sendings_of};
-ghost use Rattle.ipx_carrier.specs.Queued.{Puts, PutsStart, PutsTold};
+ghost use Rattle.ipx_carrier.specs.RouterCore.{AreGivable, GivesNext, IsGivable, IsNotTold, IsRoomFor, IsRoomForAnswer, Leaves, given_of, most_queued};
+ghost use Rattle.ipx_carrier.specs.Queued.{Puts, PutsAnswer, PutsStart, PutsTold, core_queues};
 
 use crate::counting::raise;
 use ipx_router::{Outcome, Reply, Router};
@@ -13,8 +13,11 @@ use ipx_wire::{Node, OutOfMemory};
 use std::alloc::Global;
 use std::collections::VecDeque;
 
-/// The most packets that wait to be sent.
+/// The most packets that wait in a queue.
 const MOST_QUEUED: usize = 16_384;
+
+/// How many packets of its own a router gives in a row.
+const MOST_IN_A_ROW: u32 = 8;
 
 /// Puts packets behind those that wait, if there is room for all of them, and else counts them.
 pub fn put_all(
@@ -63,22 +66,26 @@ pub fn put_one(
     Ok(())
 }
 
-/// Puts what a router's answer gives to be sent.
+/// Puts what a router's answer gives to be sent into its queue.
 pub fn put_outcome(
-    queue: &mut VecDeque<Reply>,
+    forwarded: &mut VecDeque<Reply>,
+    own: &mut VecDeque<Reply>,
     dropped: &mut u64,
     outcome: Outcome,
 ) -> Result<(), OutOfMemory>
-    requires { length queue.old.items ≤ most_queued }
-    ensures put { OnOk result (Puts (sendings_of (router_outcome outcome))
-        (sendings queue.old.items) dropped.old (sendings queue.new.items) dropped.new) }
-    ensures refused { OnErr result
-        ((queue.new.items ≡ queue.old.items) × (dropped.new ≡ dropped.old)) }
-    ensures lost { OnErr result (IsRoomFor (sendings queue.old.items) (sendings_of (router_outcome outcome))) }
+    requires forwarded { length forwarded.old.items ≤ most_queued }
+    requires own { length own.old.items ≤ most_queued }
+    ensures put { OnOk result (PutsAnswer (router_outcome outcome)
+        (sendings forwarded.old.items) (sendings own.old.items) dropped.old
+        (sendings forwarded.new.items) (sendings own.new.items) dropped.new) }
+    ensures refused { OnErr result ((forwarded.new.items ≡ forwarded.old.items)
+        × (own.new.items ≡ own.old.items) × (dropped.new ≡ dropped.old)) }
+    ensures lost { OnErr result (IsRoomForAnswer
+        (sendings forwarded.old.items) (sendings own.old.items) (router_outcome outcome)) }
 {
     match outcome {
-        Outcome::Forward(reply) => put_one(queue, dropped, reply),
-        Outcome::Replies(replies) => put_all(queue, dropped, replies),
+        Outcome::Forward(reply) => put_one(forwarded, dropped, reply),
+        Outcome::Replies(replies) => put_all(own, dropped, replies),
         Outcome::Heard(_) | Outcome::Dropped(_) => Ok(()),
     }
 }
@@ -128,18 +135,69 @@ pub fn put_told(
     put_all(queue, dropped, told)
 }
 
-/// Takes the first packet that waits, and writes it to the front of the room.
-pub fn take_first(queue: &mut VecDeque<Reply>, room: &mut [u8]) -> Option<(usize, Node, usize)>
-    requires room { 1536 ≤ length room.old }
-    requires givable { (ports : ℕ) × AreGivable ports (sendings queue.old.items) }
-    ensures given { given_in room.new result ≡ first_given (sendings queue.old.items) }
-    ensures within { IfSome result (λ g. g.2 ≤ length room.old) }
-    ensures there { (ports : ℕ) → AreGivable ports (sendings queue.old.items) →
-        IfSome result (λ g. g.0 < ports) }
-    ensures rest { queue.new.items ≡ drop 1 queue.old.items }
+/// Takes the first of the router's own packets, unless so many left in a row. Where none leaves,
+/// another row begins.
+fn take_own(own: &mut VecDeque<Reply>, in_a_row: &mut u32) -> Option<Reply>
+    ensures { Leaves (core_queues [] own.old.items in_a_row.old) (option_map sending_of result)
+        (core_queues [] own.new.items in_a_row.new) }
 {
-    let reply = queue.pop_front()?;
+    let count = *in_a_row;
+    *in_a_row = 0;
+    if count >= MOST_IN_A_ROW {
+        return None;
+    }
+    let reply = own.pop_front()?;
+    *in_a_row = count + 1;
+    Some(reply)
+}
+
+/// Takes the packet that leaves next: the first that is forwarded, and else one of the router's own.
+fn take_next(
+    forwarded: &mut VecDeque<Reply>,
+    own: &mut VecDeque<Reply>,
+    in_a_row: &mut u32,
+) -> Option<Reply>
+    ensures { Leaves (core_queues forwarded.old.items own.old.items in_a_row.old)
+        (option_map sending_of result)
+        (core_queues forwarded.new.items own.new.items in_a_row.new) }
+{
+    let Some(reply) = forwarded.pop_front() else {
+        return take_own(own, in_a_row);
+    };
+    *in_a_row = 0;
+    Some(reply)
+}
+
+/// Writes a packet to the front of the room.
+fn write_to(reply: Reply, room: &mut [u8]) -> (usize, Node, usize)
+    requires room { 1536 ≤ length room.old }
+    requires givable { (ports : ℕ) × IsGivable ports (sending_of reply) }
+    ensures given { given_in room.new (Some result) ≡ Some (given_of (sending_of reply)) }
+    ensures within { result.2 ≤ length room.old }
+    ensures there { (ports : ℕ) → IsGivable ports (sending_of reply) → result.0 < ports }
+{
     let count = reply.bytes.len();
     room[..count].copy_from_slice(&reply.bytes);
-    Some((reply.port as usize - 1, reply.next, count))
+    (reply.port as usize - 1, reply.next, count)
+}
+
+/// Takes the packet that leaves next, and writes it to the front of the room.
+pub fn take_first(
+    forwarded: &mut VecDeque<Reply>,
+    own: &mut VecDeque<Reply>,
+    in_a_row: &mut u32,
+    room: &mut [u8],
+) -> Option<(usize, Node, usize)>
+    requires room { 1536 ≤ length room.old }
+    requires givable { (ports : ℕ) × AreGivable ports (sendings forwarded.old.items)
+        × AreGivable ports (sendings own.old.items) }
+    ensures given { GivesNext (core_queues forwarded.old.items own.old.items in_a_row.old)
+        (given_in room.new result)
+        (core_queues forwarded.new.items own.new.items in_a_row.new) }
+    ensures within { IfSome result (λ g. g.2 ≤ length room.old) }
+    ensures there { (ports : ℕ) → AreGivable ports (sendings forwarded.old.items)
+        → AreGivable ports (sendings own.old.items) → IfSome result (λ g. g.0 < ports) }
+{
+    let reply = take_next(forwarded, own, in_a_row)?;
+    Some(write_to(reply, room))
 }

@@ -1,7 +1,8 @@
 //! A router as a core.
 
-ghost use Rattle.std.specs.Prelude.{◌≡◌, ◌≤◌, [], false, length};
+ghost use Rattle.std.specs.Prelude.{◌≡◌, ◌≤◌, ◌+◌, false, length};
 ghost use Rattle.ipx_carrier.specs.OutcomeCounts.{none};
+ghost use Rattle.ipx_carrier.specs.RouterCore.{ForwardedLeaveFirst, nothing_waits};
 
 use crate::cores::Core;
 use crate::outcome_counts::OutcomeCounts;
@@ -14,12 +15,16 @@ use std::marker::Model;
 
 /// A router that runs over a device. Its port of a number is the device's port of one less.
 ///
-/// What it is to send waits in a queue of at most 16,384 packets. An answer, or the packets by
-/// which it starts or tells, that would pass this is dropped whole, and its packets are counted.
+/// What it is to send waits in two queues of at most 16,384 packets each: what it forwards, and its
+/// own, by which it answers, starts and tells. An answer, or the packets by which it starts or tells,
+/// that would pass this is dropped whole, and its packets are counted. What is forwarded is given
+/// first, and of its own eight in a row: then it gives none once, so that its ports are heard.
 #[derive(Drop)]
 pub struct RouterCore {
     router: Router,
-    queue: VecDeque<Reply>,
+    forwarded: VecDeque<Reply>,
+    own: VecDeque<Reply>,
+    in_a_row: u32,
     started: bool,
     dropped: u64,
     fates: OutcomeCounts,
@@ -29,46 +34,59 @@ impl Model for RouterCore {
     ghost use Rattle.std.specs.Prelude.{◌≤◌, length};
     ghost use Rattle.ipx_router.specs.RouterPackets.{sendings};
     ghost use Rattle.ipx_carrier.specs.RouterCore.{AreGivable, CoreView, most_queued};
+    ghost use Rattle.ipx_carrier.specs.Queued.{core_queues};
 
     ghost Value = { CoreView };
 
     ghost view = { λ c. record {
       router = c.router;
-      queue = sendings c.queue.items;
+      queues = core_queues c.forwarded.items c.own.items c.in_a_row;
       started = c.started;
       dropped = c.dropped;
       fates = c.fates;
     } };
 
     ghost invariant = { λ c. (length c.router.ports ≤ 16)
-        × (length c.queue.items ≤ most_queued)
-        × AreGivable (length c.router.ports) (sendings c.queue.items) };
+        × (length c.forwarded.items ≤ most_queued) × (length c.own.items ≤ most_queued)
+        × AreGivable (length c.router.ports) (sendings c.forwarded.items)
+        × AreGivable (length c.router.ports) (sendings c.own.items) };
 }
 
 impl RouterCore {
     /// A router that has sent nothing yet. What waits to be sent is kept in memory of `alloc`.
     pub fn new(alloc: Global, router: Router) -> RouterCore
         ensures router { result.router ≡ router }
-        ensures fresh { (result.queue ≡ []) × (result.started ≡ false) × (result.dropped ≡ 0) }
+        ensures fresh { (result.queues ≡ nothing_waits) × (result.started ≡ false)
+            × (result.dropped ≡ 0) }
         ensures unheard { result.fates ≡ none }
     {
         // A router has at most 16 ports, as its ports' contract says.
         let _ports = router.ports();
         RouterCore {
             router,
-            queue: VecDeque::new(alloc),
+            forwarded: VecDeque::new(alloc),
+            own: VecDeque::new(alloc),
+            in_a_row: 0,
             started: false,
             dropped: 0,
             fates: OutcomeCounts::new(),
         }
     }
 
-    /// How many packets were dropped since the queue had no room for them. It stays at the greatest
+    /// How many packets were dropped since their queue had no room for them. It stays at the greatest
     /// u64.
     pub fn dropped(&self) -> u64
         ensures { result ≡ self.now.dropped }
     {
         self.dropped
+    }
+
+    /// How many packets wait to be sent. Who drives it does not sleep while some do, also where a turn
+    /// sent none.
+    pub fn waiting(&self) -> usize
+        ensures { result ≡ length self.now.queues.forwarded + length self.now.queues.own }
+    {
+        self.forwarded.len() + self.own.len()
     }
 
     /// The router, to be asked between two runs.
@@ -93,6 +111,13 @@ impl RouterCore {
     {
         self.started = false;
     }
+}
+
+/// Asked for packets until it gives none, a router gives all that is forwarded, and then 8 of its own
+/// at most.
+pub fn forwarded_packets_leave_first()
+    ensures { ForwardedLeaveFirst }
+{
 }
 
 impl Core for RouterCore {
@@ -122,7 +147,12 @@ impl Core for RouterCore {
     ) -> Result<(), OutOfMemory> {
         let outcome = self.router.receive(alloc, port as u8 + 1, bytes, now)?;
         self.fates.count(&outcome);
-        put_outcome(&mut self.queue, &mut self.dropped, outcome)
+        put_outcome(
+            &mut self.forwarded,
+            &mut self.own,
+            &mut self.dropped,
+            outcome,
+        )
     }
 
     fn next(
@@ -135,16 +165,21 @@ impl Core for RouterCore {
             alloc,
             &self.router,
             &mut self.started,
-            &mut self.queue,
+            &mut self.own,
             &mut self.dropped,
         )?;
         put_told(
             alloc,
             &mut self.router,
             now,
-            &mut self.queue,
+            &mut self.own,
             &mut self.dropped,
         )?;
-        Ok(take_first(&mut self.queue, room))
+        Ok(take_first(
+            &mut self.forwarded,
+            &mut self.own,
+            &mut self.in_a_row,
+            room,
+        ))
     }
 }

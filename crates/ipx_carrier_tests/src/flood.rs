@@ -1,4 +1,4 @@
-//! Long datagrams, and more packets than the queue holds, with literal values.
+//! Long datagrams, and more packets than a queue holds, with literal values.
 
 use crate::fixture::{one_peer_each, one_turn, two_ports};
 use ipx_carrier::{Core, Datagrams, MemoryDatagrams, RouterCore, SentDatagram};
@@ -89,6 +89,8 @@ fn a_flood_is_dropped(rt: HostRuntime) -> Result<(), Fail> {
     let mut room = [0; 1536];
     let given = core.next(alloc, 0, &mut room)?;
     assert!(rt; matches!(given, Some((1, _, 30))));
-    assert_eq!(rt; core.dropped(), 7);
+    // The six packets of its start have a queue of their own.
+    assert_eq!(rt; core.dropped(), 1);
+    assert_eq!(rt; core.waiting(), 16_389);
     Ok(())
 }

@@ -17,6 +17,8 @@ mod mapping;
 #[cfg(test)]
 mod port_marks;
 #[cfg(test)]
+mod queues;
+#[cfg(test)]
 mod refused;
 #[cfg(test)]
 mod refused_calls;

@@ -88,8 +88,14 @@ fn next_at_last(
     }
 }
 
-/// What comes of bytes that a core hears: this packet, or none where memory was refused.
-fn comes_of(alloc: Global, text: &[u8], packet: (usize, Node, usize)) -> Result<bool, Fail> {
+/// What comes of bytes that a core hears: this packet, or none where memory was refused. Heard once
+/// more behind the first packet of its own, it leaves behind so many others of these.
+fn comes_of(
+    alloc: Global,
+    text: &[u8],
+    packet: (usize, Node, usize),
+    others: u32,
+) -> Result<bool, Fail> {
     let bytes = bytes_at_last(alloc, text)?;
     let mut core = core_at_last(alloc)?;
     if hear(alloc, &mut core, &bytes).is_ok() {
@@ -99,7 +105,7 @@ fn comes_of(alloc: Global, text: &[u8], packet: (usize, Node, usize)) -> Result<
     let first = next(alloc, &mut core)?;
     hear(alloc, &mut core, &bytes)?;
     let mut last = None;
-    for _ in 0..6_u32 {
+    for _ in 0..=others {
         last = next(alloc, &mut core)?;
     }
     Ok(first == Some((0, Node::BROADCAST, 40)) && last == Some(packet))
@@ -108,13 +114,28 @@ fn comes_of(alloc: Global, text: &[u8], packet: (usize, Node, usize)) -> Result<
 #[test]
 fn refused_hear_of_a_packet_to_be_forwarded(rt: HostRuntime) -> Result<(), Fail> {
     let packet = (1, Node([0, 0, 0x7f, 0, 0, 5]), 30);
-    assert!(rt; comes_of(rt.alloc(), ONWARD, packet)?);
+    assert!(rt; comes_of(rt.alloc(), ONWARD, packet, 0)?);
     Ok(())
 }
 
 #[test]
 fn refused_hear_of_a_request_that_is_answered(rt: HostRuntime) -> Result<(), Fail> {
     let packet = (0, Node([0, 0, 0x7f, 0, 0, 3]), 40);
-    assert!(rt; comes_of(rt.alloc(), REQUEST, packet)?);
+    assert!(rt; comes_of(rt.alloc(), REQUEST, packet, 5)?);
+    Ok(())
+}
+
+/// Where the packets of its start find no memory, what is forwarded still leaves.
+#[test]
+fn refused_next_behind_what_is_forwarded(rt: HostRuntime) -> Result<(), Fail> {
+    let alloc = rt.alloc();
+    let bytes = bytes_at_last(alloc, ONWARD)?;
+    let mut core = core_at_last(alloc)?;
+    if hear(alloc, &mut core, &bytes).is_err() {
+        hear(alloc, &mut core, &bytes)?;
+    }
+    assert!(rt;
+        next_at_last(alloc, &mut core)? == Some((1, Node([0, 0, 0x7f, 0, 0, 5]), 30))
+    );
     Ok(())
 }

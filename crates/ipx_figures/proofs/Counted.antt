@@ -1,11 +1,10 @@
-use Rattle.std.proofs.Common.{◌≡◌, ◌∙◌, ◌≤◌, ◌+◌, ℕ, Bool, true, false, List, length, nat_le, ◌++◌, Option, Some, None, Result, Ok, Err, cond, ap, arith, inl, inr, refl, subst, sym}
+use Rattle.std.proofs.Common.{◌≡◌, ◌∙◌, ◌≤◌, ℕ, List, length, Option, Some, None, Result, Ok, Err, ap, arith, inl, inr, refl, subst, sym}
 use Rattle.std.specs.Option.{IfSome}
 use Rattle.std.specs.Result.{OnErr, OnOk}
 use Rattle.std.proofs.lemmas.List.{length-take-le}
-use Rattle.ipx_router.specs.RouterPackets.{SendingView}
-use Rattle.ipx_carrier.specs.Counting.{counted}
+use Rattle.ipx_router.specs.OutcomeView.{OutcomeView, Forward, Replies, Heard, Dropped}
 use Rattle.ipx_carrier.specs.OutcomeCounts.{fated}
-use Rattle.ipx_carrier.specs.RouterCore.{CoreView, Misses, RouterGives, RouterHears, Withholds, most_queued, put_in_queue, sendings_of}
+use Rattle.ipx_carrier.specs.RouterCore.{CoreView, Misses, RouterGives, RouterHears, Withholds, put_answer}
 use Rattle.ipx_carrier.specs.Turns.{Given}
 use Rattle.ipx_carrier.specs.declared.outcome_counts.OutcomeCounts.{OutcomeCounts}
 use Rattle.ipx_wire.specs.declared.address.Node.{Node}
@@ -20,7 +19,7 @@ use Rattle.ipx_figures.proofs.Sums.{AreFew, NoneFell, none_fell}
 abbrev pub counted_of : CoreView → List PortCounts → LastDrops → CountedView
 counted_of k ports last = record {
   router = k.router;
-  queue = k.queue;
+  queues = k.queues;
   started = k.started;
   dropped = k.dropped;
   fates = k.fates;
@@ -46,14 +45,12 @@ heard_counted k k' ports lent ports' items' last last' port bytes before after b
   last = subst (λ f. AreNoted f k'.fates port bytes last last') b (subst (λ f. AreNoted before f port bytes last last') a n);
 }
 
-either : (b : Bool) (x y : CoreView) (f : OutcomeCounts) → x.fates ≡ f → y.fates ≡ f → (cond b x y).fates ≡ f
-either true x y f p q = p
-either false x y f p q = q
-
--- what is put into the queue leaves the counts
-pub fates_stay : (sent : List SendingView) (k : CoreView) → (put_in_queue sent k).fates ≡ k.fates
-fates_stay sent k =
-    either (nat_le (length k.queue + length sent) most_queued) (record k { queue = k.queue ++ sent }) (record k { dropped = counted (k.dropped + length sent) }) k.fates refl refl
+-- what an answer puts into a queue leaves the counts
+answer_fates : (a : OutcomeView) (k : CoreView) → (put_answer a k).fates ≡ k.fates
+answer_fates (Forward port next bytes) k = refl
+answer_fates (Replies sent) k = refl
+answer_fates (Heard n) k = refl
+answer_fates (Dropped reason) k = refl
 
 same_fates : (f : OutcomeCounts) → NoneFell f f
 same_fates f = record {
@@ -71,7 +68,7 @@ same_fates f = record {
 
 heard_fell : (k k' : CoreView) (port : ℕ) (bytes : List ℕ) (now : ℕ) → AreFew k.fates → RouterHears k port bytes now k' → NoneFell k.fates k'.fates
 heard_fell k k' port bytes now few h =
-    let is = ap (λ (v : CoreView). v.fates) h.3 ∙ fates_stay (sendings_of h.0) (record k { router = h.1; fates = fated h.0 k.fates }) in
+    let is = ap (λ (v : CoreView). v.fates) h.3 ∙ answer_fates h.0 (record k { router = h.1; fates = fated h.0 k.fates }) in
     subst (NoneFell k.fates) (sym is) (none_fell h.0 k.fates few)
 
 missed_fell : (k k' : CoreView) (port : ℕ) (bytes : List ℕ) (now : ℕ) → AreFew k.fates → Misses k port bytes now k' → NoneFell k.fates k'.fates
@@ -85,13 +82,11 @@ fell_by (Err e) k k' port bytes now few p q = missed_fell k k' port bytes now fe
 
 -- nor does any change as it gives
 pub given_same : (k k' : CoreView) (now : ℕ) (given : Option Given) → RouterGives k now given k' → k'.fates ≡ k.fates
-given_same k k' now given h =
-    let first = record k { router = h.2; started = true } in
-    ap (λ (v : CoreView). v.fates) h.5.1 ∙ (fates_stay h.1 (put_in_queue h.0 first) ∙ fates_stay h.0 first)
+given_same k k' now given h = ap (λ (v : CoreView). v.fates) h.5.1
 
 pub withheld_same : (k k' : CoreView) (now : ℕ) → Withholds k now k' → k'.fates ≡ k.fates
 withheld_same k k' now (inl h) = ap (λ (v : CoreView). v.fates) h.1
-withheld_same k k' now (inr h) = ap (λ (v : CoreView). v.fates) h.3 ∙ fates_stay h.0 (record k { router = h.1; started = true })
+withheld_same k k' now (inr h) = ap (λ (v : CoreView). v.fates) h.3
 
 pub some_is : {X : Type 0} (o : Option X) (x : X) (P : X → Type 0) → o ≡ Some x → IfSome o P → P x
 some_is o x P e h = subst (λ it. IfSome it P) e h

@@ -1,8 +1,7 @@
 -- A router as a core, which counts at each of its ports, and keeps what it dropped last. All of it is own.
 use Rattle.std.specs.Prelude.{◌≡◌, ℕ, Bool, List, length, Option, Some, None}
-use Rattle.ipx_router.specs.RouterPackets.{SendingView}
 use Rattle.ipx_router.specs.RouterView.{RouterView}
-use Rattle.ipx_carrier.specs.RouterCore.{CoreView, Misses, RouterGives, RouterHears, Withholds}
+use Rattle.ipx_carrier.specs.RouterCore.{CoreQueues, CoreView, Misses, RouterGives, RouterHears, Withholds}
 use Rattle.ipx_carrier.specs.Turns.{Given}
 use Rattle.ipx_carrier.specs.declared.outcome_counts.OutcomeCounts.{OutcomeCounts}
 use Rattle.ipx_figures.specs.LastDrops.{AreNoted}
@@ -13,7 +12,7 @@ use Rattle.ipx_figures.specs.declared.port_counts.PortCounts.{PortCounts}
 -- what a router is as a core, and what it counted at each port and dropped last
 pub record CountedView : Type 0 where
   pub router : RouterView
-  pub queue : List SendingView
+  pub queues : CoreQueues
   pub started : Bool
   pub dropped : ℕ
   pub fates : OutcomeCounts
@@ -24,7 +23,7 @@ pub record CountedView : Type 0 where
 abbrev pub without_counts : CountedView → CoreView
 without_counts c = record {
   router = c.router;
-  queue = c.queue;
+  queues = c.queues;
   started = c.started;
   dropped = c.dropped;
   fates = c.fates;

@@ -1,7 +1,8 @@
 //! A router as a core, which counts at each of its ports.
 
-ghost use Rattle.std.specs.Prelude.{◌≡◌, [], false, length, replicate, IfOk};
+ghost use Rattle.std.specs.Prelude.{◌≡◌, ◌+◌, false, length, replicate, IfOk};
 ghost use Rattle.ipx_carrier.specs.OutcomeCounts.{none};
+ghost use Rattle.ipx_carrier.specs.RouterCore.{nothing_waits};
 ghost use Rattle.ipx_figures.specs.LastDrops.{nothing_dropped};
 ghost use Rattle.ipx_figures.specs.PortCounts.{changed_at, fates_over, no_traffic, with_heard_there, with_sent_there};
 
@@ -32,7 +33,7 @@ impl Model for CountedRouter {
 
     ghost view = { λ c. record {
       router = c.core.router;
-      queue = c.core.queue;
+      queues = c.core.queues;
       started = c.core.started;
       dropped = c.core.dropped;
       fates = c.core.fates;
@@ -73,7 +74,7 @@ impl CountedRouter {
     pub fn new(alloc: Global, router: Router) -> Result<CountedRouter, AllocError>
         ensures router { IfOk result (λ c. c.router ≡ router) }
         ensures fresh { IfOk result (λ c.
-            (c.queue ≡ []) × (c.started ≡ false) × (c.dropped ≡ 0)) }
+            (c.queues ≡ nothing_waits) × (c.started ≡ false) × (c.dropped ≡ 0)) }
         ensures unheard { IfOk result (λ c. c.fates ≡ none) }
         ensures uncounted { IfOk result (λ c.
             (c.by_port ≡ replicate (length router.ports) no_traffic) × (c.last ≡ nothing_dropped)) }
@@ -86,12 +87,19 @@ impl CountedRouter {
         })
     }
 
-    /// How many packets were dropped since the queue had no room for them. It stays at the greatest
+    /// How many packets were dropped since their queue had no room for them. It stays at the greatest
     /// u64.
     pub fn dropped(&self) -> u64
         ensures { result ≡ self.now.dropped }
     {
         self.core.dropped()
+    }
+
+    /// How many packets wait to be sent.
+    pub fn waiting(&self) -> usize
+        ensures { result ≡ length self.now.queues.forwarded + length self.now.queues.own }
+    {
+        self.core.waiting()
     }
 
     /// The router, to be asked between two runs.

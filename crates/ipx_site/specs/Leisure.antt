@@ -1,5 +1,5 @@
 -- What a router that runs does by itself, and how long it has nothing to do. All of it is own.
-use Rattle.std.specs.Prelude.{◌≡◌, ◌≤◌, ◌<◌, ◌⊎◌, ◌==◌, ◌^◌, ℕ, ◌+◌, List, [], ◌∷◌, map, true, Option, if◌then◌else◌}
+use Rattle.std.specs.Prelude.{◌≡◌, ◌≤◌, ◌<◌, ◌⊎◌, ◌==◌, ◌^◌, ℕ, ◌+◌, List, [], ◌∷◌, length, map, true, Option, if◌then◌else◌}
 use Rattle.ipx_figures.specs.CountedRouter.{CountedView}
 use Rattle.ipx_router.specs.Telling.{is_due}
 use Rattle.ipx_site.specs.declared.figures.Figures.{Figures}
@@ -15,6 +15,7 @@ use Rattle.ipx_site.specs.PortsView.{SitePortsRun}
 use Rattle.ipx_site.specs.declared.troubles.Trouble.{Trouble}
 use Rattle.ipx_site.specs.declared.troubles.Troubles.{Troubles}
 use Rattle.ipx_carrier.specs.Counting.{counted}
+use Rattle.ipx_carrier.specs.RouterCore.{CoreQueues}
 use Rattle.ipx_site.specs.Moments.{HasPassed, IsOneDue, IsToAskAgain}
 use Rattle.ipx_site.specs.Sparing.{SparingView}
 use Rattle.ipx_site.specs.WireTotals.{encapsulated_otherwise_in, unframed_in}
@@ -115,10 +116,15 @@ agenda asked looked responses written core troubles count = record {
 abbrev pub look_after : ℕ → ℕ → ℕ
 look_after heard responses = if heard == responses then 10000 else 1000
 
--- there is something to do: to ask again, to tell the neighbours, to look, to write the figures, or to
--- tell a line
+-- packets wait to be sent
+abbrev pub IsToSend : CoreQueues → Type 0
+IsToSend q = 0 < length q.forwarded + length q.own
+
+-- there is something to do: to send what waits, to ask again, to tell the neighbours, to look, to write
+-- the figures, or to tell a line
 abbrev pub IsToDo : Agenda → ℕ → Type 0
-IsToDo a now = IsToAskAgain a.asked now
+IsToDo a now = IsToSend a.core.core.queues
+    ⊎ IsToAskAgain a.asked now
     ⊎ (is_due a.core.core.router.told now ≡ true)
     ⊎ HasPassed (look_after a.core.core.fates.heard a.responses) a.looked now
     ⊎ HasPassed 10000 a.written now

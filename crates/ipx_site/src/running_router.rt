@@ -1,11 +1,11 @@
 //! A router with its sockets, and what is to be done besides its turns.
 
-ghost use Rattle.std.specs.Prelude.{◌≡◌, Bool, List, IfOk, OnOk, Some, length, map, string_bytes};
+ghost use Rattle.std.specs.Prelude.{◌≡◌, ◌↔◌, ℕ, Bool, List, IfOk, OnOk, Some, length, map, string_bytes};
 ghost use Rattle.ipx_carrier.specs.PortMarks.{AreMarked, is_any_marked};
 ghost use Rattle.ipx_carrier.specs.Turns.{peers_of};
 ghost use Rattle.ipx_site.specs.DropLines.{AreDropsTold};
-ghost use Rattle.ipx_site.specs.Leisure.{IsLeisure, IsToDo, agenda, counts_told, happened, happened_in, look_after};
-ghost use Rattle.ipx_site.specs.Moments.{AreToldIfDue};
+ghost use Rattle.ipx_site.specs.Leisure.{IsLeisure, IsToDo, IsToSend, agenda, counts_told, happened, happened_in, look_after};
+ghost use Rattle.ipx_site.specs.Moments.{AreToldIfDue, IsReached};
 ghost use Rattle.ipx_site.specs.KnownFile.{TellsKnown};
 ghost use Rattle.ipx_site.specs.SitePorts.{access_by};
 ghost use Rattle.ipx_site.specs.PortsView.{kept_in_ports, ways_in};
@@ -289,6 +289,17 @@ impl<'a, R: SystemClock> RunningRouter<'a, R> {
         self.drops.tell(rt, &core.fates(), core.last(), now);
     }
 
+    /// The moment at which it sends what waits: any, where something does.
+    fn sending_moment(&self) -> Option<u64>
+        ensures { (t : ℕ) → IsReached result t ↔ IsToSend self.now.core.core.queues }
+    {
+        if self.core.core().waiting() > 0 {
+            Some(0)
+        } else {
+            None
+        }
+    }
+
     /// How long there is nothing to do, unless something comes, in milliseconds.
     fn leisure(&self, now: u64) -> u64
         ensures { IsLeisure (IsToDo (agenda self.now.asked self.now.looked self.now.responses
@@ -302,7 +313,8 @@ impl<'a, R: SystemClock> RunningRouter<'a, R> {
             end_of(self.written, PERIOD),
             self.troubles.next(&self.figures(now)),
         );
-        time_to(sooner(packets, sooner(look, figures)), now)
+        let due = sooner(packets, sooner(look, figures));
+        time_to(sooner(self.sending_moment(), due), now)
     }
 
     /// Does what is to be done now, and takes turns as long as there is something to hear or to send.

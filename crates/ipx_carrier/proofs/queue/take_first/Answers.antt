@@ -1,31 +1,19 @@
-use Rattle.std.proofs.Common.{ap, arith, length, length-take}
-use Rattle.ipx_carrier.proofs.Putting.{first_givable}
+use Rattle.std.proofs.Common.{Some, None, refl}
+use Rattle.ipx_router.specs.RouterPackets.{sending_of}
+use Rattle.ipx_carrier.proofs.Putting.{leaving_givable}
 use Rattle.ipx_carrier.proofs.queue.take_first.Goals as goal
 
-pub slice_bounds-copy_from_slice-end : goal.slice_bounds-copy_from_slice-end
-slice_bounds-copy_from_slice-end c =
-    let r = c.in_ok-reply.reply in
-    let g = first_givable c.requires.givable.0 _ r _ c.in_ok-reply.ensures.items c.requires.givable.1 in
-    omega (arith, g.1, r.bytes.ok.0, c.len-count.ensures)
+pub write_to-requires-clause-givable : goal.write_to-requires-clause-givable
+write_to-requires-clause-givable c =
+    let g = c.requires.givable in
+    (g.0, leaving_givable g.0 (sending_of c.in_ok-reply.reply) _ _ c.in_ok-reply.ensures g.1 g.2)
 
-pub slice_bounds-copy_from_slice-end-2 : goal.slice_bounds-copy_from_slice-end-2
-slice_bounds-copy_from_slice-end-2 c =
-    let r = c.in_ok-reply.reply in
-    let g = first_givable c.requires.givable.0 _ r _ c.in_ok-reply.ensures.items c.requires.givable.1 in
-    omega (arith, g.1, r.bytes.ok.0, c.len-count.ensures, length-take c.len-count.result c.args.room.now)
-
-pub copy_from_slice-requires : goal.copy_from_slice-requires
-copy_from_slice-requires c =
-    let r = c.in_ok-reply.reply in
-    let g = first_givable c.requires.givable.0 _ r _ c.in_ok-reply.ensures.items c.requires.givable.1 in
-    omega (arith, g.1, r.bytes.ok.0, c.len-count.ensures, length-take c.len-count.result c.args.room.now, ap length c.deref.ensures.value)
-
-pub overflow_sub-result : goal.overflow_sub-result
-overflow_sub-result c =
-    let g = first_givable c.requires.givable.0 _ c.in_ok-reply.reply _ c.in_ok-reply.ensures.items c.requires.givable.1 in
-    g.0.0
+pub returns-clause-given : goal.returns-clause-given
+returns-clause-given c = (Some (sending_of c.in_ok-reply.reply), c.in_ok-reply.ensures, c.write_to.ensures.given)
 
 pub returns-clause-there : goal.returns-clause-there
-returns-clause-there c = λ ports givable.
-    let g = first_givable ports _ c.in_ok-reply.reply _ c.in_ok-reply.ensures.items givable in
-    omega (arith, g.0.0, g.0.1)
+returns-clause-there c = λ ports gw gq.
+    c.write_to.ensures.there ports (leaving_givable ports (sending_of c.in_ok-reply.reply) _ _ c.in_ok-reply.ensures gw gq)
+
+pub returns-in_err-reply-clause-given : goal.returns-in_err-reply-clause-given
+returns-in_err-reply-clause-given c = (None, c.in_err-reply.ensures, refl)

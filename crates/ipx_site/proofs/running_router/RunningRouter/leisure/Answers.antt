@@ -19,5 +19,6 @@ returns g c =
     (λ t h.
     let packets = both (c.sooner-packets.ensures t) (asks t) (telling self.core.core.router.told c.next_telling-telling.result t told h) in
     let figures = both (c.sooner-figures.ensures t) (c.end_of.ensures t h) (lines t h) in
-    then (both (c.sooner-2.ensures t) packets (both (c.sooner.ensures t) (looks t h) figures)) regrouped)
+    let due = then (both (c.sooner-due.ensures t) packets (both (c.sooner.ensures t) (looks t h) figures)) regrouped in
+    both (c.sooner-2.ensures t) (c.sending_moment.ensures t) due)
     c.time_to.ensures

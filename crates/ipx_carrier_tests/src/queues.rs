@@ -1,0 +1,108 @@
+//! Which packets of a router leave first, with literal values.
+
+use crate::fixture::{one_peer_each, one_turn, two_ports};
+use ipx_carrier::{Core, Datagrams, MemoryDatagrams, RouterCore};
+use ipx_wire::Node;
+use std::alloc::Global;
+use std::test::Fail;
+
+/// A packet from network 11 to node 00007f000005 of network 22, which goes on by port 1.
+const ONWARD: &[u8] = b"ffff001e00000000002200007f00000540000000001100007f0000034001";
+
+/// A request for all routes of node 00007f000003 of network 11, which one packet answers.
+const REQUEST: &[u8] =
+    b"ffff0028000100000011ffffffffffff04530000001100007f00000304530001ffffffffffffffff";
+
+/// Lets port 0 hear bytes so many times.
+fn hear(alloc: Global, core: &mut RouterCore, text: &[u8], times: u32) -> Result<(), Fail> {
+    let bytes = hex::decode(alloc, text)?;
+    for _ in 0..times {
+        if core.ports() > 0 {
+            core.hear(alloc, 0, &bytes, 0)?;
+        }
+    }
+    Ok(())
+}
+
+/// What kind a packet is: `f` is the one that is forwarded, `r` a reply, `s` one of the router's start,
+/// and `-` is none.
+fn kind_of(given: Option<(usize, Node, usize)>) -> char {
+    match given {
+        None => '-',
+        Some((1, node, 30)) if node == Node([0, 0, 0x7f, 0, 0, 5]) => 'f',
+        Some((0, node, 40)) if node == Node([0, 0, 0x7f, 0, 0, 3]) => 'r',
+        Some((_, node, _)) if node == Node::BROADCAST => 's',
+        Some(_) => '?',
+    }
+}
+
+/// The kinds of what so many calls give.
+fn given(alloc: Global, core: &mut RouterCore, calls: u32) -> Result<String, Fail> {
+    let mut kinds = String::new(alloc);
+    let mut room = [0; 1536];
+    for _ in 0..calls {
+        kinds.push(kind_of(core.next(alloc, 0, &mut room)?))?;
+    }
+    Ok(kinds)
+}
+
+/// Fourteen replies and the six packets of its start leave in order, eight in a row, and what is
+/// forwarded meanwhile leaves before them.
+#[test]
+fn what_is_forwarded_leaves_first(rt: HostRuntime) -> Result<(), Fail> {
+    let alloc = rt.alloc();
+    let mut core = two_ports(alloc)?;
+    hear(alloc, &mut core, REQUEST, 14)?;
+    assert_eq!(rt; given(alloc, &mut core, 9)?.as_str(), "rrrrrrrr-");
+    hear(alloc, &mut core, ONWARD, 2)?;
+    assert_eq!(rt; core.waiting(), 14);
+    assert_eq!(rt; given(alloc, &mut core, 3)?.as_str(), "ffr");
+    assert_eq!(rt; given(alloc, &mut core, 8)?.as_str(), "rrrrrss-");
+    hear(alloc, &mut core, ONWARD, 1)?;
+    assert_eq!(rt; given(alloc, &mut core, 7)?.as_str(), "fssss--");
+    assert_eq!(rt; core.waiting(), 0);
+    Ok(())
+}
+
+/// A turn sends what came and eight packets of its own, and then the ports are asked again.
+#[test]
+fn a_turn_sends_eight_of_its_own(rt: HostRuntime) -> Result<(), Fail> {
+    let alloc = rt.alloc();
+    let mut core = two_ports(alloc)?;
+    hear(alloc, &mut core, REQUEST, 14)?;
+    let mut datagrams = MemoryDatagrams::new(alloc, 2)?;
+    let peers = one_peer_each(alloc)?;
+    let onward = hex::decode(alloc, ONWARD)?;
+    for sent in [9, 9, 5] {
+        if datagrams.ports() == 2 {
+            datagrams.put(alloc, 0, &onward)?;
+        }
+        let first = datagrams.sent().len();
+        let report = one_turn(alloc, &mut core, &mut datagrams, &peers)?;
+        assert!(rt; report.sent == sent);
+        assert!(rt;
+            matches!(datagrams.sent().get(first), Some(d) if d.to == [127, 0, 0, 5])
+        );
+    }
+    let report = one_turn(alloc, &mut core, &mut datagrams, &peers)?;
+    assert!(rt; report.sent == 0);
+    Ok(())
+}
+
+/// Where 16,384 of its own wait, the next is dropped, and so are the six packets of its start; what is
+/// forwarded is not.
+#[test]
+fn its_own_packets_push_none_out(rt: HostRuntime) -> Result<(), Fail> {
+    let alloc = rt.alloc();
+    let mut core = two_ports(alloc)?;
+    hear(alloc, &mut core, REQUEST, 16_384)?;
+    assert_eq!(rt; core.dropped(), 0);
+    hear(alloc, &mut core, REQUEST, 1)?;
+    assert_eq!(rt; core.dropped(), 1);
+    hear(alloc, &mut core, ONWARD, 1)?;
+    assert_eq!(rt; core.dropped(), 1);
+    assert_eq!(rt; core.waiting(), 16_385);
+    assert_eq!(rt; given(alloc, &mut core, 2)?.as_str(), "fr");
+    assert_eq!(rt; core.dropped(), 7);
+    Ok(())
+}
