@@ -83,7 +83,7 @@ impl RouterCore {
 
     /// How many packets wait to be sent. Who drives it does not sleep while some do, also where a turn
     /// sent none.
-    pub fn waiting(&self) -> usize
+    pub fn queued(&self) -> usize
         ensures { result ≡ length self.now.queues.forwarded + length self.now.queues.own }
     {
         self.forwarded.len() + self.own.len()

@@ -91,6 +91,6 @@ fn a_flood_is_dropped(rt: HostRuntime) -> Result<(), Fail> {
     assert!(rt; matches!(given, Some((1, _, 30))));
     // The six packets of its start have a queue of their own.
     assert_eq!(rt; core.dropped(), 1);
-    assert_eq!(rt; core.waiting(), 16_389);
+    assert_eq!(rt; core.queued(), 16_389);
     Ok(())
 }

@@ -55,12 +55,12 @@ fn what_is_forwarded_leaves_first(rt: HostRuntime) -> Result<(), Fail> {
     hear(alloc, &mut core, REQUEST, 14)?;
     assert_eq!(rt; given(alloc, &mut core, 9)?.as_str(), "rrrrrrrr-");
     hear(alloc, &mut core, ONWARD, 2)?;
-    assert_eq!(rt; core.waiting(), 14);
+    assert_eq!(rt; core.queued(), 14);
     assert_eq!(rt; given(alloc, &mut core, 3)?.as_str(), "ffr");
     assert_eq!(rt; given(alloc, &mut core, 8)?.as_str(), "rrrrrss-");
     hear(alloc, &mut core, ONWARD, 1)?;
     assert_eq!(rt; given(alloc, &mut core, 7)?.as_str(), "fssss--");
-    assert_eq!(rt; core.waiting(), 0);
+    assert_eq!(rt; core.queued(), 0);
     Ok(())
 }
 
@@ -101,7 +101,7 @@ fn its_own_packets_push_none_out(rt: HostRuntime) -> Result<(), Fail> {
     assert_eq!(rt; core.dropped(), 1);
     hear(alloc, &mut core, ONWARD, 1)?;
     assert_eq!(rt; core.dropped(), 1);
-    assert_eq!(rt; core.waiting(), 16_385);
+    assert_eq!(rt; core.queued(), 16_385);
     assert_eq!(rt; given(alloc, &mut core, 2)?.as_str(), "fr");
     assert_eq!(rt; core.dropped(), 7);
     Ok(())

@@ -96,10 +96,10 @@ impl CountedRouter {
     }
 
     /// How many packets wait to be sent.
-    pub fn waiting(&self) -> usize
+    pub fn queued(&self) -> usize
         ensures { result ≡ length self.now.queues.forwarded + length self.now.queues.own }
     {
-        self.core.waiting()
+        self.core.queued()
     }
 
     /// The router, to be asked between two runs.

@@ -293,7 +293,7 @@ impl<'a, R: SystemClock> RunningRouter<'a, R> {
     fn sending_moment(&self) -> Option<u64>
         ensures { (t : ℕ) → IsReached result t ↔ IsToSend self.now.core.core.queues }
     {
-        if self.core.core().waiting() > 0 {
+        if self.core.core().queued() > 0 {
             Some(0)
         } else {
             None
