@@ -16,4 +16,4 @@ returns-clause-there c = λ ports gw gq.
     c.write_to.ensures.there ports (leaving_givable ports (sending_of c.in_ok-reply.reply) _ _ c.in_ok-reply.ensures gw gq)
 
 pub returns-in_err-reply-clause-given : goal.returns-in_err-reply-clause-given
-returns-in_err-reply-clause-given c = (None, c.in_err-reply.ensures, refl)
+returns-in_err-reply-clause-given c = rw c.from_residual.ensures (None, c.in_err-reply.ensures, refl)

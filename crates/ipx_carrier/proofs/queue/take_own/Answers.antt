@@ -1,4 +1,4 @@
-use Rattle.std.proofs.Common.{arith, refl}
+use Rattle.std.proofs.Common.{◌+◌, arith, refl}
 use Rattle.ipx_carrier.proofs.Leaving.{none_leaves, own_leaves, row_ends}
 use Rattle.ipx_carrier.proofs.queue.take_own.Goals as goal
 
@@ -7,7 +7,8 @@ returns-then-count-ge-MOST_IN_A_ROW c = row_ends c.args.own.now.items c.args.in_
 
 pub returns-in_err-reply : goal.returns-in_err-reply
 returns-in_err-reply c =
-    none_leaves c.args.own.now.items c.pop_front.new.self.items c.args.in_a_row.now 0 c.in_err-reply.ensures.items c.in_err-reply.ensures.rest refl
+    rw c.from_residual.ensures
+    (none_leaves c.args.own.now.items c.pop_front.new.self.items c.args.in_a_row.now 0 c.in_err-reply.ensures.items c.in_err-reply.ensures.rest refl)
 
 pub returns : goal.returns
 returns c =

@@ -1,4 +1,4 @@
-use Rattle.std.proofs.Common.{◌≡◌, ap, arith, inl, true, length, subst, sym, List}
+use Rattle.std.proofs.Common.{◌≡◌, ◌<◌, ap, arith, inl, true, length, subst, sym, List}
 use Rattle.std.specs.Option.{IfSome}
 use Rattle.std.proofs.lemmas.Result.{err_from_is_err_and}
 use Rattle.ipx_router.specs.declared.outcome.Reply.{Reply}
