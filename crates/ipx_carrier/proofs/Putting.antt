@@ -1,5 +1,5 @@
 -- The queues of a router as a core.
-use Rattle.std.proofs.Common.{◌≡◌, ◌≤◌, ℕ, ◌+◌, ◌-◌, ◌^◌, Bool, true, false, List, [], ◌∷◌, ◌++◌, length, min, nat_le, Option, Some, None, refl, sym, ap, ◌∙◌, subst, arith, cond, length-append, MatchBool, Result, Ok, Err, inl, inr}
+use Rattle.std.proofs.Common.{◌≡◌, ◌≤◌, ℕ, ◌+◌, ◌-◌, ◌^◌, Bool, true, false, List, ◌∷◌, ◌++◌, length, min, nat_le, Option, Some, None, refl, sym, ap, ◌∙◌, subst, arith, cond, length-append, MatchBool, Result, Ok, Err, inl, inr}
 use Rattle.std.proofs.lemmas.List.Elements.{All-append, All-head, All-tail}
 use Rattle.std.proofs.lemmas.List.{length-map}
 use Rattle.std.specs.Result.{OnErr, OnOk}
