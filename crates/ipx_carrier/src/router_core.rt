@@ -117,8 +117,7 @@ impl RouterCore {
 /// at most.
 pub fn forwarded_packets_leave_first()
     ensures { ForwardedLeaveFirst }
-{
-}
+{}
 
 impl Core for RouterCore {
     ghost use Rattle.std.specs.Prelude.{length};
@@ -175,11 +174,6 @@ impl Core for RouterCore {
             &mut self.own,
             &mut self.dropped,
         )?;
-        Ok(take_first(
-            &mut self.forwarded,
-            &mut self.own,
-            &mut self.in_a_row,
-            room,
-        ))
+        Ok(take_first(&mut self.forwarded, &mut self.own, &mut self.in_a_row, room))
     }
 }

@@ -19,8 +19,7 @@ invariant_of-self-2 c =
     let sent : IsGivableAnswer n a = answer_is_givable n i.router _ _ a c.in_ok-outcome.ensures.there c.in_ok-outcome.ensures.own c.in_ok-outcome.ensures.one_hop_on in
     let forwarded : IsKept n i.forwarded.items = record { few = c.self.invariant.1; givable = c.self.invariant.3 } in
     let own : IsKept n i.own.items = record { few = c.self.invariant.2; givable = c.self.invariant.4 } in
-    let after = kept_by_result c.put_outcome.result n a i.forwarded.items put.forwarded.items i.own.items put.own.items i.dropped put.dropped forwarded own sent c.put_outcome.ensures.put c.put_outcome.ensures.refused in
-    (
+    let after = kept_by_result c.put_outcome.result n a i.forwarded.items put.forwarded.items i.own.items put.own.items i.dropped put.dropped forwarded own sent c.put_outcome.ensures.put c.put_outcome.ensures.refused in (
       omega (arith, same, c.self.invariant.0),
       after.0.few,
       after.1.few,

@@ -23,8 +23,7 @@ invariant_of-self-2 c =
     let forwarded : IsKept n i.forwarded.items = record { few = c.self.invariant.1; givable = c.self.invariant.3 } in
     let same : length c.put_told.new.router.ports ≡ n = ap length c.in_ok-put_told.ensures.ports in
     let new = c.take_first.new in
-    let after = kept_given n i.forwarded.items new.forwarded.items c.put_told.new.queue.items new.own.items i.in_a_row new.in_a_row (given_in new.room c.take_first.result) forwarded kept c.take_first.ensures.given in
-    (
+    let after = kept_given n i.forwarded.items new.forwarded.items c.put_told.new.queue.items new.own.items i.in_a_row new.in_a_row (given_in new.room c.take_first.result) forwarded kept c.take_first.ensures.given in (
       omega (arith, same, c.self.invariant.0),
       after.0.few,
       after.1.few,
