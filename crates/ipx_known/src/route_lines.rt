@@ -1,6 +1,6 @@
 //! The lines of networks.
 
-ghost use Rattle.std.specs.Prelude.{◌≡◌, IfOk, string_bytes};
+ghost use Rattle.std.specs.Prelude.{◌≡◌, ◌++◌, OnOk, string_bytes};
 ghost use Rattle.std.specs.List.{flat_map};
 ghost use Rattle.ipx_tables.specs.Listing.{listed_key};
 ghost use Rattle.ipx_tables.specs.Route.{network_cmp};
@@ -9,86 +9,84 @@ ghost use Rattle.ipx_known.specs.Standing.{is_among_best};
 ghost use Rattle.ipx_known.specs.TableText.{network_lines, own_line, own_lines, route_offer_line};
 
 use crate::standing::is_among_best;
-use crate::words::{head_to_line, heard_to_words, network_to_word, seconds_since, source_to_words};
+use crate::words::{put_head, put_heard, put_network, put_source, seconds_since};
 use ipx_router::Port;
 use ipx_tables::{Offer, RouteMetric, Source};
 use ipx_wire::Network;
-use std::alloc::{AllocError, Global};
+use std::alloc::AllocError;
 
 /// A network that a neighbour told of.
 pub type RouteOffer = Offer<Network, RouteMetric>;
 
-fn own_to_line(alloc: Global, number: usize, port: &Port) -> Result<String, AllocError>
-    ensures { IfOk result (λ t. string_bytes t ≡ own_line number port.now) }
+fn put_own(text: &mut String, number: usize, port: &Port) -> Result<(), AllocError>
+    ensures { OnOk result
+        (string_bytes text.new ≡ string_bytes text.old ++ own_line number port.now) }
 {
-    let network = network_to_word(alloc, port.network)?;
+    put_network(text, port.network)?;
     let cost = port.cost;
-    format!(in alloc; "{network} own port {number} cost {cost}\n")
+    write!(text, " own port {number} cost {cost}\n")
 }
 
 /// The lines of the networks of ports.
-fn own_to_lines(alloc: Global, ports: &[Port]) -> Result<String, AllocError>
-    ensures { IfOk result (λ t. string_bytes t ≡ own_lines 1 ports.now) }
+fn put_owns(text: &mut String, ports: &[Port]) -> Result<(), AllocError>
+    ensures { OnOk result
+        (string_bytes text.new ≡ string_bytes text.old ++ own_lines 1 ports.now) }
 {
-    let mut lines = String::new(alloc);
     let mut number: usize = 1;
     for port in ports {
-        let line = own_to_line(alloc, number, port)?;
-        lines.push_str(&line)?;
+        put_own(text, number, port)?;
         number += 1;
     }
-    Ok(lines)
+    Ok(())
 }
 
-fn route_to_line(
-    alloc: Global,
+fn put_route(
+    text: &mut String,
     best: bool,
     now: u64,
     offer: &RouteOffer,
-) -> Result<String, AllocError>
-    ensures { IfOk result (λ t. string_bytes t ≡ route_offer_line best now offer.now) }
+) -> Result<(), AllocError>
+    ensures { OnOk result
+        (string_bytes text.new ≡ string_bytes text.old ++ route_offer_line best now offer.now) }
 {
-    let network = network_to_word(alloc, offer.key)?;
-    let by = source_to_words(alloc, offer.source)?;
+    put_network(text, offer.key)?;
+    put_source(text, offer.source)?;
     let hops = offer.metric.hops;
     let ticks = offer.metric.ticks;
-    let heard = heard_to_words(alloc, best, seconds_since(now, offer.heard))?;
-    format!(in alloc; "{network}{by} hops {hops} ticks {ticks}{heard}")
+    write!(text, " hops {hops} ticks {ticks}")?;
+    put_heard(text, best, seconds_since(now, offer.heard))
 }
 
 /// The lines of networks that neighbours told of.
-fn routes_to_lines(
-    alloc: Global,
+fn put_routes(
+    text: &mut String,
     bests: &[(Network, Source, RouteMetric)],
     now: u64,
     offers: &[RouteOffer],
-) -> Result<String, AllocError>
+) -> Result<(), AllocError>
     requires { IsRising network_cmp listed_key bests.now }
-    ensures { IfOk result (λ t. string_bytes t
-        ≡ flat_map (λ o. route_offer_line (is_among_best network_cmp bests.now o) now o) offers.now) }
+    ensures { OnOk result (string_bytes text.new ≡ string_bytes text.old
+        ++ flat_map (λ o. route_offer_line (is_among_best network_cmp bests.now o) now o) offers.now) }
 {
-    let mut lines = String::new(alloc);
     for offer in offers {
-        let line = route_to_line(alloc, is_among_best(bests, offer), now, offer)?;
-        lines.push_str(&line)?;
+        put_route(text, is_among_best(bests, offer), now, offer)?;
     }
-    Ok(lines)
+    Ok(())
 }
 
-/// The part of networks: those of ports, and those that neighbours told of.
-pub fn networks_to_part(
-    alloc: Global,
+/// Puts the part of networks behind a text: those of ports, and those that neighbours told of.
+pub fn put_networks(
+    text: &mut String,
     ports: &[Port],
     now: u64,
     bests: &[(Network, Source, RouteMetric)],
     offers: &[RouteOffer],
-) -> Result<String, AllocError>
+) -> Result<(), AllocError>
     requires { IsRising network_cmp listed_key bests.now }
-    ensures { IfOk result
-        (λ t. string_bytes t ≡ network_lines ports.now now bests.now offers.now) }
+    ensures { OnOk result (string_bytes text.new
+        ≡ string_bytes text.old ++ network_lines ports.now now bests.now offers.now) }
 {
-    let head = head_to_line(alloc, "networks", ports.len() + offers.len())?;
-    let own = own_to_lines(alloc, ports)?;
-    let lines = routes_to_lines(alloc, bests, now, offers)?;
-    format!(in alloc; "{head}{own}{lines}")
+    put_head(text, "networks", ports.len() + offers.len())?;
+    put_owns(text, ports)?;
+    put_routes(text, bests, now, offers)
 }

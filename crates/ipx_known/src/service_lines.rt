@@ -1,6 +1,6 @@
 //! The lines of services.
 
-ghost use Rattle.std.specs.Prelude.{◌≡◌, IfOk, string_bytes};
+ghost use Rattle.std.specs.Prelude.{◌≡◌, ◌++◌, OnOk, string_bytes};
 ghost use Rattle.std.specs.List.{flat_map};
 ghost use Rattle.ipx_tables.specs.Listing.{listed_key};
 ghost use Rattle.ipx_tables.specs.Service.{service_key_cmp};
@@ -10,62 +10,62 @@ ghost use Rattle.ipx_known.specs.TableText.{service_lines, service_offer_line};
 
 use crate::standing::is_among_best;
 use crate::words::{
-    address_to_words, head_to_line, heard_to_words, name_to_word, seconds_since, short_to_word,
-    source_to_words,
+    put_address, put_head, put_heard, put_name, put_short, put_source, seconds_since,
 };
 use ipx_tables::{Offer, ServiceKey, ServiceMetric, Source};
-use std::alloc::{AllocError, Global};
+use std::alloc::AllocError;
 
 /// A service that a neighbour told of.
 pub type ServiceOffer = Offer<ServiceKey, ServiceMetric>;
 
-fn service_to_line(
-    alloc: Global,
+fn put_service(
+    text: &mut String,
     best: bool,
     now: u64,
     offer: &ServiceOffer,
-) -> Result<String, AllocError>
-    ensures { IfOk result (λ t. string_bytes t ≡ service_offer_line best now offer.now) }
+) -> Result<(), AllocError>
+    ensures { OnOk result
+        (string_bytes text.new ≡ string_bytes text.old ++ service_offer_line best now offer.now) }
 {
-    let kind = short_to_word(alloc, offer.key.kind)?;
-    let name = name_to_word(alloc, &offer.key.name)?;
-    let at = address_to_words(alloc, offer.metric.at)?;
-    let by = source_to_words(alloc, offer.source)?;
+    put_short(text, offer.key.kind)?;
+    text.push_str(" ")?;
+    put_name(text, &offer.key.name)?;
+    text.push_str(" at ")?;
+    put_address(text, offer.metric.at)?;
+    put_source(text, offer.source)?;
     let hops = offer.metric.hops;
-    let heard = heard_to_words(alloc, best, seconds_since(now, offer.heard))?;
-    format!(in alloc; "{kind} {name} at {at}{by} hops {hops}{heard}")
+    write!(text, " hops {hops}")?;
+    put_heard(text, best, seconds_since(now, offer.heard))
 }
 
 /// The lines of services that neighbours told of.
-fn services_to_lines(
-    alloc: Global,
+fn put_offers(
+    text: &mut String,
     bests: &[(ServiceKey, Source, ServiceMetric)],
     now: u64,
     offers: &[ServiceOffer],
-) -> Result<String, AllocError>
+) -> Result<(), AllocError>
     requires { IsRising service_key_cmp listed_key bests.now }
-    ensures { IfOk result (λ t. string_bytes t ≡ flat_map
+    ensures { OnOk result (string_bytes text.new ≡ string_bytes text.old ++ flat_map
         (λ o. service_offer_line (is_among_best service_key_cmp bests.now o) now o) offers.now) }
 {
-    let mut lines = String::new(alloc);
     for offer in offers {
-        let line = service_to_line(alloc, is_among_best(bests, offer), now, offer)?;
-        lines.push_str(&line)?;
+        put_service(text, is_among_best(bests, offer), now, offer)?;
     }
-    Ok(lines)
+    Ok(())
 }
 
-/// The part of services.
-pub fn services_to_part(
-    alloc: Global,
+/// Puts the part of services behind a text.
+pub fn put_services(
+    text: &mut String,
     now: u64,
     bests: &[(ServiceKey, Source, ServiceMetric)],
     offers: &[ServiceOffer],
-) -> Result<String, AllocError>
+) -> Result<(), AllocError>
     requires { IsRising service_key_cmp listed_key bests.now }
-    ensures { IfOk result (λ t. string_bytes t ≡ service_lines now bests.now offers.now) }
+    ensures { OnOk result (string_bytes text.new
+        ≡ string_bytes text.old ++ service_lines now bests.now offers.now) }
 {
-    let head = head_to_line(alloc, "services", offers.len())?;
-    let lines = services_to_lines(alloc, bests, now, offers)?;
-    format!(in alloc; "{head}{lines}")
+    put_head(text, "services", offers.len())?;
+    put_offers(text, bests, now, offers)
 }

@@ -1,56 +1,57 @@
 //! The lines of neighbours.
 
-ghost use Rattle.std.specs.Prelude.{◌≡◌, IfOk, string_bytes};
+ghost use Rattle.std.specs.Prelude.{◌≡◌, ◌++◌, OnOk, string_bytes};
 ghost use Rattle.std.specs.List.{flat_map};
 ghost use Rattle.ipx_known.specs.TableText.{teller_line, teller_lines};
 
 use crate::tellers::Teller;
-use crate::words::{head_to_line, node_to_word, seconds_since};
+use crate::words::{put_head, put_heard, put_hex, seconds_since};
 use ipx_tables::Source;
-use std::alloc::{AllocError, Global};
+use std::alloc::AllocError;
 use std::collections::BTreeMap;
 
-fn teller_to_line(
-    alloc: Global,
+fn put_teller(
+    text: &mut String,
     now: u64,
     source: Source,
     teller: Teller,
-) -> Result<String, AllocError>
-    ensures { IfOk result (λ t. string_bytes t ≡ teller_line now (source, teller)) }
+) -> Result<(), AllocError>
+    ensures { OnOk result
+        (string_bytes text.new ≡ string_bytes text.old ++ teller_line now (source, teller)) }
 {
     let port = source.port;
-    let node = node_to_word(alloc, source.neighbour)?;
+    write!(text, "port {port} ")?;
+    put_hex(text, &source.neighbour.0)?;
     let networks = teller.networks;
     let services = teller.services;
-    let heard = seconds_since(now, teller.heard);
-    format!(in alloc; "port {port} {node} networks {networks} services {services} heard {heard}\n")
+    write!(text, " networks {networks} services {services}")?;
+    put_heard(text, true, seconds_since(now, teller.heard))
 }
 
 /// The lines of neighbours, by port and node.
-fn tellers_to_lines(
-    alloc: Global,
+fn put_neighbours(
+    text: &mut String,
     now: u64,
     tellers: &BTreeMap<Source, Teller>,
-) -> Result<String, AllocError>
-    ensures { IfOk result (λ t. string_bytes t ≡ flat_map (teller_line now) tellers.now.entries) }
+) -> Result<(), AllocError>
+    ensures { OnOk result (string_bytes text.new
+        ≡ string_bytes text.old ++ flat_map (teller_line now) tellers.now.entries) }
 {
-    let mut lines = String::new(alloc);
     for (source, teller) in tellers {
-        let line = teller_to_line(alloc, now, *source, *teller)?;
-        lines.push_str(&line)?;
+        put_teller(text, now, *source, *teller)?;
     }
-    Ok(lines)
+    Ok(())
 }
 
-/// The part of neighbours.
-pub fn tellers_to_part(
-    alloc: Global,
+/// Puts the part of neighbours behind a text.
+pub fn put_tellers(
+    text: &mut String,
     now: u64,
     tellers: &BTreeMap<Source, Teller>,
-) -> Result<String, AllocError>
-    ensures { IfOk result (λ t. string_bytes t ≡ teller_lines now tellers.now.entries) }
+) -> Result<(), AllocError>
+    ensures { OnOk result (string_bytes text.new
+        ≡ string_bytes text.old ++ teller_lines now tellers.now.entries) }
 {
-    let head = head_to_line(alloc, "neighbours", tellers.len())?;
-    let lines = tellers_to_lines(alloc, now, tellers)?;
-    format!(in alloc; "{head}{lines}")
+    put_head(text, "neighbours", tellers.len())?;
+    put_neighbours(text, now, tellers)
 }

@@ -1,14 +1,17 @@
-//! Words of a line.
+//! Words of a line, each put behind a text.
 
-ghost use Rattle.std.specs.Prelude.{◌≡◌, ◌++◌, ◌==◌, IfOk, IfSome, OnOk, ◌<◌, length, position, string_bytes};
+ghost use Rattle.std.specs.Prelude.{◌≡◌, ◌++◌, ◌==◌, ◌<◌, ◌∷◌, [], IfSome, OnOk, IsAscii, length, position, slice_index, string_bytes};
 ghost use Rattle.std.specs.List.{before_first, flat_map};
 ghost use Rattle.hex.specs.Hex.{encode_lower};
 ghost use Rattle.ipx_commands.specs.ShowLine.{address_text, name_byte, name_text, word_text};
 ghost use Rattle.ipx_known.specs.TableText.{by_text, head_line, heard_text, network_word, seconds_since};
 
 use ipx_tables::Source;
-use ipx_wire::{Address, Network, Node};
-use std::alloc::{AllocError, Global};
+use ipx_wire::{Address, Network};
+use std::alloc::AllocError;
+
+/// The digits of numbers in hex.
+const DIGITS: &[u8; 16] = b"0123456789abcdef";
 
 /// The seconds from a moment to a later one, both in milliseconds.
 pub fn seconds_since(now: u64, moment: u64) -> u64
@@ -18,78 +21,111 @@ pub fn seconds_since(now: u64, moment: u64) -> u64
 }
 
 /// The line above a part.
-pub fn head_to_line(alloc: Global, title: &str, count: usize) -> Result<String, AllocError>
-    ensures { IfOk result (λ t. string_bytes t ≡ head_line title.now count) }
+pub fn put_head(text: &mut String, title: &str, count: usize) -> Result<(), AllocError>
+    ensures { OnOk result
+        (string_bytes text.new ≡ string_bytes text.old ++ head_line title.now count) }
 {
-    format!(in alloc; "{title} {count}\n")
+    write!(text, "{title} {count}\n")
 }
 
-pub fn network_to_word(alloc: Global, network: Network) -> Result<String, AllocError>
-    ensures { IfOk result (λ t. string_bytes t ≡ network_word network) }
+/// One of sixteen digits.
+fn digit_in(digits: &[u8; 16], number: u8) -> char
+    requires table { IsAscii digits.now }
+    requires within { number < 16 }
+    ensures digit { result ≡ slice_index digits.now number }
+    ensures ascii { result < 128 }
 {
-    hex::encode(alloc, network.0.to_be_bytes())
+    char::from(digits[usize::from(number)])
 }
 
-pub fn node_to_word(alloc: Global, node: Node) -> Result<String, AllocError>
-    ensures { IfOk result (λ t. string_bytes t ≡ encode_lower node.0) }
+/// A byte, as two digits in hex.
+#[tactic(auto, using(crate::proofs::Rows::byte_spelled))]
+fn put_byte(text: &mut String, byte: u8) -> Result<(), AllocError>
+    ensures { OnOk result
+        (string_bytes text.new ≡ string_bytes text.old ++ encode_lower (byte ∷ [])) }
 {
-    hex::encode(alloc, node.0)
+    text.push(digit_in(DIGITS, byte / 16))?;
+    text.push(digit_in(DIGITS, byte % 16))
 }
 
-pub fn short_to_word(alloc: Global, number: u16) -> Result<String, AllocError>
-    ensures { IfOk result (λ t. string_bytes t ≡ word_text number) }
+/// Bytes, each as two digits in hex.
+pub fn put_hex(text: &mut String, bytes: &[u8]) -> Result<(), AllocError>
+    ensures { OnOk result
+        (string_bytes text.new ≡ string_bytes text.old ++ encode_lower bytes.now) }
 {
-    hex::encode(alloc, number.to_be_bytes())
+    for byte in bytes {
+        put_byte(text, *byte)?;
+    }
+    Ok(())
 }
 
-pub fn address_to_words(alloc: Global, at: Address) -> Result<String, AllocError>
-    ensures { IfOk result (λ t. string_bytes t ≡ address_text at) }
+pub fn put_network(text: &mut String, network: Network) -> Result<(), AllocError>
+    ensures { OnOk result
+        (string_bytes text.new ≡ string_bytes text.old ++ network_word network) }
 {
-    let network = network_to_word(alloc, at.network)?;
-    let node = node_to_word(alloc, at.node)?;
-    let socket = short_to_word(alloc, at.socket.0)?;
-    format!(in alloc; "{network} {node} {socket}")
+    let bytes = network.0.to_be_bytes();
+    put_hex(text, &bytes)
+}
+
+pub fn put_short(text: &mut String, number: u16) -> Result<(), AllocError>
+    ensures { OnOk result
+        (string_bytes text.new ≡ string_bytes text.old ++ word_text number) }
+{
+    let bytes = number.to_be_bytes();
+    put_hex(text, &bytes)
+}
+
+pub fn put_address(text: &mut String, at: Address) -> Result<(), AllocError>
+    ensures { OnOk result
+        (string_bytes text.new ≡ string_bytes text.old ++ address_text at) }
+{
+    put_network(text, at.network)?;
+    text.push_str(" ")?;
+    put_hex(text, &at.node.0)?;
+    text.push_str(" ")?;
+    put_short(text, at.socket.0)
 }
 
 /// The port at which something was heard, and the neighbour.
-pub fn source_to_words(alloc: Global, source: Source) -> Result<String, AllocError>
-    ensures { IfOk result (λ t. string_bytes t ≡ by_text source) }
+pub fn put_source(text: &mut String, source: Source) -> Result<(), AllocError>
+    ensures { OnOk result
+        (string_bytes text.new ≡ string_bytes text.old ++ by_text source) }
 {
     let port = source.port;
-    let node = node_to_word(alloc, source.neighbour)?;
-    format!(in alloc; " port {port} next {node}")
+    write!(text, " port {port} next ")?;
+    put_hex(text, &source.neighbour.0)
 }
 
 /// How long ago something was heard, and whether another one of its key is better.
-pub fn heard_to_words(alloc: Global, best: bool, seconds: u64) -> Result<String, AllocError>
-    ensures { IfOk result (λ t. string_bytes t ≡ heard_text best seconds) }
+pub fn put_heard(text: &mut String, best: bool, seconds: u64) -> Result<(), AllocError>
+    ensures { OnOk result
+        (string_bytes text.new ≡ string_bytes text.old ++ heard_text best seconds) }
 {
     if best {
-        return format!(in alloc; " heard {seconds}\n");
+        return write!(text, " heard {seconds}\n");
     }
-    format!(in alloc; " heard {seconds} spare\n")
+    write!(text, " heard {seconds} spare\n")
 }
 
-/// Puts a byte of a name behind a text, as `show` prints it.
-fn push_name_byte(alloc: Global, text: &mut String, byte: u8) -> Result<(), AllocError>
+/// A byte of a name, as `show` prints it.
+fn put_name_byte(text: &mut String, byte: u8) -> Result<(), AllocError>
     ensures { OnOk result (string_bytes text.new ≡ string_bytes text.old ++ name_byte byte) }
 {
     if byte >= 0x21 && byte <= 0x7e && byte != b'\\' {
         return text.push(char::from(byte));
     }
-    let digits = hex::encode(alloc, [byte])?;
-    let escaped = format!(in alloc; "\\x{digits}")?;
-    text.push_str(&escaped)
+    text.push_str("\\x")?;
+    put_byte(text, byte)
 }
 
-fn name_bytes_to_word(alloc: Global, bytes: &[u8]) -> Result<String, AllocError>
-    ensures { IfOk result (λ t. string_bytes t ≡ flat_map name_byte bytes.now) }
+fn put_name_bytes(text: &mut String, bytes: &[u8]) -> Result<(), AllocError>
+    ensures { OnOk result
+        (string_bytes text.new ≡ string_bytes text.old ++ flat_map name_byte bytes.now) }
 {
-    let mut text = String::new(alloc);
     for byte in bytes {
-        push_name_byte(alloc, &mut text, *byte)?;
+        put_name_byte(text, *byte)?;
     }
-    Ok(text)
+    Ok(())
 }
 
 /// The place of the first zero byte.
@@ -111,12 +147,13 @@ fn before_zero(bytes: &[u8]) -> &[u8]
 }
 
 /// The name of a service, as `show` prints it.
-pub fn name_to_word(alloc: Global, name: &[u8]) -> Result<String, AllocError>
-    ensures { IfOk result (λ t. string_bytes t ≡ name_text name.now) }
+pub fn put_name(text: &mut String, name: &[u8]) -> Result<(), AllocError>
+    ensures { OnOk result
+        (string_bytes text.new ≡ string_bytes text.old ++ name_text name.now) }
 {
     let bytes = before_zero(name);
     if bytes.is_empty() {
-        return String::from_str(alloc, "-");
+        return text.push_str("-");
     }
-    name_bytes_to_word(alloc, bytes)
+    put_name_bytes(text, bytes)
 }

@@ -6,11 +6,11 @@ ghost use Rattle.ipx_tables.specs.Listing.{IsListing};
 ghost use Rattle.ipx_known.specs.Tellers.{AreTellers, sayings};
 ghost use Rattle.ipx_known.specs.TableText.{IsTables};
 
-use crate::route_lines::{RouteOffer, networks_to_part};
+use crate::route_lines::{RouteOffer, put_networks};
 use crate::sayings::add_sayings;
-use crate::service_lines::{ServiceOffer, services_to_part};
+use crate::service_lines::{ServiceOffer, put_services};
 use crate::standing::offers_at;
-use crate::teller_lines::tellers_to_part;
+use crate::teller_lines::put_tellers;
 use crate::tellers::{Teller, tellers_of};
 use ipx_router::Port;
 use ipx_tables::{Metric, Offers, RouteTable, ServiceTable, Source};
@@ -63,8 +63,9 @@ pub fn tables_to_text(
     let known_services = offers_at(alloc, services, now)?;
     let best_services = bests(alloc, services, now)?;
     let tellers = tellers_in(alloc, &known_routes, &known_services)?;
-    let network_part = networks_to_part(alloc, ports, now, &best_routes, &known_routes)?;
-    let service_part = services_to_part(alloc, now, &best_services, &known_services)?;
-    let teller_part = tellers_to_part(alloc, now, &tellers)?;
-    format!(in alloc; "{network_part}{service_part}{teller_part}")
+    let mut text = String::new(alloc);
+    put_networks(&mut text, ports, now, &best_routes, &known_routes)?;
+    put_services(&mut text, now, &best_services, &known_services)?;
+    put_tellers(&mut text, now, &tellers)?;
+    Ok(text)
 }

@@ -1,5 +1,4 @@
 use Rattle.std.proofs.Common.{◌≡◌, ◌++◌, ◌∙◌, List, subst, sym, true, false, string_bytes}
-use Rattle.std.proofs.lemmas.Result.{IfOk-weaker}
 use Rattle.ipx_wire.specs.declared.address.Network.{Network}
 use Rattle.ipx_tables.specs.declared.offer.Offer.{Offer}
 use Rattle.ipx_tables.specs.declared.route.RouteMetric.{RouteMetric}
@@ -11,15 +10,16 @@ use Rattle.ipx_tables.specs.Route.{network_cmp}
 use Rattle.ipx_tables.specs.Service.{service_key_cmp}
 use Rattle.ipx_tables.specs.Sorted.{IsRising}
 use Rattle.ipx_known.specs.Tellers.{AreTellers, sayings}
-use Rattle.ipx_known.specs.TableText.{IsKnownThen, IsTables, KnownThen, network_lines, service_lines, tables_text, teller_lines}
+use Rattle.ipx_known.specs.TableText.{IsKnownThen, KnownThen, network_lines, service_lines, tables_text}
+use Rattle.ipx_known.proofs.Rows.{joined}
 use Rattle.ipx_known.proofs.writing.tables_to_text.Goals as goal
 
-pub networks_to_part-requires : goal.networks_to_part-requires
-networks_to_part-requires c =
+pub put_networks-requires : goal.put_networks-requires
+put_networks-requires c =
     subst (λ (l : List (Network × Source × RouteMetric)). IsRising network_cmp listed_key l) (sym c.deref-3.ensures.value) c.in_ok-best_routes.ensures.in_order
 
-pub services_to_part-requires : goal.services_to_part-requires
-services_to_part-requires c =
+pub put_services-requires : goal.put_services-requires
+put_services-requires c =
     subst (λ (l : List (ServiceKey × Source × ServiceMetric)). IsRising service_key_cmp listed_key l) (sym c.deref-5.ensures.value) c.in_ok-best_services.ensures.in_order
 
 pub returns : goal.returns
@@ -43,11 +43,8 @@ returns c =
       best_services = c.in_ok-best_services.ensures;
       tellers = told;
     } in
-    let networks : string_bytes c.in_ok-network_part.network_part ≡ network_lines ports now k.best_networks k.networks =
-    c.in_ok-network_part.ensures ∙ (λ i. network_lines ports now (c.deref-3.ensures.value i) (c.deref-4.ensures.value i)) in
-    let services : string_bytes c.in_ok-service_part.service_part ≡ service_lines now k.best_services k.services =
-    c.in_ok-service_part.ensures ∙ (λ i. service_lines now (c.deref-5.ensures.value i) (c.deref-6.ensures.value i)) in
-    let tellers : string_bytes c.in_ok-teller_part.teller_part ≡ teller_lines now k.tellers = c.in_ok-teller_part.ensures in
-    let printed = string_bytes c.in_ok-network_part.network_part ++ (string_bytes c.in_ok-service_part.service_part ++ string_bytes c.in_ok-teller_part.teller_part) in
-    let text : printed ≡ tables_text ports now k = λ i. networks i ++ (services i ++ tellers i) in
-    IfOk-weaker c.format.result (λ s. string_bytes s ≡ printed) (λ s. IsTables ports c.args.routes.now c.args.services.now now (string_bytes s)) (λ s wrote. record { known = k; is_known = known; spelled = wrote ∙ text }) c.format.ensures.ok
+    let text : string_bytes c.in_ok-put_tellers.new.text ≡ tables_text ports now k = joined _ _ _ _ _ _ _ c.new-text.ensures.bytes
+    (c.in_ok-put_networks.ensures ∙ (λ i. string_bytes c.new-text.result ++ network_lines ports now (c.deref-3.ensures.value i) (c.deref-4.ensures.value i)))
+    (c.in_ok-put_services.ensures ∙ (λ i. string_bytes c.in_ok-put_networks.new.text ++ service_lines now (c.deref-5.ensures.value i) (c.deref-6.ensures.value i)))
+    c.in_ok-put_tellers.ensures in
+    record { known = k; is_known = known; spelled = text }

@@ -1,8 +1,0 @@
-use Rattle.std.proofs.Common.{◌≡◌, ◌++◌, string_bytes}
-use Rattle.std.specs.List.{flat_map}
-use Rattle.ipx_known.specs.TableText.{teller_line}
-use Rattle.ipx_known.proofs.teller_lines.tellers_to_lines.Given as goal
-
--- with those of what is left they are the lines of all
-abbrev pub invariant-loop-source : goal.invariant-loop-source
-invariant-loop-source l = string_bytes l.lines ++ flat_map (teller_line l.now) l.source-iterator ≡ flat_map (teller_line l.now) l.tellers.entries

@@ -1,0 +1,8 @@
+use Rattle.std.proofs.Common.{◌∙◌}
+use Rattle.ipx_known.proofs.Rows.{hex_more}
+use Rattle.ipx_known.proofs.words.put_hex.Goals as goal
+
+pub loop-byte-preserved : goal.loop-byte-preserved
+loop-byte-preserved c =
+    c.in_ok-put_byte.ensures
+    ∙ hex_more c.args.bytes.now c.loop-byte.byte-index _ _ _ c.loop-byte-test.true c.loop-byte.invariant
