@@ -11,10 +11,13 @@ from site_world import bound, node, port_table, until
 
 # What the peer of a port sends comes to its address: the network, the address, the peer.
 PORTS = [("000000d1", "127.0.1.100", "127.0.1.101"), ("000000d2", "127.0.1.102", "127.0.1.103")]
-DROPPING = [address for _, *ends in PORTS for address in ends]
+STRANGER = "127.0.1.104"
+DROPPING = [address for _, *ends in PORTS for address in ends] + [STRANGER]
 NAME = "drops"
 # So many datagrams for each reason come by the first port, and a moment later so many by the second.
 FIRST, MORE = 1, 11
+# So many come by each from one that is no peer, and are to go by each to it.
+STRANGERS, REFUSED = [3, 5], [2, 4]
 # What is told of a reason, and whether the last datagram says who sent it.
 REASONS = {"bad": ("bad", False), "not_ours": ("not ours", True), "no_route": ("no route 00000033", True),
            "hop_limit": ("hop limit", True), "bad_control": ("bad control", True)}
@@ -39,6 +42,12 @@ def broadcast(place):
     """A packet that no router of ours passes on, of which there is no line."""
     network, _, peer = PORTS[place]
     return ipx(20, (network, "f" * 12, "4002"), (network, node(peer), "4003"), b"\0" * 32)
+
+
+def to_nobody(place):
+    """A packet that comes by the other port, and is to go by that at a place to one that is no peer."""
+    (network, *_), (away, _, peer) = PORTS[place], PORTS[1 - place]
+    return ipx(4, (network, node(STRANGER), "4002"), (away, node(peer), "4003"), b"to no peer")
 
 
 def line_of(place, reason, count, whole):
@@ -74,7 +83,15 @@ def start_drops(sites):
             time.sleep(0.2)
             peer.sendto(broadcast(place), (PORTS[place][1], sites.port))
         until(lambda: len(told(sites)) >= len(REASONS), 12)
-    return time.monotonic()
+    since = time.monotonic()
+    with bound(STRANGER, sites.port) as stranger:
+        for place, (_, address, _) in enumerate(PORTS):
+            for _ in range(STRANGERS[place]):
+                stranger.sendto(broadcast(place), (address, sites.port))
+            with bound(PORTS[1 - place][2], sites.port) as peer:
+                for _ in range(REFUSED[place]):
+                    peer.sendto(to_nobody(place), (PORTS[1 - place][1], sites.port))
+    return since
 
 
 def check_drops(sites, sent):
@@ -94,6 +111,19 @@ def check_drops_figures(sites, figures):
     sites.check("it counts what it dropped by port and by reason", by_port == wanted, str(by_port))
     whole = {reason: of_router.get(f'ipx_dropped_total{{reason="{reason}"}}') for reason in wanted}
     sites.check("and by its ports together as much as at all", whole == {it: sum(wanted[it]) for it in wanted}, str(whole))
+
+
+def check_guard_figures(sites, figures):
+    """What guards kept back by each port of that router, and of each router by all together; and what waits."""
+    of_router = figures[NAME]
+    wanted = {"strangers": STRANGERS, "refused": REFUSED}
+    by_port = {cause: [of_router.get(f'ipx_port_{cause}_total{{port="{number}"}}') for number in (1, 2)] for cause in wanted}
+    sites.check("it counts strangers, and what was for no peer, by port", by_port == wanted, str(by_port))
+    apart = {(name, cause): it for name, it in figures.items() for cause in wanted
+             if it.get(f"ipx_port_{cause}_total", 0) != it.get(f"ipx_{cause}_total")}
+    sites.check("of each router the ports make up the whole", not apart, str(list(apart)) if apart else f"{len(figures)} routers")
+    waiting = {name: it.get("ipx_queue") for name, it in figures.items()}
+    sites.check("each router says how many packets wait", None not in waiting.values(), str(waiting))
 
 
 def check_promtool(sites):

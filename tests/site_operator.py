@@ -7,7 +7,7 @@ import threading
 import time
 
 from site_packets import ipx, rip_response
-from site_tables import check_tables
+from site_tables import ITS_ADDRESS, check_tables, start_unwritten
 from site_world import bound, listed, node, port_table, until
 
 # Three routers in a chain, with a host and a server at each end; and one that knows as much as it may.
@@ -24,7 +24,7 @@ CHAIN = {
     "o4": [("00000075", MUCH, [MUCH_HOST], 1), ("00000076", "127.0.1.189", [TELLER], 1)],
 }
 OPERATED = sorted({address for ports in CHAIN.values() for _, address, _, _ in ports} | {*ASKING, *sum(ASKING.values(), [])}
-                  | {NEAR_SERVER, FAR_SERVER, TELLER, NEAR_HOST, FAR_HOST, MUCH_HOST})
+                  | {NEAR_SERVER, FAR_SERVER, TELLER, NEAR_HOST, FAR_HOST, MUCH_HOST, ITS_ADDRESS})
 EVERY_NODE = "f" * 12
 # A router holds as many; one network more it has itself.
 MOST_TOLD, MOST_SERVICES = 1023, 4096
@@ -96,6 +96,7 @@ def ask(sites, name, command, *words):
 
 def start_operator(sites):
     """The routers, of which the middle one is the last; and what the servers and the teller say to theirs."""
+    start_unwritten(sites)
     for name, ports in CHAIN.items():
         tables = f'tables = "{sites.world.path(name + ".tables")}"\n'
         sites.world.write(f"{name}.toml", tables + "".join(port_table(network, address, sites.port, peers) + f"cost = {cost}\n"

@@ -1,10 +1,11 @@
 """What routers write of what they know, and what `ipx networks` and `ipx services` print by their files, for tests/sites."""
 import json
+import os
 import re
 import time
 
 from known_text import read
-from site_world import node, port_table
+from site_world import node, port_table, until
 
 # By hand, as in site_operator: what the first router of the chain knows, and from whom.
 NEXT, SERVER = node("127.0.1.182"), node("127.0.1.190")
@@ -15,6 +16,10 @@ NEAR_OFFERED = [("0004", "HQ-FILES", "00000a01", 1, SERVER), ("0640", "BACKUP", 
 TELLER = node("127.0.1.192")
 MUCH_KNOWN = [("00000075", 0, 0, "-"), ("00000076", 0, 0, "-")] + [(f"{0x1000 + number:08x}", 2, 3, TELLER) for number in range(1023)]
 MUCH_OFFERED = [("0004", f"S{number:04}", "00000099", 1, TELLER) for number in range(4096)]
+# A router whose file of tables is to lie in a folder that is not there, and what it says of that, once a minute.
+UNWRITTEN, ITS_ADDRESS = "u1", "127.0.1.185"
+FAULT = "[WARN  ipx] 1 times a file could not be written (1 since the start)"
+OLD = r"{}: tables are (\d+) seconds old: does the router run\?"
 NO_TABLES = "{}: tables is missing: {} reads what the router writes there"
 HALF = "{}: the file is not all that a router writes of its tables"
 GONE = "{}: there is no such file"
@@ -78,6 +83,45 @@ def check_refused(sites, name, command, line):
     sites.check(f"ipx {command}: {re.sub('^.*: ', '', line)}", got == (2, "", [line]), "" if got == (2, "", [line]) else str(got))
 
 
+def start_unwritten(sites):
+    """That router, which writes its figures meanwhile."""
+    sites.world.write(f"{UNWRITTEN}.toml", f'tables = "{sites.world.path("gone")}/{UNWRITTEN}.tables"\n'
+                      f'status = "{sites.world.path(UNWRITTEN)}.prom"\n' + port_table("0000007b", ITS_ADDRESS, sites.port, []))
+    sites.start_router(UNWRITTEN)
+
+
+def faults_of(sites):
+    """How often it could not write, by its figures."""
+    return sites.world.figures(f"{UNWRITTEN}.prom").get('ipx_faults_total{of="status_file"}', 0)
+
+
+def check_unwritten(sites):
+    """It goes on and tries again, and says so once a minute; once the folder is there, it writes."""
+    router = sites.routers[UNWRITTEN]
+    until(lambda: faults_of(sites) >= 2, 25)
+    said, minutes = [it for it in router.said() if "written" in it], (time.monotonic() - router.started) / 60
+    good = faults_of(sites) >= 2 and said[:1] == [FAULT] and len(said) <= 1 + minutes and not router.is_over()
+    sites.check("a router whose file of tables cannot be written goes on, and says so once a minute", good, str(said))
+    folder = sites.world.path("gone")
+    os.mkdir(folder)
+    place = os.path.join(folder, f"{UNWRITTEN}.tables")
+    until(lambda: os.path.exists(place), 15)
+    status, out, said = asked(sites, UNWRITTEN, "networks")
+    wanted = f"{network_lines([('0000007b', 0, 0, '-')])}1 network, by {place}\n"
+    sites.check("and writes it once it can", (status, out, said) == (0, wanted, []), "" if out == wanted else f"{status}, {out}, {said}")
+    router.end()
+
+
+def check_old(sites, place):
+    """Tables that were written two minutes ago are printed, and it is said how old they are."""
+    moment = time.time() - 120
+    os.utime(place, (moment, moment))
+    status, out, said = asked(sites, "half", "networks")
+    found = re.fullmatch(OLD.format(re.escape(place)), said[0]) if len(said) == 1 else None
+    good = status == 0 and out.count("\n") == len(NEAR_KNOWN) + 2 and found and 120 <= int(found[1]) <= 150
+    sites.check("tables that are old are printed, and said to be so", good, str(said))
+
+
 def check_tables(sites, has_room):
     """Routers of site_operator, while they run: nobody is asked, and no address is taken."""
     end = time.monotonic() + 25
@@ -109,3 +153,5 @@ def check_tables(sites, has_room):
     status, out, _ = asked(sites, "half", "networks")
     good = (status, out.count("\n")) == (0, len(NEAR_KNOWN) + 2)
     sites.check("the same file whole", good, "" if good else f"{status}, {out}")
+    check_old(sites, place)
+    check_unwritten(sites)

@@ -4,13 +4,14 @@ ghost use Rattle.std.specs.Prelude.{◌≡◌, ◌≤◌, ℕ, List, IsOkAnd, st
 ghost use Rattle.std.specs.Io.KnownBytes.{Appends};
 ghost use Rattle.ipx_operator.specs.KnownListed.{ListsKnownNetworks, ListsKnownServices};
 
+use crate::age::tell_old;
 use crate::fault::{KnownFault, tell_known_fault};
 use crate::known_lines::known_networks_to_text;
 use crate::known_service_lines::known_services_to_text;
 use ipx_site::{SiteFile, load_tables, write_checked};
 use std::alloc::Global;
 use std::io::Write;
-use std::rt::Files;
+use std::rt::{Clock, Files};
 
 /// Tells that a router's file names no file of tables, and answers the status.
 fn tell_no_tables<R: Eprint>(rt: &R, path: &str, command: &str) -> u8
@@ -41,8 +42,8 @@ fn write_known<R: Eprint, W: Write>(
     }
 }
 
-/// Prints the networks that the router of a file wrote down.
-pub fn networks_by_router<R: Files + Eprint, W: Write>(
+/// Prints the networks that the router of a file wrote down, and tells where that is old.
+pub fn networks_by_router<R: Files + Clock + Eprint, W: Write>(
     rt: &R,
     alloc: Global,
     path: &str,
@@ -60,6 +61,7 @@ pub fn networks_by_router<R: Files + Eprint, W: Write>(
     };
     match load_tables(rt, alloc, place.as_str()) {
         Ok(tables) => {
+            tell_old(rt, place.as_str());
             let lines = known_networks_to_text(alloc, json, place.as_str(), &tables);
             write_known(rt, place.as_str(), lines, writer)
         }
@@ -68,7 +70,7 @@ pub fn networks_by_router<R: Files + Eprint, W: Write>(
 }
 
 /// Prints its services of a type.
-pub fn services_by_router<R: Files + Eprint, W: Write>(
+pub fn services_by_router<R: Files + Clock + Eprint, W: Write>(
     rt: &R,
     alloc: Global,
     path: &str,
@@ -87,6 +89,7 @@ pub fn services_by_router<R: Files + Eprint, W: Write>(
     };
     match load_tables(rt, alloc, place.as_str()) {
         Ok(tables) => {
+            tell_old(rt, place.as_str());
             let lines = known_services_to_text(alloc, json, place.as_str(), kind, &tables);
             write_known(rt, place.as_str(), lines, writer)
         }

@@ -6,6 +6,7 @@
 //! by that of a router too, and print what it wrote down, and ask nobody.
 #![tactic(auto)]
 
+mod age;
 mod answer_times;
 mod asked;
 mod asking_host;

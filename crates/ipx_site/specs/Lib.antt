@@ -13,6 +13,7 @@ pub mod Host
 pub mod Loading
 pub mod Steady
 pub mod SitePeers
+pub mod KeptAtPorts
 pub mod Neighbours
 pub mod Askers
 pub mod Sparing

@@ -32,6 +32,8 @@ pub struct Figures {
     pub device_faults: u64,
     pub memory_faults: u64,
     pub file_faults: u64,
+    /// The packets that wait to be sent.
+    pub queue: u64,
     /// The networks and services of others that it knows.
     pub routes: u64,
     pub services: u64,
@@ -85,6 +87,12 @@ const FAULTS: Family = Family {
     name: "ipx_faults_total",
     help: "How often the system refused",
     kind: "counter",
+};
+
+const QUEUE: Family = Family {
+    name: "ipx_queue",
+    help: "Packets that wait to be sent",
+    kind: "gauge",
 };
 
 const ROUTES: Family = Family {
@@ -160,6 +168,7 @@ impl Figures {
         )?;
         put_one(&mut text, &REFUSED, self.refused)?;
         put_faults(&mut text, self)?;
+        put_one(&mut text, &QUEUE, self.queue)?;
         put_one(&mut text, &ROUTES, self.routes)?;
         put_one(&mut text, &SERVICES, self.services)?;
         put_one(&mut text, &SECONDS, self.seconds)?;

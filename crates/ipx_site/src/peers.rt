@@ -1,19 +1,24 @@
 //! A device that hears its peers alone, and sends to them alone.
 
-ghost use Rattle.std.specs.Prelude.{◌≡◌, ◌<◌, ◌≤◌, ◌+◌, ◌^◌, [], ◌∷◌, ℕ, true, false, Ok, Option, Some, OnErr, OnOk, IfOk, IfSome, is_err, length, map, replicate, slice_get};
+ghost use Rattle.std.specs.Prelude.{◌≡◌, ◌<◌, ◌≤◌, ◌+◌, ◌^◌, [], ◌∷◌, ℕ, true, false, Ok, Option, Some, OnErr, OnOk, IfOk, IfSome, is_err, length, map, replicate, slice_get, if◌then◌else◌};
 ghost use Rattle.ipx_wire.specs.Ipx.{packet_view};
 ghost use Rattle.ipx_carrier.specs.Device.{Passes, received_in};
 ghost use Rattle.ipx_carrier.specs.Counting.{raised};
 ghost use Rattle.ipx_carrier.specs.RunFaultNumbers.{device_failures};
 ghost use Rattle.ipx_carrier.specs.Waits.{LeavesPort};
+ghost use Rattle.ipx_site.specs.KeptAtPorts.{CountsStrangerAt, kept_changed_at, nothing_at_port, one_refused};
 ghost use Rattle.ipx_site.specs.SitePeers.{IsWordOn, TakesIn, is_listed, kept_in, may_go, may_say, none_kept, nothing_kept, one_more};
 ghost use Rattle.ipx_site.specs.SitePorts.{access_by};
 
+use crate::kept_at_ports::{KeptAtPort, count_refused, count_stranger};
 use crate::own_word::{is_own_word, is_response, is_straight};
 use crate::senders::Senders;
 use crate::sockets::SiteSockets;
 use ipx_carrier::{Datagrams, DeviceFault, KeepsBack, raise};
 use ipx_wire::{Network, Packet, decode};
+
+/// The ports at which it is counted what is kept back: as many as a router has at most.
+const COUNTED: usize = 16;
 
 /// Whom a port sends to, who is heard there, and what each may say: lists of IP addresses, of which
 /// None stands for everybody.
@@ -133,12 +138,14 @@ fn word_on(guard: &Guard, from: Option<[u8; 4]>, bytes: &[u8]) -> Word
 }
 
 /// A device over another one, which asks the guard of a port of all that comes and goes there. It
-/// counts what it keeps back. A port without a guard hears and sends nothing.
+/// counts what it keeps back, at the first 16 ports by port too. A port without a guard hears and
+/// sends nothing.
 pub struct PeersOnly<D: Senders + Drop> {
     pub(crate) device: D,
     guards: Vec<Guard>,
     kept: KeptBack,
     refused: u64,
+    by_port: [KeptAtPort; COUNTED],
 }
 
 impl<D: Senders + Drop> Drop for PeersOnly<D> {
@@ -148,6 +155,7 @@ impl<D: Senders + Drop> Drop for PeersOnly<D> {
             guards: _,
             kept: _,
             refused: _,
+            by_port: _,
         } = self;
     }
 }
@@ -158,6 +166,7 @@ impl<D: Senders + Drop> PeersOnly<D> {
         ensures device { result.device ≡ device }
         ensures guards { result.guards.items ≡ guards.items }
         ensures none { (result.kept ≡ nothing_kept) × (result.refused ≡ 0) }
+        ensures none_by_port { result.by_port ≡ replicate 16 nothing_at_port }
     {
         PeersOnly {
             device,
@@ -168,6 +177,7 @@ impl<D: Senders + Drop> PeersOnly<D> {
                 no_router: Kept::none(),
             },
             refused: 0,
+            by_port: [KeptAtPort::nothing(); COUNTED],
         }
     }
 
@@ -190,6 +200,13 @@ impl<D: Senders + Drop> PeersOnly<D> {
         ensures { result ≡ self.now.refused }
     {
         self.refused
+    }
+
+    /// Strangers and what was not sent, by port: of the first 16 ports.
+    pub fn by_port(&self) -> &[KeptAtPort]
+        ensures { result.now ≡ self.now.by_port }
+    {
+        &self.by_port
     }
 
     /// What is said of these bytes, which came to a port last.
@@ -271,6 +288,9 @@ impl<D: Senders + Drop> Datagrams for PeersOnly<D> {
         ensures refused { may_go (slice_get self.old.guards.items port) to ≡ false →
             (result ≡ Ok tt) × (self.new.device ≡ self.old.device)
             × (self.new.refused ≡ raised self.old.refused) }
+        // At its port too.
+        ensures by_port { self.new.by_port ≡ (if may_go (slice_get self.old.guards.items port) to
+            then self.old.by_port else kept_changed_at self.old.by_port port one_refused) }
         ensures kept { self.new.kept ≡ self.old.kept }
         ensures waiting { D.waiting self.new.device ≡ D.waiting self.old.device }
         ensures fails { may_go (slice_get self.old.guards.items port) to ≡ true
@@ -282,6 +302,7 @@ impl<D: Senders + Drop> Datagrams for PeersOnly<D> {
     {
         if !self.may_go(port, to) {
             raise(&mut self.refused);
+            count_refused(&mut self.by_port, port);
             return Ok(());
         }
         self.device.send(port, to, bytes)
@@ -303,6 +324,9 @@ impl<D: Senders + Drop> Datagrams for PeersOnly<D> {
             × (D.waiting self.new.device ≡ D.waiting self.old.device)
             × (self.new.kept ≡ self.old.kept)) }
         ensures fails { D.fails self.old.device (is_err result) self.new.device }
+        // A stranger is counted at its port too.
+        ensures by_port { CountsStrangerAt port self.old.kept.strangers.count
+            self.new.kept.strangers.count self.old.by_port self.new.by_port }
         ensures kept_back { kept_in self.old.kept ≤ kept_in self.new.kept }
         ensures refused { self.new.refused ≡ self.old.refused }
         ensures guards { self.new.guards ≡ self.old.guards }
@@ -316,7 +340,10 @@ impl<D: Senders + Drop> Datagrams for PeersOnly<D> {
         let from = self.device.sender();
         match self.word(port, &room[..count]) {
             Word::Heard => return Ok(Some(count)),
-            Word::Stranger => self.kept.strangers.raise(from),
+            Word::Stranger => {
+                self.kept.strangers.raise(from);
+                count_stranger(&mut self.by_port, port);
+            }
             Word::Forged => self.kept.forged.raise(from),
             Word::NoRouter => self.kept.no_router.raise(from),
         }

@@ -19,6 +19,7 @@ use crate::clock::SteadyClock;
 use crate::drop_lines::DropLines;
 use crate::figures::Figures;
 use crate::frame_figures::{put_frame_figures, tell_encapsulations};
+use crate::guard_figures::put_guard_figures;
 use crate::ipxnet_figures::put_ipxnet_figures;
 use crate::known_text::known_to_text;
 use crate::marking::{is_any_marked, mark_ready};
@@ -147,6 +148,7 @@ impl<'a, R: SystemClock> RunningRouter<'a, R> {
         let mut text = self.figures(now).text(alloc)?;
         let core = self.core.core();
         put_port_figures(&mut text, core)?;
+        put_guard_figures(&mut text, self.ports.spots(), self.ports.device().by_port())?;
         put_neighbour_figures(&mut text, alloc, core.router(), now)?;
         put_frame_figures(&mut text, &self.ports)?;
         put_ipxnet_figures(&mut text, &self.ports)?;

@@ -47,13 +47,14 @@ pub const FIGURES: Figures = Figures {
     device_faults: 17,
     memory_faults: 18,
     file_faults: 19,
+    queue: 29,
     routes: 20,
     services: 21,
     seconds: 22,
 };
 
 /// Lines that stand in it.
-const LINES: [&str; 25] = [
+const LINES: [&str; 26] = [
     "ipx_heard_total 1\n",
     "ipx_sent_total 2\n",
     "ipx_fates_total{fate=\"forwarded\"} 3\n",
@@ -76,6 +77,7 @@ const LINES: [&str; 25] = [
     "ipx_faults_total{of=\"device\"} 17\n",
     "ipx_faults_total{of=\"memory\"} 18\n",
     "ipx_faults_total{of=\"status_file\"} 19\n",
+    "ipx_queue 29\n",
     "ipx_routes 20\n",
     "ipx_services 21\n",
     "ipx_seconds 22\n",
