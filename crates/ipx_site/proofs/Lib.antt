@@ -1,4 +1,5 @@
 pub mod Each
+pub mod KeptSums
 pub mod Faults
 pub mod Found
 pub mod Naming

@@ -1,7 +1,7 @@
 //! What guards keep back, by port.
 
 ghost use Rattle.std.specs.Prelude.{◌≡◌};
-ghost use Rattle.ipx_site.specs.KeptAtPorts.{kept_changed_at, nothing_at_port, one_refused, one_stranger};
+ghost use Rattle.ipx_site.specs.KeptAtPorts.{RefusedAddUp, StrangersAddUp, kept_changed_at, nothing_at_port, one_refused, one_stranger};
 
 use ipx_carrier::raise;
 
@@ -55,3 +55,10 @@ pub fn count_refused(ports: &mut [KeptAtPort], port: usize)
         ports[port].raise_refused();
     }
 }
+
+/// A law: of strangers, and of what was not sent, the ports make up what their device counted. It
+/// does nothing.
+pub fn what_was_kept_adds_up()
+    ensures strangers { StrangersAddUp }
+    ensures refused { RefusedAddUp }
+{}

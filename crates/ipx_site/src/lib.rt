@@ -81,7 +81,7 @@ pub use files::{load_host, load_site};
 pub use host::{HostFile, read_host};
 pub use ipxnet_figures::put_drops;
 pub use ipxnet_port::IpxnetPort;
-pub use kept_at_ports::KeptAtPort;
+pub use kept_at_ports::{KeptAtPort, what_was_kept_adds_up};
 pub use key::Key;
 pub use neighbour_figures::put_neighbour_figures;
 pub use origin::Origin;

@@ -239,7 +239,8 @@ No listen or send of the same address may run meanwhile, since a router answers 
 
 Where HOST is the file of a router, which has ports, nobody is asked: it prints what the router
 wrote last into the file of its key tables, first the networks of its ports, 0 hops and 0 ticks away
-by nobody, a dash, and then the best of each other one, by the neighbour that told it.";
+by nobody, a dash, and then the best of each other one, by the neighbour that told it. Where that is
+older than 30 seconds, a line on standard error says so.";
 
 pub const NETWORKS_STATUSES: &str = "\
 It is over where each answer came to its end and 200 ms passed without more, or after four seconds.
