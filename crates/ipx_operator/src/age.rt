@@ -4,7 +4,6 @@ ghost use Rattle.std.specs.Prelude.{◌<◌, ◌↔◌, IsTrue};
 
 use std::fs;
 use std::rt::{Clock, Files};
-use std::time::SystemTime;
 
 /// A router writes its tables each ten seconds. Those that are older than so many seconds are told.
 const OLD: u64 = 30;
@@ -20,8 +19,7 @@ fn are_old(seconds: u64) -> bool
 fn age_of<R: Files + Clock>(rt: &R, place: &str) -> Option<u64> {
     let found = fs::metadata(rt, place).ok()?;
     let written = found.modified().ok()?;
-    let now = SystemTime::now(rt).ok()?;
-    let age = now.duration_since(written).ok()?;
+    let age = written.elapsed(rt).ok()?;
     Some(age.as_secs())
 }
 

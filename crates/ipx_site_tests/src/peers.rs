@@ -1,7 +1,7 @@
 //! Who is heard, in whose name, and whom is sent to.
 
 use ipx_carrier::{Datagrams, DeviceFault};
-use ipx_site::{Guard, PeersOnly, Senders};
+use ipx_site::{Guard, KeptAtPort, PeersOnly, Senders};
 use ipx_wire::{Address, IpxHeader, Network, Node, Packet, Socket, encode_into};
 use std::alloc::{AllocError, Global};
 use std::process::Abort;
@@ -200,6 +200,11 @@ fn hears_no_stranger(rt: HostRuntime) -> Result<(), AllocError> {
     assert_eq!(rt; device.kept().strangers.count, 1);
     assert_eq!(rt; device.kept().strangers.last, Some([10, 0, 0, 2]));
     assert_eq!(rt; device.kept().total(), 1);
+    let at_port = KeptAtPort {
+        strangers: 1,
+        refused: 0,
+    };
+    assert_eq!(rt; device.by_port().first().copied(), Some(at_port));
     Ok(())
 }
 
@@ -219,6 +224,11 @@ fn sends_to_peers_alone(rt: HostRuntime) -> Result<(), AllocError> {
     assert_eq!(rt; device.refused(), 0);
     assert!(rt; device.send(0, [10, 0, 0, 2], &[1]).is_ok());
     assert_eq!(rt; device.refused(), 1);
+    let at_port = KeptAtPort {
+        strangers: 0,
+        refused: 1,
+    };
+    assert_eq!(rt; device.by_port().first().copied(), Some(at_port));
     Ok(())
 }
 
