@@ -10,7 +10,7 @@ use Rattle.ipx_tables.specs.Route.{network_cmp}
 use Rattle.ipx_tables.specs.Service.{service_key_cmp}
 use Rattle.ipx_tables.specs.Sorted.{IsRising}
 use Rattle.ipx_known.specs.Tellers.{AreTellers, sayings}
-use Rattle.ipx_known.specs.TableText.{IsKnownThen, KnownThen, network_lines, service_lines, tables_text}
+use Rattle.ipx_known.specs.TableText.{IsKnownThen, KnownThen, network_lines, service_lines, tables_text, teller_lines}
 use Rattle.ipx_known.proofs.Rows.{joined}
 use Rattle.ipx_known.proofs.writing.tables_to_text.Goals as goal
 
@@ -43,8 +43,17 @@ returns c =
       best_services = c.in_ok-best_services.ensures;
       tellers = told;
     } in
-    let text : string_bytes c.in_ok-put_tellers.new.text ≡ tables_text ports now k = joined _ _ _ _ _ _ _ c.new-text.ensures.bytes
-    (c.in_ok-put_networks.ensures ∙ (λ i. string_bytes c.new-text.result ++ network_lines ports now (c.deref-3.ensures.value i) (c.deref-4.ensures.value i)))
-    (c.in_ok-put_services.ensures ∙ (λ i. string_bytes c.in_ok-put_networks.new.text ++ service_lines now (c.deref-5.ensures.value i) (c.deref-6.ensures.value i)))
-    c.in_ok-put_tellers.ensures in
+    let none = string_bytes c.new-text.result in
+    let one = string_bytes c.put_networks.new.text in
+    let two = string_bytes c.put_services.new.text in
+    let three = string_bytes c.put_tellers.new.text in
+    let network_part = network_lines ports now k.best_networks k.networks in
+    let service_part = service_lines now k.best_services k.services in
+    let networks : one ≡ none ++ network_part =
+    c.in_ok-put_networks.ensures ∙ (λ i. none ++ network_lines ports now (c.deref-3.ensures.value i) (c.deref-4.ensures.value i)) in
+    let services : two ≡ one ++ service_part =
+    c.in_ok-put_services.ensures ∙ (λ i. one ++ service_lines now (c.deref-5.ensures.value i) (c.deref-6.ensures.value i)) in
+    let tellers : three ≡ two ++ teller_lines now k.tellers = c.in_ok-put_tellers.ensures in
+    let text : three ≡ tables_text ports now k =
+    joined none one two three network_part service_part (teller_lines now k.tellers) c.new-text.ensures.bytes networks services tellers in
     record { known = k; is_known = known; spelled = text }
