@@ -40,12 +40,7 @@ fn put_owns(text: &mut String, ports: &[Port]) -> Result<(), AllocError>
     Ok(())
 }
 
-fn put_route(
-    text: &mut String,
-    best: bool,
-    now: u64,
-    offer: &RouteOffer,
-) -> Result<(), AllocError>
+fn put_route(text: &mut String, best: bool, now: u64, offer: &RouteOffer) -> Result<(), AllocError>
     ensures { OnOk result
         (string_bytes text.new ≡ string_bytes text.old ++ route_offer_line best now offer.now) }
 {

@@ -10,12 +10,7 @@ use ipx_tables::Source;
 use std::alloc::AllocError;
 use std::collections::BTreeMap;
 
-fn put_teller(
-    text: &mut String,
-    now: u64,
-    source: Source,
-    teller: Teller,
-) -> Result<(), AllocError>
+fn put_teller(text: &mut String, now: u64, source: Source, teller: Teller) -> Result<(), AllocError>
     ensures { OnOk result
         (string_bytes text.new ≡ string_bytes text.old ++ teller_line now (source, teller)) }
 {
