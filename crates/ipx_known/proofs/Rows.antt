@@ -1,6 +1,6 @@
 -- A text grows by one more line.
 use Rattle.std.proofs.Common.{◌≡◌, ◌<◌, ℕ, ◌+◌, Bool, List, ◌++◌, [], ◌∷◌, length, take, get_or, refl, sym, ap, ◌∙◌, arith}
-use Rattle.std.specs.Prelude.{◌/◌, ◌%◌, slice_index}
+use Rattle.std.specs.Prelude.{◌/◌, ◌%◌, OnOk, Result, Ok, Err, slice_index}
 use Rattle.std.specs.List.{flat_map}
 use Rattle.std.proofs.lemmas.List.{append-nil, append_assoc, flat_map_more, length-take, take_more}
 use Rattle.hex.specs.Hex.{encode_lower, encode_with, lower_digits}
@@ -14,9 +14,22 @@ joined none one two three a b c empty first second third =
     third ∙ ap (λ t. t ++ c) (second ∙ ap (λ t. t ++ b) (first ∙ ap (λ t. t ++ a) empty)) ∙ append_assoc a b c
 
 -- a byte is two digits
-pub byte_spelled : (b : ℕ) → encode_lower (b ∷ []) ≡ slice_index lower_digits (b / 16) ∷ slice_index lower_digits (b % 16) ∷ []
+byte_spelled : (b : ℕ) → encode_lower (b ∷ []) ≡ slice_index lower_digits (b / 16) ∷ slice_index lower_digits (b % 16) ∷ []
 unfolding encode_with
 byte_spelled b = refl
+
+-- two digits behind a text are a byte, where the second found room too
+pub byte_more : {T E : Type 0} (r : Result T E) (old one two : List ℕ) (b high low : ℕ) → high ≡ slice_index lower_digits (b / 16) → low ≡ slice_index lower_digits (b % 16)
+    → one ≡ old ++ high ∷ [] → OnOk r (two ≡ one ++ low ∷ []) → OnOk r (two ≡ old ++ encode_lower (b ∷ []))
+byte_more (Err e) old one two b high low h l first second = tt
+byte_more (Ok x) old one two b high low h l first second =
+    second ∙ ap (λ t. t ++ low ∷ []) first ∙ append_assoc old (high ∷ []) (low ∷ [])
+    ∙ ap (λ t. old ++ t) (ap (λ d. d ∷ low ∷ []) h ∙ ap (λ d. slice_index lower_digits (b / 16) ∷ d ∷ []) l ∙ sym (byte_spelled b))
+
+-- no digits
+pub hex_none : (bs : List ℕ) → bs ≡ bs ++ encode_lower []
+unfolding encode_with
+hex_none bs = sym (append-nil bs)
 
 hex_append : (xs ys : List ℕ) → encode_lower (xs ++ ys) ≡ encode_lower xs ++ encode_lower ys
 unfolding encode_with

@@ -39,7 +39,6 @@ fn digit_in(digits: &[u8; 16], number: u8) -> char
 }
 
 /// A byte, as two digits in hex.
-#[tactic(auto, using(crate::proofs::Rows::byte_spelled))]
 fn put_byte(text: &mut String, byte: u8) -> Result<(), AllocError>
     ensures { OnOk result
         (string_bytes text.new ≡ string_bytes text.old ++ encode_lower (byte ∷ [])) }

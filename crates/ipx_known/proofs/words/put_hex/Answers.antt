@@ -1,6 +1,9 @@
 use Rattle.std.proofs.Common.{◌∙◌}
-use Rattle.ipx_known.proofs.Rows.{hex_more}
+use Rattle.ipx_known.proofs.Rows.{hex_more, hex_none}
 use Rattle.ipx_known.proofs.words.put_hex.Goals as goal
+
+pub loop-byte-init : goal.loop-byte-init
+loop-byte-init c = hex_none _
 
 pub loop-byte-preserved : goal.loop-byte-preserved
 loop-byte-preserved c =
