@@ -13,6 +13,13 @@ pub joined : (none one two three a b c : List ℕ) → none ≡ [] → one ≡ n
 joined none one two three a b c empty first second third =
     third ∙ ap (λ t. t ++ c) (second ∙ ap (λ t. t ++ b) (first ∙ ap (λ t. t ++ a) empty)) ∙ append_assoc a b c
 
+-- five parts behind a text are one, where the last found room too
+pub parts_joined : {T E : Type 0} (r : Result T E) (none one two three four five a b c d e : List ℕ) → one ≡ none ++ a → two ≡ one ++ b → three ≡ two ++ c → four ≡ three ++ d → OnOk r (five ≡ four ++ e)
+    → OnOk r (five ≡ none ++ (a ++ (b ++ (c ++ (d ++ e)))))
+parts_joined (Err x) none one two three four five a b c d e first second third fourth fifth = tt
+parts_joined (Ok x) none one two three four five a b c d e first second third fourth fifth =
+    fifth ∙ ap (λ t. t ++ e) (fourth ∙ ap (λ t. t ++ d) (third ∙ ap (λ t. t ++ c) (second ∙ ap (λ t. t ++ b) first))) ∙ simp append_assoc
+
 -- a byte is two digits
 byte_spelled : (b : ℕ) → encode_lower (b ∷ []) ≡ slice_index lower_digits (b / 16) ∷ slice_index lower_digits (b % 16) ∷ []
 unfolding encode_with

@@ -1,10 +1,11 @@
 //! The lines of services.
 
-ghost use Rattle.std.specs.Prelude.{◌≡◌, ◌++◌, OnOk, string_bytes};
+ghost use Rattle.std.specs.Prelude.{◌≡◌, ◌++◌, OnOk, codes, string_bytes};
 ghost use Rattle.std.specs.List.{flat_map};
 ghost use Rattle.ipx_tables.specs.Listing.{listed_key};
 ghost use Rattle.ipx_tables.specs.Service.{service_key_cmp};
 ghost use Rattle.ipx_tables.specs.Sorted.{IsRising};
+ghost use Rattle.ipx_commands.specs.ShowLine.{address_text, name_text, word_text};
 ghost use Rattle.ipx_known.specs.Standing.{is_among_best};
 ghost use Rattle.ipx_known.specs.TableText.{service_lines, service_offer_line};
 
@@ -13,10 +14,24 @@ use crate::words::{
     put_address, put_head, put_heard, put_name, put_short, put_source, seconds_since,
 };
 use ipx_tables::{Offer, ServiceKey, ServiceMetric, Source};
+use ipx_wire::Address;
 use std::alloc::AllocError;
 
 /// A service that a neighbour told of.
 pub type ServiceOffer = Offer<ServiceKey, ServiceMetric>;
+
+/// What a service is called, and where it is.
+fn put_place(text: &mut String, key: &ServiceKey, at: Address) -> Result<(), AllocError>
+    ensures { OnOk result (string_bytes text.new ≡ string_bytes text.old
+        ++ (word_text key.now.kind ++ (codes " " ++ (name_text key.now.name
+        ++ (codes " at " ++ address_text at))))) }
+{
+    put_short(text, key.kind)?;
+    text.push_str(" ")?;
+    put_name(text, &key.name)?;
+    text.push_str(" at ")?;
+    put_address(text, at)
+}
 
 fn put_service(
     text: &mut String,
@@ -27,11 +42,7 @@ fn put_service(
     ensures { OnOk result
         (string_bytes text.new ≡ string_bytes text.old ++ service_offer_line best now offer.now) }
 {
-    put_short(text, offer.key.kind)?;
-    text.push_str(" ")?;
-    put_name(text, &offer.key.name)?;
-    text.push_str(" at ")?;
-    put_address(text, offer.metric.at)?;
+    put_place(text, &offer.key, offer.metric.at)?;
     put_source(text, offer.source)?;
     let hops = offer.metric.hops;
     write!(text, " hops {hops}")?;
