@@ -1,1 +1,7 @@
-pub mod AskedWords
+pub mod JoinedWords
+pub mod ListedWords
+pub mod OneCommand
+pub mod OptionsBehind
+pub mod PingWords
+pub mod TypedWords
+pub mod WordsApart

@@ -1,6 +1,6 @@
 use Rattle.std.proofs.Common.{◌≡◌, ◌≢◌, ℕ, List, [], ◌∷◌, ap, codes, rules}
 use Rattle.ipx_tool.specs.Words.{target_words}
-use Rattle.ipx_tool.proofs.AskedWords.{found_times, none_of_seven}
+use Rattle.ipx_tool.proofs.PingWords.{found_times, none_of_seven}
 use Rattle.ipx_tool.proofs.words.counted_task.Goals as goal
 
 pub returns-then-eq : goal.returns-then-eq

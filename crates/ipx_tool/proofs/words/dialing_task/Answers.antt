@@ -1,5 +1,5 @@
 use Rattle.std.proofs.Common.{◌∙◌, sym, true≢false}
-use Rattle.ipx_tool.proofs.AskedWords.{plain_dialing}
+use Rattle.ipx_tool.proofs.PingWords.{plain_dialing}
 use Rattle.ipx_tool.proofs.words.dialing_task.Goals as goal
 use Rattle.ipx_tool.proofs.words.dialing_task.Goals.{then-is_option-via-then-is_option, then-is_option-via-else-is_option+then-has_option}
 

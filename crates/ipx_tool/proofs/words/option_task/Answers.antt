@@ -1,6 +1,7 @@
 use Rattle.std.proofs.Common.{◌≡◌, ◌≢◌, ℕ, List, [], ◌∷◌, codes, rules, subst, sym}
 use Rattle.ipx_tool.specs.Words.{AsksFor, Finds}
-use Rattle.ipx_tool.proofs.AskedWords.{NoOptions, found_behind, found_check, found_json, found_typed}
+use Rattle.ipx_tool.proofs.OptionsBehind.{found_behind, found_check, found_json}
+use Rattle.ipx_tool.proofs.TypedWords.{NoOptions, found_typed}
 use Rattle.ipx_tool.proofs.words.option_task.Goals as goal
 
 pub returns-then-eq : goal.returns-then-eq

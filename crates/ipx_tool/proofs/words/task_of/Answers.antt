@@ -1,6 +1,6 @@
 use Rattle.std.proofs.Common.{◌<◌, ◌≤◌, ℕ, List, [], ◌∷◌, length, string_bytes, ap, arith, ◌∙◌}
 use Rattle.std.proofs.lemmas.Bool.{ltb-true, ltb-false}
-use Rattle.ipx_tool.proofs.AskedWords.{behind_two, behind_three, behind_four, behind_five, behind_six, behind_eight, found_for, none_behind}
+use Rattle.ipx_tool.proofs.ListedWords.{behind_two, behind_three, behind_four, behind_five, behind_six, behind_eight, found_for, none_behind}
 use Rattle.ipx_tool.proofs.words.task_of.Goals as goal
 use Rattle.ipx_tool.proofs.words.task_of.Goals.{in_default-via-then-words-lt2, in_default-via-else-words-lt2+else-words-lt3+else-words-lt4+else-words-lt5+else-words-lt6+else-words-lt7+then-words-lt8, in_default-via-else-words-lt2+else-words-lt3+else-words-lt4+else-words-lt5+else-words-lt6+else-words-lt7+else-words-lt8+else-words-lt9}
 

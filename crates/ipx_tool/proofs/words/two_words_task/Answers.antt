@@ -1,6 +1,6 @@
 use Rattle.std.proofs.Common.{◌≡◌, ℕ, List, [], ◌∷◌, codes, rules, subst, sym}
 use Rattle.ipx_tool.specs.Words.{AsksFor, Finds}
-use Rattle.ipx_tool.proofs.AskedWords.{found_between, found_first, found_last}
+use Rattle.ipx_tool.proofs.TypedWords.{found_between, found_first, found_last}
 use Rattle.ipx_tool.proofs.words.two_words_task.Goals as goal
 
 pub returns-then-eq : goal.returns-then-eq

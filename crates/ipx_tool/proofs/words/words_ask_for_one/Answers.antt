@@ -1,4 +1,4 @@
-use Rattle.ipx_tool.proofs.AskedWords.{ask_for_one}
+use Rattle.ipx_tool.proofs.OneCommand.{ask_for_one}
 use Rattle.ipx_tool.proofs.words.words_ask_for_one.Goals as goal
 
 pub returns : goal.returns
