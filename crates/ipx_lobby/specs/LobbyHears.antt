@@ -341,8 +341,9 @@ IsAnswer heard bytes = (h : IpxHeader) × (answer_of heard ≡ Some h) × IsIpx 
 abbrev pub IsNotice : Heard → List ℕ → Type 0
 IsNotice heard bytes = (h : IpxHeader) × (notice_of heard ≡ Some h) × IsIpx (packet_of h []) bytes []
 
--- whom a packet of the core for all nodes reaches: each client, and no joined router, so that each
--- tells its own; and where it is to a service of a router nobody, since no client listens to that
+-- whom a packet of the core for all nodes reaches: each client here, as what another network sends to all
+-- nodes of this one, and no joined router; and where it is to a service of a router nobody, since no client
+-- listens to that
 abbrev pub all_get : Bool → Takers
 all_get to_service = if to_service then Nobody else All
 
