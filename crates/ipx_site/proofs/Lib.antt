@@ -23,3 +23,4 @@ pub mod PortsRun
 pub mod Marked
 pub mod MarksApart
 pub mod Present
+pub mod StationFaults

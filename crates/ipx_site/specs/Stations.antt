@@ -1,10 +1,30 @@
--- What a text describes that may be the file of a router or of a host. All of it is own.
-use Rattle.std.specs.Prelude.{ℕ, List}
-use Rattle.ipx_site.specs.Host.{IsHostText}
-use Rattle.ipx_site.specs.Site.{IsSiteText}
+-- What a text describes that may be the file of a router or of a host, and what is wrong with another. All
+-- of it is own.
+use Rattle.std.specs.Prelude.{ℕ, List, Bool, true, false, Option, Some, None, is_some}
+use Rattle.toml.specs.Data.{Members, get_member}
+use Rattle.toml.specs.Parse.{parse_document}
+use Rattle.ipx_site.specs.Host.{IsHostText, IsHostTextFault}
+use Rattle.ipx_site.specs.Keys.{key_text}
+use Rattle.ipx_site.specs.Site.{IsSiteText, IsSiteTextFault}
+use Rattle.ipx_site.specs.declared.fault.FileFault.{FileFault}
+use Rattle.ipx_site.specs.declared.key.Key.TheVariants as Key
 use Rattle.ipx_site.specs.declared.stations.StationFile.{StationFile}
 use Rattle.ipx_site.specs.declared.stations.StationFile.TheVariants.{Host, Router}
 
 abbrev pub IsStationText : List ℕ → StationFile → Type 0
 IsStationText text (Router site) = IsSiteText text site
 IsStationText text (Host host) = IsHostText text host
+
+-- a text has ports where it is TOML with their key
+abbrev pub has_port_key : Option Members → Bool
+has_port_key None = false
+has_port_key (Some ms) = is_some (get_member (key_text Key.Port) ms)
+
+-- the first fault of a text as that of a router, or of a host
+abbrev pub IsFaultOfKind : Bool → List ℕ → FileFault → Type 0
+IsFaultOfKind true text f = IsSiteTextFault text f
+IsFaultOfKind false text f = IsHostTextFault text f
+
+-- a text with ports is that of a router, and any other that of a host
+abbrev pub IsStationTextFault : List ℕ → FileFault → Type 0
+IsStationTextFault text f = IsFaultOfKind (has_port_key (parse_document text)) text f

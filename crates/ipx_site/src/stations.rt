@@ -2,15 +2,19 @@
 
 ghost use Rattle.std.specs.Prelude.{◌≡◌, ◌⊎◌, ℕ, List, IfErr, IfOk, OnOk, false, true};
 ghost use Rattle.ipx_known.specs.TableParts.{has_all_titles};
-ghost use Rattle.ipx_site.specs.Loading.{IsFileText};
-ghost use Rattle.ipx_site.specs.Stations.{IsStationText};
+ghost use Rattle.toml.specs.Parse.{parse_document};
+ghost use Rattle.ipx_site.specs.Loading.{IsFileText, IsStatus};
+ghost use Rattle.ipx_site.specs.Stations.{IsStationText, IsStationTextFault, has_port_key};
 
+use crate::fault::FileFault;
+use crate::fields::held;
 use crate::files::{MOST, host_in, read_bytes, site_in, tell, tell_no_memory};
 use crate::host::HostFile;
 use crate::key::Key;
 use crate::site::SiteFile;
 use crate::toml_text::table_of;
 use ipx_known::has_all_titles;
+use ipx_wire::OutOfMemory;
 use std::alloc::Global;
 use std::rt::Files;
 use std::str;
@@ -25,23 +29,42 @@ pub enum StationFile {
     Host(HostFile),
 }
 
-/// Whether bytes are the file of a router: it has ports, and a host has none.
-fn has_ports(alloc: Global, bytes: &[u8]) -> bool {
-    let Ok(text) = str::from_utf8(bytes) else {
-        return false;
-    };
+/// Whether a text is that of a router: it has ports, and that of a host has none.
+fn has_ports(alloc: Global, text: &str) -> Result<bool, OutOfMemory>
+    ensures { IfOk result (λ has. has ≡ has_port_key (parse_document text.now)) }
+{
     match table_of(alloc, text) {
-        Ok(table) => table.contains_key(Key::Port.text()),
-        Err(_) => false,
+        Ok(table) => Ok(held(&table, Key::Port).is_some()),
+        Err(FileFault::OutOfMemory) => Err(OutOfMemory),
+        Err(_) => Ok(false),
+    }
+}
+
+/// Whether the bytes of a file are read as a router's. Want of memory is told.
+fn is_router<R: Eprint>(rt: &R, alloc: Global, path: &str, bytes: &[u8]) -> Result<bool, u8>
+    ensures kind { IfOk result (λ router. (IsFileText bytes.now → ⊥)
+        ⊎ (router ≡ has_port_key (parse_document bytes.now))) }
+    ensures few { IfErr result (λ status. status ≡ 1) }
+{
+    if bytes.len() > MOST {
+        return Ok(false);
+    }
+    let Ok(text) = str::from_utf8(bytes) else {
+        return Ok(false);
+    };
+    match has_ports(alloc, text) {
+        Ok(router) => Ok(router),
+        Err(_) => Err(tell_no_memory(rt, path)),
     }
 }
 
 /// What the bytes of a file describe.
+#[tactic(auto, using(crate::proofs::StationFaults::status_of_kind))]
 fn station_in<R: Eprint>(rt: &R, alloc: Global, path: &str, bytes: &[u8]) -> Result<StationFile, u8>
     ensures station { IfOk result (λ s. IsFileText bytes.now × IsStationText bytes.now s) }
-    ensures fault { IfErr result (λ status. (status ≡ 1) ⊎ (status ≡ 2)) }
+    ensures fault { IfErr result (IsStatus (IsStationTextFault bytes.now) bytes.now) }
 {
-    if bytes.len() <= MOST && has_ports(alloc, bytes) {
+    if is_router(rt, alloc, path, bytes)? {
         let site = site_in(rt, alloc, path, bytes)?;
         return Ok(StationFile::Router(site));
     }
