@@ -17,7 +17,7 @@ use Rattle.ipx_site.specs.declared.site.SiteFile.{SiteFile}
 use Rattle.ipx_site.specs.declared.site.SitePort.{SitePort}
 use Rattle.ipx_site.specs.PortKinds.{place_of_kind}
 use Rattle.ipx_site.specs.SitePeers.{is_peer}
-use Rattle.ipx_site.specs.WireValues.{frame_word}
+use Rattle.ipx_site.specs.WireValues.{frame_word, is_same_place}
 use Rattle.ipx_wire.specs.declared.address.Network.{Network}
 use Rattle.ipx_wire.specs.declared.address.Node.{Node}
 use Rattle.ipx_wires.specs.declared.sockets.Place.{Place}
@@ -136,10 +136,6 @@ peer_remark whose address earlier peer =
     else (if is_peer earlier peer
     then whose ++ (codes "peer " ++ (dotted_text peer ++ codes " stands twice\n"))
     else [])
-
--- two places are one
-abbrev pub is_same_place : Place → Place → Bool
-is_same_place a b = pointwise nat_eq b.ip a.ip && (b.udp_port == a.udp_port)
 
 -- the ends of a wire, and joined routers, are elsewhere than the port, and none of them stands twice
 abbrev pub wire_end_remark : List ℕ → Place → List Place → Place → List ℕ

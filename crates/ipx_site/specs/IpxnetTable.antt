@@ -1,10 +1,11 @@
 -- A port for clients of ipxnet in the file of a router: a table `[[port]]`. All of it is own.
-use Rattle.std.specs.Prelude.{Vec, ◌≡◌, ◌⊎◌, ℕ, List, [], None}
+use Rattle.std.specs.Prelude.{Vec, ◌≡◌, ◌⊎◌, ℕ, List, [], None, true, false}
 use Rattle.std.specs.Global.{Global}
 use Rattle.toml.specs.Data.{Members, get_member}
 use Rattle.ipx_lobby.specs.LobbyClients.{most_lobby_clients}
 use Rattle.ipx_wires.specs.declared.sockets.Place.{Place}
 use Rattle.ipx_site.specs.declared.fault.FileFault.{FileFault}
+use Rattle.ipx_site.specs.declared.fault.FileFault.TheVariants.{Wrong}
 use Rattle.ipx_site.specs.declared.key.Key.TheVariants as Key
 use Rattle.ipx_site.specs.declared.site.Accept.{Accept}
 use Rattle.ipx_site.specs.declared.site.Accept.TheVariants as Who
@@ -13,7 +14,7 @@ use Rattle.ipx_site.specs.declared.site.Kind.TheVariants as Of
 use Rattle.ipx_site.specs.Fields.{Holds, HoldsOr, IsFault, IsMissing, IsRight, IsRightOr, IsStray, IsWrong}
 use Rattle.ipx_site.specs.Keys.{first_unknown, ipxnet_keys, key_text}
 use Rattle.ipx_site.specs.Values.{AreAddressesOf, IsAccept, IsCount, IsIpAddress, IsNetwork}
-use Rattle.ipx_site.specs.WireValues.{AreWireEnds, IsStation, made_station}
+use Rattle.ipx_site.specs.WireValues.{AreWireEnds, IsStation, are_places_apart, made_station}
 
 -- who may register: the peers that are named, which must be where not everybody may
 abbrev pub ArePeersFor : Accept → Members → Vec (List ℕ) Global → Type 0
@@ -24,10 +25,17 @@ abbrev pub IsPeersFault : Accept → Members → ℕ → FileFault → Type 0
 IsPeersFault accept ms table f = ((accept ≡ Who.Peers) × IsMissing Key.Peers ms table f)
     ⊎ IsWrong AreAddressesOf Key.Peers ms table f
 
--- where the routers are whose lobbies are joined with this one: the places that are named, or none
+-- where the routers are whose lobbies are joined with this one: the places that are named, each once, or
+-- none
 abbrev pub AreJoinedRouters : Members → Vec Place Global → Type 0
 AreJoinedRouters ms join = ((get_member (key_text Key.Join) ms ≡ None) × (join.items ≡ []))
-    ⊎ Holds AreWireEnds Key.Join ms join
+    ⊎ (Holds AreWireEnds Key.Join ms join × (are_places_apart join.items ≡ true))
+
+-- what names them names no places, or one of them twice
+abbrev pub IsJoinFault : Members → ℕ → FileFault → Type 0
+IsJoinFault ms table f = IsWrong AreWireEnds Key.Join ms table f
+    ⊎ ((f ≡ Wrong table Key.Join) × ((join : Vec Place Global) × Holds AreWireEnds Key.Join ms join
+    × (are_places_apart join.items ≡ false)))
 
 -- a table is that of such a port, if its kind is that
 pub record IsIpxnetTable (ms : Members) (p : IpxnetPort) : Type 0 where
@@ -47,7 +55,7 @@ abbrev pub IsClientsFault : Members → ℕ → FileFault → Type 0
 IsClientsFault ms table f = IsWrong (IsCount most_lobby_clients) Key.Clients ms table f
     ⊎ (IsRightOr (IsCount most_lobby_clients) Key.Clients ms × (IsWrong IsAccept Key.Accept ms table f
     ⊎ ((accept : Accept) × HoldsOr IsAccept Key.Accept ms Who.Peers accept × (IsPeersFault accept ms table f
-    ⊎ ((peers : Vec (List ℕ) Global) × ArePeersFor accept ms peers × IsWrong AreWireEnds Key.Join ms table f)))))
+    ⊎ ((peers : Vec (List ℕ) Global) × ArePeersFor accept ms peers × IsJoinFault ms table f)))))
 
 -- the first fault of the table: a name that is no key of this kind, and then the keys in order
 abbrev pub IsIpxnetFault : ℕ → Members → FileFault → Type 0

@@ -1,7 +1,9 @@
 -- What the values of the keys of a port on a wire mean. All of it is own.
-use Rattle.std.specs.Prelude.{Vec, ◌≡◌, ℕ, ◌+◌, ◌*◌, ◌/◌, ◌==◌, ◌≤◌, List, [], ◌∷◌, ◌++◌, Bool, true, not, ◌&&◌, Option, Some, codes, drop, length, slice_index, MatchOption}
+use Rattle.std.specs.Prelude.{Vec, ◌≡◌, ℕ, ◌+◌, ◌*◌, ◌/◌, ◌==◌, ◌≤◌, List, [], ◌∷◌, ◌++◌, Bool, true, not, ◌&&◌, Option, Some, codes, drop, length, nat_eq, slice_index, MatchOption}
+use Rattle.std.specs.Cmp.Lexicographic.{pointwise}
 use Rattle.std.specs.Global.{Global}
 use Rattle.std.specs.Int.{w16, to_be_bytes}
+use Rattle.std.specs.List.{list_any}
 use Rattle.std.specs.Net.Grammar.{IsSocketV4Text}
 use Rattle.std.specs.Str.{bytes_eq}
 use Rattle.std.specs.declared.net.socket_addr.SocketAddrV4.{SocketAddrV4}
@@ -35,6 +37,15 @@ socket_at p = record { ip = record { octets = p.ip }; port = p.udp_port }
 -- a place where an end can be: the address 0.0.0.0 and the port 0 are none
 abbrev pub is_somewhere : Place → Bool
 is_somewhere p = not (bytes_eq p.ip (0 ∷ 0 ∷ 0 ∷ 0 ∷ [])) && not (p.udp_port == 0)
+
+-- two places are one
+abbrev pub is_same_place : Place → Place → Bool
+is_same_place a b = pointwise nat_eq b.ip a.ip && (b.udp_port == a.udp_port)
+
+-- none of some places stands twice
+abbrev pub are_places_apart : List Place → Bool
+are_places_apart [] = true
+are_places_apart (p ∷ ps) = not (list_any (is_same_place p) ps) && are_places_apart ps
 
 -- an IP address, a colon and a port of UDP: such a place
 abbrev pub WritesPlace : List ℕ → Place → Type 0

@@ -2,9 +2,8 @@
 
 ghost use Rattle.std.specs.Prelude.{◌≡◌, ◌⊎◌, IfErr, IfOk};
 ghost use Rattle.toml.specs.View.{table_view};
-ghost use Rattle.ipx_site.specs.IpxnetTable.{AreJoinedRouters, ArePeersFor, IsIpxnetFault, IsIpxnetTable, IsPeersFault};
-ghost use Rattle.ipx_site.specs.Fields.{IsWrong};
-ghost use Rattle.ipx_site.specs.WireValues.{AreWireEnds};
+ghost use Rattle.ipx_site.specs.IpxnetTable.{AreJoinedRouters, ArePeersFor, IsIpxnetFault, IsIpxnetTable, IsJoinFault, IsPeersFault};
+ghost use Rattle.ipx_site.specs.WireValues.{are_places_apart};
 
 use crate::fault::FileFault;
 use crate::fields::{accept_in, address_in, count_in, held, network_in, refuse_stray};
@@ -46,18 +45,31 @@ fn registering_in(
     }
 }
 
-/// Where the routers are whose lobbies are joined with that of a port: none, where nothing is said.
+/// Whether none of some places stands twice.
+fn are_apart(places: &[Place]) -> bool
+    ensures { result ≡ are_places_apart places.now }
+{
+    for (index, place) in places.iter().enumerate() {
+        if places[index + 1..].contains(place) {
+            return false;
+        }
+    }
+    true
+}
+
+/// Where the routers are whose lobbies are joined with that of a port, each once: none, where nothing is
+/// said.
 fn joined_routers_in(alloc: Global, table: &Table, number: usize) -> Result<Vec<Place>, FileFault>
     ensures join { IfOk result (AreJoinedRouters (table_view table.now)) }
-    ensures fault { IfErr result (λ f. (f ≡ FileFault.OutOfMemory)
-        ⊎ IsWrong AreWireEnds Key.Join (table_view table.now) number f) }
+    ensures fault { IfErr result (λ f.
+        (f ≡ FileFault.OutOfMemory) ⊎ IsJoinFault (table_view table.now) number f) }
 {
     let Some(value) = held(table, Key::Join) else {
         return Ok(Vec::new(alloc));
     };
     match ends_of(alloc, value)? {
-        Some(routers) => Ok(routers),
-        None => Err(FileFault::Wrong(number, Key::Join)),
+        Some(routers) if are_apart(&routers) => Ok(routers),
+        Some(_) | None => Err(FileFault::Wrong(number, Key::Join)),
     }
 }
 

@@ -87,7 +87,7 @@ impl Key {
             Key::Node => "the address of one station, as \"02:00:00:00:00:22\"",
             Key::Hub => "true or false",
             Key::Clients => "a number from 1 to 150, as 64",
-            Key::Join => "a list of 1 to 256 places, as [\"198.51.100.7:2130\"]",
+            Key::Join => "a list of 1 to 256 places, each once, as [\"198.51.100.7:2130\"]",
         }
     }
 }

@@ -97,7 +97,7 @@ address = \"192.0.2.10\"
 udp_port = 2130
 ";
 
-const PLAYERS: [(&str, &str); 19] = [
+const PLAYERS: [(&str, &str); 21] = [
     ("accept = \"any\"", "none"),
     ("peers = []", "none"),
     (
@@ -151,11 +151,19 @@ const PLAYERS: [(&str, &str); 19] = [
     ),
     (
         "accept = \"any\"\njoin = []",
-        "port 1: join is to be a list of 1 to 256 places, as [\"198.51.100.7:2130\"]",
+        "port 1: join is to be a list of 1 to 256 places, each once, as [\"198.51.100.7:2130\"]",
     ),
     (
         "accept = \"any\"\njoin = [\"198.51.100.7\"]",
-        "port 1: join is to be a list of 1 to 256 places, as [\"198.51.100.7:2130\"]",
+        "port 1: join is to be a list of 1 to 256 places, each once, as [\"198.51.100.7:2130\"]",
+    ),
+    (
+        "accept = \"any\"\njoin = [\"198.51.100.7:2130\", \"203.0.113.5:2130\", \"198.51.100.7:2130\"]",
+        "port 1: join is to be a list of 1 to 256 places, each once, as [\"198.51.100.7:2130\"]",
+    ),
+    (
+        "accept = \"any\"\njoin = [\"198.51.100.7:2130\", \"198.51.100.7:2131\", \"198.51.100.8:2130\"]",
+        "none",
     ),
     (
         "peers = 1\njoin = 1",
