@@ -1,11 +1,13 @@
 -- What a router tells of who comes to its ports for clients of ipxnet, and of who is gone. All of it is
 -- own.
 use Rattle.std.specs.Prelude.{ℕ, ◌+◌, ◌-◌, List, [], ◌∷◌, ◌++◌, Bool, not, ◌==◌, ◌&&◌, filter, length, map, slice_get, take, Option, Some, None}
+use Rattle.std.specs.HashSet.{HashSet, contains_by}
 use Rattle.std.specs.List.{list_any}
 use Rattle.std.specs.Str.{bytes_eq}
 use Rattle.ipx_lobby.specs.declared.clients.Client.{Client}
 use Rattle.ipx_lobby.specs.LobbyClients.{are_one_place}
 use Rattle.ipx_lobby.specs.LobbyHears.{LobbyView}
+use Rattle.ipx_site.specs.declared.client_lines.ClientKey.{ClientKey}
 use Rattle.ipx_site.specs.declared.client_lines.PortClient.{PortClient}
 use Rattle.ipx_site.specs.declared.router_ports.Spot.{Spot}
 use Rattle.ipx_site.specs.declared.router_ports.Spot.TheVariants.{Datagrams, Wire, Lobby}
@@ -20,7 +22,7 @@ is_one_client a b =
     (a.port == b.port) && (are_one_place a.place b.place && bytes_eq a.node.0 b.node.0)
 
 abbrev pub is_listed_client : List PortClient → PortClient → Bool
-is_listed_client clients client = list_any (λ one. is_one_client one client) clients
+is_listed_client clients client = list_any (λ one. is_one_client client one) clients
 
 -- those of some clients that are none of these
 abbrev pub clients_without : List PortClient → List PortClient → List PortClient
@@ -60,3 +62,22 @@ abbrev pub all_clients : ℕ → List Spot → List LobbyView → List PortClien
 all_clients port [] lobbies = []
 all_clients port (s ∷ spots) lobbies =
     spot_clients port s lobbies ++ all_clients (port + 1) spots lobbies
+
+-- ---- words of the private functions
+
+-- what tells a client from every other
+abbrev pub client_key : PortClient → ClientKey
+client_key c = record {
+  port = c.port;
+  ip = c.place.ip;
+  udp_port = c.place.udp_port;
+  node = c.node.0;
+}
+
+abbrev pub is_same_key : ClientKey → ClientKey → Bool
+is_same_key a b = (a.port == b.port)
+    && (bytes_eq a.ip b.ip && ((a.udp_port == b.udp_port) && bytes_eq a.node b.node))
+
+-- the key of a client is one of these
+abbrev pub has_client_key : {S : Type 0} → HashSet ClientKey S → PortClient → Bool
+has_client_key keys c = contains_by (is_same_key (client_key c)) keys

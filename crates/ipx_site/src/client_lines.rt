@@ -2,7 +2,8 @@
 
 ghost use Rattle.std.specs.Prelude.{◌≡◌, ◌≤◌, ◌+◌, ◌++◌, [], IfOk, None, OnErr, OnOk, Some, length};
 ghost use Rattle.ipx_site.specs.ClientLines.{all_clients, clients_come, clients_gone, clients_told, clients_without};
-ghost use Rattle.ipx_site.specs.ClientLines.{is_listed_client, is_one_client, most_client_lines, port_clients, spot_clients};
+ghost use Rattle.ipx_site.specs.ClientLines.{client_key, has_client_key, is_listed_client, most_client_lines, port_clients, spot_clients};
+ghost use Rattle.ipx_site.specs.declared.client_lines.PortClient.{PortClient};
 ghost use Rattle.ipx_site.specs.Moments.{HasPassed};
 
 use crate::moments::is_over;
@@ -11,6 +12,7 @@ use ipx_lobby::{Client, Lobby, Place};
 use ipx_wire::Node;
 use log::{Log, info};
 use std::alloc::{AllocError, Global};
+use std::collections::HashSet;
 
 /// How many lines are told at once at most, and how long it is to the next look, in milliseconds.
 const MOST_LINES: usize = 10;
@@ -42,17 +44,39 @@ pub struct ToldClients {
     looked: Option<u64>,
 }
 
-fn is_one(a: &PortClient, b: &PortClient) -> bool
-    ensures { result ≡ is_one_client a.now b.now }
-{
-    a.port == b.port && a.place == b.place && a.node == b.node
+/// What tells a client of a port from every other.
+#[derive(Clone, Copy, PartialEq, Eq, Hash)]
+struct ClientKey {
+    port: usize,
+    ip: [u8; 4],
+    udp_port: u16,
+    node: [u8; 6],
 }
 
-/// Whether a client is one of these.
-fn is_listed(clients: &[PortClient], client: &PortClient) -> bool
-    ensures { result ≡ is_listed_client clients.now client.now }
+fn key_of(client: &PortClient) -> ClientKey
+    ensures { result ≡ client_key client.now }
 {
-    clients.iter().any(|one| is_one(one, client))
+    ClientKey {
+        port: client.port,
+        ip: client.place.ip,
+        udp_port: client.place.udp_port,
+        node: client.node.0,
+    }
+}
+
+/// The keys of some clients, among which one is found without a walk over all.
+fn keys_of(alloc: Global, clients: &[PortClient]) -> Result<HashSet<ClientKey>, AllocError>
+    ensures { IfOk result (λ keys. (client : PortClient) →
+        has_client_key keys client ≡ is_listed_client clients.now client) }
+{
+    clients.iter().map(key_of).collect(alloc)
+}
+
+/// Whether the key of a client is one of these.
+fn is_listed(keys: &HashSet<ClientKey>, client: &PortClient) -> bool
+    ensures { result ≡ has_client_key keys.now client.now }
+{
+    keys.contains(&key_of(client))
 }
 
 /// Those of some clients that are none of these.
@@ -64,9 +88,10 @@ fn without(
     ensures { IfOk result (λ v.
         v.items ≡ clients_without clients.now these.now) }
 {
+    let these = keys_of(alloc, these)?;
     clients
         .iter()
-        .filter(|client| !is_listed(these, client))
+        .filter(|client| !is_listed(&these, client))
         .copied()
         .collect(alloc)
 }
