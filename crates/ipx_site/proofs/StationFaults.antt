@@ -1,14 +1,13 @@
 -- What is wrong with a file that may be a router's or a host's.
-use Rattle.std.proofs.Common.{◌≡◌, ◌⊎◌, ℕ, List, Bool, inl, inr, subst}
-use Rattle.toml.specs.Parse.{parse_document}
+use Rattle.std.proofs.Common.{◌≡◌, ℕ, List, Bool, true, false, true≢false, inl, inr, sym}
 use Rattle.ipx_site.specs.Loading.{IsFileText, IsStatus}
-use Rattle.ipx_site.specs.Stations.{IsFaultOfKind, IsStationTextFault, has_port_key}
+use Rattle.ipx_site.specs.Stations.{IsFaultOfStation}
 
--- the status of a fault of a text of a kind is that of a file that is of this kind, or no text
-pub status_of_kind : (bytes : List ℕ) (kind : Bool) (status : ℕ)
-    → (IsFileText bytes → ⊥) ⊎ (kind ≡ has_port_key (parse_document bytes))
-    → IsStatus (IsFaultOfKind kind bytes) bytes status → IsStatus (IsStationTextFault bytes) bytes status
-status_of_kind bytes kind status of_kind (inl memory) = inl memory
-status_of_kind bytes kind status (inl none) (inr said) = inr (said.0, inl none)
-status_of_kind bytes kind status (inr same) (inr said) =
-    subst (λ it. IsStatus (IsFaultOfKind it bytes) bytes status) same (inr said)
+-- what a file that is a text is read as, and what that text is to be read as, are the same: so is the status
+pub status_of_kind : (bytes : List ℕ) (kind has : Bool) (status : ℕ) → (IsFileText bytes → kind ≡ has)
+    → IsStatus (IsFaultOfStation kind bytes) bytes status → IsStatus (IsFaultOfStation has bytes) bytes status
+status_of_kind bytes true true status same said = said
+status_of_kind bytes false false status same said = said
+status_of_kind bytes kind has status same (inl memory) = inl memory
+status_of_kind bytes true false status same (inr said) = inr (said.0, inl (λ text. true≢false (same text)))
+status_of_kind bytes false true status same (inr said) = inr (said.0, inl (λ text. true≢false (sym (same text))))

@@ -21,10 +21,10 @@ has_port_key None = false
 has_port_key (Some ms) = is_some (get_member (key_text Key.Port) ms)
 
 -- the first fault of a text as that of a router, or of a host
-abbrev pub IsFaultOfKind : Bool → List ℕ → FileFault → Type 0
-IsFaultOfKind true text f = IsSiteTextFault text f
-IsFaultOfKind false text f = IsHostTextFault text f
+abbrev pub IsFaultOfStation : Bool → List ℕ → FileFault → Type 0
+IsFaultOfStation true text f = IsSiteTextFault text f
+IsFaultOfStation false text f = IsHostTextFault text f
 
 -- a text with ports is that of a router, and any other that of a host
 abbrev pub IsStationTextFault : List ℕ → FileFault → Type 0
-IsStationTextFault text f = IsFaultOfKind (has_port_key (parse_document text)) text f
+IsStationTextFault text f = IsFaultOfStation (has_port_key (parse_document text)) text f

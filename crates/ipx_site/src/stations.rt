@@ -42,8 +42,8 @@ fn has_ports(alloc: Global, text: &str) -> Result<bool, OutOfMemory>
 
 /// Whether the bytes of a file are read as a router's. Want of memory is told.
 fn is_router<R: Eprint>(rt: &R, alloc: Global, path: &str, bytes: &[u8]) -> Result<bool, u8>
-    ensures kind { IfOk result (λ router. (IsFileText bytes.now → ⊥)
-        ⊎ (router ≡ has_port_key (parse_document bytes.now))) }
+    ensures kind { IfOk result (λ router. IsFileText bytes.now
+        → router ≡ has_port_key (parse_document bytes.now)) }
     ensures few { IfErr result (λ status. status ≡ 1) }
 {
     if bytes.len() > MOST {
