@@ -24,3 +24,4 @@ pub mod Marked
 pub mod MarksApart
 pub mod Present
 pub mod StationFaults
+pub mod ListedClients

@@ -3,7 +3,6 @@
 ghost use Rattle.std.specs.Prelude.{◌≡◌, ◌≤◌, ◌+◌, ◌++◌, [], IfOk, None, OnErr, OnOk, Some, length};
 ghost use Rattle.ipx_site.specs.ClientLines.{all_clients, clients_come, clients_gone, clients_told, clients_without};
 ghost use Rattle.ipx_site.specs.ClientLines.{client_key, has_client_key, is_listed_client, most_client_lines, port_clients, spot_clients};
-ghost use Rattle.ipx_site.specs.declared.client_lines.PortClient.{PortClient};
 ghost use Rattle.ipx_site.specs.Moments.{HasPassed};
 
 use crate::moments::is_over;

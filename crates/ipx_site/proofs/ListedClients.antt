@@ -1,0 +1,21 @@
+-- A client is sought by its key.
+use Rattle.std.proofs.Common.{◌≡◌, ◌&&◌, ◌||◌, ◌==◌, List, [], ◌∷◌, Bool, true, false, map, refl, ap}
+use Rattle.std.specs.List.{list_any}
+use Rattle.std.specs.Str.{bytes_eq}
+use Rattle.ipx_site.specs.ClientLines.{client_key, is_listed_client, is_one_client, is_same_key}
+use Rattle.ipx_site.specs.declared.client_lines.PortClient.{PortClient}
+
+regrouped : (a b c : Bool) → (a && (b && c)) ≡ ((a && b) && c)
+regrouped true b c = refl
+regrouped false b c = refl
+
+-- two clients are one where their keys are
+same_by_key : (a b : PortClient) → is_same_key (client_key a) (client_key b) ≡ is_one_client a b
+same_by_key a b = ap (λ rest. (a.port == b.port) && rest)
+    (regrouped (bytes_eq a.place.ip b.place.ip) (a.place.udp_port == b.place.udp_port) (bytes_eq a.node.0 b.node.0))
+
+-- so one is listed where its key is one of theirs
+pub listed_by_key : (client : PortClient) (clients : List PortClient)
+    → list_any (is_same_key (client_key client)) (map client_key clients) ≡ is_listed_client clients client
+listed_by_key client [] = refl
+listed_by_key client (c ∷ clients) = λ i. same_by_key client c i || listed_by_key client clients i
