@@ -25,3 +25,4 @@ pub mod MarksApart
 pub mod Present
 pub mod StationFaults
 pub mod ListedClients
+pub mod PlacesApart
