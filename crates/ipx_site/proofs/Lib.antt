@@ -25,4 +25,3 @@ pub mod MarksApart
 pub mod Present
 pub mod StationFaults
 pub mod ListedClients
-pub mod PlacesApart

@@ -68,7 +68,7 @@ fn keys_of(alloc: Global, clients: &[PortClient]) -> Result<HashSet<ClientKey>, 
     ensures { IfOk result (λ keys. (client : PortClient) →
         has_client_key keys client ≡ is_listed_client clients.now client) }
 {
-    clients.iter().map(key_of).collect(alloc)
+    clients.iter().map(|client| key_of(client)).collect(alloc)
 }
 
 /// Whether the key of a client is one of these.

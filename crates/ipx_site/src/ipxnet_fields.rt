@@ -67,9 +67,13 @@ fn joined_routers_in(alloc: Global, table: &Table, number: usize) -> Result<Vec<
     let Some(value) = held(table, Key::Join) else {
         return Ok(Vec::new(alloc));
     };
-    match ends_of(alloc, value)? {
-        Some(routers) if are_apart(&routers) => Ok(routers),
-        Some(_) | None => Err(FileFault::Wrong(number, Key::Join)),
+    let Some(routers) = ends_of(alloc, value)? else {
+        return Err(FileFault::Wrong(number, Key::Join));
+    };
+    if are_apart(&routers) {
+        Ok(routers)
+    } else {
+        Err(FileFault::Wrong(number, Key::Join))
     }
 }
 
