@@ -2,13 +2,15 @@
 
 ghost use Rattle.std.specs.Prelude.{◌≡◌, false, None, All, IfOk, OnOk, OnErr};
 ghost use Rattle.ipx_router.specs.Ports.{IsPortNumber};
+ghost use Rattle.ipx_router.specs.Telling.{IsNextTelling};
 ghost use Rattle.ipx_by_hand.specs.ByHand.{HearsIfDue, MissesIfDue};
 ghost use Rattle.ipx_by_hand.specs.HandWords.{AreWordsOf};
 
-use crate::hearing::{hear_words, is_time};
+use crate::hearing::{hear_words, is_time, next_time};
 use crate::neighbour::SilentNeighbour;
 use crate::words::words_of;
-use ipx_carrier::{Core, RouterCore};
+use ipx_carrier::Core;
+use ipx_figures::CountedRouter;
 use ipx_router::Reply;
 use ipx_wire::{Node, OutOfMemory};
 use std::alloc::Global;
@@ -64,6 +66,16 @@ impl<C: Core + Drop> ByHand<C> {
         &self.core
     }
 
+    /// The moment, in milliseconds, from which on the core below hears the words as it is asked for
+    /// a packet. None where no clock can show that moment.
+    ///
+    /// Whoever waits for datagrams wakes by then, and asks.
+    pub fn next_words(&self) -> Option<u64>
+        ensures { IsNextTelling self.now.said result }
+    {
+        next_time(self.said)
+    }
+
     /// Lets the core below hear the words, if it is time.
     fn say(&mut self, alloc: Global, now: u64) -> Result<(), OutOfMemory>
         ensures heard { OnOk result (HearsIfDue C.hears self.old now self.new) }
@@ -78,7 +90,7 @@ impl<C: Core + Drop> ByHand<C> {
     }
 }
 
-impl ByHand<RouterCore> {
+impl ByHand<CountedRouter> {
     /// The router asks its neighbours once more, as `RouterCore::ask_again` says.
     pub fn ask_again(&mut self)
         ensures { self.new ≡ record self.old { core = record self.old.core { started = false } } }

@@ -3,7 +3,7 @@
 ghost use Rattle.std.specs.Prelude.{◌≡◌, OnOk, OnErr};
 ghost use Rattle.ipx_router.specs.Ports.{AreOnPorts};
 ghost use Rattle.ipx_router.specs.RouterPackets.{sendings};
-ghost use Rattle.ipx_router.specs.Telling.{is_due};
+ghost use Rattle.ipx_router.specs.Telling.{IsNextTelling, is_due};
 ghost use Rattle.ipx_by_hand.specs.ByHand.{HearsWords, MissesAWord};
 
 use ipx_carrier::Core;
@@ -21,6 +21,16 @@ pub fn is_time(said: Option<u64>, now: u64) -> bool
     match said {
         None => true,
         Some(last) => now.saturating_sub(last) >= PERIOD,
+    }
+}
+
+/// The moment from which on it is time.
+pub fn next_time(said: Option<u64>) -> Option<u64>
+    ensures { IsNextTelling said result }
+{
+    match said {
+        None => Some(0),
+        Some(last) => last.checked_add(PERIOD),
     }
 }
 

@@ -22,6 +22,23 @@ fn once_a_minute(rt: HostRuntime) -> Result<(), Fail> {
     Ok(())
 }
 
+/// When to ask next, for whoever waits: at once at first, and then a minute after the last time.
+#[test]
+fn when_to_ask_next(rt: HostRuntime) -> Result<(), Fail> {
+    let alloc = rt.alloc();
+    let mut core = ears(alloc, 1, 0, None)?;
+    assert!(rt; core.next_words() == Some(0));
+    ask(alloc, &mut core, 1000)?;
+    assert!(rt; core.next_words() == Some(61_000));
+    ask(alloc, &mut core, 60_999)?;
+    assert!(rt; core.next_words() == Some(61_000));
+    ask(alloc, &mut core, u64::MAX - 60_000)?;
+    assert!(rt; core.next_words() == Some(u64::MAX));
+    ask(alloc, &mut core, u64::MAX)?;
+    assert!(rt; core.next_words() == None);
+    Ok(())
+}
+
 /// Where a clock goes back, the minute is counted from the last time.
 #[test]
 fn a_clock_that_goes_back(rt: HostRuntime) -> Result<(), Fail> {

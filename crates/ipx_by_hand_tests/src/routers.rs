@@ -5,7 +5,8 @@ ghost use Rattle.std.specs.Prelude.{◌≡◌};
 
 use crate::fixture::{NEXT, ask, backup, silent};
 use ipx_by_hand::ByHand;
-use ipx_carrier::{Core, RouterCore};
+use ipx_carrier::Core;
+use ipx_figures::CountedRouter;
 use ipx_router::{Port, Router};
 use ipx_tables::{ServiceKey, Source};
 use ipx_wire::{Network, Node, OutOfMemory};
@@ -25,16 +26,16 @@ fn port(network: u32, last: u8) -> Port
 }
 
 /// The router, whose neighbour speaks by hand, or has nothing to say.
-pub fn router(alloc: Global, speaks: u32) -> Result<ByHand<RouterCore>, OutOfMemory> {
+pub fn router(alloc: Global, speaks: u32) -> Result<ByHand<CountedRouter>, OutOfMemory> {
     let Ok(router) = Router::new(alloc, vec![in alloc; port(0x11, 1), port(0x22, 2)]?) else {
         return Err(OutOfMemory);
     };
     let neighbour = silent(alloc, 1, speaks, speaks)?;
-    ByHand::new(alloc, RouterCore::new(alloc, router), &[neighbour])
+    ByHand::new(alloc, CountedRouter::new(alloc, router)?, &[neighbour])
 }
 
 /// The packets that the router gives at a moment, in hex behind the device's port, a line each.
-fn given(alloc: Global, core: &mut ByHand<RouterCore>, now: u64) -> Result<String, Fail> {
+fn given(alloc: Global, core: &mut ByHand<CountedRouter>, now: u64) -> Result<String, Fail> {
     let mut room = [0; 1536];
     let mut text = String::new(alloc);
     for _ in 0..64_u32 {
@@ -48,12 +49,12 @@ fn given(alloc: Global, core: &mut ByHand<RouterCore>, now: u64) -> Result<Strin
 }
 
 /// How many hops AA is away, and over whom.
-pub fn way(core: &ByHand<RouterCore>, now: u64) -> Option<(Source, u16)> {
+pub fn way(core: &ByHand<CountedRouter>, now: u64) -> Option<(Source, u16)> {
     let best = core.core().router().routes().best(&BEHIND, now)?;
     Some((best.0, best.1.hops))
 }
 
-pub fn has_service(core: &ByHand<RouterCore>, now: u64) -> bool {
+pub fn has_service(core: &ByHand<CountedRouter>, now: u64) -> bool {
     let key = ServiceKey {
         kind: backup().kind,
         name: backup().name,
@@ -118,7 +119,7 @@ fn counts_as_heard(rt: HostRuntime) -> Result<(), Fail> {
 /// A RIP response to all nodes of network 11: AA in so many hops, and one tick, from a node.
 fn tell(
     alloc: Global,
-    core: &mut ByHand<RouterCore>,
+    core: &mut ByHand<CountedRouter>,
     node: &str,
     hops: u16,
     now: u64,
