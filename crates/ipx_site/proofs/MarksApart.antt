@@ -1,7 +1,6 @@
 -- What the ports of a site's router are to its core does not hang on their marks.
 use Rattle.std.proofs.Common.{◌≡◌, ◌∙◌, ◌+◌, ℕ, List, ap, map, refl}
 use Rattle.ipx_carrier.specs.Counting.{counted}
-use Rattle.ipx_figures.specs.CountedRouter.{CountedView}
 use Rattle.ipx_carrier.specs.Turns.{peers_of}
 use Rattle.ipx_carrier.specs.declared.datagrams.Datagrams as OfDevice
 use Rattle.ipx_lobbies.specs.declared.place_sockets.PlaceSockets as OfPlaces
@@ -21,19 +20,19 @@ use Rattle.ipx_site.specs.PortsView.{SitePortsRun, kept_in_ports, ways_in}
 use Rattle.ipx_site.specs.RouterPorts.{by_kind}
 use Rattle.ipx_site.specs.SiteMarks.{DifferInMarks}
 use Rattle.ipx_site.specs.SitePeers.{kept_in}
-use Rattle.ipx_site.specs.Sparing.{SparingView}
+use Rattle.ipx_site.specs.SiteCore.{SiteCore}
 use Rattle.ipx_site.specs.WireTotals.{encapsulated_otherwise_in, unframed_in}
 
 -- how often each cause happened, by what the three kinds of ports say of it
-abbrev of_parts : RouterCounts → SparingView CountedView → KeptBack → ℕ → ℕ → List HubView → ℕ → ℕ → ℕ → Happened
+abbrev of_parts : RouterCounts → SiteCore → KeptBack → ℕ → ℕ → List HubView → ℕ → ℕ → ℕ → Happened
 of_parts tally core kept refused faults hubs strangers wire_faults lobby_faults = record {
   strangers = kept.strangers.count;
   forged = kept.forged.count;
   no_router = kept.no_router.count;
   too_often = core.kept.count;
   refused = refused;
-  table_full = core.core.fates.table_full;
-  queue_full = core.core.dropped;
+  table_full = core.core.core.fates.table_full;
+  queue_full = core.core.core.dropped;
   device = counted (tally.device_faults + (faults + wire_faults + lobby_faults));
   memory = tally.memory_faults;
   file = tally.file_faults;
@@ -68,7 +67,7 @@ module _ {gd : OfDevice.Ghosts (PeersOnly SiteSockets)} {ge : OfSockets.Ghosts W
       ∙ ap (λ w. kept_in r.datagrams.device.kept + (w.kept + w.sockets.strangers) + (s.lobbies.kept + s.lobbies.sockets.nowhere)) m.wires
       ∙ ap (λ l. kept_in r.datagrams.device.kept + (r.wires.kept + r.wires.sockets.strangers) + (l.kept + l.sockets.nowhere)) m.lobbies
 
-  pub happened_apart : (tally : RouterCounts) (core : SparingView CountedView) → happened tally core s ≡ happened tally core r
+  pub happened_apart : (tally : RouterCounts) (core : SiteCore) → happened tally core s ≡ happened tally core r
   happened_apart tally core =
       ap (λ d. of_parts tally core d.device.kept d.device.refused d.device.device.faults s.wires.hubs.items s.wires.sockets.strangers
       (s.wires.sockets.failures + s.wires.sockets.faults) (s.lobbies.sockets.failures + s.lobbies.sockets.faults)) m.datagrams

@@ -1,31 +1,30 @@
 -- One round of a router that runs.
 use Rattle.std.proofs.Common.{◌≡◌, ◌∙◌, ℕ, length, min, Bool, true, false, if◌then◌else◌, Option, Some, None, is_some, sym, ap, subst, inl, inr}
 use Rattle.ipx_carrier.specs.declared.fault.RunFault.{RunFault}
-use Rattle.ipx_figures.specs.CountedRouter.{CountedView, CountsAsItGives, CountsHeard, CountsMissed, CountsWithheld}
 use Rattle.ipx_carrier.specs.Turns.{Ways}
 use Rattle.ipx_carrier.specs.declared.report.Burst.{Burst}
 use Rattle.ipx_carrier.specs.Driving.{BurstsBy}
 use Rattle.ipx_site.specs.Leisure.{Agenda, Happened, IsLeisure, IsToDo, agenda}
 use Rattle.ipx_site.specs.declared.troubles.Troubles.{Troubles}
-use Rattle.ipx_site.specs.Sparing.{GivesBelow, HearsSparingly, MissesBelow, SparingView, WithholdsBelow}
+use Rattle.ipx_site.specs.SiteCore.{SiteCore, SiteGives, SiteHears, SiteMisses, SiteWithholds}
 use Rattle.ipx_site.specs.RouterRounds.{AsksAgain, IsRound, SleepsBehind}
 
 -- a core that asks again has the ports that it had
-pub same_ports : (now times times_after : ℕ) (old mid : SparingView CountedView) → AsksAgain now times times_after old mid
-    → length mid.core.router.ports ≡ length old.core.router.ports
-same_ports now times times_after old mid (inl h) = ap (λ (v : SparingView CountedView). length v.core.router.ports) h.2
-same_ports now times times_after old mid (inr h) = ap (λ (v : SparingView CountedView). length v.core.router.ports) h.2
+pub same_ports : (now times times_after : ℕ) (old mid : SiteCore) → AsksAgain now times times_after old mid
+    → length mid.core.core.router.ports ≡ length old.core.core.router.ports
+same_ports now times times_after old mid (inl h) = ap (λ (v : SiteCore). length v.core.core.router.ports) h.2
+same_ports now times times_after old mid (inr h) = ap (λ (v : SiteCore). length v.core.core.router.ports) h.2
 
 pub is_round : {K A : Type 0} (tells : K → ℕ → K → Type 0) (clock told tick clock_after : K) (ways here : Ways A)
-    (i j n : ℕ) (now moment times times_after : ℕ) (old mid new : SparingView CountedView) (b : Burst) → tells clock now told → tick ≡ told → moment ≡ now
+    (i j n : ℕ) (now moment times times_after : ℕ) (old mid new : SiteCore) (b : Burst) → tells clock now told → tick ≡ told → moment ≡ now
     → AsksAgain now times times_after old mid → here ≡ ways → j ≡ i
-    → BurstsBy (HearsSparingly CountsHeard) (MissesBelow CountsMissed) (GivesBelow CountsAsItGives) (WithholdsBelow CountsWithheld) tells (length mid.core.router.ports) here 32 b j n tick clock_after mid new
+    → BurstsBy SiteHears SiteMisses SiteGives SiteWithholds tells (length mid.core.core.router.ports) here 32 b j n tick clock_after mid new
     → IsRound clock clock_after tells ways i n times times_after old new moment b
 is_round {A = A} tells clock told tick clock_after ways here i j n now moment times times_after old mid new b h e m asks f g bursts =
-    let at = subst (λ ports. BurstsBy (HearsSparingly CountsHeard) (MissesBelow CountsMissed) (GivesBelow CountsAsItGives) (WithholdsBelow CountsWithheld) tells ports here 32 b j n tick clock_after mid new)
+    let at = subst (λ ports. BurstsBy SiteHears SiteMisses SiteGives SiteWithholds tells ports here 32 b j n tick clock_after mid new)
     (same_ports now times times_after old mid asks) bursts in
-    let by = subst (λ (it : Ways A). BurstsBy (HearsSparingly CountsHeard) (MissesBelow CountsMissed) (GivesBelow CountsAsItGives) (WithholdsBelow CountsWithheld) tells (length old.core.router.ports) it 32 b j n tick clock_after mid new) f at in
-    let kept = subst (λ it. BurstsBy (HearsSparingly CountsHeard) (MissesBelow CountsMissed) (GivesBelow CountsAsItGives) (WithholdsBelow CountsWithheld) tells (length old.core.router.ports) ways 32 b it n tick clock_after mid new) g by in
+    let by = subst (λ (it : Ways A). BurstsBy SiteHears SiteMisses SiteGives SiteWithholds tells (length old.core.core.router.ports) it 32 b j n tick clock_after mid new) f at in
+    let kept = subst (λ it. BurstsBy SiteHears SiteMisses SiteGives SiteWithholds tells (length old.core.core.router.ports) ways 32 b it n tick clock_after mid new) g by in
     (now, tick, mid, subst (λ it. tells clock now it) (sym e) h, m, asks, kept)
 
 -- how long a router waits, by how its burst ended
@@ -51,7 +50,7 @@ goes_on todo marked clock clock' tells asked None false e q at same = (at, same)
 
 -- what a round and the wait behind it say does not hang on what is the same behind them
 pub round_then : {K A : Type 0} (tells : K → ℕ → K → Type 0) (clock clock' : K) (ways : Ways A) (kept kept' kept'' asked asked' asked'' : ℕ)
-    (old new new' : SparingView CountedView) (moment moment' : ℕ) (b : Burst) → kept'' ≡ kept' → asked'' ≡ asked' → new' ≡ new → moment' ≡ moment
+    (old new new' : SiteCore) (moment moment' : ℕ) (b : Burst) → kept'' ≡ kept' → asked'' ≡ asked' → new' ≡ new → moment' ≡ moment
     → IsRound clock clock' tells ways kept kept' asked asked' old new moment b → IsRound clock clock' tells ways kept kept'' asked asked'' old new' moment' b
 round_then tells clock clock' ways kept kept' kept'' asked asked' asked'' old new new' moment moment' b e f g h round =
     let one = subst (λ it. IsRound clock clock' tells ways kept it asked asked' old new moment b) (sym e) round in
@@ -68,7 +67,7 @@ sleeps_then a b marked clock clock' tells asked asked' fault quiet e f h =
 
 -- an agenda, part by part
 pub same_agenda : (asked asked' : ℕ) (looked looked' : Option ℕ) (responses responses' : ℕ) (written written' : Option ℕ)
-    (core core' : SparingView CountedView) (troubles troubles' : Troubles) (count count' : Happened)
+    (core core' : SiteCore) (troubles troubles' : Troubles) (count count' : Happened)
     → asked' ≡ asked → looked' ≡ looked → responses' ≡ responses → written' ≡ written → core' ≡ core → troubles' ≡ troubles → count' ≡ count
     → agenda asked' looked' responses' written' core' troubles' count' ≡ agenda asked looked responses written core troubles count
 same_agenda asked asked' looked looked' responses responses' written written' core core' troubles troubles' count count' a l r w c t n =

@@ -1,6 +1,5 @@
 -- What a router that runs does by itself, and how long it has nothing to do. All of it is own.
 use Rattle.std.specs.Prelude.{◌≡◌, ◌≤◌, ◌<◌, ◌⊎◌, ◌==◌, ◌^◌, ℕ, ◌+◌, List, [], ◌∷◌, length, map, true, Option, if◌then◌else◌}
-use Rattle.ipx_figures.specs.CountedRouter.{CountedView}
 use Rattle.ipx_router.specs.Telling.{is_due}
 use Rattle.ipx_site.specs.declared.figures.Figures.{Figures}
 use Rattle.ipx_site.specs.declared.router_counts.RouterCounts.{RouterCounts}
@@ -17,7 +16,7 @@ use Rattle.ipx_site.specs.declared.troubles.Troubles.{Troubles}
 use Rattle.ipx_carrier.specs.Counting.{counted}
 use Rattle.ipx_carrier.specs.RouterCore.{CoreQueues}
 use Rattle.ipx_site.specs.Moments.{HasPassed, IsOneDue, IsToAskAgain}
-use Rattle.ipx_site.specs.Sparing.{SparingView}
+use Rattle.ipx_site.specs.SiteCore.{SiteCore}
 use Rattle.ipx_site.specs.WireTotals.{encapsulated_otherwise_in, unframed_in}
 
 -- how often each cause happened of which a line is told
@@ -60,15 +59,15 @@ lost_in r = r.datagrams.device.device.faults + (r.wires.sockets.failures + r.wir
     + (r.lobbies.sockets.failures + r.lobbies.sockets.faults)
 
 -- by what it tallies, what its core counts, and what its ports kept back, did not send and lost
-abbrev pub happened : {gd : OfDevice.Ghosts (PeersOnly SiteSockets)} {ge : OfSockets.Ghosts WireSockets} {gl : OfPlaces.Ghosts LobbySockets} → RouterCounts → SparingView CountedView → SitePortsRun gd ge gl → Happened
+abbrev pub happened : {gd : OfDevice.Ghosts (PeersOnly SiteSockets)} {ge : OfSockets.Ghosts WireSockets} {gl : OfPlaces.Ghosts LobbySockets} → RouterCounts → SiteCore → SitePortsRun gd ge gl → Happened
 happened tally core ports = record {
   strangers = ports.datagrams.device.kept.strangers.count;
   forged = ports.datagrams.device.kept.forged.count;
   no_router = ports.datagrams.device.kept.no_router.count;
   too_often = core.kept.count;
   refused = ports.datagrams.device.refused;
-  table_full = core.core.fates.table_full;
-  queue_full = core.core.dropped;
+  table_full = core.core.core.fates.table_full;
+  queue_full = core.core.core.dropped;
   device = counted (tally.device_faults + lost_in ports);
   memory = tally.memory_faults;
   file = tally.file_faults;
@@ -96,11 +95,11 @@ pub record Agenda : Type 0 where
   pub responses : ℕ
   -- when it wrote its figures last
   pub written : Option ℕ
-  pub core : SparingView CountedView
+  pub core : SiteCore
   pub troubles : Troubles
   pub count : Happened
 
-abbrev pub agenda : ℕ → Option ℕ → ℕ → Option ℕ → SparingView CountedView → Troubles → Happened → Agenda
+abbrev pub agenda : ℕ → Option ℕ → ℕ → Option ℕ → SiteCore → Troubles → Happened → Agenda
 agenda asked looked responses written core troubles count = record {
   asked = asked;
   looked = looked;
@@ -120,13 +119,14 @@ look_after heard responses = if heard == responses then 10000 else 1000
 abbrev pub IsToSend : CoreQueues → Type 0
 IsToSend q = 0 < length q.forwarded + length q.own
 
--- there is something to do: to send what waits, to ask again, to tell the neighbours, to look, to write
--- the figures, or to tell a line
+-- there is something to do: to send what waits, to ask again, to tell the neighbours, to hear by hand, to
+-- look, to write the figures, or to tell a line
 abbrev pub IsToDo : Agenda → ℕ → Type 0
-IsToDo a now = IsToSend a.core.core.queues
+IsToDo a now = IsToSend a.core.core.core.queues
     ⊎ IsToAskAgain a.asked now
-    ⊎ (is_due a.core.core.router.told now ≡ true)
-    ⊎ HasPassed (look_after a.core.core.fates.heard a.responses) a.looked now
+    ⊎ (is_due a.core.core.core.router.told now ≡ true)
+    ⊎ (is_due a.core.core.said now ≡ true)
+    ⊎ HasPassed (look_after a.core.core.core.fates.heard a.responses) a.looked now
     ⊎ HasPassed 10000 a.written now
     ⊎ IsLineDue a.troubles a.count now
 

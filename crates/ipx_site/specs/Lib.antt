@@ -17,6 +17,7 @@ pub mod KeptAtPorts
 pub mod Neighbours
 pub mod Askers
 pub mod Sparing
+pub mod SiteCore
 pub mod Seldom
 pub mod Moments
 pub mod Leisure

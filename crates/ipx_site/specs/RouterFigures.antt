@@ -2,10 +2,9 @@
 use Rattle.std.specs.Prelude.{◌≡◌, ℕ, ◌+◌, ◌/◌, Option, Some, None, length}
 use Rattle.ipx_carrier.specs.Counting.{counted, raised}
 use Rattle.ipx_carrier.specs.OutcomeCounts.{outcomes_in}
-use Rattle.ipx_figures.specs.CountedRouter.{CountedView}
 use Rattle.ipx_carrier.specs.declared.fault.RunFault.{RunFault}
 use Rattle.ipx_carrier.specs.declared.fault.RunFault.TheVariants.{Device, OutOfMemory}
-use Rattle.ipx_site.specs.Sparing.{SparingView}
+use Rattle.ipx_site.specs.SiteCore.{SiteCore}
 use Rattle.ipx_site.specs.declared.figures.Figures.{Figures}
 use Rattle.ipx_site.specs.declared.router_counts.RouterCounts.{RouterCounts}
 use Rattle.ipx_carrier.specs.declared.datagrams.Datagrams as OfDevice
@@ -40,10 +39,10 @@ with_burst b t = with_fault b.fault (record t { unmapped = counted (t.unmapped +
 -- the figures of a router at a moment, in milliseconds since its start, besides how often it happened of
 -- which a line is told: by what it counts itself, what its core counts, what its device kept back, how many
 -- datagrams the system took of it, and what it knew as it looked last
-pub record AreFigures {gd : OfDevice.Ghosts (PeersOnly SiteSockets)} {ge : OfSockets.Ghosts WireSockets} {gl : OfPlaces.Ghosts LobbySockets} (tally : RouterCounts) (core : SparingView CountedView) (ports : SitePortsRun gd ge gl) (known : Known) (now : ℕ) (f : Figures) : Type 0 where
+pub record AreFigures {gd : OfDevice.Ghosts (PeersOnly SiteSockets)} {ge : OfSockets.Ghosts WireSockets} {gl : OfPlaces.Ghosts LobbySockets} (tally : RouterCounts) (core : SiteCore) (ports : SitePortsRun gd ge gl) (known : Known) (now : ℕ) (f : Figures) : Type 0 where
   -- each datagram that was heard became something. A query that came too often is none of them
-  pub heard : f.heard ≡ counted (outcomes_in core.core.fates)
-  pub fates : f.fates ≡ core.core.fates
+  pub heard : f.heard ≡ counted (outcomes_in core.core.core.fates)
+  pub fates : f.fates ≡ core.core.core.fates
   pub too_often : f.too_often ≡ core.kept
   pub kept_back : f.kept ≡ ports.datagrams.device.kept
   pub sent_out : f.sent ≡ ports.datagrams.device.device.sent

@@ -2,31 +2,30 @@
 -- of it is own.
 use Rattle.std.specs.Prelude.{◌≡◌, ◌⊎◌, ℕ, ◌+◌, length, min, Bool, false, true, if◌then◌else◌, Option, Some, None}
 use Rattle.ipx_carrier.specs.declared.fault.RunFault.{RunFault}
-use Rattle.ipx_figures.specs.CountedRouter.{CountedView, CountsAsItGives, CountsHeard, CountsMissed, CountsWithheld}
 use Rattle.ipx_carrier.specs.Turns.{Ways}
 use Rattle.ipx_carrier.specs.declared.report.Burst.{Burst}
 use Rattle.ipx_carrier.specs.Driving.{BurstsBy}
 use Rattle.ipx_site.specs.Leisure.{IsLeisure}
 use Rattle.ipx_site.specs.Moments.{IsToAskAgain}
-use Rattle.ipx_site.specs.Sparing.{GivesBelow, HearsSparingly, MissesBelow, SparingView, WithholdsBelow}
+use Rattle.ipx_site.specs.SiteCore.{SiteCore, SiteGives, SiteHears, SiteMisses, SiteWithholds}
 
 -- then its router gives the packets of its start once more, and at no other time
-abbrev pub AsksAgain : ℕ → ℕ → ℕ → SparingView CountedView → SparingView CountedView → Type 0
+abbrev pub AsksAgain : ℕ → ℕ → ℕ → SiteCore → SiteCore → Type 0
 AsksAgain now times times_after old new =
     (IsToAskAgain times now × (times_after ≡ times + 1)
-    × (new ≡ record old { core = record old.core { started = false } }))
+    × (new ≡ record old { core = record old.core { core = record old.core.core { started = false } } }))
     ⊎ ((IsToAskAgain times now → ⊥) × (times_after ≡ times) × (new ≡ old))
 
 -- one round, at the moment that the clock tells: it asks again where it is time, and takes a burst of
 -- at most 32 turns, this one, in which packets are sent these ways, and its ports keep back from the one
--- count to the other; what comes and goes on its wires does so at that moment. Its core
--- lets those who ask for all that it knows do so in turn
-abbrev pub IsRound : {K A : Type 0} → K → K → (K → ℕ → K → Type 0) → Ways A → ℕ → ℕ → ℕ → ℕ → SparingView CountedView → SparingView CountedView → ℕ → Burst → Type 0
+-- count to the other; what comes and goes on its wires does so at that moment. Its core hears by hand where
+-- that is due, and lets those who ask for all that it knows do so in turn
+abbrev pub IsRound : {K A : Type 0} → K → K → (K → ℕ → K → Type 0) → Ways A → ℕ → ℕ → ℕ → ℕ → SiteCore → SiteCore → ℕ → Burst → Type 0
 IsRound {K} clock clock_after tells ways kept kept_after times times_after old new moment b = (now : ℕ) × (tick : K)
-    × (mid : SparingView CountedView) × tells clock now tick
+    × (mid : SiteCore) × tells clock now tick
     × (moment ≡ now) × AsksAgain now times times_after old mid
-    × BurstsBy (HearsSparingly CountsHeard) (MissesBelow CountsMissed) (GivesBelow CountsAsItGives) (WithholdsBelow CountsWithheld) tells
-    (length old.core.router.ports) ways 32 b kept kept_after tick clock_after mid new
+    × BurstsBy SiteHears SiteMisses SiteGives SiteWithholds tells
+    (length old.core.core.router.ports) ways 32 b kept kept_after tick clock_after mid new
 
 -- how long it waits then, and when: 100 ms behind a fault; not at all behind a burst that was not quiet, in
 -- which it is told where something came; and behind a quiet one, at the moment that the clock tells, as long as

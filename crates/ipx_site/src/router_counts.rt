@@ -11,6 +11,7 @@ use crate::router_ports::SiteRouterPorts;
 use crate::sparing::Sparing;
 use crate::watch::Known;
 use crate::wire_totals::{in_other_encapsulations, unframed};
+use ipx_by_hand::ByHand;
 use ipx_carrier::{Burst, OutcomeCounts, RunFault, raise};
 use ipx_figures::CountedRouter;
 use ipx_lobbies::PlaceSockets;
@@ -86,7 +87,7 @@ impl RouterCounts {
     /// All figures of a router, at a moment in milliseconds since its start.
     pub fn figures(
         &self,
-        core: &Sparing<CountedRouter>,
+        core: &Sparing<ByHand<CountedRouter>>,
         ports: &SiteRouterPorts,
         known: &Known,
         now: u64,
@@ -94,14 +95,14 @@ impl RouterCounts {
         ensures happened { happened_in result ≡ happened self.now core.now ports.now }
         ensures figures { AreFigures self.now core.now ports.now known.now now result }
     {
-        let fates = core.core().fates();
+        let fates = core.core().core().fates();
         let device = ports.device();
         let hubs = ports.wires().hubs();
         Figures {
             heard: heard_in(&fates),
             sent: device.device().sent(),
             fates,
-            queue_full: core.core().dropped(),
+            queue_full: core.core().core().dropped(),
             unmapped: self.unmapped,
             kept: device.kept(),
             too_often: core.kept(),

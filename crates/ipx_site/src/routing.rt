@@ -1,7 +1,9 @@
 //! The command `route`.
 
-ghost use Rattle.std.specs.Prelude.{◌≡◌, ◌≤◌, ◌+◌, [], All, IfErr, IfOk, OnOk, is_ok, if◌then◌else◌, length, map};
+ghost use Rattle.std.specs.Prelude.{◌≡◌, ◌≤◌, ◌+◌, [], None, All, IfErr, IfOk, OnOk, is_ok, if◌then◌else◌, length, map};
 ghost use Rattle.ipx_router.specs.NewRouter.{IsOwnNetwork};
+ghost use Rattle.ipx_router.specs.Ports.{IsPortNumber};
+ghost use Rattle.ipx_by_hand.specs.HandWords.{AreWordsOf};
 ghost use Rattle.ipx_carrier.specs.Turns.{peers_of};
 ghost use Rattle.ipx_carrier.specs.Counting.{counted};
 ghost use Rattle.ipx_site.specs.KindPorts.{ArePortsBound, datagram_ports, spots_of};
@@ -21,6 +23,7 @@ use crate::sockets::SiteSockets;
 use crate::sparing::Sparing;
 use crate::start_lines::ports_to_texts;
 use crate::wire_ports::wires_of;
+use ipx_by_hand::{ByHand, SilentNeighbour};
 use ipx_carrier::OnPeers;
 use ipx_figures::CountedRouter;
 use ipx_router::{NewFault, Port, Router};
@@ -59,16 +62,42 @@ fn router_of(alloc: Global, ports: &[PortOfKind]) -> Result<Router, RouteFault>
     Ok(router)
 }
 
-/// The core of a router, which answers in turn who asks for all that it knows.
-fn core_of(alloc: Global, ports: &[PortOfKind]) -> Result<Sparing<CountedRouter>, RouteFault>
-    requires { All IsOwnNetwork (router_ports ports.now) }
-    ensures router { IfOk result (λ c. c.core.router.ports ≡ router_ports ports.now) }
+/// A router as a core, which counts by port, and is to hear by hand what these neighbours are to have
+/// said.
+fn hearing_by_hand(
+    alloc: Global,
+    router: Router,
+    silent: &[SilentNeighbour],
+) -> Result<ByHand<CountedRouter>, AllocError>
+    requires { All (λ n. IsPortNumber (length router.ports) n.port) silent.now }
+    ensures router { IfOk result (λ c. c.core.router ≡ router) }
+    ensures by_hand { IfOk result (λ c. AreWordsOf silent.now c.words × (c.said ≡ None)) }
+{
+    let counted = CountedRouter::new(alloc, router)?;
+    let Ok(core) = ByHand::new(alloc, counted, silent) else {
+        return Err(AllocError);
+    };
+    Ok(core)
+}
+
+/// The core of a router, which answers in turn who asks for all that it knows, and hears by hand.
+fn core_of(
+    alloc: Global,
+    ports: &[PortOfKind],
+    silent: &[SilentNeighbour],
+) -> Result<Sparing<ByHand<CountedRouter>>, RouteFault>
+    requires own { All IsOwnNetwork (router_ports ports.now) }
+    requires there { All (λ n. IsPortNumber (length ports.now) n.port) silent.now }
+    ensures router { IfOk result (λ c. c.core.core.router.ports ≡ router_ports ports.now) }
+    ensures by_hand { IfOk result (λ c. AreWordsOf silent.now c.core.words
+        × (c.core.said ≡ None)) }
     ensures ports { IfOk result (λ c. c.ports ≡ router_ports ports.now) }
     ensures fresh { IfOk result (λ c. (c.askers.askers ≡ []) × (c.askers.back ≡ 0)) }
 {
-    let router = router_of(alloc, ports)?;
     let own = own_ports(alloc, ports)?;
-    let core = Sparing::new(alloc, CountedRouter::new(alloc, router)?, own)?;
+    let router = router_of(alloc, ports)?;
+    let core = hearing_by_hand(alloc, router, silent)?;
+    let core = Sparing::new(alloc, core, own)?;
     Ok(core)
 }
 
@@ -265,7 +294,10 @@ fn start<'a, R: Net + Log + SystemClock>(
 ) -> Result<RunningRouter<'a, R>, RouteFault>
     requires { All IsOwnNetwork (router_ports site.ports.items) }
     // The router has the ports of the file.
-    ensures ports { IfOk result (λ s. s.core.core.router.ports ≡ router_ports site.ports.items) }
+    ensures ports { IfOk result (λ s. s.core.core.core.router.ports ≡ router_ports site.ports.items) }
+    // It is to hear by hand what these neighbours are to have said, and has not yet.
+    ensures by_hand { IfOk result (λ s. AreWordsOf [] s.core.core.words
+        × (s.core.core.said ≡ None)) }
     // So those who ask at these have their turns, and nobody has asked yet.
     ensures askers { IfOk result (λ s. (s.core.ports ≡ router_ports site.ports.items)
         × (s.core.askers.askers ≡ []) × (s.core.askers.back ≡ 0)) }
@@ -275,7 +307,7 @@ fn start<'a, R: Net + Log + SystemClock>(
     ensures clock { IfOk result (λ s. s.clock.last ≡ 0) }
     ensures asked { IfOk result (λ s. s.asked ≡ 0) }
 {
-    let core = core_of(alloc, &site.ports)?;
+    let core = core_of(alloc, &site.ports, &[])?;
     // All lines are made before the first is told: where memory is refused, nothing else is.
     let lines = ports_to_texts(alloc, &site.ports)?;
     let ports = bound_ports(rt, alloc, &site.ports)?;

@@ -33,6 +33,7 @@ use crate::sparing::Sparing;
 use crate::status::write_whole;
 use crate::troubles::Troubles;
 use crate::watch::Known;
+use ipx_by_hand::ByHand;
 use ipx_carrier::{Burst, Clock, burst_segments};
 use ipx_figures::CountedRouter;
 use log::Log;
@@ -53,7 +54,7 @@ const TURNS: u32 = 32;
 
 /// A router that runs.
 pub struct RunningRouter<'a, R: SystemClock> {
-    core: Sparing<CountedRouter>,
+    core: Sparing<ByHand<CountedRouter>>,
     ports: SiteRouterPorts,
     clock: SteadyClock<'a, R>,
     ready: Readiness,
@@ -72,7 +73,7 @@ pub struct RunningRouter<'a, R: SystemClock> {
     /// When the figures were written last.
     written: Option<u64>,
     // So a turn can always be begun.
-    ghost spots: { length ports.spots.items ≡ length core.core.router.ports },
+    ghost spots: { length ports.spots.items ≡ length core.core.core.router.ports },
 }
 
 impl<'a, R: SystemClock> Drop for RunningRouter<'a, R> {
@@ -100,7 +101,7 @@ impl<'a, R: SystemClock> Drop for RunningRouter<'a, R> {
 /// The parts of a router that runs.
 #[derive(Drop)]
 pub struct Parts<'a, R: SystemClock> {
-    pub core: Sparing<CountedRouter>,
+    pub core: Sparing<ByHand<CountedRouter>>,
     pub ports: SiteRouterPorts,
     pub clock: SteadyClock<'a, R>,
     pub ready: Readiness,
@@ -111,7 +112,7 @@ pub struct Parts<'a, R: SystemClock> {
 impl<'a, R: SystemClock> RunningRouter<'a, R> {
     /// A router that begins to run. The caller owes a spot for each port.
     pub fn new(alloc: Global, parts: Parts<'a, R>) -> RunningRouter<'a, R>
-        requires { length parts.ports.spots.items ≡ length parts.core.core.router.ports }
+        requires { length parts.ports.spots.items ≡ length parts.core.core.core.router.ports }
         ensures core { result.core ≡ parts.entry.core }
         ensures ports { result.ports ≡ parts.entry.ports }
         ensures clock { result.clock ≡ parts.entry.clock }
@@ -146,7 +147,7 @@ impl<'a, R: SystemClock> RunningRouter<'a, R> {
     /// What its status file says.
     fn status_text(&self, alloc: Global, now: u64) -> Result<String, AllocError> {
         let mut text = self.figures(now).text(alloc)?;
-        let core = self.core.core();
+        let core = self.core.core().core();
         put_port_figures(&mut text, core)?;
         put_guard_figures(&mut text, self.ports.spots(), self.ports.device().by_port())?;
         put_neighbour_figures(&mut text, alloc, core.router(), now)?;
@@ -157,9 +158,9 @@ impl<'a, R: SystemClock> RunningRouter<'a, R> {
 
     /// How long to wait for the next look: shortly, where a response was heard since.
     fn look_period(&self) -> u64
-        ensures { result ≡ look_after self.now.core.core.fates.heard self.now.responses }
+        ensures { result ≡ look_after self.now.core.core.core.fates.heard self.now.responses }
     {
-        if self.core.core().fates().heard == self.responses {
+        if self.core.core().core().fates().heard == self.responses {
             PERIOD
         } else {
             SOON
@@ -200,10 +201,10 @@ impl<'a, R: SystemClock> RunningRouter<'a, R> {
             return;
         }
         self.looked = Some(now);
-        self.responses = self.core.core().fates().heard;
+        self.responses = self.core.core().core().fates().heard;
         if self
             .known
-            .look(rt, alloc, self.core.core().router(), now)
+            .look(rt, alloc, self.core.core().core().router(), now)
             .is_err()
         {
             self.tally.want_memory();
@@ -212,9 +213,9 @@ impl<'a, R: SystemClock> RunningRouter<'a, R> {
 
     /// What it knows at a moment, as its file of tables says it.
     fn tables_text(&self, alloc: Global, now: u64) -> Result<String, AllocError>
-        ensures { IfOk result (λ t. TellsKnown self.now.core.core.router now (string_bytes t)) }
+        ensures { IfOk result (λ t. TellsKnown self.now.core.core.core.router now (string_bytes t)) }
     {
-        known_to_text(alloc, self.core.core().router(), now)
+        known_to_text(alloc, self.core.core().core().router(), now)
     }
 
     /// Writes what it knows, if there is a file for that.
@@ -277,7 +278,7 @@ impl<'a, R: SystemClock> RunningRouter<'a, R> {
             self.new.ports)) now
             self.old.troubles.causes self.new.troubles.causes }
         // So is what it dropped.
-        ensures drops { AreDropsTold self.new.core.core.fates now self.old.drops self.new.drops }
+        ensures drops { AreDropsTold self.new.core.core.core.fates now self.old.drops self.new.drops }
     {
         self.ask(now);
         self.look(rt, alloc, now);
@@ -287,15 +288,15 @@ impl<'a, R: SystemClock> RunningRouter<'a, R> {
             tell_encapsulations(rt, &self.ports);
         }
         self.troubles.tell(rt, &figures, now);
-        let core = self.core.core();
+        let core = self.core.core().core();
         self.drops.tell(rt, &core.fates(), core.last(), now);
     }
 
     /// The moment at which it sends what waits: any, where something does.
     fn sending_moment(&self) -> Option<u64>
-        ensures { (t : ℕ) → IsReached result t ↔ IsToSend self.now.core.core.queues }
+        ensures { (t : ℕ) → IsReached result t ↔ IsToSend self.now.core.core.core.queues }
     {
-        if self.core.core().queued() > 0 {
+        if self.core.core().core().queued() > 0 {
             Some(0)
         } else {
             None
@@ -309,14 +310,15 @@ impl<'a, R: SystemClock> RunningRouter<'a, R> {
             self.now.written self.now.core self.now.troubles
             (happened self.now.tally self.now.core self.now.ports))) now result }
     {
-        let telling = self.core.core().router().next_telling();
+        let telling = self.core.core().core().router().next_telling();
         let packets = sooner(asking_moment(self.asked), telling);
+        let words = self.core.core().next_words();
         let look = end_of(self.looked, self.look_period());
         let figures = sooner(
             end_of(self.written, PERIOD),
             self.troubles.next(&self.figures(now)),
         );
-        let due = sooner(packets, sooner(look, figures));
+        let due = sooner(packets, sooner(words, sooner(look, figures)));
         time_to(sooner(self.sending_moment(), due), now)
     }
 

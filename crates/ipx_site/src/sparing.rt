@@ -6,6 +6,7 @@ ghost use Rattle.ipx_site.specs.SitePeers.{none_kept};
 use crate::asker::asker_of;
 use crate::askers::Askers;
 use crate::peers::Kept;
+use ipx_by_hand::ByHand;
 use ipx_carrier::{Core, ip_of};
 use ipx_figures::CountedRouter;
 use ipx_router::Port;
@@ -83,10 +84,14 @@ impl<C: Core + Drop> Sparing<C> {
     }
 }
 
-impl Sparing<CountedRouter> {
+impl Sparing<ByHand<CountedRouter>> {
     /// The router asks its neighbours once more, as `RouterCore::ask_again` says.
     pub fn ask_again(&mut self)
-        ensures { self.new ≡ record self.old { core = record self.old.core { started = false } } }
+        ensures { self.new ≡ record self.old {
+          core = record self.old.core {
+            core = record self.old.core.core { started = false };
+          };
+        } }
     {
         self.core.ask_again();
     }

@@ -1,0 +1,24 @@
+-- The core of a site's router: a router that counts, under what it hears by hand, under turns for those
+-- who ask for all that it knows. All of it is own.
+use Rattle.std.specs.Prelude.{ℕ, List, Option}
+use Rattle.ipx_carrier.specs.Turns.{Given}
+use Rattle.ipx_figures.specs.CountedRouter.{CountedView, CountsAsItGives, CountsHeard, CountsMissed, CountsWithheld}
+use Rattle.ipx_by_hand.specs.ByHand.{ByHandView, GivesByHand, HearsUnder, MissesUnder, WithholdsByHand}
+use Rattle.ipx_site.specs.Sparing.{GivesBelow, HearsSparingly, MissesBelow, SparingView, WithholdsBelow}
+
+abbrev pub SiteCore : Type 0
+SiteCore = SparingView (ByHandView CountedView)
+
+-- what comes in it hears, or misses where memory is refused
+abbrev pub SiteHears : SiteCore → ℕ → List ℕ → ℕ → SiteCore → Type 0
+SiteHears = HearsSparingly (HearsUnder CountsHeard)
+
+abbrev pub SiteMisses : SiteCore → ℕ → List ℕ → ℕ → SiteCore → Type 0
+SiteMisses = MissesBelow (MissesUnder CountsMissed)
+
+-- asked for a packet it gives one or none, or withholds it where memory is refused
+abbrev pub SiteGives : SiteCore → ℕ → Option Given → SiteCore → Type 0
+SiteGives = GivesBelow (GivesByHand CountsHeard CountsAsItGives)
+
+abbrev pub SiteWithholds : SiteCore → ℕ → SiteCore → Type 0
+SiteWithholds = WithholdsBelow (WithholdsByHand CountsHeard CountsMissed CountsWithheld)
