@@ -1,5 +1,6 @@
 -- A router that hears by hand, over a run of calls.
--- The entry points are `RoutesByHandStand` and `ServicesByHandStand`.
+-- The entry points are `RoutesByHandStand` and `ServicesByHandStand`, and `CountsByHandApart` of a router
+-- that counts.
 use Rattle.std.specs.Prelude.{◌≡◌, ◌<◌, ◌≤◌, ◌+◌, ◌^◌, ℕ, Bool, true, List, [], ◌∷◌, All, Contains, Option, Some}
 use Rattle.ipx_wire.specs.declared.address.Network.{Network}
 use Rattle.ipx_wire.specs.Ipx.{IsIpx, PacketView}
@@ -17,6 +18,7 @@ use Rattle.ipx_router.specs.Telling.{is_due}
 use Rattle.ipx_router.specs.Told.{key_of_service, route_key}
 use Rattle.ipx_carrier.specs.RouterCore.{CoreView, RouterGives, RouterHears}
 use Rattle.ipx_carrier.specs.Turns.{Given}
+use Rattle.ipx_figures.specs.CountedRouter.{CountedView, CountsAsItGives, CountsHeard, without_counts}
 use Rattle.ipx_by_hand.specs.declared.neighbour.SilentNeighbour.{SilentNeighbour}
 use Rattle.ipx_by_hand.specs.ByHand.{ByHandView, GivesByHand, HearsUnder}
 use Rattle.ipx_by_hand.specs.HandOffers.{IsAnotherNode, SaysNoOther, source_by_hand}
@@ -115,3 +117,17 @@ ServicesByHandStand = (ns : List SilentNeighbour) (start : ℕ) (calls : List Ha
     → (now : ℕ) → now ≤ asked_in calls start + 60000 → (heard : ℕ)
     × (services_in new.core.router.services (key_of_service e, source_by_hand n)
     ≡ Some (service_metric e, heard)) × (is_young now heard ≡ true)
+
+-- a router that counts, without its counts
+abbrev pub uncounted : ByHandView CountedView → ByHandView CoreView
+uncounted s = record { core = without_counts s.core; words = s.words; said = s.said }
+
+-- what a call does to it
+abbrev pub DoesCountedCall : ℕ → HandCall → ByHandView CountedView → ByHandView CountedView → Type 0
+DoesCountedCall now (Comes port bytes) old new = HearsUnder CountsHeard old port bytes now new
+DoesCountedCall now (Asked given) old new = GivesByHand CountsHeard CountsAsItGives old now given new
+
+-- that is what the call does to it without its counts: so all of the above is true of it too
+abbrev pub CountsByHandApart : Type 0
+CountsByHandApart = (now : ℕ) (call : HandCall) (old new : ByHandView CountedView)
+    → DoesCountedCall now call old new → DoesHandCall now call (uncounted old) (uncounted new)

@@ -1,7 +1,7 @@
 //! What a router knows once it heard words by hand.
 
 ghost use Rattle.ipx_by_hand.specs.HandOffers.{RoutesByHandAreOffers, ServicesByHandAreOffers};
-ghost use Rattle.ipx_by_hand.specs.HandRuns.{RoutesByHandStand, ServicesByHandStand};
+ghost use Rattle.ipx_by_hand.specs.HandRuns.{CountsByHandApart, RoutesByHandStand, ServicesByHandStand};
 
 use ipx_control::{
     bytes_are_one_rip, bytes_are_one_sap, rip_fault_is_of_no_rip, sap_fault_is_of_no_sap,
@@ -47,3 +47,8 @@ pub fn services_by_hand_stand()
     services_by_hand_are_offers();
     sources_are_apart();
 }
+
+/// A router that counts hears by hand, and gives, as one that counts nothing by port.
+pub fn counts_by_hand_apart()
+    ensures { CountsByHandApart }
+{}

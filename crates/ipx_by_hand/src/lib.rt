@@ -13,7 +13,7 @@ mod words;
 
 pub use by_hand::ByHand;
 pub use laws::{
-    routes_by_hand_are_offers, routes_by_hand_stand, services_by_hand_are_offers,
-    services_by_hand_stand,
+    counts_by_hand_apart, routes_by_hand_are_offers, routes_by_hand_stand,
+    services_by_hand_are_offers, services_by_hand_stand,
 };
 pub use neighbour::SilentNeighbour;
