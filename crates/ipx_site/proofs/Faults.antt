@@ -6,15 +6,15 @@ use Rattle.toml.specs.Data.{Data, Items, item, Members, get_member}
 use Rattle.toml.specs.View.{items_view}
 use Rattle.toml.specs.declared.value.Value.{Value}
 use Rattle.ipx_site.specs.declared.fault.FileFault.{FileFault}
-use Rattle.ipx_site.specs.declared.fault.FileFault.TheVariants.{Missing, NotToml, OtherKind, OutOfMemory, Twin, Unknown, Wrong}
+use Rattle.ipx_site.specs.declared.fault.FileFault.TheVariants.{Again, Missing, NotToml, OtherKind, OutOfMemory, Twin, Unknown, Wrong}
 use Rattle.ipx_site.specs.declared.key.Key.{Key}
 use Rattle.ipx_site.specs.declared.site.PortOfKind.{PortOfKind}
 use Rattle.ipx_site.specs.declared.key.Key.{Key}
 use Rattle.ipx_site.specs.Keys.{key_text}
-use Rattle.ipx_site.specs.Values.{IsText}
+use Rattle.ipx_site.specs.Values.{IsText, item_count}
 use Rattle.ipx_site.specs.Loading.{IsStatus, fault_status}
 use Rattle.ipx_site.specs.Fields.{Holds, HoldsIf, HoldsOr, IsRightOr}
-use Rattle.ipx_site.specs.Site.{ArePorts, IsFirstFault, IsPortItem, IsPortItemFault, IsTwin, item_count, twin_place}
+use Rattle.ipx_site.specs.Site.{ArePorts, IsFirstFault, IsPortItem, IsPortItemFault, IsTwin, twin_place}
 
 -- a fault of the whole comes of one of a part, or of want of memory
 pub or_memory : {A B : Type 0} (f : FileFault) → (A → B) → (f ≡ OutOfMemory) ⊎ A → (f ≡ OutOfMemory) ⊎ B
@@ -85,6 +85,7 @@ fault_is IsFault bytes (OtherKind table key kind) status fault is = inr (is, inr
 fault_is IsFault bytes (Missing table key) status fault is = inr (is, inr (Missing table key, fault))
 fault_is IsFault bytes (Wrong table key) status fault is = inr (is, inr (Wrong table key, fault))
 fault_is IsFault bytes (Twin table network earlier) status fault is = inr (is, inr (Twin table network earlier, fault))
+fault_is IsFault bytes (Again table earlier) status fault is = inr (is, inr (Again table earlier, fault))
 
 pub status_is : (F : List ℕ → FileFault → Type 0) (bytes text : List ℕ) (f : FileFault) (status : ℕ) → text ≡ bytes
     → (f ≡ OutOfMemory) ⊎ F text f → status ≡ fault_status f → IsStatus (F bytes) bytes status

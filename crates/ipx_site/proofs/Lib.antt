@@ -5,6 +5,7 @@ pub mod Found
 pub mod Naming
 pub mod Circles
 pub mod Own
+pub mod ByHand
 pub mod Ports
 pub mod Numbered
 pub mod Rounds

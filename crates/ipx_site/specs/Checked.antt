@@ -7,6 +7,14 @@ use Rattle.std.specs.Int.{w32, to_be_bytes}
 use Rattle.std.specs.List.{before_first, flat_map, list_any}
 use Rattle.hex.specs.Hex.{encode_lower}
 use Rattle.ipx_carrier.specs.Mapping.{node_at}
+use Rattle.ipx_control.specs.declared.rip.packet.RipEntry.{RipEntry}
+use Rattle.ipx_control.specs.declared.sap.packet.ServiceEntry.{ServiceEntry}
+use Rattle.ipx_tables.specs.declared.source.Source.{Source}
+use Rattle.ipx_commands.specs.ShowLine.{address_text, word_text}
+use Rattle.ipx_known.specs.TableText.{by_text, network_word}
+use Rattle.ipx_site.specs.declared.hand.HandEntry.{HandEntry}
+use Rattle.ipx_site.specs.declared.hand.HandWord.{HandWord}
+use Rattle.ipx_site.specs.declared.hand.HandWord.TheVariants.{Route, Service}
 use Rattle.ipx_site.specs.declared.site.Accept.{Accept}
 use Rattle.ipx_site.specs.declared.site.Accept.TheVariants.{Any, Peers}
 use Rattle.ipx_site.specs.declared.site.FramesPort.{FramesPort}
@@ -201,6 +209,27 @@ file_line path s =
     path ++ (codes ": " ++ (count_text (length s.ports.items)
     ++ (codes ", " ++ (status_text s.status ++ (tables_place_text s.tables ++ 10 ∷ [])))))
 
--- all that is printed of a router's file
+-- ---- routes and services by hand, as the file of tables has offers
+
+abbrev pub route_hand_line : Source → RipEntry → List ℕ
+route_hand_line by r =
+    codes "route " ++ (network_word r.network ++ (by_text by ++ (codes " hops "
+    ++ (decimal r.hops ++ (codes " ticks " ++ (decimal r.ticks ++ codes "\n"))))))
+
+abbrev pub service_hand_line : Source → ServiceEntry → List ℕ
+service_hand_line by s =
+    codes "service " ++ (word_text s.kind ++ (codes " " ++ (shown_text s.name ++ (codes " at "
+    ++ (address_text s.at ++ (by_text by ++ (codes " hops " ++ (decimal s.hops ++ codes "\n"))))))))
+
+abbrev pub word_line : Source → HandWord → List ℕ
+word_line by (Route r) = route_hand_line by r
+word_line by (Service s) = service_hand_line by s
+
+abbrev pub hand_line : HandEntry → List ℕ
+hand_line e = word_line e.by e.word
+
+-- all that is printed of a router's file: its ports, what it is to hear by hand, and itself
 abbrev pub site_lines : List ℕ → SiteFile → List ℕ
-site_lines path s = each_behind port_lines [] s.ports.items ++ file_line path s
+site_lines path s =
+    each_behind port_lines [] s.ports.items
+    ++ (flat_map hand_line s.by_hand.items ++ file_line path s)

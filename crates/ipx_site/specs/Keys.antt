@@ -4,7 +4,7 @@ use Rattle.std.specs.List.{list_any}
 use Rattle.std.specs.Cmp.Lexicographic.{pointwise}
 use Rattle.toml.specs.Data.{Members, no_members, member}
 use Rattle.ipx_site.specs.declared.key.Key.{Key}
-use Rattle.ipx_site.specs.declared.key.Key.TheVariants.{Status, Tables, Port, Network, Address, UdpPort, Cost, Peers, Routers, Accept, Router, Socket, Buffers, From, Kind, Frame, Ends, Node, Hub, Clients, Join}
+use Rattle.ipx_site.specs.declared.key.Key.TheVariants.{Status, Tables, Port, Network, Address, UdpPort, Cost, Peers, Routers, Accept, Router, Socket, Buffers, From, Kind, Frame, Ends, Node, Hub, Clients, Join, Route, Service, Next, Hops, Ticks, Type, Name, At}
 use Rattle.ipx_site.specs.declared.site.Kind.{Kind as PortKind}
 use Rattle.ipx_site.specs.declared.site.Kind.TheVariants as Of
 
@@ -31,6 +31,14 @@ key_text Node = codes "node"
 key_text Hub = codes "hub"
 key_text Clients = codes "clients"
 key_text Join = codes "join"
+key_text Route = codes "route"
+key_text Service = codes "service"
+key_text Next = codes "next"
+key_text Hops = codes "hops"
+key_text Ticks = codes "ticks"
+key_text Type = codes "type"
+key_text Name = codes "name"
+key_text At = codes "at"
 
 -- a text is a key as it is written
 abbrev pub is_text_of : List ℕ → Key → Bool
@@ -70,7 +78,14 @@ keys_of_other_kinds Of.Frames = Peers ∷ Routers ∷ Accept ∷ Clients ∷ Joi
 keys_of_other_kinds Of.Ipxnet = Routers ∷ Frame ∷ Ends ∷ Hub ∷ []
 
 abbrev pub site_keys : List Key
-site_keys = Status ∷ Tables ∷ Port ∷ []
+site_keys = Status ∷ Tables ∷ Port ∷ Route ∷ Service ∷ []
+
+-- those of a route and of a service by hand
+abbrev pub route_keys : List Key
+route_keys = Port ∷ Next ∷ Network ∷ Hops ∷ Ticks ∷ []
+
+abbrev pub service_keys : List Key
+service_keys = Port ∷ Next ∷ Type ∷ Name ∷ At ∷ Hops ∷ []
 
 abbrev pub host_keys : List Key
 host_keys =

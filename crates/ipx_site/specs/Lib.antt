@@ -7,6 +7,9 @@ pub mod Port
 pub mod PortKinds
 pub mod IpxnetTable
 pub mod FramesTable
+pub mod HandFields
+pub mod HandTables
+pub mod HandLists
 pub mod Site
 pub mod SitePorts
 pub mod Host
@@ -23,6 +26,7 @@ pub mod Moments
 pub mod Leisure
 pub mod RouterRounds
 pub mod Checked
+pub mod SilentSite
 pub mod DropLines
 pub mod Senders
 pub mod RouterFigures

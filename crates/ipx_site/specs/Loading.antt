@@ -1,7 +1,7 @@
 -- What the bytes of a file are to be, and the status that says what is wrong. All of it is own.
 use Rattle.std.specs.Prelude.{◌≡◌, ◌≤◌, ◌⊎◌, ℕ, List, IsUtf8, length}
 use Rattle.ipx_site.specs.declared.fault.FileFault.{FileFault}
-use Rattle.ipx_site.specs.declared.fault.FileFault.TheVariants.{Missing, NotToml, OtherKind, OutOfMemory, Twin, Unknown, Wrong}
+use Rattle.ipx_site.specs.declared.fault.FileFault.TheVariants.{Again, Missing, NotToml, OtherKind, OutOfMemory, Twin, Unknown, Wrong}
 
 -- the bytes of a file are a text: at most 65,536 of them, in UTF-8
 abbrev pub IsFileText : List ℕ → Type 0
@@ -16,6 +16,7 @@ fault_status (OtherKind table key kind) = 2
 fault_status (Missing table key) = 2
 fault_status (Wrong table key) = 2
 fault_status (Twin table network earlier) = 2
+fault_status (Again table earlier) = 2
 
 -- why bytes describe nothing, where a text may have these faults: for want of memory, since they are no
 -- text, or for a fault

@@ -1,5 +1,5 @@
 -- What the value of a key means: a number of a network, an address, and so on.
-use Rattle.std.specs.Prelude.{String, Vec, string_bytes, ◌≡◌, ◌≢◌, ℕ, ◌≤◌, pos, List, [], ◌∷◌, true, Option, Some, codes, MatchOption}
+use Rattle.std.specs.Prelude.{String, Vec, string_bytes, ◌≡◌, ◌≢◌, ℕ, suc, ◌≤◌, pos, List, [], ◌∷◌, true, Option, Some, codes, MatchOption}
 use Rattle.std.specs.Global.{Global}
 use Rattle.std.specs.List.{list_all}
 use Rattle.std.specs.Net.Grammar.{IsDotted}
@@ -57,6 +57,11 @@ kind_text Ipxnet = codes "ipxnet"
 -- the string "rfc1234", the string "frames" or the string "ipxnet"
 abbrev pub IsKind : Data → Kind → Type 0
 IsKind d k = as_str d ≡ Some (kind_text k)
+
+-- how many there are
+abbrev pub item_count : Items → ℕ
+item_count no_items = 0
+item_count (item d ds) = suc (item_count ds)
 
 -- item by item, what each of them means
 abbrev pub AreEach : {A : Type 0} → (Data → A → Type 0) → Items → List A → Type 0

@@ -8,6 +8,7 @@ ghost use Rattle.ipx_site.specs.Site.{IsSiteText};
 ghost use Rattle.ipx_site.specs.declared.site.SiteFile.{SiteFile as ASiteFile};
 
 use crate::files::load_site;
+use crate::hand_lines::entries_to_lines;
 use crate::shown::Shown;
 use crate::site::{PortOfKind, SiteFile};
 use crate::start_lines::{dotted, end_to_text, port_to_text};
@@ -221,8 +222,9 @@ fn site_to_lines(alloc: Global, path: &str, site: &SiteFile) -> Result<String, A
     ensures { IfOk result (λ t. string_bytes t ≡ site_lines path.now site.now) }
 {
     let ports = ports_to_lines(alloc, &site.ports)?;
+    let by_hand = entries_to_lines(alloc, &site.by_hand)?;
     let file = file_to_line(alloc, path, site)?;
-    format!(in alloc; "{ports}{file}")
+    format!(in alloc; "{ports}{by_hand}{file}")
 }
 
 /// Writes what is said of a file that is checked, and answers the status: 0 where all is written.
@@ -251,8 +253,8 @@ pub fn write_checked<R: Eprint, W: Write>(
 }
 
 /// The command `route --check`: reads the file of a router, and writes the line that each port has
-/// as a router starts, with what is to be remarked on it, and a line of the file. It opens no
-/// socket: no `Net` comes in.
+/// as a router starts, with what is to be remarked on it, one of each route and service by hand, and
+/// one of the file. It opens no socket: no `Net` comes in.
 ///
 /// The answer is the status: 0 where that is written; 1 where memory is refused or the writer
 /// fails; 2 for a fault of the file, which is told as `route` does, and nothing is written.

@@ -5,10 +5,12 @@ use crate::site::Kind;
 use ipx_wire::{Network, OutOfMemory};
 use std::alloc::AllocFailed;
 
-/// Why a file is not that of a router or of a host. The first fault is answered: ports in the
-/// order of the file, and in each table the keys in the order in which the documents list them.
+/// Why a file is not that of a router or of a host. The first fault is answered: ports, routes and
+/// services in the order of the file, and in each table the keys in the order in which the documents
+/// list them.
 ///
-/// `table` is 0 for the file itself, and else the number of a `[[port]]`, the first of which is 1.
+/// `table` is 0 for the file itself, and else the number of a table: the first `[[port]]` is 1, the
+/// first `[[route]]` 17, and the first `[[service]]` 273.
 #[derive(Debug, Drop)]
 pub enum FileFault {
     OutOfMemory,
@@ -22,8 +24,10 @@ pub enum FileFault {
     Missing(usize, Key),
     /// The value of a key means nothing.
     Wrong(usize, Key),
-    /// The network of a port is that of an earlier one, whose number comes last.
+    /// The network of a port or a route is that of a port, whose number comes last.
     Twin(usize, Network, usize),
+    /// A route or a service says what an earlier one says, whose number comes last.
+    Again(usize, usize),
 }
 
 impl From<OutOfMemory> for FileFault {

@@ -2,6 +2,7 @@
 
 ghost use Rattle.std.specs.Prelude.{◌≡◌, ◌⊎◌, ℕ, List, All, Err, IfErr, IfOk};
 ghost use Rattle.ipx_router.specs.NewRouter.{IsOwnNetwork};
+ghost use Rattle.ipx_site.specs.HandLists.{HearsAtPorts};
 ghost use Rattle.ipx_site.specs.Host.{IsHostText, IsHostTextFault};
 ghost use Rattle.ipx_site.specs.Loading.{IsFileText, IsStatus, fault_status};
 ghost use Rattle.ipx_site.specs.SitePorts.{router_ports};
@@ -101,6 +102,7 @@ pub(crate) fn site_in<R: Eprint>(
 ) -> Result<SiteFile, u8>
     ensures site { IfOk result (λ s. IsFileText bytes.now × IsSiteText bytes.now s) }
     ensures own { IfOk result (λ s. All IsOwnNetwork (router_ports s.ports.items)) }
+    ensures there { IfOk result HearsAtPorts }
     ensures no_text { (IsFileText bytes.now → ⊥) → result ≡ Err 2 }
     ensures fault { IfErr result (IsStatus (IsSiteTextFault bytes.now) bytes.now) }
 {
@@ -135,6 +137,7 @@ pub fn load_site<R: Files + Eprint>(rt: &R, alloc: Global, path: &str) -> Result
     // What it answers some text describes.
     ensures site { IfOk result (λ s. (text : List ℕ) × IsFileText text × IsSiteText text s) }
     ensures own { IfOk result (λ s. All IsOwnNetwork (router_ports s.ports.items)) }
+    ensures there { IfOk result HearsAtPorts }
     ensures fault { IfErr result (λ status. (status ≡ 1) ⊎ (status ≡ 2)) }
 {
     let bytes = read_bytes(rt, alloc, path, MOST + 1)?;

@@ -29,6 +29,14 @@ pub enum Key {
     Hub,
     Clients,
     Join,
+    Route,
+    Service,
+    Next,
+    Hops,
+    Ticks,
+    Type,
+    Name,
+    At,
 }
 
 impl Key {
@@ -58,6 +66,14 @@ impl Key {
             Key::Hub => "hub",
             Key::Clients => "clients",
             Key::Join => "join",
+            Key::Route => "route",
+            Key::Service => "service",
+            Key::Next => "next",
+            Key::Hops => "hops",
+            Key::Ticks => "ticks",
+            Key::Type => "type",
+            Key::Name => "name",
+            Key::At => "at",
         }
     }
 
@@ -88,6 +104,17 @@ impl Key {
             Key::Hub => "true or false",
             Key::Clients => "a number from 1 to 150, as 64",
             Key::Join => "a list of 1 to 256 places, each once, as [\"198.51.100.7:2130\"]",
+            Key::Route => "at most 256 tables, each begun by [[route]]",
+            Key::Service => "at most 256 tables, each begun by [[service]]",
+            Key::Next => {
+                "another node of the port's network: an IP address among its peers, as \
+                 \"198.51.100.7\", or on a wire a station, as \"02:00:00:00:00:33\""
+            }
+            Key::Hops => "a number from 1 to 14, as 1",
+            Key::Ticks => "a number of ticks from 1 to 65535, as 6",
+            Key::Type => "four hex digits, neither all 0 nor all f, as \"0640\"",
+            Key::Name => "1 to 47 characters of ASCII that print, without blanks, as \"BACKUP\"",
+            Key::At => "a network, a node and a socket, as \"00000011 00000a010014 4002\"",
         }
     }
 }

@@ -5,11 +5,13 @@ ghost use Rattle.toml.specs.Data.{Data, Items};
 ghost use Rattle.toml.specs.View.{items_view, table_view, view};
 ghost use Rattle.ipx_router.specs.NewRouter.{IsOwnNetwork};
 ghost use Rattle.ipx_site.specs.Fields.{Holds, IsFault, Reads};
+ghost use Rattle.ipx_site.specs.HandLists.{HearsAtPorts};
 ghost use Rattle.ipx_site.specs.SitePorts.{router_ports};
 ghost use Rattle.ipx_site.specs.Site.{ArePorts, IsFirstFault, IsPortItem, IsPortItemFault, IsPortList, IsSite, IsSiteFault, IsSiteText, IsSiteTextFault, IsTwin, is_few, twin_place};
 
 use crate::fault::FileFault;
 use crate::fields::{refuse_unknown, required, text_in};
+use crate::hand_lists::by_hand_in;
 use crate::key::Key;
 use crate::port::port_of;
 use crate::site::{PortOfKind, SiteFile};
@@ -18,7 +20,13 @@ use std::alloc::Global;
 use toml::{Table, Value};
 
 /// The keys of the file, in the order in which their faults are told.
-const KEYS: [Key; 3] = [Key::Status, Key::Tables, Key::Port];
+const KEYS: [Key; 5] = [
+    Key::Status,
+    Key::Tables,
+    Key::Port,
+    Key::Route,
+    Key::Service,
+];
 
 /// The port that a value describes.
 fn item_of(alloc: Global, value: &Value, number: usize) -> Result<PortOfKind, FileFault>
@@ -102,6 +110,7 @@ fn port_values(table: &Table) -> Result<&[Value], FileFault>
 fn site_of(alloc: Global, table: &Table) -> Result<SiteFile, FileFault>
     ensures site { IfOk result (IsSite (table_view table.now)) }
     ensures own { IfOk result (λ s. All IsOwnNetwork (router_ports s.ports.items)) }
+    ensures there { IfOk result HearsAtPorts }
     ensures fault { IfErr result (λ f.
         (f ≡ FileFault.OutOfMemory) ⊎ IsSiteFault (table_view table.now) f) }
 {
@@ -110,20 +119,24 @@ fn site_of(alloc: Global, table: &Table) -> Result<SiteFile, FileFault>
     let tables = text_in(alloc, table, Key::Tables)?;
     let values = port_values(table)?;
     let ports = ports_of(alloc, values)?;
+    let by_hand = by_hand_in(alloc, table, &ports)?;
     Ok(SiteFile {
         status,
         tables,
         ports,
+        by_hand,
     })
 }
 
 /// Reads the text of a router's file, or answers its first fault: ports are read in the order of
 /// the file, and of each table first its `kind` is told, then a name that is no key of that kind, and
-/// then its keys in the order of the documents.
+/// then its keys in the order of the documents. Behind them come routes, and then services.
 pub fn read_site(alloc: Global, text: &str) -> Result<SiteFile, FileFault>
     ensures site { IfOk result (IsSiteText text.now) }
     // What `Router::new` is owed of its ports.
     ensures own { IfOk result (λ s. All IsOwnNetwork (router_ports s.ports.items)) }
+    // What `ByHand::new` is owed.
+    ensures there { IfOk result HearsAtPorts }
     ensures fault { IfErr result (λ f.
         (f ≡ FileFault.OutOfMemory) ⊎ IsSiteTextFault text.now f) }
 {

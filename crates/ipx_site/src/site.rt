@@ -4,6 +4,7 @@ ghost use Rattle.std.specs.Prelude.{◌≡◌};
 ghost use Rattle.ipx_site.specs.PortKinds.{kind_of_port, network_of_kind, place_of_kind};
 ghost use Rattle.ipx_site.specs.SitePorts.{router_port_of, router_port_of_kind};
 
+use crate::hand::HandEntry;
 use crate::ipxnet_port::IpxnetPort;
 use ipx_carrier::node_of;
 use ipx_frames::Encapsulation;
@@ -156,4 +157,6 @@ pub struct SiteFile {
     pub tables: Option<String>,
     /// Its ports, 1 to 16. The first is port 1.
     pub ports: Vec<PortOfKind>,
+    /// What it is to hear by hand: at most 256 routes, and behind them at most 256 services.
+    pub by_hand: Vec<HandEntry>,
 }

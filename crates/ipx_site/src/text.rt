@@ -6,12 +6,24 @@ use crate::shown::Shown;
 use crate::site::Kind;
 use std::fmt;
 
+/// The greatest number of the table of a port.
+const LAST_PORT: usize = 16;
+
+/// That of a route. Behind it come services.
+const LAST_ROUTE: usize = 272;
+
 /// The keys of a table, by its number.
 fn keys_of(table: usize) -> &'static str {
     if table == 0 {
-        return "a router has status, tables and port, \
+        return "a router has status, tables, port, route and service, \
             a host network, address, router, udp_port, socket, buffers, peers, routers, from and \
             accept";
+    }
+    if table > LAST_ROUTE {
+        return "the keys are port, next, type, name, at and hops";
+    }
+    if table > LAST_PORT {
+        return "the keys are port, next, network, hops and ticks";
     }
     "the keys are kind, network, address, udp_port, cost, for kind = \"rfc1234\" also peers, \
         routers and accept, for kind = \"frames\" frame, ends, node and hub, \
@@ -38,8 +50,20 @@ fn keys_of_port(kind: Kind) -> &'static str {
     }
 }
 
+/// What the value of a key of a route or a service is to be: those name a port, and no own network.
+fn right_by_hand(key: Key) -> &'static str {
+    match key {
+        Key::Port => "the number of a port here of kind \"rfc1234\" or \"frames\", as 1",
+        Key::Network => "eight hex digits from 00000001 to fffffffd, as \"000000aa\"",
+        _ => key.right(),
+    }
+}
+
 /// What the value of a key of a table is to be: a host names 256 others at most.
 fn right_in(table: usize, key: Key) -> &'static str {
+    if table > LAST_PORT {
+        return right_by_hand(key);
+    }
     match (table, key) {
         (0, Key::Peers) => {
             "a list of at most 256 IP addresses, as [\"198.51.100.7\", \"203.0.113.9\"]"
@@ -49,12 +73,35 @@ fn right_in(table: usize, key: Key) -> &'static str {
     }
 }
 
-/// Where a fault lies: nothing for the file itself, and else the port.
+/// The name of a table: what it begins, and which of them it is.
+fn write_table<W: fmt::Write>(f: &mut fmt::Formatter<W>, table: usize) -> fmt::Result {
+    if table <= LAST_PORT {
+        return write!(f, "port {table}");
+    }
+    if table <= LAST_ROUTE {
+        let route = table - LAST_PORT;
+        return write!(f, "route {route}");
+    }
+    let service = table - LAST_ROUTE;
+    write!(f, "service {service}")
+}
+
+/// Where a fault lies: nothing for the file itself, and else the table.
 fn write_place<W: fmt::Write>(f: &mut fmt::Formatter<W>, table: usize) -> fmt::Result {
     if table == 0 {
         return Ok(());
     }
-    write!(f, "port {table}: ")
+    write_table(f, table)?;
+    f.write_str(": ")
+}
+
+/// What routes, or services, have alike that say the same.
+fn alike(table: usize) -> &'static str {
+    if table <= LAST_ROUTE {
+        "port, next and network"
+    } else {
+        "port, next, type and name"
+    }
 }
 
 impl fmt::Display for Key {
@@ -81,7 +128,8 @@ impl fmt::Display for FileFault {
             }
             FileFault::Missing(table, key) => {
                 write_place(f, *table)?;
-                write!(f, "{key} is missing: it is to be {}", key.right())
+                let right = right_in(*table, *key);
+                write!(f, "{key} is missing: it is to be {right}")
             }
             FileFault::Wrong(table, key) => {
                 write_place(f, *table)?;
@@ -90,6 +138,11 @@ impl fmt::Display for FileFault {
             FileFault::Twin(table, network, earlier) => {
                 write_place(f, *table)?;
                 write!(f, "network {network} is already that of port {earlier}")
+            }
+            FileFault::Again(table, earlier) => {
+                write_place(f, *table)?;
+                write!(f, "{} are those of ", alike(*table))?;
+                write_table(f, *earlier)
             }
         }
     }

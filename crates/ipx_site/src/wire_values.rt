@@ -144,7 +144,7 @@ fn digits_of(text: &[u8]) -> Option<[u8; 12]>
 }
 
 /// Whether one station can have this address: it is no group's, and not zero.
-fn is_station(node: Node) -> bool
+pub(crate) fn is_station(node: Node) -> bool
     ensures { result ≡ is_station node }
 {
     node.0[0] % 2 == 0 && node.0 != [0; 6]

@@ -1,0 +1,123 @@
+-- Entries by hand: how those that are left join those that were read, and where they are heard.
+use Rattle.std.proofs.Common.{◌≡◌, ℕ, zero, suc, ◌+◌, ◌<◌, ◌≤◌, Bool, true, false, List, [], ◌∷◌, ◌++◌, get_or, length, take, Some, None, inl, inr, refl, arith, sym, subst}
+use Rattle.std.specs.List.{AllZip, list_any, slice_get}
+use Rattle.std.specs.Prelude.{All}
+use Rattle.std.proofs.lemmas.List.Elements.{all_zip_more, All-append, All-cons, All-head, All-nil, All-tail}
+use Rattle.toml.specs.Data.{Data, Items, Members, no_items, item}
+use Rattle.ipx_tables.specs.declared.source.Source.{Source}
+use Rattle.ipx_router.specs.Ports.{IsPortNumber}
+use Rattle.ipx_by_hand.specs.declared.neighbour.SilentNeighbour.{SilentNeighbour}
+use Rattle.ipx_by_hand.specs.HandOffers.{source_by_hand}
+use Rattle.ipx_site.specs.declared.fault.FileFault.{FileFault}
+use Rattle.ipx_site.specs.declared.hand.HandEntry.{HandEntry}
+use Rattle.ipx_site.specs.declared.hand.HandKind.{HandKind}
+use Rattle.ipx_site.specs.declared.hand.HandKind.TheVariants as Of
+use Rattle.ipx_site.specs.declared.site.PortOfKind.{PortOfKind}
+use Rattle.ipx_site.specs.HandFields.{IsNear, numbered_port}
+use Rattle.ipx_site.specs.HandLists.{AreByHand, AreEntriesOf, AreHandEntries, IsAgain, IsEntryItem, IsEntryItemFault, IsFirstEntryFault, again_place, entry_number, is_one_source}
+use Rattle.ipx_site.specs.HandTables.{IsEntryTable}
+use Rattle.ipx_site.specs.SilentSite.{IsSilent, sources_behind}
+
+module _ (kind : HandKind) (ports : List PortOfKind) where
+  -- Of the items that are left the first is at fault. The entries so far are those before it.
+  pub entry_fault : (earlier : List HandEntry) (number : ℕ) → number ≡ entry_number kind earlier
+      → (ds : Items) (d : Data) (left : Items) → ds ≡ item d left
+      → (f : FileFault) → IsEntryItemFault kind ports number d f → IsFirstEntryFault kind ports earlier ds f
+  entry_fault earlier number counted ds d left is f fault = rw (is, ← counted) (inl fault)
+
+  pub again_fault : (earlier seen : List HandEntry) → seen ≡ earlier → (ds : Items) (d : Data) (left : Items)
+      → ds ≡ item d left → (e : HandEntry) → IsEntryItem kind ports d e → (f : FileFault) → IsAgain kind seen e f
+      → IsFirstEntryFault kind ports earlier ds f
+  again_fault earlier seen same ds d left is e entry f again = rw (is, ← same) (inr (e, entry, inl again))
+
+  -- or one behind it is
+  pub later_entry_fault : (earlier seen new : List HandEntry) → seen ≡ earlier → (e : HandEntry) → new ≡ earlier ++ e ∷ []
+      → (ds : Items) (d : Data) (left : Items) → ds ≡ item d left → IsEntryItem kind ports d e
+      → again_place seen e ≡ None → (f : FileFault) → IsFirstEntryFault kind ports new left f
+      → IsFirstEntryFault kind ports earlier ds f
+  later_entry_fault earlier seen new same e more ds d left is entry alone f fault =
+      let behind = rw more at fault in
+      let first = rw same at alone in
+      rw is (inr (e, entry, inr (first, behind)))
+
+  -- an entry, and those behind it
+  pub one_more_entry : (earlier seen new : List HandEntry) → seen ≡ earlier → (e : HandEntry) → new ≡ earlier ++ e ∷ []
+      → (ds : Items) (d : Data) (left : Items) → ds ≡ item d left → IsEntryItem kind ports d e
+      → again_place seen e ≡ None → (rest : List HandEntry) → AreHandEntries kind ports new left rest
+      → AreHandEntries kind ports earlier ds (e ∷ rest)
+  one_more_entry earlier seen new same e more ds d left is entry alone rest are =
+      let behind = rw more at are in
+      let first = rw same at alone in
+      rw is (e, rest, refl, entry, first, behind)
+
+-- ---- where they are heard
+
+abbrev pub IsHeardAt : List PortOfKind → HandEntry → Type 0
+IsHeardAt ports e = IsPortNumber (length ports) e.by.port
+
+-- a port that has a number is there
+got : {X : Type 0} (xs : List X) (i : ℕ) (x : X) → slice_get xs i ≡ Some x → i + 1 ≤ length xs
+got [] i x is = absurd (cc)
+got (y ∷ ys) zero x is = omega arith
+got (y ∷ ys) (suc i) x is = let ih = got ys i x is in omega arith
+
+numbered : (ports : List PortOfKind) (n : ℕ) (p : PortOfKind) → numbered_port ports n ≡ Some p → IsPortNumber (length ports) n
+numbered ports zero p is = absurd (cc)
+numbered ports (suc i) p is = let there = got ports i p is in (omega arith, omega arith)
+
+entry_there : (kind : HandKind) (ports : List PortOfKind) (ms : Members) (e : HandEntry) → IsEntryTable kind ports ms e → IsHeardAt ports e
+entry_there Of.Route ports ms e table =
+    let (near, route, is_near, path, is) = table.says in
+    rw is (numbered ports near.by.port is_near.1.0 is_near.1.1)
+entry_there Of.Service ports ms e table =
+    let (near, service, is_near, offered, is) = table.says in
+    rw is (numbered ports near.by.port is_near.1.0 is_near.1.1)
+
+each_there : (kind : HandKind) (ports : List PortOfKind) (earlier : List HandEntry) (ds : Items) (es : List HandEntry)
+    → AreHandEntries kind ports earlier ds es → All (IsHeardAt ports) es
+each_there kind ports earlier no_items es h = subst (All (IsHeardAt ports)) (sym h) (All-nil (IsHeardAt ports))
+each_there kind ports earlier (item d ds) es h =
+    let (ms, is, table) = h.3 in
+    subst (All (IsHeardAt ports)) (sym h.2)
+    (All-cons (IsHeardAt ports) h.0 h.1 (entry_there kind ports ms h.0 table) (each_there kind ports (earlier ++ h.0 ∷ []) ds h.1 h.5))
+
+of_kind_there : (kind : HandKind) (ports : List PortOfKind) (ms : Members) (es : List HandEntry)
+    → AreEntriesOf kind ports ms es → All (IsHeardAt ports) es
+of_kind_there kind ports ms es (inl none) = subst (All (IsHeardAt ports)) (sym none.1) (All-nil (IsHeardAt ports))
+of_kind_there kind ports ms es (inr some) = each_there kind ports [] some.0 es some.2
+
+pub by_hand_there : (ports : List PortOfKind) (ms : Members) (es : List HandEntry) → AreByHand ports ms es → All (IsHeardAt ports) es
+by_hand_there ports ms es (routes, services, is, of_routes, of_services) =
+    subst (All (IsHeardAt ports)) (sym is)
+    (All-append (IsHeardAt ports) routes services (of_kind_there Of.Route ports ms routes of_routes) (of_kind_there Of.Service ports ms services of_services))
+
+-- ---- those whom they are heard from
+
+module _ (P : Source → Type 0) where
+  pub sources_have : (known : List Source) (es : List HandEntry) → All (λ e. P e.by) es → All P (sources_behind known es)
+  sources_have known [] h = All-nil P
+  sources_have known (e ∷ es) h =
+      let later = All-tail (λ (x : HandEntry). P x.by) e es h in
+      let first = All-head (λ (x : HandEntry). P x.by) e es h in
+      let go : (b : Bool) → list_any (λ s. is_one_source s e.by) known ≡ b → All P (sources_behind known (e ∷ es)) = elim [
+        | true ↦ λ at. rw at (sources_have known es later)
+        | false ↦ λ at. rw at (All-cons P e.by (sources_behind (known ++ e.by ∷ []) es) first (sources_have (known ++ e.by ∷ []) es later))
+      ] in
+      go (list_any (λ s. is_one_source s e.by) known) refl
+
+  pub neighbours_have : (es : List HandEntry) (ss : List Source) (ns : List SilentNeighbour) → AllZip (IsSilent es) ss ns → All P ss
+      → All (λ n. P (source_by_hand n)) ns
+  neighbours_have es [] [] z h = All-nil (λ (n : SilentNeighbour). P (source_by_hand n))
+  neighbours_have es [] (n ∷ ns) z h = absurd z
+  neighbours_have es (s ∷ ss) [] z h = absurd z
+  neighbours_have es (s ∷ ss) (n ∷ ns) z h =
+      All-cons (λ (m : SilentNeighbour). P (source_by_hand m)) n ns
+      (subst P (sym z.0.source) (All-head P s ss h))
+      (neighbours_have es ss ns z.1 (All-tail P s ss h))
+
+-- one more of them, each with its neighbour
+pub one_more_silent : (es : List HandEntry) (ss : List Source) (i : ℕ) (s : Source) → s ≡ get_or ss i s → i < length ss
+    → (ns new : List SilentNeighbour) (n : SilentNeighbour) → new ≡ ns ++ n ∷ [] → AllZip (IsSilent es) (take i ss) ns → IsSilent es s n
+    → AllZip (IsSilent es) (take (i + 1) ss) new
+one_more_silent es ss i s is there ns new n more z silent =
+    subst (AllZip (IsSilent es) (take (i + 1) ss)) (sym more) (all_zip_more (IsSilent es) ss ns i s n there is z silent)

@@ -1,0 +1,46 @@
+-- The silent neighbours that the entries by hand of a router's file are heard from. All of it is own.
+-- The entry point is `AreSilent`.
+use Rattle.std.specs.Prelude.{◌≡◌, List, [], ◌∷◌, ◌++◌, Option, Some, None, if◌then◌else◌}
+use Rattle.std.specs.List.{AllZip, filter_map, list_any}
+use Rattle.ipx_control.specs.declared.rip.packet.RipEntry.{RipEntry}
+use Rattle.ipx_control.specs.declared.sap.packet.ServiceEntry.{ServiceEntry}
+use Rattle.ipx_tables.specs.declared.source.Source.{Source}
+use Rattle.ipx_by_hand.specs.declared.neighbour.SilentNeighbour.{SilentNeighbour}
+use Rattle.ipx_by_hand.specs.HandOffers.{source_by_hand}
+use Rattle.ipx_site.specs.declared.hand.HandEntry.{HandEntry}
+use Rattle.ipx_site.specs.declared.hand.HandWord.{HandWord}
+use Rattle.ipx_site.specs.declared.hand.HandWord.TheVariants.{Route, Service}
+use Rattle.ipx_site.specs.HandLists.{is_one_source}
+
+-- the route that a word is, and the service
+abbrev pub route_in_word : HandWord → Option RipEntry
+route_in_word (Route r) = Some r
+route_in_word (Service s) = None
+
+abbrev pub service_in_word : HandWord → Option ServiceEntry
+service_in_word (Route r) = None
+service_in_word (Service s) = Some s
+
+-- so where it is heard from this one
+abbrev pub route_by : Source → HandEntry → Option RipEntry
+route_by s e = if is_one_source e.by s then route_in_word e.word else None
+
+abbrev pub service_by : Source → HandEntry → Option ServiceEntry
+service_by s e = if is_one_source e.by s then service_in_word e.word else None
+
+-- from whom entries are heard, behind these: each once, in the order in which they are named first
+abbrev pub sources_behind : List Source → List HandEntry → List Source
+sources_behind known [] = []
+sources_behind known (e ∷ es) =
+    if list_any (λ s. is_one_source s e.by) known then sources_behind known es
+    else e.by ∷ sources_behind (known ++ e.by ∷ []) es
+
+-- one is to have said all routes and all services that are heard from it, in order
+pub record IsSilent (es : List HandEntry) (s : Source) (n : SilentNeighbour) : Type 0 where
+  pub source : source_by_hand n ≡ s
+  pub routes : n.routes.items ≡ filter_map (route_by s) es
+  pub services : n.services.items ≡ filter_map (service_by s) es
+
+-- a neighbour for each of those from whom entries are heard
+abbrev pub AreSilent : List HandEntry → List SilentNeighbour → Type 0
+AreSilent es ns = AllZip (IsSilent es) (sources_behind [] es) ns

@@ -1,0 +1,75 @@
+//! What is said of routes and services by hand where a file is checked.
+
+ghost use Rattle.std.specs.Prelude.{◌≡◌, IfOk, string_bytes};
+ghost use Rattle.std.specs.List.{flat_map};
+ghost use Rattle.ipx_commands.specs.ShowLine.{address_text};
+ghost use Rattle.ipx_known.specs.TableText.{by_text};
+ghost use Rattle.ipx_site.specs.Checked.{hand_line, route_hand_line, service_hand_line};
+
+use crate::hand::{HandEntry, HandWord};
+use crate::shown::Shown;
+use ipx_control::{RipEntry, ServiceEntry};
+use ipx_tables::Source;
+use ipx_wire::Address;
+use std::alloc::{AllocError, Global};
+
+fn address_to_words(alloc: Global, at: Address) -> Result<String, AllocError>
+    ensures { IfOk result (λ t. string_bytes t ≡ address_text at) }
+{
+    let network = hex::encode(alloc, at.network.0.to_be_bytes())?;
+    let node = hex::encode(alloc, at.node.0)?;
+    let socket = hex::encode(alloc, at.socket.0.to_be_bytes())?;
+    format!(in alloc; "{network} {node} {socket}")
+}
+
+/// The port where something is heard, and the neighbour, behind a space.
+fn source_to_words(alloc: Global, by: Source) -> Result<String, AllocError>
+    ensures { IfOk result (λ t. string_bytes t ≡ by_text by) }
+{
+    let port = by.port;
+    let node = hex::encode(alloc, by.neighbour.0)?;
+    format!(in alloc; " port {port} next {node}")
+}
+
+fn route_to_line(alloc: Global, by: Source, route: &RipEntry) -> Result<String, AllocError>
+    ensures { IfOk result (λ t. string_bytes t ≡ route_hand_line by route.now) }
+{
+    let network = hex::encode(alloc, route.network.0.to_be_bytes())?;
+    let by = source_to_words(alloc, by)?;
+    let hops = route.hops;
+    let ticks = route.ticks;
+    format!(in alloc; "route {network}{by} hops {hops} ticks {ticks}\n")
+}
+
+fn service_to_line(alloc: Global, by: Source, service: &ServiceEntry) -> Result<String, AllocError>
+    ensures { IfOk result (λ t. string_bytes t ≡ service_hand_line by service.now) }
+{
+    let kind = hex::encode(alloc, service.kind.to_be_bytes())?;
+    let name = Shown(&service.name);
+    let at = address_to_words(alloc, service.at)?;
+    let by = source_to_words(alloc, by)?;
+    let hops = service.hops;
+    format!(in alloc; "service {kind} {name} at {at}{by} hops {hops}\n")
+}
+
+/// The line of an entry.
+fn entry_to_line(alloc: Global, entry: &HandEntry) -> Result<String, AllocError>
+    ensures { IfOk result (λ t. string_bytes t ≡ hand_line entry.now) }
+{
+    match &entry.word {
+        HandWord::Route(route) => route_to_line(alloc, entry.by, route),
+        HandWord::Service(service) => service_to_line(alloc, entry.by, service),
+    }
+}
+
+/// The lines of entries by hand, in order.
+pub fn entries_to_lines(alloc: Global, entries: &[HandEntry]) -> Result<String, AllocError>
+    ensures { IfOk result (λ t. string_bytes t ≡ flat_map hand_line entries.now) }
+{
+    let mut lines = String::new(alloc);
+    for entry in entries {
+        let line = entry_to_line(alloc, entry)?;
+        lines.push_str(&line)?;
+    }
+    Ok(lines)
+}
