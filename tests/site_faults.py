@@ -32,7 +32,7 @@ router = "127.0.1.1"
 udp_port = 20999
 socket = "4002"
 """
-KEYS = ("a router has status, tables and port, a host network, address, router, udp_port, socket, buffers, peers, routers, from and "
+KEYS = ("a router has status, tables, port, route and service, a host network, address, router, udp_port, socket, buffers, peers, routers, from and "
         "accept")
 PORT_KEYS = ('the keys are kind, network, address, udp_port, cost, for kind = "rfc1234" also peers, routers and accept, '
              'for kind = "frames" frame, ends, node and hub, for kind = "ipxnet" node, clients, accept, peers and join')
@@ -57,8 +57,35 @@ KIND = '"rfc1234", "frames" or "ipxnet"'
 FRAME = '"802.3", "802.2", "snap" or "ethernet-ii"'
 ENDS = 'a list of 1 to 256 places, as ["127.0.0.1:24001"]'
 STATION = 'the address of one station, as "02:00:00:00:00:22"'
+ROUTE_KEYS = "the keys are port, next, network, hops and ticks"
+SERVICE_KEYS = "the keys are port, next, type, name, at and hops"
+ROUTES, SERVICES = (f"at most 256 tables, each begun by [[{key}]]" for key in ("route", "service"))
+A_PORT = 'the number of a port here of kind "rfc1234" or "frames", as 1'
+NEXT = ('another node of the port\'s network: an IP address among its peers, as "198.51.100.7", or on a wire a station, as '
+        '"02:00:00:00:00:33"')
+BEHIND = 'eight hex digits from 00000001 to fffffffd, as "000000aa"'
+HOPS = "a number from 1 to 14, as 1"
+TYPE = 'four hex digits, neither all 0 nor all f, as "0640"'
+NAME = '1 to 47 characters of ASCII that print, without blanks, as "BACKUP"'
+AT = 'a network, a node and a socket, as "00000011 00000a010014 4002"'
 STATUS = 'the name of a file, as "/run/ipx/hq/hq.prom"'
 TABLES = 'the name of a file, as "/run/ipx/hq/hq.tables"'
+
+
+# A route and a service by hand, behind a port with the peers .20 and .1, which is itself.
+TWO_PEERS = PORT.replace('["127.0.1.20"]', '["127.0.1.20", "127.0.1.1"]')
+ROUTE = """[[route]]
+port = 1
+next = "127.0.1.20"
+network = "000000aa"
+"""
+SERVICE = """[[service]]
+port = 1
+next = "127.0.1.20"
+type = "0640"
+name = "BACKUP"
+at = "00000011 00000a010014 4002"
+"""
 
 
 USED = "address and udp_port are in use: end what has them, or take others"
@@ -153,6 +180,59 @@ ROUTER_FILES = [
     (WIRE + "node = \"03:00:00:00:00:22\"\n", f"port 1: node is to be {STATION}"),
     (WIRE + "node = \"00:00:00:00:00:00\"\nhub = 1\n", f"port 1: node is to be {STATION}"),
     (WIRE + "hub = \"true\"\n", "port 1: hub is to be true or false"),
+]
+
+# So of routes and services by hand, behind a port.
+ROUTER_FILES += [(TWO_PEERS + text, line) for text, line in (
+    ("route = 1\n", f"port 1: route is no key here: {PORT_KEYS}"),
+    (ROUTE * 257, f"route is to be {ROUTES}"),
+    (SERVICE * 257, f"service is to be {SERVICES}"),
+    (ROUTE + "peers = []\n", f"route 1: peers is no key here: {ROUTE_KEYS}"),
+    (ROUTE + SERVICE + "ticks = 6\n", f"service 1: ticks is no key here: {SERVICE_KEYS}"),
+    (without(ROUTE, "port"), f"route 1: port is missing: it is to be {A_PORT}"),
+    (changed(ROUTE, "port", "2"), f"route 1: port is to be {A_PORT}"),
+    (changed(ROUTE, "port", "0"), f"route 1: port is to be {A_PORT}"),
+    (changed(ROUTE, "port", "17"), f"route 1: port is to be {A_PORT}"),
+    (changed(ROUTE, "port", '"1"'), f"route 1: port is to be {A_PORT}"),
+    (without(ROUTE, "next"), f"route 1: next is missing: it is to be {NEXT}"),
+    (changed(ROUTE, "next", '"127.0.1.21"'), f"route 1: next is to be {NEXT}"),
+    (changed(ROUTE, "next", '"127.0.1.1"'), f"route 1: next is to be {NEXT}"),
+    (changed(ROUTE, "next", '"00007f000114"'), f"route 1: next is to be {NEXT}"),
+    (without(ROUTE, "network"), f"route 1: network is missing: it is to be {BEHIND}"),
+    (changed(ROUTE, "network", '"00000000"'), f"route 1: network is to be {BEHIND}"),
+    (changed(ROUTE, "network", '"fffffffe"'), f"route 1: network is to be {BEHIND}"),
+    (changed(ROUTE, "network", '"ffffffff"'), f"route 1: network is to be {BEHIND}"),
+    (changed(ROUTE, "network", '"00000011"'), "route 1: network 00000011 is already that of port 1"),
+    (ROUTE + "hops = 0\n", f"route 1: hops is to be {HOPS}"),
+    (ROUTE + "hops = 15\n", f"route 1: hops is to be {HOPS}"),
+    (ROUTE + "ticks = 0\n", f"route 1: ticks is to be {COST}"),
+    (ROUTE + "ticks = 65536\n", f"route 1: ticks is to be {COST}"),
+    (ROUTE + ROUTE.replace("aa", "ab") + ROUTE + "hops = 2\n", "route 3: port, next and network are those of route 1"),
+    (without(SERVICE, "type"), f"service 1: type is missing: it is to be {TYPE}"),
+    (changed(SERVICE, "type", '"0000"'), f"service 1: type is to be {TYPE}"),
+    (changed(SERVICE, "type", '"ffff"'), f"service 1: type is to be {TYPE}"),
+    (changed(SERVICE, "type", "640"), f"service 1: type is to be {TYPE}"),
+    (without(SERVICE, "name"), f"service 1: name is missing: it is to be {NAME}"),
+    (changed(SERVICE, "name", '""'), f"service 1: name is to be {NAME}"),
+    (changed(SERVICE, "name", '"' + "A" * 48 + '"'), f"service 1: name is to be {NAME}"),
+    (changed(SERVICE, "name", '"BACK UP"'), f"service 1: name is to be {NAME}"),
+    (without(SERVICE, "at"), f"service 1: at is missing: it is to be {AT}"),
+    (changed(SERVICE, "at", '"00000011 00000a010014"'), f"service 1: at is to be {AT}"),
+    (changed(SERVICE, "at", '"00000011 00000a010014 4002 1"'), f"service 1: at is to be {AT}"),
+    (changed(SERVICE, "at", '"00000000 00000a010014 4002"'), f"service 1: at is to be {AT}"),
+    (changed(SERVICE, "at", '"00000011 ffffffffffff 4002"'), f"service 1: at is to be {AT}"),
+    (changed(SERVICE, "at", '"00000011 00000a010014 0000"'), f"service 1: at is to be {AT}"),
+    (SERVICE + "hops = 15\n", f"service 1: hops is to be {HOPS}"),
+    (ROUTE + SERVICE + SERVICE.replace("00000011", "00000012"), "service 2: port, next, type and name are those of service 1"),
+    (ROUTE + without(SERVICE, "next"), f"service 1: next is missing: it is to be {NEXT}"),
+)] + [
+    (ROUTE, f"port is missing: it is to be {PORTS}"),
+    ("route = 1\n" + PORT, f"route is to be {ROUTES}"),
+    ("service = [1]\n" + PORT, f"service 1: service is to be {SERVICES}"),
+    (WIRE + ROUTE, f"route 1: next is to be {NEXT}"),
+    (WIRE + changed(ROUTE, "next", '"03:00:00:00:00:33"'), f"route 1: next is to be {NEXT}"),
+    (WIRE + 'node = "02:00:00:00:00:22"\n' + changed(ROUTE, "next", '"02:00:00:00:00:22"'), f"route 1: next is to be {NEXT}"),
+    (PLAYERS + 'accept = "any"\n' + ROUTE, f"route 1: port is to be {A_PORT}"),
 ]
 
 # The text of a host's file, and what is wrong with it.
@@ -323,6 +403,11 @@ clients = 8
 accept = "any"
 join = ["198.51.100.7:2130", "203.0.113.5:2131"]
 """
+HANDED = OWN + "".join((ROUTE.replace("127.0.1.20", "198.51.100.7"),
+                        ROUTE.replace("127.0.1.20", "203.0.113.9").replace("aa", "AA") + "hops = 14\nticks = 65535\n",
+                        SERVICE.replace("127.0.1.20", "198.51.100.7"),
+                        SERVICE.replace("127.0.1.20", "203.0.113.9").replace("BACKUP", "!A~").replace("0640", "000A") + "hops = 3\n"))
+WIRED = WIRES + changed(ROUTE.replace("= 1", "= 2"), "next", '"02:00:00:00:00:33"')
 JOINED = OPEN.replace("203.0.113.5:2131", "127.0.0.1:24002")
 PORT_11 = "port 1 network 00000011 node 00000a010001 udp 10.1.0.1:213 cost 1 peers 4"
 REMARKS = ["port 1: peer 10.1.0.1 is its own address", "port 1: peer 10.1.0.20 stands twice"]
@@ -330,6 +415,20 @@ CHECKED = [
     ("route", OWN, ["port 1 network 00000001 node 0000c000020a udp 192.0.2.10:213 cost 6 peers 2",
                     "port 2 network 000000ab node 00000a010001 udp 10.1.0.1:2130 cost 1 peers 0 accept any",
                     "it.toml: 2 ports, status /run/ipx/h q..prom, tables /run/ipx/hq.tables"]),
+    ("route", HANDED, ["port 1 network 00000001 node 0000c000020a udp 192.0.2.10:213 cost 6 peers 2",
+                       "port 2 network 000000ab node 00000a010001 udp 10.1.0.1:2130 cost 1 peers 0 accept any",
+                       "route 000000aa port 1 next 0000c6336407 hops 1 ticks 6",
+                       "route 000000aa port 1 next 0000cb007109 hops 14 ticks 65535",
+                       "service 0640 BACKUP at 00000011 00000a010014 4002 port 1 next 0000c6336407 hops 1",
+                       "service 000a !A~ at 00000011 00000a010014 4002 port 1 next 0000cb007109 hops 3",
+                       "it.toml: 2 ports, status /run/ipx/h q..prom, tables /run/ipx/hq.tables"]),
+    ("route", WIRED, ["port 1 network 00000022 node 020000000022 frames 802.2 udp 127.0.0.1:24002 cost 1"
+                      " ends 127.0.0.1:24001 127.0.0.1:24002 127.0.0.1:24001",
+                      "port 1: end 127.0.0.1:24002 is its own place", "port 1: end 127.0.0.1:24001 stands twice",
+                      "port 2 network 00000033 node 7e0000015dc2 frames ethernet-ii udp 127.0.0.1:24002 cost 6"
+                      " ends 192.0.2.10:258 apart",
+                      "port 2: address and udp_port are those of port 1",
+                      "route 000000aa port 2 next 020000000033 hops 1 ticks 6", "it.toml: 2 ports, no status file"]),
     ("route", ODD, [PORT_11, *REMARKS, "it.toml: 1 port, no status file"]),
     ("route", SHARED, [PORT_11, *REMARKS, "port 2 network 00000022 node 00000a010001 udp 10.1.0.1:213 cost 1 peers 2",
                        "port 2: address and udp_port are those of port 1", "it.toml: 2 ports, no status file"]),

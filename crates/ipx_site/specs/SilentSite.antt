@@ -6,7 +6,9 @@ use Rattle.ipx_control.specs.declared.rip.packet.RipEntry.{RipEntry}
 use Rattle.ipx_control.specs.declared.sap.packet.ServiceEntry.{ServiceEntry}
 use Rattle.ipx_tables.specs.declared.source.Source.{Source}
 use Rattle.ipx_by_hand.specs.declared.neighbour.SilentNeighbour.{SilentNeighbour}
+use Rattle.ipx_by_hand.specs.ByHand.{ByHandView}
 use Rattle.ipx_by_hand.specs.HandOffers.{source_by_hand}
+use Rattle.ipx_by_hand.specs.HandWords.{AreWordsOf}
 use Rattle.ipx_site.specs.declared.hand.HandEntry.{HandEntry}
 use Rattle.ipx_site.specs.declared.hand.HandWord.{HandWord}
 use Rattle.ipx_site.specs.declared.hand.HandWord.TheVariants.{Route, Service}
@@ -44,3 +46,8 @@ pub record IsSilent (es : List HandEntry) (s : Source) (n : SilentNeighbour) : T
 -- a neighbour for each of those from whom entries are heard
 abbrev pub AreSilent : List HandEntry → List SilentNeighbour → Type 0
 AreSilent es ns = AllZip (IsSilent es) (sources_behind [] es) ns
+
+-- a core is to hear the words of those, and has not yet
+abbrev pub IsToHear : {C : Type 0} → List HandEntry → ByHandView C → Type 0
+IsToHear es c = (silent : List SilentNeighbour) × AreSilent es silent × AreWordsOf silent c.words
+    × (c.said ≡ None)

@@ -7,6 +7,8 @@ ghost use Rattle.ipx_by_hand.specs.HandWords.{AreWordsOf};
 ghost use Rattle.ipx_carrier.specs.Turns.{peers_of};
 ghost use Rattle.ipx_carrier.specs.Counting.{counted};
 ghost use Rattle.ipx_site.specs.KindPorts.{ArePortsBound, datagram_ports, spots_of};
+ghost use Rattle.ipx_site.specs.HandLists.{HearsAtPorts};
+ghost use Rattle.ipx_site.specs.SilentSite.{IsToHear};
 ghost use Rattle.ipx_site.specs.SitePorts.{GuardPorts, access_by, access_of, heard_at_port, named, router_ports, site_peers, udp_ports};
 
 use crate::bind_fault::BindFault;
@@ -18,6 +20,7 @@ use crate::readiness::{Readiness, WaitFault};
 use crate::room::{SOCKET_ROOM, ask_room};
 use crate::router_ports::{RouterPorts, SiteRouterPorts, Spot};
 use crate::running_router::{Parts, RunningRouter};
+use crate::silent::silent_of;
 use crate::site::{Accept, PortOfKind, SiteFile, SitePort};
 use crate::sockets::SiteSockets;
 use crate::sparing::Sparing;
@@ -98,6 +101,24 @@ fn core_of(
     let router = router_of(alloc, ports)?;
     let core = hearing_by_hand(alloc, router, silent)?;
     let core = Sparing::new(alloc, core, own)?;
+    Ok(core)
+}
+
+/// The core of the router of a file.
+fn core_of_file(
+    alloc: Global,
+    site: &SiteFile,
+) -> Result<Sparing<ByHand<CountedRouter>>, RouteFault>
+    requires own { All IsOwnNetwork (router_ports site.now.ports.items) }
+    requires there { HearsAtPorts site.now }
+    ensures router { IfOk result (λ c.
+        c.core.core.router.ports ≡ router_ports site.now.ports.items) }
+    ensures by_hand { IfOk result (λ c. IsToHear site.now.by_hand.items c.core) }
+    ensures ports { IfOk result (λ c. c.ports ≡ router_ports site.now.ports.items) }
+    ensures fresh { IfOk result (λ c. (c.askers.askers ≡ []) × (c.askers.back ≡ 0)) }
+{
+    let silent = silent_of(alloc, &site.by_hand)?;
+    let core = core_of(alloc, &site.ports, &silent)?;
     Ok(core)
 }
 
@@ -292,12 +313,12 @@ fn start<'a, R: Net + Log + SystemClock>(
     alloc: Global,
     site: SiteFile,
 ) -> Result<RunningRouter<'a, R>, RouteFault>
-    requires { All IsOwnNetwork (router_ports site.ports.items) }
+    requires own { All IsOwnNetwork (router_ports site.ports.items) }
+    requires there { HearsAtPorts site }
     // The router has the ports of the file.
     ensures ports { IfOk result (λ s. s.core.core.core.router.ports ≡ router_ports site.ports.items) }
-    // It is to hear by hand what these neighbours are to have said, and has not yet.
-    ensures by_hand { IfOk result (λ s. AreWordsOf [] s.core.core.words
-        × (s.core.core.said ≡ None)) }
+    // It is to hear what the file says by hand, and has not yet.
+    ensures by_hand { IfOk result (λ s. IsToHear site.by_hand.items s.core.core) }
     // So those who ask at these have their turns, and nobody has asked yet.
     ensures askers { IfOk result (λ s. (s.core.ports ≡ router_ports site.ports.items)
         × (s.core.askers.askers ≡ []) × (s.core.askers.back ≡ 0)) }
@@ -307,7 +328,7 @@ fn start<'a, R: Net + Log + SystemClock>(
     ensures clock { IfOk result (λ s. s.clock.last ≡ 0) }
     ensures asked { IfOk result (λ s. s.asked ≡ 0) }
 {
-    let core = core_of(alloc, &site.ports, &[])?;
+    let core = core_of_file(alloc, &site)?;
     // All lines are made before the first is told: where memory is refused, nothing else is.
     let lines = ports_to_texts(alloc, &site.ports)?;
     let ports = bound_ports(rt, alloc, &site.ports)?;
@@ -330,7 +351,8 @@ fn route<R: Net + Log + Files + SystemClock>(
     alloc: Global,
     site: SiteFile,
 ) -> Result<(), RouteFault>
-    requires { All IsOwnNetwork (router_ports site.ports.items) }
+    requires own { All IsOwnNetwork (router_ports site.ports.items) }
+    requires there { HearsAtPorts site }
 {
     let mut station = start(rt, alloc, site)?;
     for _step in 0..u64::MAX {
@@ -359,7 +381,8 @@ fn route_loaded<R: Net + Log + Files + SystemClock + Eprint>(
     path: &str,
     loaded: Result<SiteFile, u8>,
 ) -> u8
-    requires { IfOk loaded (λ s. All IsOwnNetwork (router_ports s.ports.items)) }
+    requires own { IfOk loaded (λ s. All IsOwnNetwork (router_ports s.ports.items)) }
+    requires there { IfOk loaded HearsAtPorts }
     ensures unread { IfErr loaded (λ status. result ≡ status) }
     ensures routed { OnOk loaded (result ≤ 1) }
 {

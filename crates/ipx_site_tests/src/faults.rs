@@ -32,7 +32,7 @@ const SITES: [(&str, &str); 10] = [
     ),
     (
         "Status = \"a\"",
-        "Status is no key here: a router has status, tables and port, a host network, address, router, udp_port, socket, buffers, peers, routers, from and accept",
+        "Status is no key here: a router has status, tables, port, route and service, a host network, address, router, udp_port, socket, buffers, peers, routers, from and accept",
     ),
     (
         "status = 1",
@@ -108,7 +108,7 @@ const HOSTS: [(&str, &str); 3] = [
     ),
     (
         "port = 1",
-        "port is no key here: a router has status, tables and port, a host network, address, router, udp_port, socket, buffers, peers, routers, from and accept",
+        "port is no key here: a router has status, tables, port, route and service, a host network, address, router, udp_port, socket, buffers, peers, routers, from and accept",
     ),
 ];
 

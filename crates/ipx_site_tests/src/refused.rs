@@ -1,9 +1,9 @@
 //! The files of a site where memory is refused: a file is read as it stands, or memory is wanted.
 //! Run these with each request refused.
 
-use ipx_site::{FileFault, PortOfKind, read_host, read_site};
+use ipx_site::{FileFault, PortOfKind, read_host, read_site, silent_of};
 
-/// A router with two ports, one on a wire and one for clients of ipxnet.
+/// A router with two ports, one on a wire and one for clients of ipxnet, and what it hears by hand.
 const SITE: &str = "\
 status = \"/run/ipx/hq.prom\"
 tables = \"/run/ipx/hq.tables\"
@@ -35,6 +35,18 @@ network = \"0000d05b\"
 address = \"192.0.2.10\"
 udp_port = 2130
 peers = [\"198.51.100.7\", \"203.0.113.9\"]
+
+[[route]]
+network = \"000000aa\"
+port = 1
+next = \"198.51.100.7\"
+
+[[service]]
+type = \"0640\"
+name = \"BACKUP\"
+at = \"00000011 00000a010014 4002\"
+port = 2
+next = \"10.1.0.20\"
 ";
 
 const HOST: &str = "\
@@ -69,6 +81,10 @@ fn refused_site(rt: HostRuntime) {
             assert!(rt; site.ports.len() == 4 && site.status.is_some() && site.tables.is_some());
             assert!(rt; site.ports.first().is_some_and(|port| reached(port) == 2));
             assert!(rt; site.ports.last().is_some_and(|port| reached(port) == 2));
+            assert!(rt; site.by_hand.len() == 2);
+            if let Ok(silent) = silent_of(rt.alloc(), &site.by_hand) {
+                assert!(rt; silent.len() == 2 && silent[1].services.len() == 1);
+            }
         }
         Err(fault) => assert!(rt; matches!(fault, FileFault::OutOfMemory)),
     }
