@@ -85,7 +85,7 @@ pub use drop_lines::{DropReason, DropWords};
 pub use fault::FileFault;
 pub use figures::Figures;
 pub use files::{load_host, load_site};
-pub use hand::{HandEntry, HandKind, HandWord};
+pub use hand::{HandEntry, HandWord};
 pub use host::{HostFile, read_host};
 pub use ipxnet_figures::put_drops;
 pub use ipxnet_port::IpxnetPort;

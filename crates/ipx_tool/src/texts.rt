@@ -157,6 +157,16 @@ and before the first port, if figures are wanted, or what it knows,
   status    the name of a file of figures, which it writes anew every ten seconds
   tables    the name of a file of what it knows, which it writes so too: networks and
             services read it
+and behind the ports, of what speaks no RIP or SAP, up to 256 tables [[route]] with
+  port      the number of a port, the first of which is 1
+  next      an IP address among its peers, or on a wire a station: where it is reached
+  network   eight hex digits
+  hops      1 to 14, 1 where it is left out
+  ticks     the port's cost where it is left out
+and [[service]] with port, next and hops as above and
+  type      four hex digits
+  name      1 to 47 characters without blanks
+  at        a network, a node and a socket, as \"00000011 00000a010014 4002\"
 It tells each port, and what becomes known or is lost, on standard error.";
 
 pub const ROUTE_STATUSES: &str = "\
@@ -165,8 +175,8 @@ nothing was bound. 1: a socket can't be had, or memory ran out.
 Port 213 wants the right to bind it.
 
 With --check it binds nothing: the line of each port as it starts, but for the room of its socket,
-and one of the file go to standard output, and remarks on what is allowed and odd. Status 0: the
-file has no fault. 2: it has one, which the same line tells. 1: memory ran out, or writing failed.
+of each route and service by hand, and of the file go to standard output, and remarks on what is
+allowed and odd. Status 0: the file has no fault. 2: it has one, which the same line tells. 1: memory ran out, or writing failed.
 
 Example:
   $ ipx route /etc/ipx/site.toml";
