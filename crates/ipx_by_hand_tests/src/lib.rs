@@ -5,6 +5,8 @@
 #[cfg(test)]
 mod ears;
 #[cfg(test)]
+mod far;
+#[cfg(test)]
 mod fixture;
 #[cfg(test)]
 mod moments;

@@ -15,7 +15,7 @@ use std::test::Fail;
 
 const BEHIND: Network = Network(0xaa);
 
-fn port(network: u32, last: u8) -> Port
+pub fn port(network: u32, last: u8) -> Port
     ensures { result.network.0 ≡ network }
 {
     Port {

@@ -176,7 +176,8 @@ Port 213 wants the right to bind it.
 
 With --check it binds nothing: the line of each port as it starts, but for the room of its socket,
 of each route and service by hand, and of the file go to standard output, and remarks on what is
-allowed and odd. Status 0: the file has no fault. 2: it has one, which the same line tells. 1: memory ran out, or writing failed.
+allowed and odd. Status 0: the file has no fault. 2: it has one, which the same line tells. 1:
+memory ran out, or writing failed.
 
 Example:
   $ ipx route /etc/ipx/site.toml";
