@@ -1,7 +1,7 @@
 -- Entries by hand: how those that are left join those that were read, and where they are heard.
-use Rattle.std.proofs.Common.{◌≡◌, ℕ, zero, suc, ◌+◌, ◌<◌, ◌≤◌, Bool, true, false, List, [], ◌∷◌, ◌++◌, get_or, length, take, Some, None, inl, inr, refl, arith, sym, subst}
-use Rattle.std.specs.List.{AllZip, list_any, slice_get}
-use Rattle.std.specs.Prelude.{All}
+use Rattle.std.proofs.Common.{All, ◌≡◌, ℕ, ◌+◌, ◌<◌, ◌≤◌, Bool, true, false, List, [], ◌∷◌, ◌++◌, get_or, length, take, Some, None, inl, inr, refl, arith, sym, subst}
+use Rattle.std.specs.List.{AllZip, list_any}
+use Rattle.std.specs.Prelude.{zero, suc, slice_get}
 use Rattle.std.proofs.lemmas.List.Elements.{all_zip_more, All-append, All-cons, All-head, All-nil, All-tail}
 use Rattle.toml.specs.Data.{Data, Items, Members, no_items, item}
 use Rattle.ipx_tables.specs.declared.source.Source.{Source}
@@ -12,6 +12,7 @@ use Rattle.ipx_site.specs.declared.fault.FileFault.{FileFault}
 use Rattle.ipx_site.specs.declared.hand.HandEntry.{HandEntry}
 use Rattle.ipx_site.specs.declared.hand.HandKind.{HandKind}
 use Rattle.ipx_site.specs.declared.hand.HandKind.TheVariants as Of
+use Rattle.ipx_site.specs.declared.hand_fields.NearNode.{NearNode}
 use Rattle.ipx_site.specs.declared.site.PortOfKind.{PortOfKind}
 use Rattle.ipx_site.specs.HandFields.{IsNear, numbered_port}
 use Rattle.ipx_site.specs.HandLists.{AreByHand, AreEntriesOf, AreHandEntries, IsAgain, IsEntryItem, IsEntryItemFault, IsFirstEntryFault, again_place, entry_number, is_one_source}
@@ -23,12 +24,14 @@ module _ (kind : HandKind) (ports : List PortOfKind) where
   pub entry_fault : (earlier : List HandEntry) (number : ℕ) → number ≡ entry_number kind earlier
       → (ds : Items) (d : Data) (left : Items) → ds ≡ item d left
       → (f : FileFault) → IsEntryItemFault kind ports number d f → IsFirstEntryFault kind ports earlier ds f
-  entry_fault earlier number counted ds d left is f fault = rw (is, ← counted) (inl fault)
+  entry_fault earlier number counted ds d left is f fault =
+      rw is (inl (subst (λ (n : ℕ). IsEntryItemFault kind ports n d f) counted fault))
 
   pub again_fault : (earlier seen : List HandEntry) → seen ≡ earlier → (ds : Items) (d : Data) (left : Items)
       → ds ≡ item d left → (e : HandEntry) → IsEntryItem kind ports d e → (f : FileFault) → IsAgain kind seen e f
       → IsFirstEntryFault kind ports earlier ds f
-  again_fault earlier seen same ds d left is e entry f again = rw (is, ← same) (inr (e, entry, inl again))
+  again_fault earlier seen same ds d left is e entry f again =
+      rw is (inr (e, entry, inl (subst (λ (l : List HandEntry). IsAgain kind l e f) same again)))
 
   -- or one behind it is
   pub later_entry_fault : (earlier seen new : List HandEntry) → seen ≡ earlier → (e : HandEntry) → new ≡ earlier ++ e ∷ []
@@ -36,8 +39,8 @@ module _ (kind : HandKind) (ports : List PortOfKind) where
       → again_place seen e ≡ None → (f : FileFault) → IsFirstEntryFault kind ports new left f
       → IsFirstEntryFault kind ports earlier ds f
   later_entry_fault earlier seen new same e more ds d left is entry alone f fault =
-      let behind = rw more at fault in
-      let first = rw same at alone in
+      let behind = subst (λ (l : List HandEntry). IsFirstEntryFault kind ports l left f) more fault in
+      let first = subst (λ (l : List HandEntry). again_place l e ≡ None) same alone in
       rw is (inr (e, entry, inr (first, behind)))
 
   -- an entry, and those behind it
@@ -46,8 +49,8 @@ module _ (kind : HandKind) (ports : List PortOfKind) where
       → again_place seen e ≡ None → (rest : List HandEntry) → AreHandEntries kind ports new left rest
       → AreHandEntries kind ports earlier ds (e ∷ rest)
   one_more_entry earlier seen new same e more ds d left is entry alone rest are =
-      let behind = rw more at are in
-      let first = rw same at alone in
+      let behind = subst (λ (l : List HandEntry). AreHandEntries kind ports l left rest) more are in
+      let first = subst (λ (l : List HandEntry). again_place l e ≡ None) same alone in
       rw is (e, rest, refl, entry, first, behind)
 
 -- ---- where they are heard
@@ -65,13 +68,16 @@ numbered : (ports : List PortOfKind) (n : ℕ) (p : PortOfKind) → numbered_por
 numbered ports zero p is = absurd (cc)
 numbered ports (suc i) p is = let there = got ports i p is in (omega arith, omega arith)
 
+near_there : (ports : List PortOfKind) (ms : Members) (near : NearNode) → IsNear ports ms near → IsPortNumber (length ports) near.by.port
+near_there ports ms near (holds, p, there, node, cost) = numbered ports near.by.port p there
+
 entry_there : (kind : HandKind) (ports : List PortOfKind) (ms : Members) (e : HandEntry) → IsEntryTable kind ports ms e → IsHeardAt ports e
 entry_there Of.Route ports ms e table =
     let (near, route, is_near, path, is) = table.says in
-    rw is (numbered ports near.by.port is_near.1.0 is_near.1.1)
+    subst (IsHeardAt ports) (sym is) (near_there ports ms near is_near)
 entry_there Of.Service ports ms e table =
     let (near, service, is_near, offered, is) = table.says in
-    rw is (numbered ports near.by.port is_near.1.0 is_near.1.1)
+    subst (IsHeardAt ports) (sym is) (near_there ports ms near is_near)
 
 each_there : (kind : HandKind) (ports : List PortOfKind) (earlier : List HandEntry) (ds : Items) (es : List HandEntry)
     → AreHandEntries kind ports earlier ds es → All (IsHeardAt ports) es
