@@ -1,5 +1,5 @@
 -- What a table of a route or a service by hand says: by whom it is heard, and of what. All of it is own.
-use Rattle.std.specs.Prelude.{◌≡◌, ◌≢◌, ◌⊎◌, ℕ, zero, suc, ◌+◌, ◌==◌, ◌&&◌, ◌||◌, Bool, true, false, not, nat_le, List, ◌++◌, drop, length, position, replicate, Option, Some, None, slice_get, if◌then◌else◌}
+use Rattle.std.specs.Prelude.{◌≡◌, ◌≢◌, ◌⊎◌, ℕ, zero, suc, ◌+◌, ◌==◌, ◌&&◌, Bool, true, false, not, nat_le, List, ◌++◌, drop, length, position, replicate, Option, Some, None, slice_get, if◌then◌else◌}
 use Rattle.std.specs.List.{list_all}
 use Rattle.std.specs.Option.{option_and_then}
 use Rattle.toml.specs.Data.{Data, Members, as_str}
@@ -152,8 +152,8 @@ IsWrittenPlace d a = written_place d ≡ Some a
 -- where a service can be: on a network that is named, at one station, and not at socket 0
 abbrev pub is_place_of_service : Address → Bool
 is_place_of_service a =
-    not ((a.network.0 == local_network) || (a.network.0 == all_networks))
-    && (is_station a.node && not (a.socket.0 == 0))
+    not (a.network.0 == local_network)
+    && (not (a.network.0 == all_networks) && (is_station a.node && not (a.socket.0 == 0)))
 
 abbrev pub IsServicePlace : Members → Address → Type 0
 IsServicePlace ms a = Holds IsWrittenPlace Key.At ms a × (is_place_of_service a ≡ true)

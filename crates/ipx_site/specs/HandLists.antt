@@ -13,7 +13,7 @@ use Rattle.ipx_site.specs.declared.hand.HandKind.TheVariants as Of
 use Rattle.ipx_site.specs.declared.hand.HandWord.{HandWord}
 use Rattle.ipx_site.specs.declared.hand.HandWord.TheVariants.{Route, Service}
 use Rattle.ipx_site.specs.declared.key.Key.{Key}
-use Rattle.ipx_site.specs.declared.key.Key.TheVariants as Key
+use Rattle.ipx_site.specs.declared.key.Key.TheVariants as AsKey
 use Rattle.ipx_site.specs.declared.site.PortOfKind.{PortOfKind}
 use Rattle.ipx_site.specs.declared.site.SiteFile.{SiteFile}
 use Rattle.ipx_site.specs.Keys.{key_text}
@@ -23,8 +23,8 @@ use Rattle.ipx_site.specs.Values.{item_count}
 
 -- the key of a kind, and the number of its first table, for the line of a fault: 1 to 16 are ports
 abbrev pub entry_key : HandKind → Key
-entry_key Of.Route = Key.Route
-entry_key Of.Service = Key.Service
+entry_key Of.Route = AsKey.Route
+entry_key Of.Service = AsKey.Service
 
 abbrev pub first_table : HandKind → ℕ
 first_table Of.Route = 17

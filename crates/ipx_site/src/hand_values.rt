@@ -2,7 +2,6 @@
 
 ghost use Rattle.std.specs.Prelude.{◌≡◌, ◌≤◌, IfOk, length};
 ghost use Rattle.std.specs.List.{list_all};
-ghost use Rattle.std.specs.Option.{option_and_then};
 ghost use Rattle.toml.specs.View.{view};
 ghost use Rattle.ipx_known.specs.TableRead.{parts_view, words_in};
 ghost use Rattle.ipx_site.specs.Fields.{Reads};
@@ -11,7 +10,7 @@ ghost use Rattle.ipx_site.specs.Values.{IsCount};
 
 use crate::wire_values::is_station;
 use ipx_wire::{Address, Network, Node, OutOfMemory, Socket};
-use std::alloc::Global;
+use std::alloc::{AllocError, Global};
 use toml::Value;
 
 /// The most ports of a router.
@@ -85,11 +84,10 @@ pub fn is_place_of_service(at: Address) -> bool
 }
 
 /// The words of a text, with a space between them.
-fn words_of<'a>(alloc: Global, text: &'a [u8]) -> Result<Vec<&'a [u8]>, OutOfMemory>
+fn words_of<'a>(alloc: Global, text: &'a [u8]) -> Result<Vec<&'a [u8]>, AllocError>
     ensures { IfOk result (λ v. parts_view v.items ≡ words_in text.now) }
 {
-    let words = text.split(|byte| *byte == b' ').collect(alloc)?;
-    Ok(words)
+    text.split(|byte| *byte == b' ').collect(alloc)
 }
 
 /// The address that three words are.
