@@ -70,7 +70,8 @@ fn is_same_word(a: HandWord, b: HandWord) -> bool
     match (a, b) {
         (HandWord::Route(a), HandWord::Route(b)) => a.network == b.network,
         (HandWord::Service(a), HandWord::Service(b)) => a.kind == b.kind && a.name == b.name,
-        _ => false,
+        (HandWord::Route(_), HandWord::Service(_)) => false,
+        (HandWord::Service(_), HandWord::Route(_)) => false,
     }
 }
 
