@@ -104,11 +104,11 @@ IsFarNetworkFault ports ms table f = IsFault IsNetwork Key.Network ms table f
 
 -- its type, as a socket is written: neither 0 nor ffff, which asks for every type
 abbrev pub IsServiceType : Members → ℕ → Type 0
-IsServiceType ms kind = (s : Socket) × Holds IsSocket Key.Type ms s × (s.0 ≡ kind) × (kind ≢ 0xffff)
+IsServiceType ms kind = (s : Socket) × Holds IsSocket Key.ServiceType ms s × (s.0 ≡ kind) × (kind ≢ 0xffff)
 
 abbrev pub IsServiceTypeFault : Members → ℕ → FileFault → Type 0
-IsServiceTypeFault ms table f = IsFault IsSocket Key.Type ms table f
-    ⊎ ((f ≡ Wrong table Key.Type) × ((s : Socket) × Holds IsSocket Key.Type ms s × (s.0 ≡ 0xffff)))
+IsServiceTypeFault ms table f = IsFault IsSocket Key.ServiceType ms table f
+    ⊎ ((f ≡ Wrong table Key.ServiceType) × ((s : Socket) × Holds IsSocket Key.ServiceType ms s × (s.0 ≡ 0xffff)))
 
 -- a byte that prints, and is no blank
 abbrev pub is_mark : ℕ → Bool

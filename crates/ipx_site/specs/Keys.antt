@@ -4,7 +4,7 @@ use Rattle.std.specs.List.{list_any}
 use Rattle.std.specs.Cmp.Lexicographic.{pointwise}
 use Rattle.toml.specs.Data.{Members, no_members, member}
 use Rattle.ipx_site.specs.declared.key.Key.{Key}
-use Rattle.ipx_site.specs.declared.key.Key.TheVariants.{Status, Tables, Port, Network, Address, UdpPort, Cost, Peers, Routers, Accept, Router, Socket, Buffers, From, Kind, Frame, Ends, Node, Hub, Clients, Join, Route, Service, Next, Hops, Ticks, Type, Name, At}
+use Rattle.ipx_site.specs.declared.key.Key.TheVariants.{Status, Tables, Port, Network, Address, UdpPort, Cost, Peers, Routers, Accept, Router, Socket, Buffers, From, Kind, Frame, Ends, Node, Hub, Clients, Join, Route, Service, Next, Hops, Ticks, ServiceType, Name, At}
 use Rattle.ipx_site.specs.declared.site.Kind.{Kind as PortKind}
 use Rattle.ipx_site.specs.declared.site.Kind.TheVariants as Of
 
@@ -36,7 +36,7 @@ key_text Service = codes "service"
 key_text Next = codes "next"
 key_text Hops = codes "hops"
 key_text Ticks = codes "ticks"
-key_text Type = codes "type"
+key_text ServiceType = codes "type"
 key_text Name = codes "name"
 key_text At = codes "at"
 
@@ -85,7 +85,7 @@ abbrev pub route_keys : List Key
 route_keys = Port ∷ Next ∷ Network ∷ Hops ∷ Ticks ∷ []
 
 abbrev pub service_keys : List Key
-service_keys = Port ∷ Next ∷ Type ∷ Name ∷ At ∷ Hops ∷ []
+service_keys = Port ∷ Next ∷ ServiceType ∷ Name ∷ At ∷ Hops ∷ []
 
 abbrev pub host_keys : List Key
 host_keys =

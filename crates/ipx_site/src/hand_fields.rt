@@ -162,11 +162,11 @@ pub fn service_type_in(table: &Table, number: usize) -> Result<u16, FileFault>
     ensures fault { IfErr result (λ f. (f ≡ FileFault.OutOfMemory)
         ⊎ IsServiceTypeFault (table_view table.now) number f) }
 {
-    let Some(socket) = parse_socket(required(table, number, Key::Type)?) else {
-        return Err(FileFault::Wrong(number, Key::Type));
+    let Some(socket) = parse_socket(required(table, number, Key::ServiceType)?) else {
+        return Err(FileFault::Wrong(number, Key::ServiceType));
     };
     if socket.0 == ANY_TYPE {
-        return Err(FileFault::Wrong(number, Key::Type));
+        return Err(FileFault::Wrong(number, Key::ServiceType));
     }
     Ok(socket.0)
 }

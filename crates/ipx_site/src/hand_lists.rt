@@ -133,6 +133,8 @@ pub fn by_hand_in(
 {
     let mut entries = entries_in(alloc, HandKind::Route, table, ports)?;
     let services = entries_in(alloc, HandKind::Service, table, ports)?;
-    entries.extend_from_slice(&services)?;
-    Ok(entries)
+    match entries.extend_from_slice(&services) {
+        Ok(()) => Ok(entries),
+        Err(_) => Err(FileFault::OutOfMemory),
+    }
 }

@@ -29,7 +29,7 @@ const ROUTE_KEYS: [Key; 5] = [
 const SERVICE_KEYS: [Key; 6] = [
     Key::Port,
     Key::Next,
-    Key::Type,
+    Key::ServiceType,
     Key::Name,
     Key::At,
     Key::Hops,

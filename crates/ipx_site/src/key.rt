@@ -34,7 +34,7 @@ pub enum Key {
     Next,
     Hops,
     Ticks,
-    Type,
+    ServiceType,
     Name,
     At,
 }
@@ -71,7 +71,7 @@ impl Key {
             Key::Next => "next",
             Key::Hops => "hops",
             Key::Ticks => "ticks",
-            Key::Type => "type",
+            Key::ServiceType => "type",
             Key::Name => "name",
             Key::At => "at",
         }
@@ -112,7 +112,7 @@ impl Key {
             }
             Key::Hops => "a number from 1 to 14, as 1",
             Key::Ticks => "a number of ticks from 1 to 65535, as 6",
-            Key::Type => "four hex digits, neither all 0 nor all f, as \"0640\"",
+            Key::ServiceType => "four hex digits, neither all 0 nor all f, as \"0640\"",
             Key::Name => "1 to 47 characters of ASCII that print, without blanks, as \"BACKUP\"",
             Key::At => "a network, a node and a socket, as \"00000011 00000a010014 4002\"",
         }
