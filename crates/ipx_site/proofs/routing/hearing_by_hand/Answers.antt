@@ -5,5 +5,5 @@ use Rattle.ipx_by_hand.specs.declared.neighbour.SilentNeighbour.{SilentNeighbour
 use Rattle.ipx_site.proofs.routing.hearing_by_hand.Goals as goal
 
 pub new-requires-2 : goal.new-requires-2
-new-requires-2 g c = subst (λ (r : RouterView). All (λ (n : SilentNeighbour). IsPortNumber (length r.ports) n.port) c.args.silent.now)
+new-requires-2 c = subst (λ (r : RouterView). All (λ (n : SilentNeighbour). IsPortNumber (length r.ports) n.port) c.args.silent.now)
     (sym c.in_ok-counted.ensures.router) c.requires
