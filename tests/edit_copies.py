@@ -1,0 +1,114 @@
+"""Copies of functions, each with one wrong body: so the edits of a crate stand in one text, and each function beside its own.
+
+A copy stands behind its function under another name, with its contract and attributes, and so do copies of the proof files
+that are the function's, with the new name for the old. Nothing calls it, and it calls what the function calls.
+"""
+import collections
+import os
+import re
+
+
+def extent(text, start):
+    """Where the attributes above a function begin, whose first line begins at a place, and where its last line ends."""
+    above = start
+    while above:
+        before = text.rfind("\n", 0, above - 1) + 1
+        if not re.match(r"\s*(#\[.*\]|///.*)\n", text[before:above]):
+            break
+        above = before
+    indent = re.match(r"[ \t]*", text[start:])[0]
+    return above, re.compile(rf"^{indent}}}$", re.M).search(text, start).end()
+
+
+class Copies:
+    """What of a crate's functions can be copied, and how its edits stand in copies."""
+
+    def __init__(self, folder, graph, blanked):
+        self.graph, self.blanked, self.files, self.can = graph, blanked, {}, {}
+        for part in ("specs", "proofs"):
+            for at, _, names in os.walk(f"{folder}/{part}"):
+                for name in names:
+                    with open(f"{at}/{name}", encoding="utf-8") as it:
+                        self.files[os.path.relpath(f"{at}/{name}", folder)] = it.read()
+
+    def files_of(self, name):
+        """The proof files of a function."""
+        folder = f"proofs/{'/'.join(name.split('::')[1:])}/"
+        return [it for it in self.files if it.startswith(folder)]
+
+    def may_be_copied(self, name):
+        """Whether a function stands for no trait's and does not call itself, and no file but its own names its proof."""
+        if name not in self.can:
+            self.can[name] = self.stands_alone(self.graph.functions[name], name.split("::")[1:])
+        return self.can[name]
+
+    def stands_alone(self, function, path):
+        text = self.graph.texts[function.file]
+        above, end = extent(text, function.start)
+        if function.stands_for or "" in path or path == ["main"] or "#[cycle" in text[above : function.start]:
+            return False
+        body = self.blanked(text[function.start : end]).partition(f"fn {path[-1]}")[2]
+        if re.search(rf"(?<![\w.]){path[-1]}\(|\bself\.{path[-1]}\(", body):
+            return False
+        cited, its = f"proofs.{'.'.join(path)}", {*self.files_of(function.name)}
+        return all((cited in it and bool(re.search(rf"\b{re.escape(cited)}\b", it))) == (file in its) for file, it in self.files.items())
+
+    def bodies(self, edit):
+        """The functions that an edit changes, each with its text as it is then; or none, where one cannot be copied."""
+        if None in edit.functions or not all(map(self.may_be_copied, edit.functions)):
+            return {}
+        found = {it: self.body(it) for it in edit.functions}
+        for path, old, new in edit.pairs:
+            having = [it for it, text in found.items() if self.graph.functions[it].file == path and text.count(old) == 1]
+            if len(having) != 1:
+                return {}
+            found[having[0]] = found[having[0]].replace(old, new)
+        return found
+
+    def body(self, name):
+        function = self.graph.functions[name]
+        text = self.graph.texts[function.file]
+        return text[function.start : extent(text, function.start)[1]]
+
+    def beside(self, edits):
+        """The texts in which edits stand in copies, by their paths; each edit, as one of these copies; and the functions
+        that stand there once more as they are, since a proof file is theirs, by the names of these copies."""
+        made, tried, number = Made(self), [], collections.Counter()
+        for edit in edits:
+            bodies = self.bodies(edit)
+            number.update(bodies.keys())
+            copies = [made.copy(name, f"wrong_{number[name]}", body) for name, body in sorted(bodies.items())]
+            tried.append(edit._replace(functions=frozenset(copies)))
+        same = {made.copy(it, "as_it_is", self.body(it)): it for it in sorted(number) if self.files_of(it)}
+        return made.texts(), tried, same
+
+
+class Made:
+    """Copies that were made, and the texts that hold them."""
+
+    def __init__(self, copies):
+        self.copies, self.behind, self.proofs = copies, collections.defaultdict(list), {}
+
+    def copy(self, name, end, body):
+        """Puts a function with this body behind the function of a name, and gives the name of that copy."""
+        function, path = self.copies.graph.functions[name], name.split("::")[1:]
+        text = self.copies.graph.texts[function.file]
+        above, last = extent(text, function.start)
+        attributes = "".join(re.findall(r"^[ \t]*#\[.*\n", text[above : function.start], re.M))
+        body = body.replace(f"fn {path[-1]}", f"fn {path[-1]}_{end}", 1)
+        self.behind[function.file].append((last, f"\n\n{attributes}{body}"))
+        for it in self.copies.files_of(name):
+            folder = "/".join(["proofs", *path])
+            cited = re.compile(rf"\bproofs\.{re.escape('.'.join(path))}\b")
+            self.proofs[f"{folder}_{end}{it[len(folder):]}"] = cited.sub(f"proofs.{'.'.join(path)}_{end}", self.copies.files[it])
+        return f"{name}_{end}"
+
+    def texts(self):
+        found = dict(self.proofs)
+        for path, some in self.behind.items():
+            text, at, parts = self.copies.graph.texts[path], 0, []
+            for place, copy in sorted(some, key=lambda it: it[0]):
+                parts += [text[at:place], copy]
+                at = place
+            found[path] = "".join([*parts, text[at:]])
+        return found
