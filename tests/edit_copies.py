@@ -17,7 +17,7 @@ def extent(text, start):
             break
         above = before
     indent = re.match(r"[ \t]*", text[start:])[0]
-    return above, re.compile(rf"^{indent}}}$", re.M).search(text, start).end()
+    return above, re.compile(rf"^{indent}\{{?\}}$", re.M).search(text, start).end()
 
 
 class Copies:
@@ -43,12 +43,15 @@ class Copies:
         return self.can[name]
 
     def stands_alone(self, function, path):
-        text = self.graph.texts[function.file]
-        above, end = extent(text, function.start)
-        if function.stands_for or "" in path or path == ["main"] or "#[cycle" in text[above : function.start]:
+        # (what a trait declares has no type in its path)
+        if function.stands_for or "" in path or path == ["main"]:
             return False
-        body = self.blanked(text[function.start : end]).partition(f"fn {path[-1]}")[2]
-        if re.search(rf"(?<![\w.]){path[-1]}\(|\bself\.{path[-1]}\(", body):
+        text, own = self.graph.texts[function.file], path[-1]
+        above, end = extent(text, function.start)
+        body = self.blanked(text[function.start : end]).partition(f"fn {own}")[2]
+        within = path[-2] if len(path) > 1 else "crate"
+        before = rf"\b(self\.|Self::|{within}::)" if within[0].isupper() else rf"((?<![\w.:])|\b{within}::)"
+        if "#[cycle" in text[above : function.start] or re.search(rf"{before}{own}(::<|\()", body):
             return False
         cited, its = f"proofs.{'.'.join(path)}", {*self.files_of(function.name)}
         return all((cited in it and bool(re.search(rf"\b{re.escape(cited)}\b", it))) == (file in its) for file, it in self.files.items())
