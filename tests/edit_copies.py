@@ -73,17 +73,26 @@ class Copies:
         text = self.graph.texts[function.file]
         return text[function.start : extent(text, function.start)[1]]
 
-    def beside(self, edits):
-        """The texts in which edits stand in copies, by their paths; each edit, as one of these copies; and the functions
-        that stand there once more as they are, since a proof file is theirs, by the names of these copies."""
+    def beside(self, edits, unchanged):
+        """The texts in which edits stand in copies, by their paths; each edit, as one of these copies; and where it is asked
+        for, copies with no change of the functions that have proof files, each with the name of its function."""
         made, tried, number = Made(self), [], collections.Counter()
         for edit in edits:
             bodies = self.bodies(edit)
             number.update(bodies.keys())
             copies = [made.copy(name, f"wrong_{number[name]}", body) for name, body in sorted(bodies.items())]
             tried.append(edit._replace(functions=frozenset(copies)))
-        same = {made.copy(it, "as_it_is", self.body(it)): it for it in sorted(number) if self.files_of(it)}
+        same = {made.copy(it, "as_it_is", self.body(it)): it for it in sorted(number) if unchanged and self.files_of(it)}
         return made.texts(), tried, same
+
+
+def lacks_its_proof(line, texts):
+    """Whether a refusal of a copy wants what its proof files have, so that they were not read."""
+    wanted = re.search(r"expected (.*?) in \./(\S+?\.antt)(.*)", line)
+    if not wanted or wanted[2] not in texts:
+        return False
+    answered = {*re.findall(r"^(?:abbrev )?(?:pub )?(\S+) :", texts[wanted[2]], re.M)}
+    return wanted[1] != "answers" or bool(answered & {*re.findall(r"`([^`]+)`", wanted[3])})
 
 
 class Made:
