@@ -80,9 +80,7 @@ fn a_turn_sends_eight_of_its_own(rt: HostRuntime) -> Result<(), Fail> {
         let first = datagrams.sent().len();
         let report = one_turn(alloc, &mut core, &mut datagrams, &peers)?;
         assert!(rt; report.sent == sent);
-        assert!(rt;
-            matches!(datagrams.sent().get(first), Some(d) if d.to == [127, 0, 0, 5])
-        );
+        assert!(rt; matches!(datagrams.sent().get(first), Some(d) if d.to == [127, 0, 0, 5]));
     }
     let report = one_turn(alloc, &mut core, &mut datagrams, &peers)?;
     assert!(rt; report.sent == 0);

@@ -134,8 +134,6 @@ fn refused_next_behind_what_is_forwarded(rt: HostRuntime) -> Result<(), Fail> {
     if hear(alloc, &mut core, &bytes).is_err() {
         hear(alloc, &mut core, &bytes)?;
     }
-    assert!(rt;
-        next_at_last(alloc, &mut core)? == Some((1, Node([0, 0, 0x7f, 0, 0, 5]), 30))
-    );
+    assert!(rt; next_at_last(alloc, &mut core)? == Some((1, Node([0, 0, 0x7f, 0, 0, 5]), 30)));
     Ok(())
 }

@@ -173,7 +173,8 @@ fn routes(alloc: Global, count: u32) -> Result<String, AllocError> {
     for place in 0..count {
         let network = 0x1000 + place;
         let route = format!(in alloc;
-            "[[route]]\nport = 1\nnext = \"203.0.113.9\"\nnetwork = \"{network:08x}\"\n")?;
+            "[[route]]\nport = 1\nnext = \"203.0.113.9\"\nnetwork = \"{network:08x}\"\n"
+        )?;
         text.push_str(&route)?;
     }
     Ok(text)
@@ -351,7 +352,8 @@ fn lines_of_services(rt: HostRuntime) -> Result<(), AllocError> {
 fn line_of_a_service_again(rt: HostRuntime) -> Result<(), AllocError> {
     let service = "type = \"0640\"\nname = \"A\"\nat = \"000000";
     let entries = format!(in rt.alloc();
-        "{SERVICE}{service}11 00000a010014 4002\"\n{SERVICE}{service}12 00000a010014 4003\"\n")?;
+        "{SERVICE}{service}11 00000a010014 4002\"\n{SERVICE}{service}12 00000a010014 4003\"\n"
+    )?;
     assert_eq!(rt;
         line(rt.alloc(), &entries)?.as_str(),
         "service 2: port, next, type and name are those of service 1"
