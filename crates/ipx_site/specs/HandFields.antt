@@ -139,7 +139,7 @@ abbrev pub place_in_words : List (List ℕ) → Option Address
 place_in_words words =
     if length words == 3
     then joined_place (spelled_network (word_at words 0)) (spelled_node (word_at words 1))
-        (spelled_socket (word_at words 2))
+    (spelled_socket (word_at words 2))
     else None
 
 -- a string of three such words, with a space between them

@@ -17,13 +17,7 @@ use std::alloc::Global;
 use toml::Table;
 
 /// The keys of a route, in the order in which their faults are told.
-const ROUTE_KEYS: [Key; 5] = [
-    Key::Port,
-    Key::Next,
-    Key::Network,
-    Key::Hops,
-    Key::Ticks,
-];
+const ROUTE_KEYS: [Key; 5] = [Key::Port, Key::Next, Key::Network, Key::Hops, Key::Ticks];
 
 /// Those of a service.
 const SERVICE_KEYS: [Key; 6] = [

@@ -33,11 +33,7 @@ fn sources_of(alloc: Global, entries: &[HandEntry]) -> Result<Vec<Source>, Alloc
 }
 
 /// The routes that a neighbour is to tell.
-fn routes_by(
-    alloc: Global,
-    entries: &[HandEntry],
-    by: Source,
-) -> Result<Vec<RipEntry>, AllocError>
+fn routes_by(alloc: Global, entries: &[HandEntry], by: Source) -> Result<Vec<RipEntry>, AllocError>
     ensures { IfOk result (λ v. v.items ≡ filter_map (route_by by) entries.now) }
 {
     entries
