@@ -57,8 +57,8 @@ fn are_apart(places: &[Place]) -> bool
     true
 }
 
-/// Where the routers are whose lobbies are joined with that of a port, each once: none, where nothing is
-/// said.
+/// Where the routers are whose lobbies are joined with that of a port, each once: none, where nothing
+/// is said.
 fn joined_routers_in(alloc: Global, table: &Table, number: usize) -> Result<Vec<Place>, FileFault>
     ensures join { IfOk result (AreJoinedRouters (table_view table.now)) }
     ensures fault { IfErr result (λ f.

@@ -341,7 +341,7 @@ impl<D: Senders + Drop> Datagrams for PeersOnly<D> {
         match self.word(port, &room[..count]) {
             Word::Heard => return Ok(Some(count)),
             Word::Stranger => {
-                self.kept.strangers.raise(from);
+                Kept::raise(&mut self.kept.strangers, from);
                 count_stranger(&mut self.by_port, port);
             }
             Word::Forged => self.kept.forged.raise(from),

@@ -303,8 +303,8 @@ impl<'a, R: SystemClock> RunningRouter<'a, R> {
         }
     }
 
-    /// How long there is nothing to do, unless something comes, in milliseconds. Lines of clients and of what
-    /// was dropped are told where it does something else, within ten seconds.
+    /// How long there is nothing to do, unless something comes, in milliseconds. Lines of clients and
+    /// of what was dropped are told where it does something else, within ten seconds.
     fn leisure(&self, now: u64) -> u64
         ensures { IsLeisure (IsToDo (agenda self.now.asked self.now.looked self.now.responses
             self.now.written self.now.core self.now.troubles

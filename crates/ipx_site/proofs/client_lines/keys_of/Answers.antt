@@ -10,6 +10,6 @@ use Rattle.ipx_site.proofs.client_lines.keys_of.Goals as goal
 pub returns : goal.returns
 returns c =
     let clients = c.args.clients.now in
-    let road = YieldsList-from_map _ client_key (YieldsList-from_slice clients cc) c.map.ensures.closure (λ x r q k. search (rules, tests)) in
     IfOk-weaker c.collect.result (keys.IsFromIterResult is_same_key (map client_key clients)) _ (λ made h client. h.0 (client_key client) ∙ listed_by_key client clients)
-    (fact_from_collect (keys.IsFromIterResult is_same_key) c.collect.result c.collect.ensures.ran road)
+    (fact_from_collect (keys.IsFromIterResult is_same_key) c.collect.result c.collect.ensures.ran
+    (YieldsList-from_map _ client_key (YieldsList-from_slice clients cc) c.map.ensures.closure (λ x r q k. search (rules, tests))))
