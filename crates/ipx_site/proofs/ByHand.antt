@@ -2,7 +2,8 @@
 use Rattle.std.proofs.Common.{All, ◌≡◌, ℕ, ◌+◌, ◌<◌, ◌≤◌, Bool, true, false, List, [], ◌∷◌, ◌++◌, get_or, length, take, Some, None, inl, inr, refl, arith, sym, subst}
 use Rattle.std.specs.List.{AllZip, list_any}
 use Rattle.std.specs.Prelude.{zero, suc, slice_get}
-use Rattle.std.proofs.lemmas.List.Elements.{all_zip_more, All-append, All-cons, All-head, All-nil, All-tail}
+use Rattle.std.proofs.lemmas.List.{take_more}
+use Rattle.std.proofs.lemmas.List.Elements.{All-append, All-cons, All-head, All-nil, All-push, All-tail}
 use Rattle.toml.specs.Data.{Data, Items, Members, no_items, item}
 use Rattle.ipx_tables.specs.declared.source.Source.{Source}
 use Rattle.ipx_router.specs.Ports.{IsPortNumber}
@@ -17,7 +18,7 @@ use Rattle.ipx_site.specs.declared.site.PortOfKind.{PortOfKind}
 use Rattle.ipx_site.specs.HandFields.{IsNear, numbered_port}
 use Rattle.ipx_site.specs.HandLists.{AreByHand, AreEntriesOf, AreHandEntries, IsAgain, IsEntryItem, IsEntryItemFault, IsFirstEntryFault, again_place, entry_number, is_one_source}
 use Rattle.ipx_site.specs.HandTables.{IsEntryTable}
-use Rattle.ipx_site.specs.SilentSite.{IsSilent, sources_behind}
+use Rattle.ipx_site.specs.SilentSite.{IsSilent, named_sources, with_source}
 
 module _ (kind : HandKind) (ports : List PortOfKind) where
   -- Of the items that are left the first is at fault. The entries so far are those before it.
@@ -100,16 +101,19 @@ by_hand_there ports ms es (routes, services, is, of_routes, of_services) =
 -- ---- those whom they are heard from
 
 module _ (P : Source → Type 0) where
-  pub sources_have : (known : List Source) (es : List HandEntry) → All (λ e. P e.by) es → All P (sources_behind known es)
-  sources_have known [] h = All-nil P
-  sources_have known (e ∷ es) h =
-      let later = All-tail (λ (x : HandEntry). P x.by) e es h in
-      let first = All-head (λ (x : HandEntry). P x.by) e es h in
-      let go : (b : Bool) → list_any (λ s. is_one_source s e.by) known ≡ b → All P (sources_behind known (e ∷ es)) = elim [
-        | true ↦ λ at. rw at (sources_have known es later)
-        | false ↦ λ at. rw at (All-cons P e.by (sources_behind (known ++ e.by ∷ []) es) first (sources_have (known ++ e.by ∷ []) es later))
+  with_has : (known : List Source) (s : Source) → All P known → P s → All P (with_source known s)
+  with_has known s h first =
+      let go : (b : Bool) → list_any (λ k. is_one_source k s) known ≡ b → All P (with_source known s) = elim [
+        | true ↦ λ same. rw same h
+        | false ↦ λ same. rw same (All-push P known s h first)
       ] in
-      go (list_any (λ s. is_one_source s e.by) known) refl
+      go (list_any (λ k. is_one_source k s) known) refl
+
+  pub sources_have : (known : List Source) (es : List HandEntry) → All P known → All (λ e. P e.by) es → All P (named_sources known es)
+  sources_have known [] h all = h
+  sources_have known (e ∷ es) h all =
+      sources_have (with_source known e.by) es (with_has known e.by h (All-head (λ (x : HandEntry). P x.by) e es all))
+      (All-tail (λ (x : HandEntry). P x.by) e es all)
 
   pub neighbours_have : (es : List HandEntry) (ss : List Source) (ns : List SilentNeighbour) → AllZip (IsSilent es) ss ns → All P ss
       → All (λ n. P (source_by_hand n)) ns
@@ -121,9 +125,19 @@ module _ (P : Source → Type 0) where
       (subst P (sym z.0.source) (All-head P s ss h))
       (neighbours_have es ss ns z.1 (All-tail P s ss h))
 
--- one more of them, each with its neighbour
-pub one_more_silent : (es : List HandEntry) (ss : List Source) (i : ℕ) (s : Source) → s ≡ get_or ss i s → i < length ss
-    → (ns new : List SilentNeighbour) (n : SilentNeighbour) → new ≡ ns ++ n ∷ [] → AllZip (IsSilent es) (take i ss) ns → IsSilent es s n
-    → AllZip (IsSilent es) (take (i + 1) ss) new
-one_more_silent es ss i s is there ns new n more z silent =
-    subst (AllZip (IsSilent es) (take (i + 1) ss)) (sym more) (all_zip_more (IsSilent es) ss ns i s n there is z silent)
+-- one more of them, with its neighbour
+zip_push : {A B : Type 0} (R : A → B → Type 0) (xs : List A) (ys : List B) (x : A) (y : B) → AllZip R xs ys → R x y
+    → AllZip R (xs ++ x ∷ []) (ys ++ y ∷ [])
+zip_push R [] [] x y z r = (r, tt)
+zip_push R [] (b ∷ ys) x y z r = absurd z
+zip_push R (a ∷ xs) [] x y z r = absurd z
+zip_push R (a ∷ xs) (b ∷ ys) x y z r = (z.0, zip_push R xs ys x y z.1 r)
+
+pub one_more_silent : (es : List HandEntry) (ss : List Source) (i : ℕ) (d : Source) → i < length ss
+    → (ns new : List SilentNeighbour) (n : SilentNeighbour) → new ≡ ns ++ n ∷ [] → AllZip (IsSilent es) (take i ss) ns
+    → IsSilent es (get_or ss i d) n → AllZip (IsSilent es) (take (i + 1) ss) new
+one_more_silent es ss i d there ns new n more z silent =
+    let s = get_or ss i d in
+    let zipped = zip_push (IsSilent es) (take i ss) ns s n z silent in
+    let grown = subst (λ (l : List SilentNeighbour). AllZip (IsSilent es) (take i ss ++ s ∷ []) l) (sym more) zipped in
+    subst (λ (l : List Source). AllZip (IsSilent es) l new) (sym (take_more ss i d there)) grown

@@ -216,10 +216,13 @@ route_hand_line by r =
     codes "route " ++ (network_word r.network ++ (by_text by ++ (codes " hops "
     ++ (decimal r.hops ++ (codes " ticks " ++ (decimal r.ticks ++ codes "\n"))))))
 
+abbrev pub service_words : ServiceEntry → List ℕ
+service_words s = word_text s.kind ++ (codes " " ++ shown_text s.name)
+
 abbrev pub service_hand_line : Source → ServiceEntry → List ℕ
 service_hand_line by s =
-    codes "service " ++ (word_text s.kind ++ (codes " " ++ (shown_text s.name ++ (codes " at "
-    ++ (address_text s.at ++ (by_text by ++ (codes " hops " ++ (decimal s.hops ++ codes "\n"))))))))
+    codes "service " ++ (service_words s ++ (codes " at " ++ (address_text s.at ++ (by_text by
+    ++ (codes " hops " ++ (decimal s.hops ++ codes "\n"))))))
 
 abbrev pub word_line : Source → HandWord → List ℕ
 word_line by (Route r) = route_hand_line by r

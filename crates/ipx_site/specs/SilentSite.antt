@@ -30,12 +30,15 @@ route_by s e = if is_one_source e.by s then route_in_word e.word else None
 abbrev pub service_by : Source → HandEntry → Option ServiceEntry
 service_by s e = if is_one_source e.by s then service_in_word e.word else None
 
--- from whom entries are heard, behind these: each once, in the order in which they are named first
-abbrev pub sources_behind : List Source → List HandEntry → List Source
-sources_behind known [] = []
-sources_behind known (e ∷ es) =
-    if list_any (λ s. is_one_source s e.by) known then sources_behind known es
-    else e.by ∷ sources_behind (known ++ e.by ∷ []) es
+-- one more is named, unless it was
+abbrev pub with_source : List Source → Source → List Source
+with_source known by =
+    if list_any (λ s. is_one_source s by) known then known else known ++ by ∷ []
+
+-- from whom entries are heard, besides these: each once, in the order in which they are named first
+abbrev pub named_sources : List Source → List HandEntry → List Source
+named_sources known [] = known
+named_sources known (e ∷ es) = named_sources (with_source known e.by) es
 
 -- one is to have said all routes and all services that are heard from it, in order
 pub record IsSilent (es : List HandEntry) (s : Source) (n : SilentNeighbour) : Type 0 where
@@ -45,7 +48,7 @@ pub record IsSilent (es : List HandEntry) (s : Source) (n : SilentNeighbour) : T
 
 -- a neighbour for each of those from whom entries are heard
 abbrev pub AreSilent : List HandEntry → List SilentNeighbour → Type 0
-AreSilent es ns = AllZip (IsSilent es) (sources_behind [] es) ns
+AreSilent es ns = AllZip (IsSilent es) (named_sources [] es) ns
 
 -- a core is to hear the words of those, and has not yet
 abbrev pub IsToHear : {C : Type 0} → List HandEntry → ByHandView C → Type 0

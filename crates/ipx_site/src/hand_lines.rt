@@ -4,7 +4,7 @@ ghost use Rattle.std.specs.Prelude.{◌≡◌, IfOk, string_bytes};
 ghost use Rattle.std.specs.List.{flat_map};
 ghost use Rattle.ipx_commands.specs.ShowLine.{address_text};
 ghost use Rattle.ipx_known.specs.TableText.{by_text};
-ghost use Rattle.ipx_site.specs.Checked.{hand_line, route_hand_line, service_hand_line};
+ghost use Rattle.ipx_site.specs.Checked.{hand_line, route_hand_line, service_hand_line, service_words, shown_text};
 
 use crate::hand::{HandEntry, HandWord};
 use crate::shown::Shown;
@@ -41,15 +41,31 @@ fn route_to_line(alloc: Global, by: Source, route: &RipEntry) -> Result<String, 
     format!(in alloc; "route {network}{by} hops {hops} ticks {ticks}\n")
 }
 
+/// The name of a service: what stands before its first zero byte.
+fn name_to_word(alloc: Global, name: &[u8]) -> Result<String, AllocError>
+    ensures { IfOk result (λ t. string_bytes t ≡ shown_text name.now) }
+{
+    let name = Shown(name);
+    format!(in alloc; "{name}")
+}
+
+/// The type of a service and its name.
+fn service_to_words(alloc: Global, service: &ServiceEntry) -> Result<String, AllocError>
+    ensures { IfOk result (λ t. string_bytes t ≡ service_words service.now) }
+{
+    let kind = hex::encode(alloc, service.kind.to_be_bytes())?;
+    let name = name_to_word(alloc, &service.name)?;
+    format!(in alloc; "{kind} {name}")
+}
+
 fn service_to_line(alloc: Global, by: Source, service: &ServiceEntry) -> Result<String, AllocError>
     ensures { IfOk result (λ t. string_bytes t ≡ service_hand_line by service.now) }
 {
-    let kind = hex::encode(alloc, service.kind.to_be_bytes())?;
-    let name = Shown(&service.name);
+    let words = service_to_words(alloc, service)?;
     let at = address_to_words(alloc, service.at)?;
     let by = source_to_words(alloc, by)?;
     let hops = service.hops;
-    format!(in alloc; "service {kind} {name} at {at}{by} hops {hops}\n")
+    format!(in alloc; "service {words} at {at}{by} hops {hops}\n")
 }
 
 /// The line of an entry.

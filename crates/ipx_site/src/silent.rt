@@ -1,10 +1,10 @@
 //! The silent neighbours that entries by hand are heard from.
 
-ghost use Rattle.std.specs.Prelude.{◌≡◌, ℕ, [], All, IfOk};
+ghost use Rattle.std.specs.Prelude.{◌≡◌, ℕ, [], All, IfOk, OnOk};
 ghost use Rattle.std.specs.List.{AllZip, filter_map, list_any};
 ghost use Rattle.ipx_router.specs.Ports.{IsPortNumber};
 ghost use Rattle.ipx_site.specs.HandLists.{is_one_source};
-ghost use Rattle.ipx_site.specs.SilentSite.{AreSilent, IsSilent, route_by, service_by, sources_behind};
+ghost use Rattle.ipx_site.specs.SilentSite.{AreSilent, IsSilent, named_sources, route_by, service_by, with_source};
 
 use crate::hand::{HandEntry, is_one_source};
 use ipx_by_hand::SilentNeighbour;
@@ -12,22 +12,31 @@ use ipx_control::{RipEntry, ServiceEntry};
 use ipx_tables::Source;
 use std::alloc::{AllocError, Global};
 
-/// Whether one of these is the neighbour that an entry is heard from.
-fn is_known(known: &[Source], entry: &HandEntry) -> bool
-    ensures { result ≡ list_any (λ s. is_one_source s entry.now.by) known.now }
+/// Whether a source is one of these.
+fn is_known(known: &[Source], by: Source) -> bool
+    ensures { result ≡ list_any (λ s. is_one_source s by) known.now }
 {
-    known.iter().any(|by| is_one_source(*by, entry.by))
+    known.iter().any(|other| is_one_source(*other, by))
+}
+
+/// Names one more, unless it was.
+fn add_source(sources: &mut Vec<Source>, by: Source) -> Result<(), AllocError>
+    ensures { OnOk result (sources.new.items ≡ with_source sources.old.items by) }
+{
+    if is_known(sources, by) {
+        return Ok(());
+    }
+    sources.push(by)?;
+    Ok(())
 }
 
 /// From whom entries are heard, each once.
 fn sources_of(alloc: Global, entries: &[HandEntry]) -> Result<Vec<Source>, AllocError>
-    ensures { IfOk result (λ v. v.items ≡ sources_behind [] entries.now) }
+    ensures { IfOk result (λ v. v.items ≡ named_sources [] entries.now) }
 {
     let mut sources = Vec::new(alloc);
     for entry in entries {
-        if !is_known(&sources, entry) {
-            sources.push(entry.by)?;
-        }
+        add_source(&mut sources, entry.by)?;
     }
     Ok(sources)
 }

@@ -9,7 +9,7 @@ use Rattle.ipx_site.proofs.silent.silent_by_each.Goals as goal
 
 pub loop-by-preserved : goal.loop-by-preserved
 loop-by-preserved c =
-    one_more_silent c.args.entries.now c.args.sources.now c.loop-by.by-index c.by-item.result c.by-item.is c.loop-by-test.true
+    one_more_silent c.args.entries.now c.args.sources.now c.loop-by.by-index _ c.loop-by-test.true
     c.loop-by.silent.items c.push.new.self.items c.in_ok-neighbour.neighbour c.in_ok-push.ensures.items c.loop-by.invariant c.in_ok-neighbour.ensures
 
 pub returns : goal.returns

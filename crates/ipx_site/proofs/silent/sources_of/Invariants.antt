@@ -1,8 +1,8 @@
-use Rattle.std.proofs.Common.{◌≡◌, [], ◌++◌, drop}
-use Rattle.ipx_site.specs.SilentSite.{sources_behind}
+use Rattle.std.proofs.Common.{◌≡◌, [], drop}
+use Rattle.ipx_site.specs.SilentSite.{named_sources}
 use Rattle.ipx_site.proofs.silent.sources_of.Given as goal
 
--- those so far, and those of what is left
+-- those so far, with those of what is left
 abbrev pub invariant-loop-entry : goal.invariant-loop-entry
 invariant-loop-entry l =
-    l.sources.items ++ sources_behind l.sources.items (drop l.entry-index l.entries) ≡ sources_behind [] l.entries
+    named_sources l.sources.items (drop l.entry-index l.entries) ≡ named_sources [] l.entries
