@@ -47,7 +47,7 @@ pub record AreFigures {gd : OfDevice.Ghosts (PeersOnly SiteSockets)} {ge : OfSoc
   pub kept_back : f.kept ≡ ports.datagrams.device.kept
   pub sent_out : f.sent ≡ ports.datagrams.device.device.sent
   pub unmapped : f.unmapped ≡ tally.unmapped
-  pub queue : f.queue ≡ length core.core.queue
+  pub queue : f.queue ≡ length core.core.core.queues.forwarded + length core.core.core.queues.own
   pub routes : f.routes ≡ length known.networks.items
   pub services : f.services ≡ length known.services.items
   pub seconds : f.seconds ≡ now / 1000

@@ -113,7 +113,7 @@ impl RouterCounts {
             device_faults: self.device_faults.saturating_add(faults_of(ports)),
             memory_faults: self.memory_faults,
             file_faults: self.file_faults,
-            queue: core.core().queued() as u64,
+            queue: core.core().core().queued() as u64,
             routes: known.networks() as u64,
             services: known.services() as u64,
             seconds: now / 1000,
