@@ -61,8 +61,8 @@ pub fn networks_by_router<R: Files + Clock + Eprint, W: Write>(
     };
     match load_tables(rt, alloc, place.as_str()) {
         Ok(tables) => {
-            tell_old(rt, place.as_str());
             let lines = known_networks_to_text(alloc, json, place.as_str(), &tables);
+            tell_old(rt, place.as_str());
             write_known(rt, place.as_str(), lines, writer)
         }
         Err(status) => status,
@@ -89,8 +89,8 @@ pub fn services_by_router<R: Files + Clock + Eprint, W: Write>(
     };
     match load_tables(rt, alloc, place.as_str()) {
         Ok(tables) => {
-            tell_old(rt, place.as_str());
             let lines = known_services_to_text(alloc, json, place.as_str(), kind, &tables);
+            tell_old(rt, place.as_str());
             write_known(rt, place.as_str(), lines, writer)
         }
         Err(status) => status,
