@@ -70,7 +70,7 @@ numbered ports zero p is = absurd (cc)
 numbered ports (suc i) p is = let there = got ports i p is in (omega arith, omega arith)
 
 near_there : (ports : List PortOfKind) (ms : Members) (near : NearNode) → IsNear ports ms near → IsPortNumber (length ports) near.by.port
-near_there ports ms near (holds, p, there, node, cost) = numbered ports near.by.port p there
+near_there ports ms near (holds, (p, there, node, cost)) = numbered ports near.by.port p there
 
 entry_there : (kind : HandKind) (ports : List PortOfKind) (ms : Members) (e : HandEntry) → IsEntryTable kind ports ms e → IsHeardAt ports e
 entry_there Of.Route ports ms e table =

@@ -18,4 +18,4 @@ returns-in_err-neighbour-clause-fault c =
 pub returns-clause-near : goal.returns-clause-near
 returns-clause-near c =
     let there = sym c.numbered_port.ensures ∙ ap option_copied c.in-Some.is in
-    (c.in_ok-count.ensures, c.in-Some.port.now, there, c.in_ok-neighbour.ensures.node, ap (λ (p : Port). p.cost) c.router_port.ensures)
+    (c.in_ok-count.ensures, (c.in-Some.port.now, there, c.in_ok-neighbour.ensures.node, ap (λ (p : Port). p.cost) c.router_port.ensures))
