@@ -34,13 +34,17 @@ pub fn router(alloc: Global, speaks: u32) -> Result<ByHand<CountedRouter>, OutOf
     ByHand::new(alloc, CountedRouter::new(alloc, router)?, &[neighbour])
 }
 
-/// The packets that the router gives at a moment, in hex behind the device's port, a line each.
+/// The packets that the router gives at a moment until none waits, in hex behind the device's port, a
+/// line each.
 fn given(alloc: Global, core: &mut ByHand<CountedRouter>, now: u64) -> Result<String, Fail> {
     let mut room = [0; 1536];
     let mut text = String::new(alloc);
     for _ in 0..64_u32 {
         let Some((port, _, count)) = core.next(alloc, now, &mut room)? else {
-            return Ok(text);
+            if core.core().queued() == 0 {
+                return Ok(text);
+            }
+            continue;
         };
         let bytes = hex::encode(alloc, &room[..count])?;
         text.push_str(&format!(in alloc; "{port} {bytes}\n")?)?;

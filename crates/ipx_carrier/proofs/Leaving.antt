@@ -4,7 +4,7 @@ use Rattle.std.specs.Prelude.{option_map}
 use Rattle.ipx_router.specs.declared.outcome.Reply.{Reply}
 use Rattle.ipx_router.specs.RouterPackets.{SendingView, sending_of, sendings}
 use Rattle.ipx_carrier.specs.Turns.{Given, GivesEach}
-use Rattle.ipx_carrier.specs.RouterCore.{CoreQueues, CoreView, ForwardedLeaveFirst, GivesNext, RouterGives, Leaves, given_of, put_own}
+use Rattle.ipx_carrier.specs.RouterCore.{CoreQueues, CoreView, ForwardedLeaveFirst, GivesNext, RouterGives, Leaves, given_of, most_in_a_row, put_own}
 use Rattle.ipx_carrier.specs.Queued.{core_queues}
 
 -- ---- one packet
@@ -20,12 +20,12 @@ forwarded_leaves w w' q row row' r e is =
     inl (ap sendings e, ap (λ n. core_queues w' q n) is)
 
 -- the first of its own does
-pub own_leaves : (q q' : List Reply) (row row' : ℕ) (r : Reply) → q ≡ r ∷ q' → row < 8 → row' ≡ row + 1 → Leaves (core_queues [] q row) (Some (sending_of r)) (core_queues [] q' row')
+pub own_leaves : (q q' : List Reply) (row row' : ℕ) (r : Reply) → q ≡ r ∷ q' → row < most_in_a_row → row' ≡ row + 1 → Leaves (core_queues [] q row) (Some (sending_of r)) (core_queues [] q' row')
 own_leaves q q' row row' r e less is =
     inr (refl, ap sendings e, less, ap (λ n. core_queues [] q' n) is)
 
--- none does behind eight
-pub row_ends : (q : List Reply) (row row' : ℕ) → 8 ≤ row → row' ≡ 0 → Leaves (core_queues [] q row) None (core_queues [] q row')
+-- none does behind the most in a row
+pub row_ends : (q : List Reply) (row row' : ℕ) → most_in_a_row ≤ row → row' ≡ 0 → Leaves (core_queues [] q row) None (core_queues [] q row')
 row_ends q row row' most is = (refl, inr most, ap (λ n. core_queues [] q n) is)
 
 -- or where there is none
@@ -59,8 +59,8 @@ some_then q new p (Some s) h is = (s, h, ap (λ (o : Option Given). unwrap_or o 
 pub record AreGivenSo (packets : List Given) (forwarded : List SendingView) (row : ℕ) : Type 0 where
   pub own : List Given
   pub all : packets ≡ map given_of forwarded ++ own
-  pub few : length own ≤ 8
-  pub fewer : forwarded ≡ [] → length own ≤ 8 - row
+  pub few : length own ≤ most_in_a_row
+  pub fewer : forwarded ≡ [] → length own ≤ most_in_a_row - row
 
 one_more : (ps : List Given) (p : Given) (s : SendingView) (q mid : CoreQueues) → p ≡ given_of s → Leaves q (Some s) mid → AreGivenSo ps mid.forwarded mid.in_a_row → AreGivenSo (p ∷ ps) q.forwarded q.in_a_row
 one_more ps p s q mid is (inl h) rest = record {
@@ -72,9 +72,9 @@ one_more ps p s q mid is (inl h) rest = record {
 one_more ps p s q mid is (inr h) rest =
     let none : mid.forwarded ≡ [] = ap (λ (c : CoreQueues). c.forwarded) h.3 ∙ h.0 in
     let row : mid.in_a_row ≡ q.in_a_row + 1 = ap (λ (c : CoreQueues). c.in_a_row) h.3 in
-    let few : length rest.own ≤ 8 - mid.in_a_row = rest.fewer none in
-    let less : q.in_a_row < 8 = h.2 in
-    let fewer : length (p ∷ rest.own) ≤ 8 - q.in_a_row = omega (arith, few, row, less) in
+    let few : length rest.own ≤ most_in_a_row - mid.in_a_row = rest.fewer none in
+    let less : q.in_a_row < most_in_a_row = h.2 in
+    let fewer : length (p ∷ rest.own) ≤ most_in_a_row - q.in_a_row = omega (arith, few, row, less) in
     record {
       own = p ∷ rest.own;
       all = ap (λ (xs : List Given). p ∷ xs) (rest.all ∙ ap (λ (w : List SendingView). map given_of w ++ rest.own) none)

@@ -42,6 +42,10 @@ pub record CoreView : Type 0 where
 abbrev pub most_queued : ℕ
 most_queued = 16384
 
+-- so many of the router's own packets leave in a row at most
+abbrev pub most_in_a_row : ℕ
+most_in_a_row = 2
+
 -- packets go behind those that wait, if there is room for all of them; else none of them does
 abbrev pub put_behind : List SendingView → List SendingView → List SendingView
 put_behind queue sent =
@@ -88,13 +92,13 @@ abbrev pub given_of : SendingView → Given
 given_of s = record { port = s.port - 1; node = s.next; bytes = s.bytes }
 
 -- which packet leaves next, and what waits then: the first of those that are forwarded; where there is none,
--- the first of the router's own, unless 8 of these left in a row; else none, and another row begins
+-- the first of the router's own, unless the most of these left in a row; else none, and another row begins
 abbrev pub Leaves : CoreQueues → Option SendingView → CoreQueues → Type 0
 Leaves old (Some s) new = ((old.forwarded ≡ s ∷ new.forwarded)
     × (new ≡ record old { forwarded = new.forwarded; in_a_row = 0 }))
-    ⊎ ((old.forwarded ≡ []) × (old.own ≡ s ∷ new.own) × (old.in_a_row < 8)
+    ⊎ ((old.forwarded ≡ []) × (old.own ≡ s ∷ new.own) × (old.in_a_row < most_in_a_row)
     × (new ≡ record old { own = new.own; in_a_row = old.in_a_row + 1 }))
-Leaves old None new = (old.forwarded ≡ []) × ((old.own ≡ []) ⊎ (8 ≤ old.in_a_row))
+Leaves old None new = (old.forwarded ≡ []) × ((old.own ≡ []) ⊎ (most_in_a_row ≤ old.in_a_row))
     × (new ≡ record old { in_a_row = 0 })
 
 -- it is given
@@ -178,9 +182,10 @@ IsGivable ports s = IsPortNumber ports s.port × (length s.bytes ≤ 1500)
 abbrev pub AreGivable : ℕ → List SendingView → Type 0
 AreGivable ports = All (IsGivable ports)
 
--- asked until it gives none, a router gives all that is forwarded, in order, and behind that at most 8 of
--- its own
+-- asked until it gives none, a router gives all that is forwarded, in order, and behind that no more of its
+-- own than may leave in a row
 abbrev pub ForwardedLeaveFirst : Type 0
 ForwardedLeaveFirst = (now : ℕ) (packets : List Given) (old last new : CoreView)
     → GivesEach RouterGives now packets old last → RouterGives last now None new
-    → (own : List Given) × (packets ≡ map given_of old.queues.forwarded ++ own) × (length own ≤ 8)
+    → (own : List Given) × (packets ≡ map given_of old.queues.forwarded ++ own)
+    × (length own ≤ most_in_a_row)

@@ -17,7 +17,7 @@ use std::collections::VecDeque;
 const MOST_QUEUED: usize = 16_384;
 
 /// How many packets of its own a router gives in a row.
-const MOST_IN_A_ROW: u32 = 8;
+const MOST_IN_A_ROW: u32 = 2;
 
 /// Puts packets behind those that wait, if there is room for all of them, and else counts them.
 pub fn put_all(

@@ -18,7 +18,7 @@ use std::marker::Model;
 /// What it is to send waits in two queues of at most 16,384 packets each: what it forwards, and its
 /// own, by which it answers, starts and tells. An answer, or the packets by which it starts or tells,
 /// that would pass this is dropped whole, and its packets are counted. What is forwarded is given
-/// first, and of its own eight in a row: then it gives none once, so that its ports are heard.
+/// first, and of its own two in a row: then it gives none once, so that its ports are heard.
 #[derive(Drop)]
 pub struct RouterCore {
     router: Router,
@@ -113,7 +113,7 @@ impl RouterCore {
     }
 }
 
-/// Asked for packets until it gives none, a router gives all that is forwarded, and then 8 of its own
+/// Asked for packets until it gives none, a router gives all that is forwarded, and then two of its own
 /// at most.
 pub fn forwarded_packets_leave_first()
     ensures { ForwardedLeaveFirst }

@@ -315,7 +315,13 @@ impl Internetwork {
             return Ok(());
         };
         let mut clock = SteppedClock::new(now, 0);
-        let _burst = burst(alloc, core, &mut device, &peers, &mut clock, 10_000);
+        // A turn of two packets to networks where nobody is ends a burst, though more wait.
+        for _time in 0..1000 {
+            let _burst = burst(alloc, core, &mut device, &peers, &mut clock, 10_000);
+            if core.queued() == 0 {
+                break;
+            }
+        }
         self.count(&device);
         for letter in &device.device().sent {
             let network = self.stands[me].networks[letter.port];

@@ -51,7 +51,7 @@ fn hear_all(alloc: Global, core: &mut CountedRouter) -> Result<(), Fail> {
     core.hear(alloc, 1, &datagram(0, 4, 0x11, 0x4002, 0x22), 0)?;
     core.hear(alloc, 1, &datagram(0, 4, 0x11, 0x4002, 0x22), 0)?;
     let mut room = [0; 1536];
-    while core.next(alloc, 0, &mut room)?.is_some() {}
+    while core.next(alloc, 0, &mut room)?.is_some() || core.queued() > 0 {}
     Ok(())
 }
 
