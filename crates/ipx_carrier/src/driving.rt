@@ -90,7 +90,8 @@ pub fn turn_segments<C: Core, S: Segments, K: Clock>(
 /// Takes turns until one neither hears nor sends and keeps nothing back, until a fault ends one, or
 /// until there were so many.
 ///
-/// After a quiet burst nothing was left to read, so one waits; after another one takes the next.
+/// The last turn of a quiet burst read and sent nothing. One waits then, unless packets wait in a
+/// router, as `RouterCore::queued` says; after another one takes the next.
 /// Where no turn can be begun, as `turn_segments` says, the fault is `Device`, and nothing happens.
 pub fn burst_segments<C: Core, S: SegmentsKeepBack, K: Clock>(
     alloc: Global,
@@ -186,7 +187,8 @@ pub fn turn<C: Core, D: Datagrams, K: Clock>(
 /// Takes turns until one neither hears nor sends and keeps no datagram back, until a fault ends one,
 /// or until there were so many.
 ///
-/// After a quiet burst nothing was left to read, so one waits; after another one takes the next.
+/// The last turn of a quiet burst read and sent nothing. One waits then, unless packets wait in a
+/// router, as `RouterCore::queued` says; after another one takes the next.
 /// Where no turn can be begun, as `turn` says, the fault is `Device`, and nothing happens.
 pub fn burst<C: Core, D: KeepsBack, K: Clock>(
     alloc: Global,
