@@ -1,7 +1,7 @@
 -- A router as a core: it hears datagrams and gives packets by two queues, one of what is forwarded and one
 -- of its own, of which each holds 16,384. Which of them leave is own.
 -- The entry points are `RouterHears` and `RouterGives`, and `Misses` and `Withholds` where memory is refused.
-use Rattle.std.specs.Prelude.{◌≡◌, ◌<◌, ◌≤◌, ◌⊎◌, ℕ, ◌+◌, ◌-◌, Bool, true, false, List, [], ◌∷◌, ◌++◌, All, length, map, nat_le, Option, Some, None, option_map, if◌then◌else◌, MatchBool}
+use Rattle.std.specs.Prelude.{◌≡◌, ◌<◌, ◌≤◌, ◌⊎◌, ℕ, ◌+◌, ◌-◌, Bool, true, false, List, [], ◌∷◌, ◌++◌, All, length, map, nat_le, take, Option, Some, None, option_map, if◌then◌else◌, MatchBool}
 use Rattle.ipx_wire.specs.declared.address.Node.{Node}
 use Rattle.ipx_router.specs.RouterView.{RouterView}
 use Rattle.ipx_router.specs.RouterPackets.{SendingView}
@@ -120,11 +120,21 @@ abbrev pub TellsNow : RouterView → ℕ → List SendingView → RouterView →
 TellsNow old now sent new = telling.TellsIfDue (known_at old now) old.told now sent new.told
     × HoldsKnown (known_at old now) (tables new) × KeepsAllButOffers old new
 
--- the packets of the start are put behind its own, then those that are told, and the next one leaves
-abbrev pub RouterGives : CoreView → ℕ → Option Given → CoreView → Type 0
-RouterGives old now given new = (first told : List SendingView) × (router : RouterView)
+-- it starts and tells: the packets of its start are put behind its own, then those that are told
+abbrev pub StartsAndTells : CoreView → ℕ → CoreView → Type 0
+StartsAndTells old now new = (first told : List SendingView) × (router : RouterView)
     × AreFirst old first × TellsNow old.router now told router
-    × TakesFirst (put_own told (put_own first (record old { router = router; started = true }))) given new
+    × (new ≡ put_own told (put_own first (record old { router = router; started = true })))
+
+-- so it does where nothing that is forwarded waits; else it stays as it is
+abbrev pub MakesReady : CoreView → ℕ → CoreView → Type 0
+MakesReady old now new = ((old.queues.forwarded ≡ []) × StartsAndTells old now new)
+    ⊎ ((0 < length old.queues.forwarded) × (new ≡ old))
+
+-- and then the next packet leaves
+abbrev pub RouterGives : CoreView → ℕ → Option Given → CoreView → Type 0
+RouterGives old now given new =
+    (ready : CoreView) × MakesReady old now ready × TakesFirst ready given new
 
 -- there are packets to put into a queue, and they would pass no limit of it
 abbrev pub IsRoomFor : List SendingView → List SendingView → Type 0
@@ -167,13 +177,13 @@ abbrev pub IsNotTold : RouterView → ℕ → List SendingView → RouterView �
 IsNotTold old now own new = TellsInVain old now new
     ⊎ ((told : List SendingView) × TellsNow old now told new × IsRoomFor own told)
 
--- memory is refused for the packets of the start; or these are put behind its own, and memory is
--- refused for those that are told
+-- nothing that is forwarded waits, and memory is refused for the packets of the start; or these are put
+-- behind its own, and memory is refused for those that are told
 abbrev pub Withholds : CoreView → ℕ → CoreView → Type 0
-Withholds old now new = StartsInVain old new
+Withholds old now new = (old.queues.forwarded ≡ []) × (StartsInVain old new
     ⊎ ((first : List SendingView) × (router : RouterView) × AreFirst old first
     × (new ≡ put_own first (record old { router = router; started = true }))
-    × IsNotTold old.router now new.queues.own router)
+    × IsNotTold old.router now new.queues.own router))
 
 -- a packet leaves by a port that is there, and fits the room
 abbrev pub IsGivable : ℕ → SendingView → Type 0
@@ -182,10 +192,16 @@ IsGivable ports s = IsPortNumber ports s.port × (length s.bytes ≤ 1500)
 abbrev pub AreGivable : ℕ → List SendingView → Type 0
 AreGivable ports = All (IsGivable ports)
 
--- asked until it gives none, a router gives all that is forwarded, in order, and behind that no more of its
--- own than may leave in a row
+-- how many of its own may leave in this row, or, where something is forwarded, in another one behind it
+abbrev pub left_in_a_row : List SendingView → ℕ → ℕ
+left_in_a_row [] in_a_row = most_in_a_row - in_a_row
+left_in_a_row (s ∷ forwarded) in_a_row = most_in_a_row
+
+-- asked until it gives none, a router gives all that is forwarded, in order, and behind that so many of its
+-- own, the first ones of these as it has started and told
 abbrev pub ForwardedLeaveFirst : Type 0
 ForwardedLeaveFirst = (now : ℕ) (packets : List Given) (old last new : CoreView)
     → GivesEach RouterGives now packets old last → RouterGives last now None new
-    → (own : List Given) × (packets ≡ map given_of old.queues.forwarded ++ own)
-    × (length own ≤ most_in_a_row)
+    → (ready : CoreView) × StartsAndTells old now ready
+    × (packets ≡ map given_of (old.queues.forwarded
+    ++ take (left_in_a_row old.queues.forwarded old.queues.in_a_row) ready.queues.own))

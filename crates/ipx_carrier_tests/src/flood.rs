@@ -89,8 +89,8 @@ fn a_flood_is_dropped(rt: HostRuntime) -> Result<(), Fail> {
     let mut room = [0; 1536];
     let given = core.next(alloc, 0, &mut room)?;
     assert!(rt; matches!(given, Some((1, _, 30))));
-    // The six packets of its start have a queue of their own.
+    // It has not started yet.
     assert_eq!(rt; core.dropped(), 1);
-    assert_eq!(rt; core.queued(), 16_389);
+    assert_eq!(rt; core.queued(), 16_383);
     Ok(())
 }

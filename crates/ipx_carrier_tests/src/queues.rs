@@ -65,6 +65,19 @@ fn what_is_forwarded_leaves_first(rt: HostRuntime) -> Result<(), Fail> {
     Ok(())
 }
 
+/// While something that is forwarded waits, it does not start.
+#[test]
+fn it_starts_behind_what_is_forwarded(rt: HostRuntime) -> Result<(), Fail> {
+    let alloc = rt.alloc();
+    let mut core = two_ports(alloc)?;
+    hear(alloc, &mut core, ONWARD, 2)?;
+    assert_eq!(rt; given(alloc, &mut core, 2)?.as_str(), "ff");
+    assert_eq!(rt; core.queued(), 0);
+    assert_eq!(rt; given(alloc, &mut core, 1)?.as_str(), "s");
+    assert_eq!(rt; core.queued(), 5);
+    Ok(())
+}
+
 /// A turn sends what came and two packets of its own, and then the ports are asked again.
 #[test]
 fn a_turn_sends_two_of_its_own(rt: HostRuntime) -> Result<(), Fail> {

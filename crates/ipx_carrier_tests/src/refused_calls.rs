@@ -126,7 +126,7 @@ fn refused_hear_of_a_request_that_is_answered(rt: HostRuntime) -> Result<(), Fai
     Ok(())
 }
 
-/// Where the packets of its start find no memory, what is forwarded still leaves.
+/// What is forwarded leaves without memory, before the packets of its start want some.
 #[test]
 fn refused_next_behind_what_is_forwarded(rt: HostRuntime) -> Result<(), Fail> {
     let alloc = rt.alloc();
@@ -135,6 +135,6 @@ fn refused_next_behind_what_is_forwarded(rt: HostRuntime) -> Result<(), Fail> {
     if hear(alloc, &mut core, &bytes).is_err() {
         hear(alloc, &mut core, &bytes)?;
     }
-    assert!(rt; next_at_last(alloc, &mut core)? == Some((1, Node([0, 0, 0x7f, 0, 0, 5]), 30)));
+    assert!(rt; next(alloc, &mut core)? == Some((1, Node([0, 0, 0x7f, 0, 0, 5]), 30)));
     Ok(())
 }
