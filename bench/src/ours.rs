@@ -17,6 +17,20 @@ unsafe extern "C" {
         period: u64,
     ) -> u64;
 
+    fn ipx_bench_receive_each(
+        heard: *const u8,
+        heard_count: usize,
+        heard_size: usize,
+        records: *const u8,
+        count: usize,
+        size: usize,
+        rounds: u32,
+        apart: u64,
+        period: u64,
+        times: *mut u64,
+        room: usize,
+    ) -> u64;
+
     fn ipx_bench_tell(heard: *const u8, count: usize, size: usize, rounds: u32) -> u64;
 
     fn ipx_bench_known(heard: *const u8, count: usize, size: usize, rounds: u32) -> u64;
@@ -85,6 +99,34 @@ pub fn receive(heard: &Records, records: &Records, rounds: u32, pace: Pace) -> u
             pace.period,
         )
     }
+}
+
+/// The same, and how many nanoseconds each record of each round took.
+pub fn receive_each(
+    heard: &Records,
+    records: &Records,
+    rounds: u32,
+    pace: Pace,
+) -> (u64, Vec<u64>) {
+    let mut times = vec![0; rounds as usize * records.count()];
+    // SAFETY: each pointer and the length behind it are one slice. The last is this function's own,
+    // and the others are only read.
+    let digest = unsafe {
+        ipx_bench_receive_each(
+            heard.bytes.as_ptr(),
+            heard.bytes.len(),
+            heard.size,
+            records.bytes.as_ptr(),
+            records.bytes.len(),
+            records.size,
+            rounds,
+            pace.apart,
+            pace.period,
+            times.as_mut_ptr(),
+            times.len(),
+        )
+    };
+    (digest, times)
 }
 
 pub fn tell(heard: &Records, rounds: u32) -> u64 {

@@ -21,6 +21,16 @@ pub struct Row {
     pub theirs: Box<dyn Fn(u32) -> u64>,
 }
 
+/// The digest of so many rounds, and how many nanoseconds each call of them took.
+pub type Timed = Box<dyn Fn(u32) -> (u64, Vec<u64>)>;
+
+/// Calls that are timed one by one, on both sides.
+pub struct Singles {
+    pub name: String,
+    pub ours: Timed,
+    pub theirs: Timed,
+}
+
 const SIZES: [usize; 3] = [30, 576, 1500];
 const REFUSED_SIZE: usize = 1536;
 const LEARNED: [u32; 3] = [1, 32, 1024];
@@ -74,6 +84,17 @@ fn receive_at(name: String, heard: Records, records: Records, pace: Pace) -> Row
     }
 }
 
+/// The records of `receive_at`, timed one by one.
+fn receive_each(name: String, heard: Records, records: Records, pace: Pace) -> Singles {
+    let inputs = Rc::new((heard, records));
+    let same = Rc::clone(&inputs);
+    Singles {
+        name,
+        ours: Box::new(move |rounds| ours::receive_each(&inputs.0, &inputs.1, rounds, pace)),
+        theirs: Box::new(move |rounds| theirs::receive_each(&same.0, &same.1, rounds, pace)),
+    }
+}
+
 fn forward_direct(size: usize) -> Row {
     let records = packets(size, |k| PORT_NETWORKS[1 + k as usize % 2]);
     receive(
@@ -102,41 +123,61 @@ const ONE_BY_ONE: Pace = Pace {
     period: 61_000,
 };
 
+/// What is heard in each round, behind what was heard first, and at which pace.
+struct Hearing {
+    name: String,
+    heard: fn() -> Records,
+    records: fn() -> Records,
+    pace: Pace,
+}
+
+fn known_routes() -> Records {
+    routes(KNOWN, &[2])
+}
+
+fn fifty_known() -> Records {
+    fifty_of(KNOWN)
+}
+
+fn scattered() -> Records {
+    routes_and_services(ROUTES, SERVICES)
+}
+
+fn by_key() -> Records {
+    routes_and_services_by_key(ROUTES, SERVICES)
+}
+
+fn withdrawn() -> Records {
+    told_and_withdrawn(ROUTES, SERVICES)
+}
+
 /// Routes that are heard again, all at one moment, and then each time a millisecond later.
-fn hear() -> [Row; 2] {
-    let row = |when: &str, period| {
-        let name = format!("hear 50 routes of {KNOWN} known{when}");
-        let pace = Pace { apart: 0, period };
-        receive_at(name, routes(KNOWN, &[2]), fifty_of(KNOWN), pace)
+fn hear() -> [Hearing; 2] {
+    let hearing = |when: &str, period| Hearing {
+        name: format!("hear 50 routes of {KNOWN} known{when}"),
+        heard: known_routes,
+        records: fifty_known,
+        pace: Pace { apart: 0, period },
     };
-    [row("", 0), row(", later", 1)]
+    [hearing("", 0), hearing(", later", 1)]
 }
 
 /// All routes and services, told to a router that heard them before: the services scattered or by
 /// key, and all at one moment, each minute, or packet by packet.
-fn hear_all() -> [Row; 6] {
-    let row = |how: &str, records: fn(u32, u32) -> Records, pace| {
-        let name = format!("hear {ROUTES} and {SERVICES}{how}");
-        let all = || records(ROUTES, SERVICES);
-        let mut row = receive_at(name, all(), all(), pace);
-        row.calls = 1;
-        row
+fn hear_all() -> [Hearing; 6] {
+    let hearing = |how: &str, records, pace| Hearing {
+        name: format!("hear {ROUTES} and {SERVICES}{how}"),
+        heard: records,
+        records,
+        pace,
     };
     [
-        row("", routes_and_services, AT_ONCE),
-        row(", each minute", routes_and_services, EACH_MINUTE),
-        row(", one by one", routes_and_services, ONE_BY_ONE),
-        row(" by key", routes_and_services_by_key, AT_ONCE),
-        row(
-            " by key, each minute",
-            routes_and_services_by_key,
-            EACH_MINUTE,
-        ),
-        row(
-            " by key, one by one",
-            routes_and_services_by_key,
-            ONE_BY_ONE,
-        ),
+        hearing("", scattered, AT_ONCE),
+        hearing(", each minute", scattered, EACH_MINUTE),
+        hearing(", one by one", scattered, ONE_BY_ONE),
+        hearing(" by key", by_key, AT_ONCE),
+        hearing(" by key, each minute", by_key, EACH_MINUTE),
+        hearing(" by key, one by one", by_key, ONE_BY_ONE),
     ]
 }
 
@@ -156,28 +197,46 @@ const OLD_ONE_BY_ONE: Pace = Pace {
 
 /// All routes and services, learned in each round by a router that holds none any more, since they
 /// grew old or were withdrawn.
-fn learn_all() -> [Row; 5] {
-    let row = |how: &str, records: fn(u32, u32) -> Records, pace| {
-        let name = format!("learn {ROUTES} and {SERVICES}{how}");
-        let mut row = receive_at(name, Records::none(), records(ROUTES, SERVICES), pace);
-        row.calls = 1;
-        row
+fn learn_all() -> [Hearing; 5] {
+    let hearing = |how: &str, records, pace| Hearing {
+        name: format!("learn {ROUTES} and {SERVICES}{how}"),
+        heard: Records::none,
+        records,
+        pace,
     };
     [
-        row(", old at once", routes_and_services, OLD_AT_ONCE),
-        row(", old one by one", routes_and_services, OLD_ONE_BY_ONE),
-        row(", withdrawn", told_and_withdrawn, AT_ONCE),
-        row(
-            " by key, old at once",
-            routes_and_services_by_key,
-            OLD_AT_ONCE,
-        ),
-        row(
-            " by key, old one by one",
-            routes_and_services_by_key,
-            OLD_ONE_BY_ONE,
-        ),
+        hearing(", old at once", scattered, OLD_AT_ONCE),
+        hearing(", old one by one", scattered, OLD_ONE_BY_ONE),
+        hearing(", withdrawn", withdrawn, AT_ONCE),
+        hearing(" by key, old at once", by_key, OLD_AT_ONCE),
+        hearing(" by key, old one by one", by_key, OLD_ONE_BY_ONE),
     ]
+}
+
+/// The rounds of a hearing as one call each. One round more comes first, so that what is learned in
+/// those that are timed comes in the place of what grew old.
+fn round_by_round(hearing: Hearing) -> Row {
+    let Hearing {
+        name,
+        heard,
+        records,
+        pace,
+    } = hearing;
+    let row = receive_at(name, heard(), records(), pace);
+    let Row { ours, theirs, .. } = row;
+    Row {
+        name: row.name,
+        calls: 1,
+        ours: Box::new(move |rounds| ours(rounds + 1)),
+        theirs: Box::new(move |rounds| theirs(rounds + 1)),
+    }
+}
+
+/// What changes tables, its calls timed one by one.
+pub fn singles() -> Vec<Singles> {
+    let all = hear().into_iter().chain(hear_all()).chain(learn_all());
+    all.map(|it| receive_each(it.name, (it.heard)(), (it.records)(), it.pace))
+        .collect()
 }
 
 /// What is asked of a router that holds all routes and services.
@@ -285,9 +344,9 @@ pub fn all() -> Vec<Row> {
         .chain(SIZES.into_iter().map(forward_direct))
         .chain(learned)
         .chain([forward_with_all_held()])
-        .chain(hear())
-        .chain(hear_all())
-        .chain(learn_all())
+        .chain(hear().map(|it| receive_at(it.name, (it.heard)(), (it.records)(), it.pace)))
+        .chain(hear_all().map(round_by_round))
+        .chain(learn_all().map(round_by_round))
         .chain(ask_all())
         .chain([tell(), known()])
         .chain(PASSES.map(pass))

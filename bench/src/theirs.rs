@@ -4,6 +4,7 @@ use crate::inputs::{LEAD, PORT_NETWORKS, Pace, Records};
 use crate::plain::control::ControlFault;
 use crate::plain::router::{Outcome, Port, Reason, Reply, Router};
 use crate::plain::wire::{Address, IpxFault, Network, Node, Packet, decode as decode_packet};
+use std::time::Instant;
 
 const MOMENT: u64 = 1 << 60;
 
@@ -110,6 +111,33 @@ pub fn receive(heard: &Records, records: &Records, rounds: u32, pace: Pace) -> u
         first = first.saturating_add(pace.period);
     }
     digest
+}
+
+/// The same, and how many nanoseconds each record of each round took.
+#[inline(never)]
+pub fn receive_each(
+    heard: &Records,
+    records: &Records,
+    rounds: u32,
+    pace: Pace,
+) -> (u64, Vec<u64>) {
+    let mut router = router_of_three();
+    fed_digests(&mut router, heard, MOMENT, 0);
+    let mut times = Vec::new();
+    let (mut digest, mut first) = (0, MOMENT);
+    for _ in 0..rounds {
+        let (mut round, mut now) = (0, first);
+        for record in records.bytes.chunks_exact(records.size) {
+            let start = Instant::now();
+            let fed = feed(&mut router, record, now).map_or(2, |outcome| outcome_digest(&outcome));
+            times.push(start.elapsed().as_nanos() as u64);
+            round = mixed(round, fed);
+            now = now.saturating_add(pace.apart);
+        }
+        digest = mixed(digest, round);
+        first = first.saturating_add(pace.period);
+    }
+    (digest, times)
 }
 
 #[inline(never)]

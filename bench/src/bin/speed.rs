@@ -2,7 +2,9 @@
 //!
 //! An argument narrows the rows to those whose names have it.
 
-use ipx_bench::rows::{Row, all, check_answers, check_hosts, check_links, check_row};
+use ipx_bench::rows::{
+    Row, Singles, Timed, all, check_answers, check_hosts, check_links, check_row, singles,
+};
 use std::time::{Duration, Instant};
 
 /// How long the calls of one repetition take at least (and no less than what comes before them),
@@ -11,6 +13,11 @@ use std::time::{Duration, Instant};
 const REPETITION: Duration = Duration::from_millis(2);
 const ROW: Duration = Duration::from_millis(600);
 const TIMES: u32 = 4;
+
+/// How many rounds have their calls timed one by one, in which offers grow old more than once, and
+/// how often those rounds are gone through anew.
+const SINGLE_ROUNDS: u32 = 7;
+const SINGLE_TIMES: u32 = 20;
 
 type Loop = dyn Fn(u32) -> u64;
 
@@ -96,6 +103,31 @@ fn print(row: &Row, ours: &Side, theirs: &Side) {
     );
 }
 
+/// The longest of the calls of some rounds, in nanoseconds. Of each call the shortest time counts,
+/// since what else runs lengthens one call or another.
+fn longest(calls: &Timed) -> u64 {
+    let mut least = calls(SINGLE_ROUNDS).1;
+    for _ in 1..SINGLE_TIMES {
+        for (least, time) in least.iter_mut().zip(calls(SINGLE_ROUNDS).1) {
+            *least = time.min(*least);
+        }
+    }
+    least.into_iter().max().unwrap_or(0)
+}
+
+/// Prints the longest call of both sides, whose answers are to be the same.
+fn print_longest(row: &Singles) {
+    let digests = ((row.ours)(2).0, (row.theirs)(2).0);
+    assert!(digests.0 == digests.1, "the digests differ: {}", row.name);
+    let in_us = |calls| longest(calls) as f64 / 1e3;
+    println!(
+        "{:<44} {:>10.1} {:>12.1}",
+        row.name,
+        in_us(&row.ours),
+        in_us(&row.theirs)
+    );
+}
+
 /// Prints every row, or those whose names have the word that is given.
 fn main() {
     let word = std::env::args().nth(1).unwrap_or_default();
@@ -122,4 +154,11 @@ fn main() {
     for (row, (ours, theirs)) in rows.iter().zip(&sides) {
         print(row, ours, theirs);
     }
+    println!(
+        "\n{:<44} {:>10} {:>12}",
+        "the longest call", "ours us", "plain us"
+    );
+    let singles = singles();
+    let chosen = singles.iter().filter(|row| row.name.contains(&word));
+    chosen.for_each(print_longest);
 }

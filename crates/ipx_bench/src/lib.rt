@@ -16,3 +16,4 @@ mod playing;
 mod receiving;
 mod talking;
 mod telling;
+mod timing;

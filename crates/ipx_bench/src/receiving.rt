@@ -7,7 +7,8 @@ use crate::feeding::{MOMENT, feed, router_of_three};
 use ipx_router::Router;
 use std::alloc::Global;
 
-fn fed_digest(alloc: Global, router: &mut Router, record: &[u8], now: u64) -> u64
+/// Hands a record to the router, and answers the digest of what became of it.
+pub fn fed_digest(alloc: Global, router: &mut Router, record: &[u8], now: u64) -> u64
     requires { length router.old.ports ≡ 3 }
     ensures { length router.new.ports ≡ 3 }
 {
