@@ -36,6 +36,7 @@ fn index_rows(rt: HostRuntime) -> Result<(), Fail> {
     an_offer_of_the_last_moment_stays(&rt, rt.alloc())?;
     what_is_heard_again_grows_old_later(&rt, rt.alloc())?;
     many_grow_old_together(&rt, rt.alloc())?;
+    few_grow_old_and_then_more(&rt, rt.alloc())?;
     few_offers_are_read(&rt, rt.alloc())
 }
 
@@ -75,6 +76,19 @@ fn many_grow_old_together(rt: &impl Abort, alloc: Global) -> Result<(), Fail> {
     table.age(180_101);
     let young = |n: u32| n % 2 == 0 && n > 101;
     assert!(rt; (1..=1024u32).all(|n| counts(&table, Network(n), 1) == young(n)));
+    Ok(())
+}
+
+/// Of 64 networks, each heard at the moment of its number, five grow old, and then twenty more.
+fn few_grow_old_and_then_more(rt: &impl Abort, alloc: Global) -> Result<(), Fail> {
+    let mut table = route_table(alloc);
+    for network in 1..=64u32 {
+        hear(alloc, &mut table, Network(network), u64::from(network))?;
+    }
+    table.age(180_005);
+    assert!(rt; (1..=64u32).all(|n| counts(&table, Network(n), 64) == (n > 5)));
+    table.age(180_025);
+    assert!(rt; (1..=64u32).all(|n| counts(&table, Network(n), 64) == (n > 25)));
     Ok(())
 }
 

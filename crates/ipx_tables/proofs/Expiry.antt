@@ -1,18 +1,23 @@
 -- Until when offers count, and what ageing before that moment leaves.
-use Rattle.std.proofs.Common.{◌≡◌, ℕ, suc, ◌+◌, ◌-◌, ◌^◌, ◌<◌, ◌≤◌, min, true, cond, List, [], ◌∷◌, set, take, drop, length, get_or, Option, Some, None, IfSome, refl, sym, ap, ◌∙◌, arith}
+use Rattle.std.proofs.Common.{◌≡◌, ℕ, suc, ◌+◌, ◌-◌, ◌^◌, ◌<◌, ◌≤◌, min, true, false, cond, List, [], ◌∷◌, set, take, drop, length, get_or, None, refl, sym, ap, ◌∙◌, inl, inr, arith}
 use Rattle.std.specs.List.{insert, remove, filter, count_by}
 use Rattle.std.specs.Option.{is_some}
 use Rattle.std.specs.Cmp.{IsTotalOrder}
+use Rattle.std.specs.Ordering.{ordering_reverse}
 use Rattle.std.specs.declared.cmp.Ordering.{Ordering}
-use Rattle.std.proofs.lemmas.Bool.{lt-ltb}
+use Rattle.std.specs.declared.cmp.Ordering.TheVariants.{Less, Equal, Greater}
+use Rattle.std.proofs.lemmas.Bool.{cases_lt, lt-ltb}
+use Rattle.std.proofs.lemmas.Cmp.{tied_itself}
 use Rattle.std.proofs.lemmas.List.Elements.{All-append, All-take, All-drop, All-tail, All-set, All-cons}
 use Rattle.std.proofs.lemmas.List.Sums.{length-filter}
 use Rattle.ipx_tables.specs.declared.source.Source.{Source}
 use Rattle.ipx_tables.specs.declared.offer.Offer.{Offer}
-use Rattle.ipx_tables.specs.Content.{IsApart, is_young, still, is_same, content, heard_key}
+use Rattle.ipx_tables.specs.Content.{IsApart, is_young, still, is_same, content, heard_key, pair_cmp, pair_of}
 use Rattle.ipx_tables.specs.Expiry.{IsOldest, NoneOldBefore}
 use Rattle.ipx_tables.specs.Marks.{IsEarliest}
+use Rattle.ipx_tables.specs.Sorted.{IsRising, IsAtKey, IsGapFor}
 use Rattle.ipx_tables.proofs.Lists.{same_equiv, found_filter, told_filter}
+use Rattle.ipx_tables.proofs.Marked.{filter_all, filter_without, young_later}
 
 least_left : (s a b : ℕ) → s ≡ min a b → s ≤ a
 least_left s a b is = omega (arith, is)
@@ -69,7 +74,47 @@ pub no_later_than_oldest : {K M : Type 0} (os : List (Offer K M)) (i moment : �
 no_later_than_oldest [] i moment oldest ends until is fits none = absurd (omega (arith, oldest.in_range))
 no_later_than_oldest (x ∷ xs) i moment oldest ends until is fits none = omega (arith, is, fits, none i x oldest.in_range, oldest.heard x)
 
--- the earliest of offers is the oldest
-pub oldest_is_earliest : {K M : Type 0} (os : List (Offer K M)) (r : Option (ℕ × ℕ)) → IfSome r (λ o. IsEarliest (λ (x : Offer K M). x.heard) os o.0 o.1) → IfSome r (λ o. IsOldest os o.0 o.1)
-oldest_is_earliest os None h = h
-oldest_is_earliest os (Some a) h = record { in_range = h.in_range; heard = h.is; first = h.first }
+-- the earliest of offers stands where its key and source do
+module _ {K M : Type 0} (cmp : K → K → Ordering) (o : IsTotalOrder (pair_cmp cmp)) (os : List (Offer K M)) (rising : IsRising (pair_cmp cmp) pair_of os) (x : Offer K M) (earliest : IsEarliest (λ (y : Offer K M). y.heard) os x) where
+  key_there : (d : Offer K M) → pair_of (get_or os earliest.at d) ≡ pair_of x
+  key_there d = ap pair_of (earliest.is d)
+
+  one_place : (at : ℕ) → IsAtKey (pair_cmp cmp) pair_of os (pair_of x) at → at ≡ earliest.at
+  one_place at found = elim (cases_lt at earliest.at) [
+    | inl below ↦
+        let less : pair_cmp cmp (pair_of (get_or os at x)) (pair_of x) ≡ Less = ap (pair_cmp cmp (pair_of (get_or os at x))) (sym (key_there x)) ∙ rising at earliest.at x below earliest.in_range in
+        let tie : pair_cmp cmp (pair_of (get_or os at x)) (pair_of x) ≡ Equal = found.ties x in
+        absurd (let never : Less ≡ Equal = sym less ∙ tie in cc)
+    | inr not_below ↦ elim (cases_lt earliest.at at) [
+      | inl above ↦
+          let less : pair_cmp cmp (pair_of x) (pair_of (get_or os at x)) ≡ Less = ap (λ k. pair_cmp cmp k (pair_of (get_or os at x))) (sym (key_there x)) ∙ rising earliest.at at x above found.in_range in
+          let more : pair_cmp cmp (pair_of (get_or os at x)) (pair_of x) ≡ Greater = o.antisymm (pair_of (get_or os at x)) (pair_of x) ∙ ap ordering_reverse less in
+          absurd (let never : Greater ≡ Equal = sym more ∙ found.ties x in cc)
+      | inr not_above ↦ omega (arith, not_below, not_above)
+    ]
+  ]
+
+  pub oldest_at : (at : ℕ) → IsAtKey (pair_cmp cmp) pair_of os (pair_of x) at → IsOldest os at x.heard
+  oldest_at at found = record {
+    in_range = found.in_range;
+    heard = λ d. ap (λ k. (get_or os k d).heard) (one_place at found) ∙ ap (λ (y : Offer K M). y.heard) (earliest.is d);
+    first = earliest.first;
+  }
+
+  pub never_gap : (at : ℕ) → IsGapFor (pair_cmp cmp) pair_of os (pair_of x) at → ⊥
+  never_gap at gap =
+      let tie : pair_cmp cmp (pair_of (get_or os earliest.at x)) (pair_of x) ≡ Equal = ap (λ k. pair_cmp cmp k (pair_of x)) (key_there x) ∙ tied_itself o (pair_of x) in
+      elim (cases_lt earliest.at at) [
+        | inl below ↦ let never : Less ≡ Equal = sym (gap.below earliest.at x below) ∙ tie in cc
+        | inr not_below ↦ let never : Greater ≡ Equal = sym (gap.above earliest.at x (omega (arith, not_below)) earliest.in_range) ∙ tie in cc
+      ]
+
+-- where the oldest counts all do
+pub all_count : {K M : Type 0} (os : List (Offer K M)) (i moment now : ℕ) → IsOldest os i moment → is_young now moment ≡ true → os ≡ filter (λ o. is_young now o.heard) os
+all_count {K} {M} os i moment now oldest young =
+    sym (filter_all (λ (o : Offer K M). is_young now o.heard) os (λ j d lt. young_later now moment (get_or os j d).heard (oldest.first j d lt) young))
+
+-- an old offer that is taken out is none of those that count
+pub old_removed : {K M : Type 0} (os : List (Offer K M)) (i moment now : ℕ) → IsOldest os i moment → is_young now moment ≡ false → filter (λ o. is_young now o.heard) (remove os i) ≡ filter (λ o. is_young now o.heard) os
+old_removed {K} {M} os i moment now oldest old =
+    filter_without (λ (o : Offer K M). is_young now o.heard) os i oldest.in_range (λ d. ap (is_young now) (oldest.heard d) ∙ old)

@@ -1,19 +1,18 @@
 -- Marks by their moments: which are old, which are late, and what puts them right.
-use Rattle.std.proofs.Common.{◌≡◌, ℕ, zero, suc, ◌+◌, ◌-◌, ◌<◌, ◌≤◌, ◌==◌, Bool, true, false, cond, not, eqb, List, [], ◌∷◌, ◌++◌, length, get_or, take, drop, map, Option, Some, None, slice_get, refl, sym, ap, ◌∙◌, subst, inl, inr, arith}
+use Rattle.std.proofs.Common.{◌≡◌, ℕ, zero, suc, ◌+◌, ◌-◌, ◌<◌, ◌≤◌, ◌==◌, Bool, true, false, cond, not, eqb, List, [], ◌∷◌, ◌++◌, length, get_or, take, drop, map, Option, Some, None, OnSome, IsSome, Result, Ok, Err, OnOk, OnErr, slice_get, refl, sym, ap, ◌∙◌, subst, inl, inr, arith}
 use mathlib.Core.Bool.{true≢false}
 use Rattle.std.specs.List.{All, AllWithin, filter, list_any, remove}
-use Rattle.std.specs.List.Sorted.{IsNonDecreasingBy, IsPartitionedBy, IsPermutation}
+use Rattle.std.specs.List.Sorted.{IsPartitionedBy, IsPermutation}
 use Rattle.std.proofs.lemmas.Bool.{cases_lt, eq-eqb, eqb-true, lt-ltb, ltb-true, ne_eqb, not_from_false, or_parts}
 use Rattle.std.proofs.lemmas.List.{get_or-map, get_or-take, length-drop, length-map, length-take, take-append-le, take_all}
 use Rattle.std.proofs.lemmas.List.Elements.{All-cons, All-map}
 use Rattle.std.proofs.lemmas.List.Kept.{AllPairs-filter}
-use Rattle.std.proofs.lemmas.List.Sorted.{All-permutation, IsPermutation-map}
+use Rattle.std.proofs.lemmas.List.Sorted.{All-permutation, length_permutation}
 use Rattle.std.proofs.lemmas.Option.{slice_get-get_or}
 use Rattle.ipx_tables.specs.declared.marks.Mark.{Mark}
 use Rattle.ipx_tables.specs.Content.{is_young}
 use Rattle.ipx_tables.specs.Marks.{AreByMoment, HaveOwnPlaces, IsNoLater, IsRightMark, is_late_for, is_late_mark, places_of, right_for, right_mark}
 use Rattle.ipx_tables.specs.Tray.{is_some_young, is_young_in}
-use Rattle.ipx_tables.proofs.Permuted.{permuted_filter}
 use Rattle.ipx_tables.proofs.Trays.{filter_map_alike}
 
 pub not_true : (b : Bool) → not b ≡ true → b ≡ false
@@ -28,7 +27,7 @@ contra : (a b : Bool) → (a ≡ true → b ≡ true) → not b ≡ true → not
 contra true b f h = absurd (true≢false (sym h ∙ ap not (f refl)))
 contra false b f h = refl
 
-young_later : (now a b : ℕ) → a ≤ b → is_young now a ≡ true → is_young now b ≡ true
+pub young_later : (now a b : ℕ) → a ≤ b → is_young now a ≡ true → is_young now b ≡ true
 young_later now a b le young = lt-ltb (now - b) 180000 (omega (arith, le, ltb-true (now - a) 180000 young))
 
 -- the marks of old moments come first
@@ -52,6 +51,12 @@ module _ {X : Type 0} (p : X → Bool) where
   filter_remove (x ∷ xs) (suc i) lt is once =
       ap (λ b. cond b (x ∷ filter p xs) (filter p xs)) (once 0 x (omega arith) (λ e. omega (arith, e)))
       ∙ ap (λ l. x ∷ l) (filter_remove xs i (omega (arith, lt)) is (λ j d low ne. once (suc j) d (omega (arith, low)) (λ same. ne (omega (arith, same)))))
+
+  -- what fails goes without a trace
+  pub filter_without : (xs : List X) (i : ℕ) → i < length xs → ((d : X) → p (get_or xs i d) ≡ false) → filter p (remove xs i) ≡ filter p xs
+  filter_without [] i lt is = absurd (omega (arith, lt))
+  filter_without (x ∷ xs) zero lt is = ap (λ b. cond b (x ∷ filter p xs) (filter p xs)) (sym (is x))
+  filter_without (x ∷ xs) (suc i) lt is = ap (λ l. cond (p x) (x ∷ l) l) (filter_without xs i (omega (arith, lt)) is)
 
   split_filter : (xs : List X) (k : ℕ) → k ≤ length xs → AllWithin (λ x. p x ≡ false) xs 0 k → AllWithin (λ x. p x ≡ true) xs k (length xs) → filter p xs ≡ drop k xs
   split_filter [] zero le front back = refl
@@ -83,6 +88,15 @@ module _ {X : Type 0} (p : X → Bool) where
   pub all_passed : (xs : List X) → All (λ x. p x ≡ true) (filter p xs)
   all_passed [] j d lt = absurd (omega (arith, lt))
   all_passed (x ∷ xs) j d lt = passed_head x (filter p xs) (p x) refl (all_passed xs) j d lt
+
+-- what came of a call that can't be refused
+pub came : {A E : Type 0} {P Q : Type 0} (r : Result A E) → OnOk r P → OnErr r Q → (Q → ⊥) → P
+came (Ok a) done refused never = done
+came (Err e) done refused never = absurd (never refused)
+
+pub came_some : {A P : Type 0} (r : Option A) → IsSome r → OnSome r P → P
+came_some None is done = absurd (true≢false (sym is))
+came_some (Some a) is done = done
 
 module _ (marks : List Mark) (n : ℕ) where
   kept_apart : (m : Mark) → (m.place ≡ n → ⊥) → not (m.place == n) ≡ true
@@ -119,6 +133,10 @@ places_all P marks all j d lt = subst P (get_or-map (λ m. m.place) marks j d d.
 
 pub all_places : (P : ℕ → Type 0) (marks : List Mark) → All (λ m. P m.place) marks → All P (places_of marks)
 all_places P marks all = All-map P (λ m. m.place) marks all
+
+-- marks whose places change places are as many
+pub many_moved : (old new : List Mark) → IsPermutation (places_of old) (places_of new) → length new ≡ length old
+many_moved old new moved = omega (arith, length_permutation (places_of old) (places_of new) moved, length-map old (λ m. m.place), length-map new (λ m. m.place))
 
 module _ {X : Type 0} (moment : X → ℕ) where
   right_place : (m : Mark) (o : Option X) → (right_for moment m o).place ≡ m.place

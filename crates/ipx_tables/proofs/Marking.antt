@@ -1,5 +1,5 @@
 -- Marks beside slots: one of each number in use, by moment, none too late, and what edits make of it.
-use Rattle.std.proofs.Common.{◌≡◌, ℕ, zero, suc, ◌+◌, ◌<◌, ◌≤◌, ◌==◌, Bool, true, false, cond, not, eqb, List, [], ◌∷◌, ◌++◌, length, get_or, set, map, Option, Some, None, IfNone, slice_get, refl, sym, ap, ◌∙◌, subst, arith}
+use Rattle.std.proofs.Common.{◌≡◌, ℕ, zero, suc, ◌+◌, ◌<◌, ◌≤◌, ◌==◌, Bool, true, false, not, eqb, List, [], ◌∷◌, ◌++◌, length, get_or, set, map, Option, Some, None, IfNone, refl, sym, ap, ◌∙◌, subst, arith}
 use mathlib.Core.Bool.{true≢false}
 use Rattle.std.specs.List.{All, IsDistinct, filter, insert, remove}
 use Rattle.std.specs.List.Sorted.{IsPermutation}
@@ -140,9 +140,14 @@ module _ {X : Type 0} (moment : X → ℕ) where
 
     module _ (first : Mark) (some : 0 < length marks) (is : first ≡ get_or marks 0 first) where
       -- its place is in use
-      pub first_used : ((i e : ℕ) → i < length used → get_or used i e ≡ first.place → ⊥) → ⊥
-      first_used absent =
-          marks_all (λ n. n ≡ first.place → ⊥) (λ i e lt. absent i e lt) 0 first some (sym (ap (λ (m : Mark). m.place) is))
+      first_used : (i : ℕ) × ((i < length used) × ((e : ℕ) → get_or used i e ≡ first.place))
+      first_used =
+          let P : ℕ → Type 0 = λ n. n ≡ first.place → (i : ℕ) × ((i < length used) × ((e : ℕ) → get_or used i e ≡ first.place)) in
+          marks_all P (λ j d lt same. (j, (lt, λ e. get_or_default used j e d lt ∙ same))) 0 first some (sym (ap (λ (m : Mark). m.place) is))
+
+      -- its place is that of a slot
+      pub first_real : AreReal slots used → first.place < length slots
+      first_real real = omega (arith, ap (λ (m : Mark). m.place) is, marks_real real 0 first some)
 
       all_later : All (λ n. (e : X) → first.moment ≤ moment (get_or slots n e)) used
       all_later =
@@ -151,16 +156,20 @@ module _ {X : Type 0} (moment : X → ℕ) where
           All-permutation P (places_of marks) used (IsPermutation-sym used (places_of marks) are.each) (all_places P marks (λ j d lt e. omega (arith, are.no_later j d lt e, are.by_moment 0 j d (omega arith) lt, head d)))
 
       -- what lies in the place of the first mark is the earliest, where that mark is right
-      pub first_earliest : AreReal slots used → IsRightMark moment slots (get_or marks 0 first) → (at : ℕ) → at < length used → ((e : ℕ) → get_or used at e ≡ first.place) → IsEarliest moment (lying_in slots used) at first.moment
-      first_earliest real right at within place =
+      pub first_earliest : AreReal slots used → IsRightMark moment slots (get_or marks 0 first) → (x : X) → x ≡ get_or slots first.place x → IsEarliest moment (lying_in slots used) x
+      first_earliest real right x is_x =
+          let at : ℕ = first_used.0 in
+          let within : at < length used = first_used.1.0 in
+          let place : get_or used at 0 ≡ first.place = first_used.1.1 0 in
           let read : (j : ℕ) (d : X) → j < length used → get_or (lying_in slots used) j d ≡ get_or slots (get_or used j 0) d = λ j d lt.
           ap (λ l. get_or l j d) (lying_is slots used d real) ∙ get_or-map (λ n. get_or slots n d) used j 0 d lt in
           let long = many_lying slots used real in
           let own : IsRightMark moment slots first = subst (IsRightMark moment slots) (sym is) right in
           record {
+            at = at;
             in_range = omega (arith, within, long);
-            is = λ d. ap moment (read at d within ∙ ap (λ n. get_or slots n d) (place 0)) ∙ own d;
-            first = λ j d lt. let low : j < length used = omega (arith, lt, long) in omega (arith, ap moment (read j d low), all_later j 0 low d);
+            is = λ d. read at d within ∙ ap (λ n. get_or slots n d) place ∙ get_or_default slots first.place d x (first_real real) ∙ sym is_x;
+            first = λ j d lt. let low : j < length used = omega (arith, lt, long) in omega (arith, ap moment is_x, own x, ap moment (read j d low), all_later j 0 low d);
           }
 
 -- what holds holds where there is none
@@ -168,11 +177,7 @@ pub at_none : {A P : Type 0} (o : Option A) → P → IfNone o P
 at_none None p = p
 at_none (Some a) p = tt
 
--- what is read at the front is the first, if there is one
-pub first_there : (marks : List Mark) (m : Mark) → Some m ≡ slice_get marks 0 → (0 < length marks) × (m ≡ get_or marks 0 m)
-first_there [] m is = absurd (let never : Some m ≡ None = is in cc)
-first_there (x ∷ marks) m is = (omega arith, let same : m ≡ x = cc in same)
-
-pub none_first : (marks : List Mark) → None ≡ slice_get marks 0 → length marks ≡ 0
-none_first [] is = refl
-none_first (x ∷ marks) is = absurd (let never : None ≡ Some x = is in cc)
+-- where nothing stands at the front there is nothing
+pub none_first : (n : ℕ) → (0 < n → false ≡ true) → n ≡ 0
+none_first zero none = refl
+none_first (suc n) none = absurd (true≢false (sym (none (omega arith))))

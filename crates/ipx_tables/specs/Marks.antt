@@ -53,8 +53,9 @@ module _ {X : Type 0} (moment : X → ℕ) where
       pub no_later : All IsNoLater marks
       pub fits : length slots ≤ room
 
--- the item at place i is of that moment, and none is of an earlier one
-pub record IsEarliest {X : Type 0} (moment : X → ℕ) (xs : List X) (i least : ℕ) : Type 0 where
-  pub in_range : i < length xs
-  pub is : (d : X) → moment (slice_index_or xs i d) ≡ least
-  pub first : All (λ x. least ≤ moment x) xs
+-- it stands among the items, and none is of an earlier moment
+pub record IsEarliest {X : Type 0} (moment : X → ℕ) (xs : List X) (x : X) : Type 0 where
+  pub at : ℕ
+  pub in_range : at < length xs
+  pub is : (d : X) → slice_index_or xs at d ≡ x
+  pub first : All (λ y. moment x ≤ moment y) xs

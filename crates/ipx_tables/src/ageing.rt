@@ -1,17 +1,56 @@
 //! What is old goes.
 
-ghost use Rattle.std.specs.Prelude.{◌≡◌, ℕ, ◌^◌, ◌<◌, ◌≤◌};
+ghost use Rattle.std.specs.Prelude.{◌≡◌, ℕ, ◌+◌, ◌^◌, ◌<◌, ◌≤◌, length, IfNone, IfSome, OnSome};
 ghost use Rattle.std.specs.List.{filter};
 ghost use Rattle.ipx_tables.specs.Content.{is_young};
 ghost use Rattle.ipx_tables.specs.Expiry.{NoneOldBefore};
 
-use crate::moments::expiry;
+use crate::moments::{counts, expiry};
 use crate::shelf::Shelf;
+
+/// How many offers are taken out one by one, before one pass takes out all others that are old.
+const FEW: u32 = 16;
 
 /// Takes out each offer that counts no more, all together. The result is the moment until which all
 /// others do.
 #[inline(never)] // so that whoever ages a table has only the comparison in line
 pub fn keep_young<K: Ord + Copy, M: Copy>(shelf: &mut Shelf<K, M>, now: u64) -> u64
+    ensures young { shelf.new ≡ filter (λ o. is_young now o.heard) shelf.old }
+    ensures until { NoneOldBefore result shelf.new }
+    ensures no_later { (moment : ℕ) → moment < 2 ^ 64 → NoneOldBefore moment shelf.new
+        → moment ≤ result }
+{
+    for _ in 0..FEW {
+        if let Some(until) = take_old(shelf, now) {
+            return until;
+        }
+    }
+    keep_all_young(shelf, now)
+}
+
+/// Takes out one offer that counts no more. Where there is none, the result is the moment until
+/// which all count.
+fn take_old<K: Ord + Copy, M: Copy>(shelf: &mut Shelf<K, M>, now: u64) -> Option<u64>
+    ensures same { filter (λ o. is_young now o.heard) shelf.new
+        ≡ filter (λ o. is_young now o.heard) shelf.old }
+    ensures fewer { IfNone result (length shelf.new + 1 ≡ length shelf.old) }
+    ensures young { OnSome result (shelf.new ≡ filter (λ o. is_young now o.heard) shelf.new) }
+    ensures until { IfSome result (λ until. NoneOldBefore until shelf.new) }
+    ensures no_later { IfSome result (λ until. (moment : ℕ) → moment < 2 ^ 64
+        → NoneOldBefore moment shelf.new → moment ≤ until) }
+{
+    let Some((at, moment)) = shelf.oldest() else {
+        return Some(u64::MAX);
+    };
+    if counts(now, moment) {
+        return Some(expiry(moment));
+    }
+    shelf.take_out(at);
+    None
+}
+
+/// Takes out all that counts no more in one pass, and says until when all others count.
+fn keep_all_young<K: Ord + Copy, M: Copy>(shelf: &mut Shelf<K, M>, now: u64) -> u64
     ensures young { shelf.new ≡ filter (λ o. is_young now o.heard) shelf.old }
     ensures until { NoneOldBefore result shelf.new }
     ensures no_later { (moment : ℕ) → moment < 2 ^ 64 → NoneOldBefore moment shelf.new

@@ -1,8 +1,9 @@
 //! Offers in the order of key and source.
 
-ghost use Rattle.std.specs.Prelude.{◌≡◌, ◌+◌, ◌^◌, ◌<◌, [], List, length, IfNone, IfSome, IfOk, IfErr, OnOk, OnErr, insert, remove, slice_index_or, slice_set};
+ghost use Rattle.std.specs.Prelude.{◌≡◌, ℕ, ◌+◌, ◌^◌, ◌<◌, ◌≤◌, [], List, length, IfNone, IfSome, IfOk, IfErr, OnOk, OnErr, insert, remove, slice_index_or, slice_set};
 ghost use Rattle.std.specs.List.{filter};
 ghost use Rattle.std.specs.Ordering.{is_eq};
+ghost use Rattle.std.specs.declared.cmp.Ordering.TheVariants.{Less, Greater};
 ghost use Rattle.ipx_tables.specs.Content.{is_young, pair_cmp, pair_of};
 ghost use Rattle.ipx_tables.specs.Expiry.{IsOldest};
 ghost use Rattle.ipx_tables.specs.Sorted.{IsAtKey, IsGapFor, IsRising};
@@ -18,7 +19,8 @@ use std::marker::Model;
 #[derive(Drop)]
 pub struct Shelf<K: Ord + Copy, M: Copy> {
     offers: Tray<Offer<K, M>>,
-    /// The place behind the offer that was heard last, where the next one is sought first.
+    /// The place behind the offer that was heard last, or where one was taken out: there the next one
+    /// is sought first.
     next: usize,
 }
 
@@ -102,7 +104,11 @@ impl<K: Ord + Copy, M: Copy> Shelf<K, M> {
         ensures none { IfNone result (self.old ≡ []) }
         ensures same { self.new ≡ self.old }
     {
-        self.offers.oldest()
+        let oldest = self.offers.oldest()?;
+        let Ok(at) = place_in(&self.offers, self.next, oldest.key, oldest.source) else {
+            return None;
+        };
+        Some((at, oldest.heard))
     }
 
     /// Takes an offer out.
@@ -112,6 +118,7 @@ impl<K: Ord + Copy, M: Copy> Shelf<K, M> {
         ensures rising { IsRising (pair_cmp K.cmp) pair_of self.new }
     {
         let _gone = self.offers.take_out(at);
+        self.next = at;
     }
 
     /// Takes out each offer that counts no more at a moment.
@@ -155,7 +162,8 @@ fn pair_order<K: Ord + Copy, M: Copy>(offer: &Offer<K, M>, key: &K, source: Sour
     }
 }
 
-/// Where the offer of a key and a source is, or where it would go. One place is tried first.
+/// Where the offer of a key and a source is, or where it would go. One place is tried first, and then
+/// those on the side of it that is left.
 fn place_in<K: Ord + Copy, M: Copy>(
     offers: &Tray<Offer<K, M>>,
     first: usize,
@@ -167,25 +175,37 @@ fn place_in<K: Ord + Copy, M: Copy>(
     ensures absent { IfErr result
         (IsGapFor (pair_cmp K.cmp) pair_of offers.now.items (key, source)) }
 {
-    if first < offers.len() && pair_order(offers.get(first), &key, source).is_eq() {
-        return Ok(first);
+    let end = offers.len();
+    if first >= end {
+        return search(offers, 0, end, key, source);
     }
-    search(offers, key, source)
+    match pair_order(offers.get(first), &key, source) {
+        Ordering::Less => search(offers, first + 1, end, key, source),
+        Ordering::Equal => Ok(first),
+        Ordering::Greater => search(offers, 0, first, key, source),
+    }
 }
 
-/// The same, where no place is more likely than another.
+/// The same, where all before the places from `low` to `high` is below, all behind them above, and
+/// none of them is more likely than another.
 fn search<K: Ord + Copy, M: Copy>(
     offers: &Tray<Offer<K, M>>,
+    mut low: usize,
+    mut high: usize,
     key: K,
     source: Source,
 ) -> Result<usize, usize>
-    requires { IsRising (pair_cmp K.cmp) pair_of offers.now.items }
+    requires rising { IsRising (pair_cmp K.cmp) pair_of offers.now.items }
+    requires ordered { low ≤ high }
+    requires within { high ≤ length offers.now.items }
+    requires below { (j : ℕ) (d : Offer K M) → j < low
+        → pair_cmp K.cmp (pair_of (slice_index_or offers.now.items j d)) (key, source) ≡ Less }
+    requires above { (j : ℕ) (d : Offer K M) → high ≤ j → j < length offers.now.items
+        → pair_cmp K.cmp (pair_of (slice_index_or offers.now.items j d)) (key, source) ≡ Greater }
     ensures found { IfOk result (IsAtKey (pair_cmp K.cmp) pair_of offers.now.items (key, source)) }
     ensures absent { IfErr result
         (IsGapFor (pair_cmp K.cmp) pair_of offers.now.items (key, source)) }
 {
-    let mut low = 0;
-    let mut high = offers.len();
     while low < high {
         let mid = low + (high - low) / 2;
         match pair_order(offers.get(mid), &key, source) {

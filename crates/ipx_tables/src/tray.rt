@@ -10,6 +10,7 @@ ghost use Rattle.ipx_tables.specs.Tray.{is_young_in};
 use crate::marks::{Mark, put_mark, settle_first, unmark, unmark_old};
 use crate::moments::{Timed, counts};
 use std::alloc::{AllocError, Global};
+use std::collections::VecDeque;
 use std::marker::Model;
 
 /// Items in an order. Each lies in a slot, and stays there while others come and go.
@@ -22,12 +23,13 @@ pub struct Tray<T: Timed + Copy> {
     free: Vec<u32>,
     /// A mark of each slot in use, by the moment. An item of a later moment leaves its mark where it
     /// is: ageing puts it right.
-    marks: Vec<Mark>,
+    marks: VecDeque<Mark>,
 }
 
 impl<T: Timed + Copy> Model for Tray<T> {
     ghost use Rattle.std.specs.Prelude.{length};
     ghost use Rattle.std.specs.Vec.{vec_capacity};
+    ghost use Rattle.std.specs.VecDeque.{deque_capacity};
     ghost use Rattle.ipx_tables.specs.Marks.{AreMarked};
     ghost use Rattle.ipx_tables.specs.Tray.{TrayView, AreSlots, lying_in};
 
@@ -40,7 +42,7 @@ impl<T: Timed + Copy> Model for Tray<T> {
 
     ghost invariant = { λ t. AreSlots t.slots.items t.used.items t.free.items
         (vec_capacity t.used) (vec_capacity t.free)
-        × AreMarked T.moment t.slots.items t.used.items t.marks.items (vec_capacity t.marks) };
+        × AreMarked T.moment t.slots.items t.used.items t.marks.items (deque_capacity t.marks) };
 }
 
 impl<T: Timed + Copy> Tray<T> {
@@ -52,7 +54,7 @@ impl<T: Timed + Copy> Tray<T> {
             slots: Vec::new(alloc),
             used: Vec::new(alloc),
             free: Vec::new(alloc),
-            marks: Vec::new(alloc),
+            marks: VecDeque::new(alloc),
         }
     }
 
@@ -149,16 +151,15 @@ impl<T: Timed + Copy> Tray<T> {
         self.slots[number as usize]
     }
 
-    /// An item of the earliest moment, and that moment.
-    pub fn oldest(&mut self) -> Option<(usize, u64)>
-        ensures oldest { IfSome result (λ o. IsEarliest T.moment self.old.items o.0 o.1) }
+    /// An item of the earliest moment.
+    pub fn oldest(&mut self) -> Option<T>
+        ensures oldest { IfSome result (IsEarliest T.moment self.old.items) }
         ensures none { IfNone result (self.old.items ≡ []) }
         ensures items { self.new.items ≡ self.old.items }
     {
         settle_first(&mut self.marks, &self.slots);
-        let mark = self.marks.first()?;
-        let at = place_of_number(&self.used, mark.place)?;
-        Some((at, mark.moment))
+        let mark = self.marks.front()?;
+        Some(self.slots[mark.place as usize])
     }
 
     /// Takes out each item that counts no more at a moment.
@@ -170,16 +171,6 @@ impl<T: Timed + Copy> Tray<T> {
         free_old(&self.slots, &self.used, &mut self.free, now);
         use_young(&self.slots, &mut self.used, now);
     }
-}
-
-/// Where the number of a slot stands.
-fn place_of_number(used: &[u32], number: u32) -> Option<usize>
-    ensures there { IfSome result (λ i. i < length used.now) }
-    ensures is { IfSome result (λ i. (d : ℕ) → slice_index_or used.now i d ≡ number) }
-    ensures absent { IfNone result ((i d : ℕ) → i < length used.now
-        → slice_index_or used.now i d ≡ number → ⊥) }
-{
-    used.iter().position(|other| *other == number)
 }
 
 /// Whether what lies in a slot counts.

@@ -1,22 +1,23 @@
-use Rattle.std.proofs.Common.{◌≡◌, true, is_ok, leb, rules, arith}
+use Rattle.std.proofs.Common.{◌≡◌, ◌≤◌, length, leb, rules, arith}
+use Rattle.std.specs.List.{insert}
 use Rattle.std.proofs.lemmas.Bool.{leb-false, leb-true}
-use Rattle.std.proofs.lemmas.Grind.{common_steps}
 use Rattle.std.proofs.lemmas.List.Sorted.{IsNonDecreasingBy-insert, IsPartitionPoint-from_clause, IsPartitionedBy-leb, IsPermutation-insert}
 use Rattle.ipx_tables.specs.declared.marks.Mark.{Mark}
+use Rattle.ipx_tables.proofs.Marked.{came}
 use Rattle.ipx_tables.proofs.marks.put_mark.Goals as goal
 
 pub returns-clause-by_moment : goal.returns-clause-by_moment
 returns-clause-by_moment c =
     let marks = c.args.marks.now.items in
-    let ok : is_ok c.insert-put.result ≡ true = grind (arith, common_steps) in
-    let items = rw ok at c.insert-put.ensures.items in
-    let bound = rw c.deref.ensures.value at c.partition_point-at.ensures.bound in
-    let parted = rw c.deref.ensures.value at c.partition_point-at.ensures.partitioned in
-    let point = IsPartitionPoint-from_clause (λ (m : Mark). leb m.moment c.args.mark.moment) marks c.partition_point-at.result parted (IsPartitionedBy-leb (λ (m : Mark). m.moment) marks c.args.mark.moment c.requires.by_moment) (λ a r q f. search rules) in
-    rw items (IsNonDecreasingBy-insert (λ (m : Mark). m.moment) marks c.partition_point-at.result c.args.mark c.requires.by_moment bound (λ k d lt. leb-true _ _ (point.0 k d (omega arith) lt)) (λ k d le lt. omega (arith, leb-false _ _ (point.1 k d le lt))))
+    let at = c.partition_point-at.result in
+    let items : c.insert-put.new.self.items ≡ insert marks at c.args.mark = came c.insert-put.result c.insert-put.ensures.items c.insert-put.ensures.full (λ full. omega (arith, full, c.requires.room)) in
+    let bound : at ≤ length marks = omega (arith, c.partition_point-at.ensures.bound, c.args.marks.now.ok.0) in
+    let point = IsPartitionPoint-from_clause (λ (m : Mark). leb m.moment c.args.mark.moment) marks at c.partition_point-at.ensures.partitioned (IsPartitionedBy-leb (λ (m : Mark). m.moment) marks c.args.mark.moment c.requires.by_moment) (λ a r q f. search rules) in
+    rw items (IsNonDecreasingBy-insert (λ (m : Mark). m.moment) marks at c.args.mark c.requires.by_moment bound (λ k d lt. leb-true _ _ (point.0 k d (omega arith) lt)) (λ k d le lt. omega (arith, leb-false _ _ (point.1 k d le lt))))
 
 pub returns-clause-put : goal.returns-clause-put
 returns-clause-put c =
-    let ok : is_ok c.insert-put.result ≡ true = grind (arith, common_steps) in
-    let items = rw ok at c.insert-put.ensures.items in
-    rw items (IsPermutation-insert c.args.marks.now.items c.partition_point-at.result c.args.mark)
+    let marks = c.args.marks.now.items in
+    let at = c.partition_point-at.result in
+    let items : c.insert-put.new.self.items ≡ insert marks at c.args.mark = came c.insert-put.result c.insert-put.ensures.items c.insert-put.ensures.full (λ full. omega (arith, full, c.requires.room)) in
+    rw items (IsPermutation-insert marks at c.args.mark)

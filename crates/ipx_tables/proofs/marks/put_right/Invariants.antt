@@ -4,4 +4,4 @@ use Rattle.ipx_tables.proofs.marks.put_right.Given as goal
 
 -- those before the index are put right
 abbrev pub invariant-loop-mark : goal.invariant-loop-mark
-invariant-loop-mark g l = l.mark-items ≡ map (right_mark g.T.Timed.moment l.slots) (take l.mark-index l.fn.marks.items) ++ drop l.mark-index l.fn.marks.items
+invariant-loop-mark g l = l.marks ≡ map (right_mark g.T.Timed.moment l.slots) (take l.mark-index l.fn.marks) ++ drop l.mark-index l.fn.marks

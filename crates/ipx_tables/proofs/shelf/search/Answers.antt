@@ -15,7 +15,7 @@ loop-low-preserved-in-Less g c =
     record {
       ordered = omega arith;
       within = i.within;
-      below = λ j d lt. low_half (pair_total g.met.K.Ord.total) pair_of c.args.offers.now.items c.requires (c.args.key, c.args.source) mid c.get.result.now within c.get.ensures less j d (omega arith);
+      below = λ j d lt. low_half (pair_total g.met.K.Ord.total) pair_of c.args.offers.now.items c.requires.rising (c.args.key, c.args.source) mid c.get.result.now within c.get.ensures less j d (omega arith);
       above = i.above;
     }
 
@@ -30,5 +30,5 @@ loop-low-preserved g c =
       ordered = omega arith;
       within = omega (arith, i.within);
       below = i.below;
-      above = λ j d le lt. high_half (pair_total g.met.K.Ord.total) pair_of c.args.offers.now.items c.requires (c.args.key, c.args.source) mid c.get.result.now within c.get.ensures more j d le lt;
+      above = λ j d le lt. high_half (pair_total g.met.K.Ord.total) pair_of c.args.offers.now.items c.requires.rising (c.args.key, c.args.source) mid c.get.result.now within c.get.ensures more j d le lt;
     }

@@ -1,4 +1,5 @@
 use Rattle.std.specs.Vec.{vec_capacity}
+use Rattle.std.specs.VecDeque.{deque_capacity}
 use Rattle.std.proofs.Common.{◌≡◌, ◌≤◌, ◌+◌, [], true, is_ok, length, arith}
 use Rattle.std.proofs.lemmas.Grind.{common_steps}
 use Rattle.std.proofs.lemmas.List.{nil_from_length}
@@ -18,7 +19,7 @@ invariant_of-self-2 g c =
     let used_room : length slots + 1 ≤ vec_capacity c.reserve.new.self = grind (arith, common_steps) in
     let free_room : length slots + 1 ≤ vec_capacity c.push_reserved.new.self = grind (arith, common_steps) in
     let many = many_marks g.T.Timed.moment slots used c.self.inside.marks.items _ c.self.invariant.1 in
-    let marks_room : length slots + 1 ≤ vec_capacity c.reserve-3.new.self = grind (arith, common_steps, many) in
+    let marks_room : length slots + 1 ≤ deque_capacity c.reserve-3.new.self = grind (arith, common_steps, many) in
     rw (pushed, c.reserve.ensures.items, c.push_reserved.ensures.items, c.reserve-2.ensures.items, c.reserve-3.ensures.items) (
       slot_made slots used free _ _ c.self.invariant.0 none c.args.item c.in-Ok.number _ _ number used_room free_room,
       longer_marked g.T.Timed.moment slots used c.self.inside.marks.items _ c.self.invariant.1 (used_real slots used free _ _ c.self.invariant.0) c.args.item _ marks_room,
