@@ -122,10 +122,10 @@ module _ (k : Known) (at : PortNow) (a : OutcomeView) (new : Tables) where
   bytes_own bytes None h = concern_own h.0 (concern_of at.port h.0.header) h.3
   bytes_own bytes (Some f) h = subst RepliesOwn (sym h.0) (All-nil IsOwn)
 
-pub receives_own : (old : RouterView) (port : ℕ) (bytes : List ℕ) (now : ℕ) (new : RouterView) (o : Result Outcome OutOfMemory)
-    → IfOk o (λ x. Receives old port bytes now (router_outcome x) new) → IfOk o (λ x. AreOwn (replies_of (router_outcome x)))
-receives_own old port bytes now new (Ok x) r = bytes_own _ _ (router_outcome x) _ bytes (ipx_fault bytes) r.answers.2
-receives_own old port bytes now new (Err e) r = tt
+pub receives_own : {O : Type 0} (view : O → OutcomeView) (old : RouterView) (port : ℕ) (bytes : List ℕ) (now : ℕ) (new : RouterView) (o : Result O OutOfMemory)
+    → IfOk o (λ x. Receives old port bytes now (view x) new) → IfOk o (λ x. AreOwn (replies_of (view x)))
+receives_own view old port bytes now new (Ok x) r = bytes_own _ _ (view x) _ bytes (ipx_fault bytes) r.answers.2
+receives_own view old port bytes now new (Err e) r = tt
 
 -- ---- and so is what the router asks and tells
 

@@ -29,7 +29,7 @@ use Rattle.ipx_router.specs.Hearing.{AtEntry, GrowsByRoute, GrowsByService, Hear
 use Rattle.ipx_router.specs.Ports.{IsPort}
 use Rattle.ipx_router.specs.OutcomeView.{OutcomeView, Heard, Dropped, router_outcome}
 use Rattle.ipx_router.specs.Answer.{AnswersBytes, AnswersRip, AnswersRipMessage, AnswersSap, AnswersSapMessage, HearsRoutes, HearsServices, Receives}
-use Rattle.ipx_router.specs.WantOfMemory.{BytesWantMemory, HearingRoutesWantsMemory, HearingServicesWantsMemory, RipWantsMemory, SapWantsMemory, WantsMemory}
+use Rattle.ipx_router.specs.WantOfMemory.{BytesWantMemory, BytesWantMemoryInPlace, HearingRoutesWantsMemory, HearingServicesWantsMemory, RipWantsMemory, SapWantsMemory, WantsMemory, WantsMemoryInPlace}
 use Rattle.ipx_router.specs.Forwarded.{ForwardsEachReading, ForwardsOneHopOn, ForwardsPacket}
 
 -- what tables say once old offers have gone is what is known then
@@ -40,22 +40,27 @@ known_same ports now old_routes routes old_services services r s = λ i. record 
 
 -- ---- on the port of a number
 
-module _ (old : RouterView) (port now : ℕ) (bytes : List ℕ) (arrived : Port) (is : IsPort old.ports port arrived) where
-  pub receives_on : (new : RouterView) → KeepsAllButOffers old new → new.told ≡ old.told → AreTables (tables new)
-      → (o : Result Outcome OutOfMemory) → IfOk o (λ x. AnswersBytes (known_at old now) (record { number = port; port = arrived; now = now }) bytes (router_outcome x) (tables new))
-      → IfOk o (λ x. Receives old port bytes now (router_outcome x) new)
-  receives_on new rest told valid (Ok x) a = record { answers = (arrived, is, a); rest = rest; told = told; valid = valid }
-  receives_on new rest told valid (Err e) a = tt
+module _ {O : Type 0} (old : RouterView) (port now : ℕ) (bytes : List ℕ) (arrived : Port) (is : IsPort old.ports port arrived) where
+  pub receives_on : (view : O → OutcomeView) → (new : RouterView) → KeepsAllButOffers old new → new.told ≡ old.told → AreTables (tables new)
+      → (o : Result O OutOfMemory) → IfOk o (λ x. AnswersBytes (known_at old now) (record { number = port; port = arrived; now = now }) bytes (view x) (tables new))
+      → IfOk o (λ x. Receives old port bytes now (view x) new)
+  receives_on view new rest told valid (Ok x) a = record { answers = (arrived, is, a); rest = rest; told = told; valid = valid }
+  receives_on view new rest told valid (Err e) a = tt
 
-  pub wants_on : (new : RouterView) → (o : Result Outcome OutOfMemory) → OnErr o (BytesWantMemory (known_at old now) (record { number = port; port = arrived; now = now }) bytes (tables new))
+  pub wants_on : (new : RouterView) → (o : Result O OutOfMemory) → OnErr o (BytesWantMemory (known_at old now) (record { number = port; port = arrived; now = now }) bytes (tables new))
       → OnErr o (WantsMemory old port bytes now new)
   wants_on new (Ok x) a = tt
   wants_on new (Err e) a = (arrived, is, a)
 
-  pub forwards_on : (o : Result Outcome OutOfMemory) → IfOk o (λ x. ForwardsPacket bytes (router_outcome x)) → IfOk o (λ x. ForwardsEachReading arrived bytes (router_outcome x))
-      → IfOk o (λ x. ForwardsOneHopOn old port bytes (router_outcome x))
-  forwards_on (Ok x) found one_hop_on = (arrived, is, found, one_hop_on)
-  forwards_on (Err e) found one_hop_on = tt
+  pub wants_in_place : (new : RouterView) → (o : Result O OutOfMemory) → OnErr o (BytesWantMemoryInPlace (known_at old now) (record { number = port; port = arrived; now = now }) bytes (tables new))
+      → OnErr o (WantsMemoryInPlace old port bytes now new)
+  wants_in_place new (Ok x) a = tt
+  wants_in_place new (Err e) a = (arrived, is, a)
+
+  pub forwards_on : (view : O → OutcomeView) → (o : Result O OutOfMemory) → IfOk o (λ x. ForwardsPacket bytes (view x)) → IfOk o (λ x. ForwardsEachReading arrived bytes (view x))
+      → IfOk o (λ x. ForwardsOneHopOn old port bytes (view x))
+  forwards_on view (Ok x) found one_hop_on = (arrived, is, found, one_hop_on)
+  forwards_on view (Err e) found one_hop_on = tt
 
 -- ---- responses
 

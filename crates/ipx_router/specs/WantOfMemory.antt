@@ -1,10 +1,10 @@
 -- When a router may want memory for the bytes that come in on a port, and what it holds then.
--- The entry point is `WantsMemory`, at the end.
-use Rattle.std.specs.Prelude.{◌≡◌, ◌<◌, ◌⊎◌, ℕ, Bool, true, Contains, List}
+-- The entry points are `WantsMemory` and `WantsMemoryInPlace`, at the end.
+use Rattle.std.specs.Prelude.{◌≡◌, ◌≢◌, ◌<◌, ◌⊎◌, ℕ, Bool, true, Contains, List}
 use Rattle.ipx_wire.specs.declared.address.Network.{Network}
 use Rattle.ipx_wire.specs.declared.ipx.packet.IpxHeader.{IpxHeader}
 use Rattle.ipx_wire.specs.Assigned.{all_networks}
-use Rattle.ipx_wire.specs.Ipx.{PacketView, IsIpx}
+use Rattle.ipx_wire.specs.Ipx.{BeginsWith, PacketView, IsIpx}
 use Rattle.ipx_control.specs.declared.rip.packet.RipEntry.{RipEntry}
 use Rattle.ipx_control.specs.declared.sap.packet.ServiceEntry.{ServiceEntry}
 use Rattle.ipx_control.specs.Rip.{RipView, IsRip}
@@ -111,3 +111,17 @@ abbrev pub WantsMemory : RouterView → ℕ → List ℕ → ℕ → RouterView 
 WantsMemory old port bytes now new = (arrived : Port) × IsPort old.ports port arrived
     × BytesWantMemory (known_at old now) (record { number = port; port = arrived; now = now })
     bytes (tables new)
+
+-- no packet that bytes begin with is for another network
+abbrev pub NoneIsOnward : Port → List ℕ → Type 0
+NoneIsOnward arrived bytes =
+    (d : PacketView) → BeginsWith bytes d → concern_of arrived d.header ≢ concerns.Forward
+
+abbrev pub BytesWantMemoryInPlace : Known → PortNow → List ℕ → Tables → Type 0
+BytesWantMemoryInPlace k at bytes new = NoneIsOnward at.port bytes × BytesWantMemory k at bytes new
+
+-- the same where the router may change the bytes: a packet for another network wants none
+abbrev pub WantsMemoryInPlace : RouterView → ℕ → List ℕ → ℕ → RouterView → Type 0
+WantsMemoryInPlace old port bytes now new = (arrived : Port) × IsPort old.ports port arrived
+    × BytesWantMemoryInPlace (known_at old now)
+    (record { number = port; port = arrived; now = now }) bytes (tables new)

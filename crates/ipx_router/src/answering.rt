@@ -189,7 +189,7 @@ fn answer_packet(
 }
 
 /// What becomes of bytes that came in on a port, once offers that are old have gone.
-fn answer_to(
+pub fn answer_to(
     alloc: Global,
     ports: &[Port],
     routes: &mut RouteTable,

@@ -1,15 +1,17 @@
 //! Forwarding: what becomes of a packet for another network.
 
-ghost use Rattle.std.specs.Prelude.{◌≡◌, ◌≤◌, ◌<◌, ℕ, List, [], length, IfOk, IfSome, OnErr};
-ghost use Rattle.ipx_wire.specs.Ipx.{BeginsWith, IsIpx, packet_view};
+ghost use Rattle.std.specs.Prelude.{◌≡◌, ◌≤◌, ◌<◌, ◌+◌, ℕ, List, [], length, take, drop, IfOk, IfSome, OnErr};
+ghost use Rattle.ipx_wire.specs.Assigned.{ipx_header_size};
+ghost use Rattle.ipx_wire.specs.Ipx.{BeginsWith, IsIpx, packet_of, packet_view};
 ghost use Rattle.ipx_router.specs.Knowledge.{routes_in};
 ghost use Rattle.ipx_router.specs.Ports.{AreFromPorts, IsPortNumber};
 ghost use Rattle.ipx_router.specs.Forward.{Forwards, IfForward, IsForwarded, by_route, forward_header, forward_packet};
 ghost use Rattle.ipx_router.specs.Forwarded.{IsForwardOf};
 ghost use Rattle.ipx_router.specs.OutcomeView.{IsOnPort, router_outcome};
+ghost use Rattle.ipx_router.specs.InPlaceView.{ChangesPacketAlone, outcome_in};
 ghost use Rattle.ipx_router.specs.WantOfMemory.{HasToForward};
 
-use crate::outcome::{Outcome, Reply};
+use crate::outcome::{InPlace, Outcome, Reply};
 use crate::packets::are_bytes;
 use crate::port::{Port, PortNow};
 use crate::reason::Reason;
@@ -118,6 +120,54 @@ pub fn forward(
         Forwarding::Forward { port, next } => {
             let bytes = forwarded_bytes(alloc, at.port, datagram, &packet)?;
             return Ok(Outcome::Forward(Reply { port, next, bytes }));
+        }
+    }
+}
+
+/// Changes the packet of this header and of so many bytes, with which bytes begin, to the one that
+/// is one hop on.
+fn change_front(bytes: &mut [u8], count: usize, arrived: Port, header: IpxHeader)
+    requires room { (ipx_header_size ≤ count) × (count ≤ length bytes.old) }
+    requires hops { header.hops < 15 }
+    ensures forwarded { (body tail : List ℕ) → IsIpx (packet_of header body) bytes.old tail
+        → ipx_header_size + length body ≡ count
+        → IsForwarded arrived (packet_of header body) (take count bytes.new) }
+    ensures behind { drop count bytes.new ≡ drop count bytes.old }
+{
+    let packet = &mut bytes[..count];
+    forward_in_place(packet, arrived, header);
+    are_bytes(packet);
+}
+
+/// What becomes of a packet for another network, of this header and of so many bytes, with which
+/// bytes begin. It is changed where it is forwarded, and takes no memory.
+pub fn forward_front(
+    ports: &[Port],
+    routes: &RouteTable,
+    at: PortNow,
+    bytes: &mut [u8],
+    header: IpxHeader,
+    count: usize,
+) -> InPlace
+    requires ports { length ports.now ≤ 16 }
+    requires sources { AreFromPorts (length ports.now) (routes_in routes.now) }
+    requires room { (ipx_header_size ≤ count) × (count ≤ length bytes.old) }
+    ensures forwards { (body tail : List ℕ) → IsIpx (packet_of header body) bytes.old tail
+        → ipx_header_size + length body ≡ count
+        → Forwards ports.now (routes_in routes.now) at (packet_of header body)
+        (outcome_in bytes.new result) }
+    ensures one_hop_on { (body tail : List ℕ) → IsIpx (packet_of header body) bytes.old tail
+        → ipx_header_size + length body ≡ count
+        → IsForwardOf at.port (packet_of header body) (outcome_in bytes.new result) }
+    ensures there { IsOnPort (length ports.now) (outcome_in bytes.new result) }
+    ensures changes { ChangesPacketAlone bytes.old bytes.new result }
+{
+    let route = route_to(ports, routes, header.to.network, at.now);
+    match fate_by_route(header, route) {
+        Forwarding::Dropped(reason) => return InPlace::Dropped(reason),
+        Forwarding::Forward { port, next } => {
+            change_front(bytes, count, at.port, header);
+            return InPlace::Forward { port, next, count };
         }
     }
 }

@@ -4,18 +4,20 @@ ghost use Rattle.std.specs.Prelude.{◌≡◌, ◌≤◌, [], length, true, All,
 ghost use Rattle.ipx_router.specs.NewRouter.{IsOwnNetwork, ports_fault};
 ghost use Rattle.ipx_router.specs.Knowledge.{AreTables, HoldsKnown, KeepsAllButOffers, known_at, tables};
 ghost use Rattle.ipx_router.specs.RouterPackets.{AreOwn, sendings};
-ghost use Rattle.ipx_router.specs.Ports.{AreOnPorts};
+ghost use Rattle.ipx_router.specs.Ports.{AreOnPorts, IsPort};
 ghost use Rattle.ipx_router.specs.OutcomeView.{IsOnPort, replies_of, router_outcome};
+ghost use Rattle.ipx_router.specs.InPlaceView.{ChangesPacketAlone, outcome_in};
 ghost use Rattle.ipx_router.specs.Answer.{Receives};
-ghost use Rattle.ipx_router.specs.WantOfMemory.{WantsMemory};
+ghost use Rattle.ipx_router.specs.WantOfMemory.{WantsMemory, WantsMemoryInPlace};
 ghost use Rattle.ipx_router.specs.Forwarded.{ForwardsOneHopOn};
 ghost use Rattle.ipx_router.specs.Starting.{AreStarts};
 ghost use Rattle.ipx_router.specs.Telling.{HasToTell, IsNextTelling, TellsIfDue, is_due};
 
 use crate::answering::receive_at;
 use crate::fault::NewFault;
+use crate::in_place::receive_in_place_at;
 use crate::networks::twin_of;
-use crate::outcome::{Outcome, Reply};
+use crate::outcome::{InPlace, Outcome, Reply};
 use crate::port::{Port, PortNow};
 use crate::starting::ask_all;
 use crate::telling::{next_time, tell_at};
@@ -93,6 +95,14 @@ impl Router {
         self.ports.as_slice()
     }
 
+    fn port_of(&self, number: u8) -> Port
+        requires first { 1 ≤ number }
+        requires last { number ≤ length self.now.ports }
+        ensures { IsPort self.now.ports number result }
+    {
+        self.ports[number as usize - 1]
+    }
+
     /// What becomes of bytes that come in on a port. It is called for each datagram, at once.
     ///
     /// `port` is the number of one of the router's ports, and `now` a moment in milliseconds: the
@@ -118,13 +128,55 @@ impl Router {
         ensures networks { All IsOwnNetwork self.new.ports }
         ensures told { self.new.told ≡ self.old.told }
     {
-        let arrived = self.ports[port as usize - 1];
         let at = PortNow {
             number: port,
-            port: arrived,
+            port: self.port_of(port),
             now,
         };
         receive_at(
+            alloc,
+            &self.ports,
+            &mut self.routes,
+            &mut self.services,
+            at,
+            bytes,
+        )
+    }
+
+    /// The same, where the bytes are the caller's to change: a packet that is forwarded is changed
+    /// where it stands, and wants no memory. Whoever has one room for all datagrams calls it.
+    ///
+    /// Bytes behind that packet stay, and all of them where none is forwarded, also after want of
+    /// memory.
+    pub fn receive_in_place(
+        &mut self,
+        alloc: Global,
+        port: u8,
+        bytes: &mut [u8],
+        now: u64,
+    ) -> Result<InPlace, OutOfMemory>
+        requires first { 1 ≤ port }
+        requires last { port ≤ length self.old.ports }
+        ensures answer { IfOk result (λ o.
+            Receives self.old port bytes.old now (outcome_in bytes.new o) self.new) }
+        ensures refused { OnErr result (WantsMemoryInPlace self.old port bytes.old now self.new) }
+        ensures one_hop_on { IfOk result (λ o.
+            ForwardsOneHopOn self.old port bytes.old (outcome_in bytes.new o)) }
+        ensures there { IfOk result (λ o. IsOnPort (length self.old.ports) (outcome_in bytes.new o)) }
+        ensures own { IfOk result (λ o. AreOwn (replies_of (outcome_in bytes.new o))) }
+        ensures changes { IfOk result (ChangesPacketAlone bytes.old bytes.new) }
+        ensures stays { OnErr result (bytes.new ≡ bytes.old) }
+        ensures rest { KeepsAllButOffers self.old self.new }
+        ensures valid { AreTables (tables self.new) }
+        ensures networks { All IsOwnNetwork self.new.ports }
+        ensures told { self.new.told ≡ self.old.told }
+    {
+        let at = PortNow {
+            number: port,
+            port: self.port_of(port),
+            now,
+        };
+        receive_in_place_at(
             alloc,
             &self.ports,
             &mut self.routes,

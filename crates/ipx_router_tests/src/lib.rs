@@ -9,6 +9,8 @@ mod fixture;
 #[cfg(test)]
 mod full;
 #[cfg(test)]
+mod in_place;
+#[cfg(test)]
 mod index;
 #[cfg(test)]
 mod metrics;

@@ -17,7 +17,7 @@ const NEAREST_OF_TYPE_9: &str =
     "ffff0022000400000011ffffffffffff04520000001100007f000003400100030009";
 
 /// A packet in hex as bytes, made once more where memory was refused.
-fn bytes_at_last(alloc: Global, text: &str) -> Result<Vec<u8>, Fail> {
+pub fn bytes_at_last(alloc: Global, text: &str) -> Result<Vec<u8>, Fail> {
     match hex::decode(alloc, text.as_bytes()) {
         Ok(bytes) => Ok(bytes),
         Err(_) => Ok(hex::decode(alloc, text.as_bytes())?),

@@ -1,0 +1,67 @@
+-- What is answered where bytes may be changed: a packet for another network goes on, and all else is answered as it stands.
+use Rattle.std.proofs.Common.{◌≡◌, ℕ, ◌+◌, List, length, Option, Some, None, Result, Ok, Err, refl, sym, subst}
+use Rattle.std.specs.Prelude.{IfOk, OnErr, MatchOption}
+use Rattle.ipx_wire.specs.declared.address.Network.{Network}
+use Rattle.ipx_wire.specs.declared.ipx.fault.IpxFault.{IpxFault}
+use Rattle.ipx_wire.specs.declared.ipx.packet.IpxHeader.{IpxHeader}
+use Rattle.ipx_wire.specs.declared.memory.OutOfMemory.{OutOfMemory}
+use Rattle.ipx_wire.specs.Ipx.{BeginsWith, IsIpx, PacketView, ipx_fault, packet_of}
+use Rattle.ipx_tables.specs.declared.route.RouteMetric.{RouteMetric}
+use Rattle.ipx_tables.specs.declared.service.ServiceKey.{ServiceKey}
+use Rattle.ipx_tables.specs.declared.service.ServiceMetric.{ServiceMetric}
+use Rattle.ipx_tables.specs.Content.{Table}
+use Rattle.ipx_router.specs.declared.classify.Concern.{Concern}
+use Rattle.ipx_router.specs.declared.classify.Concern.TheVariants as concerns
+use Rattle.ipx_router.specs.declared.port.Port.{Port}
+use Rattle.ipx_router.specs.declared.port.PortNow.{PortNow}
+use Rattle.ipx_router.specs.declared.reason.Reason.TheVariants.{Bad}
+use Rattle.ipx_router.specs.Knowledge.{HoldsKnown, Known, Tables, known_in, routes_in}
+use Rattle.ipx_router.specs.OutcomeView.{OutcomeView, Forward, Replies, Heard, Dropped}
+use Rattle.ipx_router.specs.Onward.{ForwardsNothing, IsOnward}
+use Rattle.ipx_router.specs.Classify.{concern_of}
+use Rattle.ipx_router.specs.Forward.{Forwards}
+use Rattle.ipx_router.specs.Answer.{AnswersByConcern, AnswersBytes, AnswersPacket}
+use Rattle.ipx_router.specs.WantOfMemory.{NoneIsOnward}
+use Rattle.ipx_router.specs.Forwarded.{ForwardsEachReading, ForwardsPacket, IsForwardOf}
+use Rattle.ipx_router.proofs.Fits.{rip_fits, sap_fits}
+
+-- ---- a packet for another network
+
+forwards_packet : (bytes : List ℕ) (d : PacketView) → BeginsWith bytes d → (a : OutcomeView) → ForwardsPacket bytes a
+forwards_packet bytes d is (Forward port next out) = (d, is)
+forwards_packet bytes d is (Replies sent) = tt
+forwards_packet bytes d is (Heard n) = tt
+forwards_packet bytes d is (Dropped reason) = tt
+
+module _ (ports : List Port) (routes : Table Network RouteMetric) (services : Table ServiceKey ServiceMetric) (at : PortNow) (bytes : List ℕ) (h : IpxHeader) (count : ℕ) (on : IsOnward at.port bytes h count) (a : OutcomeView) where
+  pub on_answers : ((body tail : List ℕ) → IsIpx (packet_of h body) bytes tail → 30 + length body ≡ count → Forwards ports (routes_in routes) at (packet_of h body) a)
+      → AnswersBytes (known_in ports routes services) at bytes a (routes, services)
+  on_answers forwards =
+      let k : Known = known_in ports routes services in
+      let new : Tables = (routes, services) in
+      let d : PacketView = packet_of h on.body in
+      let same : HoldsKnown k new = record { routes = λ p. refl; services = λ p. refl } in
+      let by : AnswersByConcern k at d a new (concern_of at.port h) = subst (AnswersByConcern k at d a new) (sym on.concern) (forwards on.body on.tail on.packet on.size, same) in
+      subst (λ (f : Option IpxFault). MatchOption f (AnswersPacket k at bytes a new) (λ f. (a ≡ Dropped (Bad f)) × HoldsKnown k new)) (sym on.whole) (d, on.tail, on.packet, by)
+
+  pub on_packet : ForwardsPacket bytes a
+  on_packet = forwards_packet bytes (packet_of h on.body) (on.tail, on.packet) a
+
+  pub on_one_hop : ((body tail : List ℕ) → IsIpx (packet_of h body) bytes tail → 30 + length body ≡ count → IsForwardOf at.port (packet_of h body) a) → ForwardsEachReading at.port bytes a
+  on_one_hop one = λ d begins. subst (λ (e : PacketView). IsForwardOf at.port e a) (sym (on.only d begins)) (one on.body on.tail on.packet on.size)
+
+-- ---- all else
+
+module _ (k : Known) (at : PortNow) (bytes : List ℕ) (none : NoneIsOnward at.port bytes) (a : OutcomeView) (new : Tables) where
+  concern_nothing : (d : PacketView) → BeginsWith bytes d → (c : Concern) → concern_of at.port d.header ≡ c → AnswersByConcern k at d a new c → ForwardsNothing a
+  concern_nothing d is (concerns.Dropped reason) e h = subst ForwardsNothing (sym h.0) tt
+  concern_nothing d is concerns.Rip e h = rip_fits at d ForwardsNothing (λ n. tt) (λ r. tt) (λ sent by own. tt) k.ports k.routes a new.0 h.0
+  concern_nothing d is concerns.Sap e h = sap_fits at d ForwardsNothing (λ n. tt) (λ r. tt) (λ sent by own. tt) k.services a new.1 h.0
+  concern_nothing d is concerns.Forward e h = absurd (none d is e)
+
+  bytes_nothing : (f : Option IpxFault) → MatchOption f (AnswersPacket k at bytes a new) (λ f. (a ≡ Dropped (Bad f)) × HoldsKnown k new) → ForwardsNothing a
+  bytes_nothing None h = concern_nothing h.0 (h.1, h.2) (concern_of at.port h.0.header) refl h.3
+  bytes_nothing (Some f) h = subst ForwardsNothing (sym h.0) tt
+
+  pub forwards_nothing : AnswersBytes k at bytes a new → ForwardsNothing a
+  forwards_nothing h = bytes_nothing (ipx_fault bytes) h

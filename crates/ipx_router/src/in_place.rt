@@ -1,0 +1,147 @@
+//! What a router answers to a datagram whose bytes it may change.
+
+ghost use Rattle.std.specs.Prelude.{◌≡◌, ℕ, List, length, IfOk, IfNone, IfSome, OnErr};
+ghost use Rattle.ipx_router.specs.Knowledge.{known_aged, known_in};
+ghost use Rattle.ipx_router.specs.Ports.{IsPortNumber, IsSound};
+ghost use Rattle.ipx_router.specs.OutcomeView.{IsOnPort, router_outcome};
+ghost use Rattle.ipx_router.specs.InPlaceView.{ChangesPacketAlone, outcome_in};
+ghost use Rattle.ipx_router.specs.Onward.{ForwardsNothing, IsOnward};
+ghost use Rattle.ipx_router.specs.Answer.{AnswersBytes};
+ghost use Rattle.ipx_router.specs.WantOfMemory.{BytesWantMemoryInPlace, NoneIsOnward};
+ghost use Rattle.ipx_router.specs.Forwarded.{ForwardsEachReading, ForwardsPacket};
+
+use crate::answering::answer_to;
+use crate::classify::{Concern, concern_with};
+use crate::forwarding::forward_front;
+use crate::outcome::{InPlace, Outcome};
+use crate::port::{Port, PortNow};
+use ipx_tables::{RouteTable, ServiceTable};
+use ipx_wire::{IPX_HEADER_SIZE, IpxHeader, OutOfMemory, decode};
+use std::alloc::Global;
+
+/// The header of the packet that bytes begin with and how many bytes it has, if it is for another
+/// network. Nothing is lent, so that the bytes may be changed.
+#[inline(always)]
+fn onward_packet(arrived: Port, bytes: &[u8]) -> Option<(IpxHeader, usize)>
+    ensures some { IfSome result (λ p. IsOnward arrived bytes.now p.0 p.1) }
+    ensures none { IfNone result (NoneIsOnward arrived bytes.now) }
+{
+    let Ok(packet) = decode(bytes) else {
+        return None;
+    };
+    match concern_with(arrived, packet.header) {
+        Concern::Forward => Some((packet.header, IPX_HEADER_SIZE + packet.body.len())),
+        Concern::Dropped(_) | Concern::Rip | Concern::Sap => None,
+    }
+}
+
+/// An answer that forwards nothing, where the bytes stay.
+fn left_in_place(outcome: Outcome) -> InPlace
+    requires { ForwardsNothing (router_outcome outcome) }
+    ensures same { (room : List ℕ) → outcome_in room result ≡ router_outcome outcome }
+    ensures stays { (room : List ℕ) → ChangesPacketAlone room room result }
+{
+    match outcome {
+        Outcome::Forward(_) => unreachable!(),
+        Outcome::Replies(replies) => InPlace::Replies(replies),
+        Outcome::Heard(count) => InPlace::Heard(count),
+        Outcome::Dropped(reason) => InPlace::Dropped(reason),
+    }
+}
+
+/// What becomes of bytes that are no packet for another network: they stay.
+#[inline(never)] // so that it is out of the way of forwarding
+fn answer_unchanged(
+    alloc: Global,
+    ports: &[Port],
+    routes: &mut RouteTable,
+    services: &mut ServiceTable,
+    at: PortNow,
+    bytes: &[u8],
+) -> Result<InPlace, OutOfMemory>
+    requires none { NoneIsOnward at.port bytes.now }
+    requires sound { IsSound ports.now (routes.old, services.old) }
+    requires port { IsPortNumber (length ports.now) at.number }
+    ensures answer { IfOk result (λ o.
+        AnswersBytes (known_in ports.now routes.old services.old) at bytes.now
+        (outcome_in bytes.now o) (routes.new, services.new)) }
+    ensures refused { OnErr result
+        (BytesWantMemoryInPlace (known_in ports.now routes.old services.old) at bytes.now
+        (routes.new, services.new)) }
+    ensures packet { IfOk result (λ o. ForwardsPacket bytes.now (outcome_in bytes.now o)) }
+    ensures one_hop_on { IfOk result (λ o.
+        ForwardsEachReading at.port bytes.now (outcome_in bytes.now o)) }
+    ensures there { IfOk result (λ o. IsOnPort (length ports.now) (outcome_in bytes.now o)) }
+    ensures stays { IfOk result (ChangesPacketAlone bytes.now bytes.now) }
+    ensures most { (routes.new.most ≡ routes.old.most) × (services.new.most ≡ services.old.most) }
+    ensures sound { IsSound ports.now (routes.new, services.new) }
+{
+    let outcome = answer_to(alloc, ports, routes, services, at, bytes)?;
+    Ok(left_in_place(outcome))
+}
+
+/// What becomes of bytes that came in on a port, once offers that are old have gone.
+fn answer_in_place(
+    alloc: Global,
+    ports: &[Port],
+    routes: &mut RouteTable,
+    services: &mut ServiceTable,
+    at: PortNow,
+    bytes: &mut [u8],
+) -> Result<InPlace, OutOfMemory>
+    requires sound { IsSound ports.now (routes.old, services.old) }
+    requires port { IsPortNumber (length ports.now) at.number }
+    ensures answer { IfOk result (λ o.
+        AnswersBytes (known_in ports.now routes.old services.old) at bytes.old
+        (outcome_in bytes.new o) (routes.new, services.new)) }
+    ensures refused { OnErr result
+        (BytesWantMemoryInPlace (known_in ports.now routes.old services.old) at bytes.old
+        (routes.new, services.new)) }
+    ensures packet { IfOk result (λ o. ForwardsPacket bytes.old (outcome_in bytes.new o)) }
+    ensures one_hop_on { IfOk result (λ o.
+        ForwardsEachReading at.port bytes.old (outcome_in bytes.new o)) }
+    ensures there { IfOk result (λ o. IsOnPort (length ports.now) (outcome_in bytes.new o)) }
+    ensures changes { IfOk result (ChangesPacketAlone bytes.old bytes.new) }
+    ensures stays { OnErr result (bytes.new ≡ bytes.old) }
+    ensures most { (routes.new.most ≡ routes.old.most) × (services.new.most ≡ services.old.most) }
+    ensures sound { IsSound ports.now (routes.new, services.new) }
+{
+    match onward_packet(at.port, bytes) {
+        None => return answer_unchanged(alloc, ports, routes, services, at, bytes),
+        Some((header, count)) => {
+            return Ok(forward_front(ports, routes, at, bytes, header, count));
+        }
+    }
+}
+
+/// What becomes of bytes that came in on a port, and that may be changed. Offers that are old go
+/// first, for good.
+pub fn receive_in_place_at(
+    alloc: Global,
+    ports: &[Port],
+    routes: &mut RouteTable,
+    services: &mut ServiceTable,
+    at: PortNow,
+    bytes: &mut [u8],
+) -> Result<InPlace, OutOfMemory>
+    requires sound { IsSound ports.now (routes.old, services.old) }
+    requires port { IsPortNumber (length ports.now) at.number }
+    ensures answer { IfOk result (λ o.
+        AnswersBytes (known_aged ports.now routes.old services.old at.now) at bytes.old
+        (outcome_in bytes.new o) (routes.new, services.new)) }
+    ensures refused { OnErr result
+        (BytesWantMemoryInPlace (known_aged ports.now routes.old services.old at.now) at bytes.old
+        (routes.new, services.new)) }
+    ensures packet { IfOk result (λ o. ForwardsPacket bytes.old (outcome_in bytes.new o)) }
+    ensures one_hop_on { IfOk result (λ o.
+        ForwardsEachReading at.port bytes.old (outcome_in bytes.new o)) }
+    ensures there { IfOk result (λ o. IsOnPort (length ports.now) (outcome_in bytes.new o)) }
+    ensures changes { IfOk result (ChangesPacketAlone bytes.old bytes.new) }
+    ensures stays { OnErr result (bytes.new ≡ bytes.old) }
+    ensures most { (routes.new.most ≡ routes.old.most) × (services.new.most ≡ services.old.most) }
+    ensures sound { IsSound ports.now (routes.new, services.new) }
+{
+    routes.age(at.now);
+    services.age(at.now);
+    answer_in_place(alloc, ports, routes, services, at, bytes)
+}
