@@ -16,3 +16,4 @@ pub mod Marking
 pub mod Sought
 pub mod Words
 pub mod Inventories
+pub mod Held

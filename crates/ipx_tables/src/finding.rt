@@ -1,9 +1,9 @@
 //! The best offer of a key, and how many offers are read to find it.
 
-ghost use Rattle.std.specs.Prelude.{◌≡◌, ◌≤◌, ◌<◌, ◌+◌, ◌^◌, ℕ, true, false, None, length, slice_index_or, count_by};
+ghost use Rattle.std.specs.Prelude.{◌≡◌, ◌≤◌, ◌<◌, ◌+◌, ◌^◌, ℕ, true, false, None, Some, IfSome, length, slice_get, slice_index_or, count_by};
 ghost use Rattle.std.specs.Ordering.{is_eq, is_lt};
 ghost use Rattle.ipx_tables.specs.Best.{rank_cmp};
-ghost use Rattle.ipx_tables.specs.OfferScan.{best_from, better_of, is_candidate, offer_beats};
+ghost use Rattle.ipx_tables.specs.OfferScan.{best_from, better_of, item_held, is_candidate, offer_beats};
 
 use crate::metric::Metric;
 use crate::moments::counts;
@@ -50,6 +50,43 @@ pub fn better_one<K: Copy, M: Metric + Copy>(
     }
 }
 
+/// The place of the better one of the offer at a place and the one that is held, if there is one.
+fn better_place<K: Ord + Copy, M: Metric + Copy>(
+    shelf: &Shelf<K, M>,
+    held: Option<usize>,
+    at: usize,
+) -> usize
+    requires place { at < length shelf.now }
+    requires held { IfSome held (λ p. p < length shelf.now) }
+    ensures within { result < length shelf.now }
+    ensures better { (d : Offer K M) → slice_get shelf.now result ≡ Some
+        (better_of (offer_beats M.before) (item_held shelf.now held) (slice_index_or shelf.now at d)) }
+{
+    match held {
+        None => at,
+        Some(held) => {
+            if better(shelf.get(at), shelf.get(held)) {
+                return at;
+            }
+            held
+        }
+    }
+}
+
+/// The offer that is held, by its place.
+fn held_offer<K: Ord + Copy, M: Copy>(
+    shelf: &Shelf<K, M>,
+    held: Option<usize>,
+) -> Option<Offer<K, M>>
+    requires { IfSome held (λ p. p < length shelf.now) }
+    ensures { result ≡ item_held shelf.now held }
+{
+    match held {
+        None => None,
+        Some(place) => Some(*shelf.get(place)),
+    }
+}
+
 /// The first place whose key is not below this one. Each offer that is read halves what is left.
 fn first_of<K: Ord + Copy, M: Copy>(shelf: &Shelf<K, M>, key: K, steps: &mut usize) -> usize
     requires { steps.old + 65 < 2 ^ 64 }
@@ -88,17 +125,17 @@ pub fn best_in<K: Ord + Copy, M: Metric + Copy>(
 {
     let mut steps = 0;
     let mut at = first_of(shelf, key, &mut steps);
-    let mut best: Option<Offer<K, M>> = None;
+    let mut best: Option<usize> = None;
     let end = shelf.len();
     while at < end {
         let offer = shelf.read(at, &mut steps);
         if !offer.key.cmp(&key).is_eq() {
-            return (best, steps);
+            return (held_offer(shelf, best), steps);
         }
         if counts(now, offer.heard) {
-            best = Some(better_one(best, offer));
+            best = Some(better_place(shelf, best, at));
         }
         at += 1;
     }
-    (best, steps)
+    (held_offer(shelf, best), steps)
 }
