@@ -31,6 +31,16 @@ unsafe extern "C" {
         room: usize,
     ) -> u64;
 
+    fn ipx_bench_in_place(
+        heard: *const u8,
+        heard_count: usize,
+        heard_size: usize,
+        records: *mut u8,
+        count: usize,
+        size: usize,
+        rounds: u32,
+    ) -> u64;
+
     fn ipx_bench_tell(heard: *const u8, count: usize, size: usize, rounds: u32) -> u64;
 
     fn ipx_bench_known(heard: *const u8, count: usize, size: usize, rounds: u32) -> u64;
@@ -127,6 +137,23 @@ pub fn receive_each(
         )
     };
     (digest, times)
+}
+
+pub fn in_place(heard: &Records, records: &Records, rounds: u32) -> u64 {
+    let mut bytes = records.bytes.clone();
+    // SAFETY: each pointer and the length behind it are one slice. The first is only read, and the
+    // second is this function's own.
+    unsafe {
+        ipx_bench_in_place(
+            heard.bytes.as_ptr(),
+            heard.bytes.len(),
+            heard.size,
+            bytes.as_mut_ptr(),
+            bytes.len(),
+            records.size,
+            rounds,
+        )
+    }
 }
 
 pub fn tell(heard: &Records, rounds: u32) -> u64 {

@@ -111,6 +111,35 @@ fn forward_learned(size: usize, count: u32) -> Row {
     receive(name, heard, records)
 }
 
+/// Packets that a router which heard others changes in place, all at one moment.
+fn in_place(name: String, heard: Records, records: Records) -> Row {
+    let calls = records.count() as u32;
+    let inputs = Rc::new((heard, records));
+    let same = Rc::clone(&inputs);
+    Row {
+        name,
+        calls,
+        ours: Box::new(move |rounds| ours::in_place(&inputs.0, &inputs.1, rounds)),
+        theirs: Box::new(move |rounds| theirs::in_place(&same.0, &same.1, rounds)),
+    }
+}
+
+fn in_place_direct(size: usize) -> Row {
+    let records = packets(size, |k| PORT_NETWORKS[1 + k as usize % 2]);
+    in_place(
+        format!("in place, direct, {size} bytes"),
+        Records::none(),
+        records,
+    )
+}
+
+fn in_place_learned(size: usize, count: u32) -> Row {
+    let name = format!("in place, {count} learned, {size} bytes");
+    let heard = routes(count, &[2, 3]);
+    let records = packets(size, |k| FIRST_LEARNED + k * 37 % count);
+    in_place(name, heard, records)
+}
+
 /// A round each minute, with all its packets at one moment.
 const EACH_MINUTE: Pace = Pace {
     apart: 0,
@@ -334,9 +363,13 @@ fn deliver() -> Row {
 
 /// All rows, in the order in which they are printed.
 pub fn all() -> Vec<Row> {
-    let learned = LEARNED
-        .into_iter()
-        .flat_map(|count| SIZES.map(|size| forward_learned(size, count)));
+    let each = || {
+        LEARNED
+            .into_iter()
+            .flat_map(|count| SIZES.map(|size| (size, count)))
+    };
+    let learned = each().map(|(size, count)| forward_learned(size, count));
+    let learned_in_place = each().map(|(size, count)| in_place_learned(size, count));
     SIZES
         .into_iter()
         .map(decode)
@@ -344,6 +377,8 @@ pub fn all() -> Vec<Row> {
         .chain(SIZES.into_iter().map(forward_direct))
         .chain(learned)
         .chain([forward_with_all_held()])
+        .chain(SIZES.into_iter().map(in_place_direct))
+        .chain(learned_in_place)
         .chain(hear().map(|it| receive_at(it.name, (it.heard)(), (it.records)(), it.pace)))
         .chain(hear_all().map(round_by_round))
         .chain(learn_all().map(round_by_round))

@@ -2,8 +2,10 @@
 
 use crate::inputs::{LEAD, PORT_NETWORKS, Pace, Records};
 use crate::plain::control::ControlFault;
-use crate::plain::router::{Outcome, Port, Reason, Reply, Router};
-use crate::plain::wire::{Address, IpxFault, Network, Node, Packet, decode as decode_packet};
+use crate::plain::router::{InPlace, Outcome, Port, Reason, Reply, Router};
+use crate::plain::wire::{
+    Address, HEADER, IpxFault, Network, Node, Packet, decode as decode_packet,
+};
 use std::time::Instant;
 
 const MOMENT: u64 = 1 << 60;
@@ -33,11 +35,15 @@ fn byte_at(bytes: &[u8], at: usize) -> u64 {
     bytes.get(at).copied().map_or(0, u64::from)
 }
 
-fn reply_digest(reply: &Reply) -> u64 {
-    let count = reply.bytes.len();
-    let ends = byte_at(&reply.bytes, 4) ^ byte_at(&reply.bytes, count.saturating_sub(1));
-    let place = mixed(u64::from(reply.port), node_number(reply.next));
+fn sent_digest(port: u8, next: Node, bytes: &[u8]) -> u64 {
+    let count = bytes.len();
+    let ends = byte_at(bytes, 4) ^ byte_at(bytes, count.saturating_sub(1));
+    let place = mixed(u64::from(port), node_number(next));
     mixed(place ^ ends, count as u64)
+}
+
+fn reply_digest(reply: &Reply) -> u64 {
+    sent_digest(reply.port, reply.next, &reply.bytes)
 }
 
 fn replies_digest(replies: &[Reply]) -> u64 {
@@ -52,6 +58,13 @@ fn outcome_digest(outcome: &Outcome) -> u64 {
         Outcome::Replies(replies) => replies_digest(replies),
         Outcome::Heard(count) => mixed(4, u64::from(*count)),
         Outcome::Dropped(reason) => u64::from(reason_number(reason)),
+    }
+}
+
+fn in_place_digest(outcome: &InPlace, room: &[u8]) -> u64 {
+    match outcome {
+        InPlace::Forward { port, next, count } => sent_digest(*port, *next, &room[..*count]),
+        InPlace::Other(outcome) => outcome_digest(outcome),
     }
 }
 
@@ -81,6 +94,21 @@ fn fed_digests(router: &mut Router, records: &Records, first: u64, apart: u64) -
         digest = mixed(digest, fed);
         now = now.saturating_add(apart);
     }
+    digest
+}
+
+/// Hands a datagram to the router in place, and puts its header back as it was.
+fn fed_in_place(router: &mut Router, record: &mut [u8]) -> u64 {
+    let Some((lead, datagram)) = record.split_first_chunk_mut::<LEAD>() else {
+        return 2;
+    };
+    let (port, header) = (lead[0], datagram.first_chunk::<HEADER>().copied());
+    let Some(header) = header.filter(|_| (1..=3).contains(&port)) else {
+        return 2;
+    };
+    let outcome = router.receive_in_place(port, datagram, MOMENT);
+    let digest = in_place_digest(&outcome, datagram);
+    datagram[..HEADER].copy_from_slice(&header);
     digest
 }
 
@@ -138,6 +166,22 @@ pub fn receive_each(
         first = first.saturating_add(pace.period);
     }
     (digest, times)
+}
+
+#[inline(never)]
+pub fn in_place(heard: &Records, records: &Records, rounds: u32) -> u64 {
+    let mut router = router_of_three();
+    fed_digests(&mut router, heard, MOMENT, 0);
+    let mut bytes = records.bytes.clone();
+    let mut digest = 0;
+    for _ in 0..rounds {
+        let mut round = 0;
+        for record in bytes.chunks_exact_mut(records.size) {
+            round = mixed(round, fed_in_place(&mut router, record));
+        }
+        digest = mixed(digest, round);
+    }
+    digest
 }
 
 #[inline(never)]
@@ -227,12 +271,28 @@ fn write_outcome(outcome: &Outcome, out: &mut Vec<u8>) {
     }
 }
 
-/// What a new router answers to each record, and what it tells then, as bytes.
+/// What became of a datagram in place, with a copy of what goes on.
+fn copied(outcome: InPlace, room: &[u8]) -> Outcome {
+    match outcome {
+        InPlace::Forward { port, next, count } => Outcome::Forward(Reply {
+            port,
+            next,
+            bytes: room[..count].to_vec(),
+        }),
+        InPlace::Other(outcome) => outcome,
+    }
+}
+
+/// What a new router answers to each record, and what it tells then, as bytes. Another one is to
+/// answer the same in place.
 pub fn answers(records: &Records) -> Vec<u8> {
-    let mut router = router_of_three();
+    let (mut router, mut other) = (router_of_three(), router_of_three());
     let mut out = Vec::new();
     for record in records.bytes.chunks_exact(records.size) {
         if let Some(outcome) = feed(&mut router, record, MOMENT) {
+            let mut room = record[LEAD..].to_vec();
+            let in_place = other.receive_in_place(record[0], &mut room, MOMENT);
+            assert!(copied(in_place, &room) == outcome, "in place differs");
             write_outcome(&outcome, &mut out);
         }
     }

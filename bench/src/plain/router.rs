@@ -92,6 +92,13 @@ pub enum Outcome {
     Dropped(Reason),
 }
 
+/// What became of bytes that were changed in place.
+#[derive(Debug, PartialEq, Eq)]
+pub enum InPlace {
+    Forward { port: u8, next: Node, count: usize },
+    Other(Outcome),
+}
+
 /// A node and socket on the network of a port.
 #[derive(Clone, Copy)]
 struct Recipient {
@@ -137,6 +144,13 @@ impl Router {
         }
     }
 
+    /// The same, where a packet that goes on is changed in place.
+    pub fn receive_in_place(&mut self, port: u8, bytes: &mut [u8], now: u64) -> InPlace {
+        self.age(now);
+        self.answer_in_place(port, bytes, now)
+            .unwrap_or_else(|reason| InPlace::Other(Outcome::Dropped(reason)))
+    }
+
     /// The packets that tell neighbours what is known, if it is time.
     pub fn tell(&mut self, now: u64) -> Vec<Reply> {
         self.age(now);
@@ -178,14 +192,39 @@ impl Router {
         packet: Packet<'_>,
         now: u64,
     ) -> Result<Outcome, Reason> {
-        let header = &packet.header;
+        if self.is_onward(port, &packet.header)? {
+            return self.forward(port, bytes, packet, now).map(Outcome::Forward);
+        }
+        self.control(port, packet, now)
+    }
+
+    fn answer_in_place(&mut self, port: u8, bytes: &mut [u8], now: u64) -> Result<InPlace, Reason> {
+        let packet = decode(bytes).map_err(Reason::Bad)?;
+        if !self.is_onward(port, &packet.header)? {
+            return self.control(port, packet, now).map(InPlace::Other);
+        }
+        let (header, count) = (packet.header, HEADER + packet.body.len());
+        let (out, next) = self.way(&header, now)?;
+        self.change(port, &header, bytes);
+        Ok(InPlace::Forward {
+            port: out,
+            next,
+            count,
+        })
+    }
+
+    /// Whether a packet is for another network.
+    fn is_onward(&self, port: u8, header: &Header) -> Result<bool, Reason> {
         if header.kind == 20 {
             return Err(Reason::Propagated);
         }
+        let network = header.to.network;
+        Ok(network.0 != 0 && network != self.port(port).network)
+    }
+
+    fn control(&mut self, port: u8, packet: Packet<'_>, now: u64) -> Result<Outcome, Reason> {
+        let header = &packet.header;
         let arrived = self.port(port);
-        if header.to.network.0 != 0 && header.to.network != arrived.network {
-            return self.forward(port, bytes, packet, now).map(Outcome::Forward);
-        }
         let for_us = header.to.node == arrived.node || header.to.node == BROADCAST;
         let from_here = header.from.network.0 == 0 || header.from.network == arrived.network;
         if !for_us || !from_here || header.from.node == arrived.node {
@@ -198,14 +237,8 @@ impl Router {
         }
     }
 
-    fn forward(
-        &self,
-        port: u8,
-        bytes: &[u8],
-        packet: Packet<'_>,
-        now: u64,
-    ) -> Result<Reply, Reason> {
-        let header = &packet.header;
+    /// The port that a packet leaves by, and the next node.
+    fn way(&self, header: &Header, now: u64) -> Result<(u8, Node), Reason> {
         let network = header.to.network;
         let (out, next) = match self.direct(network) {
             Some(out) => (out, header.to.node),
@@ -218,11 +251,27 @@ impl Router {
         if header.hops >= 15 {
             return Err(Reason::HopLimit);
         }
-        let mut bytes = bytes[..HEADER + packet.body.len()].to_vec();
+        Ok((out, next))
+    }
+
+    /// Changes a packet with this header to the one that is one hop on.
+    fn change(&self, port: u8, header: &Header, bytes: &mut [u8]) {
         bytes[4] += 1;
         if header.from.network.0 == 0 {
             bytes[18..22].copy_from_slice(&self.port(port).network.0.to_be_bytes());
         }
+    }
+
+    fn forward(
+        &self,
+        port: u8,
+        bytes: &[u8],
+        packet: Packet<'_>,
+        now: u64,
+    ) -> Result<Reply, Reason> {
+        let (out, next) = self.way(&packet.header, now)?;
+        let mut bytes = bytes[..HEADER + packet.body.len()].to_vec();
+        self.change(port, &packet.header, &mut bytes);
         Ok(Reply {
             port: out,
             next,

@@ -1,7 +1,7 @@
 //! Numbers that depend on what a call answered, so that no call can be left out.
 
 use crate::faults::reason_number;
-use ipx_router::{Outcome, Reply};
+use ipx_router::{InPlace, Outcome, Reply};
 use ipx_wire::{Address, Node, Packet, SpxHeader};
 use spx_link::{Sent, Unit};
 use spx_messages::{Arrived, Message};
@@ -33,11 +33,16 @@ fn byte_at(bytes: &[u8], at: usize) -> u64 {
     bytes.get(at).copied().map_or(0, u64::from)
 }
 
-fn reply_digest(reply: &Reply) -> u64 {
-    let count = reply.bytes.len();
-    let ends = byte_at(&reply.bytes, 4) ^ byte_at(&reply.bytes, count.saturating_sub(1));
-    let place = mixed(u64::from(reply.port), node_number(reply.next));
+/// The digest of a packet that leaves.
+fn sent_digest(port: u8, next: Node, bytes: &[u8]) -> u64 {
+    let count = bytes.len();
+    let ends = byte_at(bytes, 4) ^ byte_at(bytes, count.saturating_sub(1));
+    let place = mixed(u64::from(port), node_number(next));
     mixed(place ^ ends, count as u64)
+}
+
+fn reply_digest(reply: &Reply) -> u64 {
+    sent_digest(reply.port, reply.next, &reply.bytes)
 }
 
 /// The digest of a text: how long it is, and bytes of it.
@@ -63,6 +68,19 @@ pub fn outcome_digest(outcome: &Outcome) -> u64 {
         Outcome::Replies(replies) => replies_digest(replies),
         Outcome::Heard(count) => mixed(4, u64::from(*count)),
         Outcome::Dropped(reason) => u64::from(reason_number(*reason)),
+    }
+}
+
+/// The digest of what became of a datagram in place, by the bytes that are there then.
+pub fn in_place_digest(outcome: &InPlace, room: &[u8]) -> u64 {
+    match outcome {
+        InPlace::Forward { port, next, count } => match room.get(..*count) {
+            Some(packet) => sent_digest(*port, *next, packet),
+            None => 3,
+        },
+        InPlace::Replies(replies) => replies_digest(replies),
+        InPlace::Heard(count) => mixed(4, u64::from(*count)),
+        InPlace::Dropped(reason) => u64::from(reason_number(*reason)),
     }
 }
 

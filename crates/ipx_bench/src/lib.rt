@@ -9,6 +9,7 @@ mod digest;
 mod faults;
 mod feeding;
 mod hosts;
+mod in_place;
 mod knowing;
 mod pair;
 mod passing;
