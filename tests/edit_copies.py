@@ -1,7 +1,8 @@
 """Copies of functions, each with one wrong body: so the edits of a crate stand in one text, and each function beside its own.
 
 A copy stands behind its function under another name, with its contract and attributes, and so do copies of the proof files
-that are the function's, with the new name for the old. Nothing calls it, and it calls what the function calls.
+that are the function's, with the new name for the old. Nothing calls it, and it calls what the function calls. An edit that
+is made in place stands in the same text, in a function that nothing calls which is proved there.
 """
 import collections
 import os
@@ -56,6 +57,33 @@ class Copies:
         cited, its = f"proofs.{'.'.join(path)}", {*self.files_of(function.name)}
         return all((cited in it and bool(re.search(rf"\b{re.escape(cited)}\b", it))) == (file in its) for file, it in self.files.items())
 
+    def in_place(self, edits, proved):
+        """Those of a crate's edits that are made in place in the text that holds the copies of others: of what cannot be copied,
+        and of what has proof files and no other edit, of which a copy needs one with no change beside it. What is proved
+        beside an edit, by its name, calls nothing that this edit changes, directly or through others: it would rest on that."""
+        number = collections.Counter(function for edit in edits for function in edit.functions)
+        found = []
+        for edit in edits:
+            others = {it for other in edits if other is not edit for it in proved(other)}
+            is_better = not self.bodies(edit) or any(map(self.files_of, edit.functions))
+            may_be = all(number[it] == 1 and not re.search(r"\bconst fn\b", self.body(it)) for it in edit.functions if it)
+            is_called = any(it in self.graph.reach.get(other, ()) for it in edit.functions for other in others)
+            if is_better and may_be and not is_called and self.spots(edit):
+                found.append(edit)
+        return found
+
+    def spots(self, edit):
+        """Where an edit changes what: paths, each with the places of the old text, and the new; or none, where what it changes is
+        no function and no constant of some, or pairs meet."""
+        found = []
+        for path, old, new in edit.pairs:
+            text = self.graph.texts.get(path, "")
+            if None in edit.functions or text.count(old) != 1:
+                return []
+            found.append((path, text.find(old), text.find(old) + len(old), new))
+        meet = any(one[0] == two[0] and one[1] < two[2] and two[1] < one[2] for one in found for two in found if one is not two)
+        return [] if meet else found
+
     def bodies(self, edit):
         """The functions that an edit changes, each with its text as it is then; or none, where one cannot be copied."""
         if None in edit.functions or not all(map(self.may_be_copied, edit.functions)):
@@ -73,11 +101,16 @@ class Copies:
         text = self.graph.texts[function.file]
         return text[function.start : extent(text, function.start)[1]]
 
-    def beside(self, edits, unchanged):
-        """The texts in which edits stand in copies, by their paths; each edit, as one of these copies; and where it is asked
-        for, copies with no change of the functions that have proof files, each with the name of its function."""
+    def beside(self, edits, in_place, unchanged):
+        """The texts in which edits stand, by their paths, in copies but for those that are made in place; each edit, as it
+        stands there; and where it is asked for, copies with no change of the functions that are copied and have proof files,
+        each with the name of its function."""
         made, tried, number = Made(self), [], collections.Counter()
         for edit in edits:
+            if edit in in_place:
+                made.change(edit)
+                tried.append(edit)
+                continue
             bodies = self.bodies(edit)
             number.update(bodies.keys())
             copies = [made.copy(name, f"wrong_{number[name]}", body) for name, body in sorted(bodies.items())]
@@ -96,10 +129,15 @@ def lacks_its_proof(line, texts):
 
 
 class Made:
-    """Copies that were made, and the texts that hold them."""
+    """Copies and edits that were made, and the texts that hold them."""
 
     def __init__(self, copies):
-        self.copies, self.behind, self.proofs = copies, collections.defaultdict(list), {}
+        self.copies, self.parts, self.proofs = copies, collections.defaultdict(list), {}
+
+    def change(self, edit):
+        """Makes an edit in place."""
+        for path, start, end, new in self.copies.spots(edit):
+            self.parts[path].append((start, end, new))
 
     def copy(self, name, end, body):
         """Puts a function with this body behind the function of a name, and gives the name of that copy."""
@@ -108,7 +146,7 @@ class Made:
         above, last = extent(text, function.start)
         attributes = "".join(re.findall(r"^[ \t]*#\[.*\n", text[above : function.start], re.M))
         body = body.replace(f"fn {path[-1]}", f"fn {path[-1]}_{end}", 1)
-        self.behind[function.file].append((last, f"\n\n{attributes}{body}"))
+        self.parts[function.file].append((last, last, f"\n\n{attributes}{body}"))
         for it in self.copies.files_of(name):
             folder = "/".join(["proofs", *path])
             cited = re.compile(rf"\bproofs\.{re.escape('.'.join(path))}\b")
@@ -117,10 +155,10 @@ class Made:
 
     def texts(self):
         found = dict(self.proofs)
-        for path, some in self.behind.items():
+        for path, some in self.parts.items():
             text, at, parts = self.copies.graph.texts[path], 0, []
-            for place, copy in sorted(some, key=lambda it: it[0]):
-                parts += [text[at:place], copy]
-                at = place
+            for start, end, part in sorted(some, key=lambda it: it[:2]):
+                parts += [text[at:start], part]
+                at = end
             found[path] = "".join([*parts, text[at:]])
         return found
