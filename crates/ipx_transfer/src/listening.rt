@@ -184,7 +184,7 @@ impl<'a, R: Net + Log + Clock> ListeningHost<'a, R> {
         let turn = self.hear(rt, alloc);
         let moved = self.callers.pass(alloc, &mut self.station.core, writer)?;
         self.callers.tidy(rt, alloc, &mut self.station)?;
-        Ok(turn.active || moved)
+        Ok(turn.active | moved)
     }
 
     /// Takes a turn, and waits where there is nothing to do.

@@ -204,7 +204,7 @@ impl<'a, R: Net + Log + Clock + Eprint> SendingHost<'a, R> {
         drop_what_came(alloc, endpoint, self.id);
         let fed = state == Some(State::Live) && self.intake.feed(alloc, endpoint, self.id, reader)?;
         self.show(rt);
-        Ok(turn.active || fed)
+        Ok(turn.active | fed)
     }
 
     /// How long it waits at most, in milliseconds.

@@ -140,7 +140,7 @@ impl Callers {
     {
         let wrote = self.outlet.write(writer)?;
         let took = self.take_all(alloc, &mut core.endpoint, writer)?;
-        Ok(wrote || took)
+        Ok(wrote | took)
     }
 
     /// Holds a connection that was accepted at a moment, where there is a place for it.

@@ -11,53 +11,8 @@ use Rattle.ipx_transfer.proofs.Fed.{same_core, same_intake, sees, sees_later, st
 use Rattle.ipx_transfer.proofs.sending.SendingHost.step.Goals as goal
 use Rattle.ipx_transfer.proofs.sending.SendingHost.step.Goals.{then-eq+in_ok-fed, else-eq}
 
-pub returns-then-turn-clause-steps : goal.returns-then-turn-clause-steps
-returns-then-turn-clause-steps g c =
-    let old = c.args.self.now in
-    let seen = c.turn-turn.new.self.core in
-    let look = c.look-state.new.self in
-    let told = c.look-state.ensures in
-    let looked : look.station.core ≡ seen = ap (λ s. s.core) told.station in
-    let timed : look.station.clock ≡ c.turn-turn.new.self.clock = ap (λ s. s.clock) told.station in
-    let dropped = c.drop_what_came.new.endpoint in
-    let mid = c.if-eq.self in
-    let shown = c.show.new.self in
-    let same = c.show.ensures in
-    let stays : shown.station.core ≡ mid.station.core = ap (λ s. s.core) same.station in
-    let ticked : shown.station.clock ≡ mid.station.clock = ap (λ s. s.clock) same.station in
-    let known = g.I.Read.remaining c.args.reader.now in
-    let left = g.I.Read.remaining c.if-eq.reader in
-    let start = feeding_at look.intake dropped known in
-    let fed : (bytes : List ℕ) × Feeds start (feeding_at mid.intake mid.station.core.endpoint left) look.id bytes × (state_at seen.endpoint old.id ≢ Some Live → LeavesIntake start (feeding_at mid.intake mid.station.core.endpoint left) bytes) =
-    elim c.if-eq.branch [
-      | then-eq+in_ok-fed w ↦
-          let is : c.look-state.result ≡ Some Live = first_of (search rules, grind (arith, common_steps)) in
-          rw (w.self-is, w.reader-is) (w.in_ok-fed.ensures.feeds.0, w.in_ok-fed.ensures.feeds.1, λ other. absurd (other (sym told.state ∙ is)))
-      | else-eq w ↦
-          let rests : LeavesIntake start start [] = record { same = refl {a = start}; none = refl } in
-          rw (w.self-is, w.reader-is) ([], inr (inr rests), λ other. rests)
-    ] in
-    let joined : mid.joined ≡ look.joined = elim c.if-eq.branch [ then-eq+in_ok-fed w ↦ rw w.self-is refl | else-eq w ↦ rw w.self-is refl ] in
-    let gone : mid.left ≡ look.left = elim c.if-eq.branch [ then-eq+in_ok-fed w ↦ rw w.self-is refl | else-eq w ↦ rw w.self-is refl ] in
-    let ticks : mid.station.clock ≡ look.station.clock = elim c.if-eq.branch [ then-eq+in_ok-fed w ↦ rw w.self-is refl | else-eq w ↦ rw w.self-is refl ] in
-    let goes : mid.station.core ≡ record look.station.core { endpoint = mid.station.core.endpoint } = elim c.if-eq.branch [ then-eq+in_ok-fed w ↦ rw w.self-is refl | else-eq w ↦ rw w.self-is refl ] in
-    let shows = same_intake mid.station.core.endpoint shown.station.core.endpoint mid.intake.read shown.intake.read mid.intake.closed shown.intake.closed mid.intake.ledger shown.intake.ledger left (ap (λ (k : EndCore). k.endpoint) stays) (ap (λ i. i.read) same.intake) (ap (λ i. i.closed) same.intake) (ap (λ i. i.ledger) same.intake) in
-    let new = feeding_at shown.intake shown.station.core.endpoint left in
-    let seeing = sees old.joined look.joined old.left look.left seen look.station.core old.id look.id old.intake.closed look.intake.closed c.is_whole-whole.result c.waits.result c.look-state.result None told.state looked told.id told.closed told.joined told.left c.is_whole-whole.ensures c.waits.ensures c.in_default.ensures.verdict in
-    let fed' : Feeds start new look.id fed.0 = subst (λ (i : FeedState). Feeds start i look.id fed.0) (sym shows) fed.1 in
-    let only : state_at seen.endpoint old.id ≢ Some Live → LeavesIntake start new fed.0 = λ other. subst (λ (i : FeedState). LeavesIntake start i fed.0) (sym shows) (fed.2 other) in
-    record {
-      seen = seen;
-      turn = c.turn-turn.result;
-      turned = turned _ _ _ _ _ _ _ _ (ticked ∙ ticks ∙ timed) c.turn-turn.ensures.core;
-      verdict = None;
-      sees = sees_later look.joined shown.joined look.left shown.left (record { joined = old.joined; left = old.left }) seen.endpoint seen.moment old.id old.intake.closed None (same.joined ∙ joined) (same.left ∙ gone) seeing;
-      goes = (tt, (fed.0, stepped old.id look.id seen look.station.core old.station.core.endpoint dropped old.intake.read look.intake.read old.intake.closed look.intake.closed old.intake.ledger look.intake.ledger known new fed.0 told.id looked told.read told.closed told.ledger c.drop_what_came.ensures fed' only));
-      core = went_on seen look.station.core mid.station.core shown.station.core looked goes stays;
-    }
-
-pub returns-else-turn-clause-steps : goal.returns-else-turn-clause-steps
-returns-else-turn-clause-steps g c =
+pub returns-clause-steps : goal.returns-clause-steps
+returns-clause-steps g c =
     let old = c.args.self.now in
     let seen = c.turn-turn.new.self.core in
     let look = c.look-state.new.self in

@@ -19,15 +19,8 @@ returns-in_err-took-clause-some g c =
     let p = err_from_is_err_and c.from_residual-in_err-took.result c.from_residual-in_err-took.ensures.1 in
     rw (p.1) (moved_some c.args.core.now (record c.args.core.now { endpoint = c.take_all.new.endpoint }) old.held.items new.held.items (left_of old.outlet) (left_of c.write.new.self) (left_of new.outlet) (held c.args.writer.now) (held c.write.new.writer) (held c.take_all.new.writer) c.write.ensures.writes c.in_err-took.ensures.some refl)
 
-pub returns-then-wrote-clause-all : goal.returns-then-wrote-clause-all
-returns-then-wrote-clause-all g c =
-    let held = g.W.Write.contents in
-    let old = c.args.self.now in
-    let new = c.take_all.new.self in
-    moved_all c.args.core.now (record c.args.core.now { endpoint = c.take_all.new.endpoint }) old.held.items new.held.items (left_of old.outlet) (left_of c.write.new.self) (left_of new.outlet) (held c.args.writer.now) (held c.write.new.writer) (held c.take_all.new.writer) c.write.ensures.writes c.in_ok-took.ensures.all refl
-
-pub returns-else-wrote-clause-all : goal.returns-else-wrote-clause-all
-returns-else-wrote-clause-all g c =
+pub returns-clause-all : goal.returns-clause-all
+returns-clause-all g c =
     let held = g.W.Write.contents in
     let old = c.args.self.now in
     let new = c.take_all.new.self in
