@@ -12,7 +12,7 @@ use crate::cores::Core;
 use crate::datagrams::{Datagrams, KeepsBack};
 use crate::fault::RunFault;
 use crate::report::{Burst, Report};
-use crate::running::{run, run_segments};
+use crate::running::{ROOM, run, turn_in};
 use crate::segments::{Segments, SegmentsKeepBack};
 use std::alloc::Global;
 
@@ -38,6 +38,54 @@ fn can_begin_over<C: Core, S: Segments>(core: &C, segments: &S) -> bool
         (S.failed segments.now) }
 {
     segments.ports() == core.ports() && segments.failures() < u64::MAX
+}
+
+/// Takes one turn in a room that is lent, as `turn_segments` does.
+fn turn_lent<C: Core, S: Segments, K: Clock>(
+    alloc: Global,
+    core: &mut C,
+    segments: &mut S,
+    clock: &mut K,
+    room: &mut [u8],
+) -> Result<Report, RunFault>
+    requires room { 1536 ≤ length room.old }
+    ensures turn { IfOk result (λ report.
+        RunsBy C.hears C.gives K.tells (C.port_count core.old) (S.ways segments.old) 1
+        (S.traffic segments.old) (S.traffic segments.new) clock.old clock.new
+        core.old core.new report) }
+    ensures fault { IfErr result (λ f.
+        ((core.new ≡ core.old) × ((f ≡ RunFault.Device) × ((segments.new ≡ segments.old)
+        × (CanBeginBy (C.port_count core.old) (S.port_count segments.old) (S.failed segments.old)
+        → ⊥)) × (clock.new ≡ clock.old)))
+        ⊎ EndsEarlyBy C.hears C.misses C.gives C.withholds K.tells
+        (C.port_count core.old) (S.ways segments.old) 1
+        (S.traffic segments.old) (S.traffic segments.new) clock.old clock.new
+        f core.old core.new) }
+    // Where a turn can be begun one is, and else nothing happens.
+    ensures begins { CanBeginBy (C.port_count core.old) (S.port_count segments.old)
+        (S.failed segments.old) → TakesTurnBy C.hears C.misses C.gives C.withholds K.tells
+        (C.port_count core.old) (S.ways segments.old)
+        (S.traffic segments.old) (S.traffic segments.new) clock.old clock.new
+        core.old core.new result }
+    ensures refused { (CanBeginBy (C.port_count core.old) (S.port_count segments.old)
+        (S.failed segments.old) → ⊥) → (result ≡ Err RunFault.Device)
+        × (core.new ≡ core.old) × (segments.new ≡ segments.old) × (clock.new ≡ clock.old) }
+    ensures begun { OnOk result (CanBeginBy (C.port_count core.old) (S.port_count segments.old)
+        (S.failed segments.old)) }
+    ensures failures { CanBeginBy (C.port_count core.old) (S.port_count segments.old)
+        (S.failed segments.old)
+        → S.failed segments.new ≡ failures_after result (S.failed segments.old) }
+    ensures ports { C.port_count core.new ≡ C.port_count core.old }
+    ensures segment_ports { S.port_count segments.new ≡ S.port_count segments.old }
+    ensures ways { S.ways segments.new ≡ S.ways segments.old }
+    ensures access { S.access segments.new ≡ S.access segments.old }
+    ensures kept_back { S.kept_back segments.old ≤ S.kept_back segments.new }
+    ensures kept { S.kept segments.new ≡ S.kept segments.old }
+{
+    if !can_begin_over(core, segments) {
+        return Err(RunFault::Device);
+    }
+    turn_in(alloc, core, segments, clock, room)
 }
 
 /// Takes one turn, as `run_segments` does. Segments with other ports than the core, or that failed
@@ -81,10 +129,8 @@ pub fn turn_segments<C: Core, S: Segments, K: Clock>(
     ensures kept_back { S.kept_back segments.old ≤ S.kept_back segments.new }
     ensures kept { S.kept segments.new ≡ S.kept segments.old }
 {
-    if !can_begin_over(core, segments) {
-        return Err(RunFault::Device);
-    }
-    run_segments(alloc, core, segments, clock, 1)
+    let mut room = [0; ROOM];
+    turn_lent(alloc, core, segments, clock, &mut room)
 }
 
 /// Takes turns until one neither hears nor sends and keeps nothing back, until a fault ends one, or
@@ -121,10 +167,11 @@ pub fn burst_segments<C: Core, S: SegmentsKeepBack, K: Clock>(
     ensures access { S.access segments.new ≡ S.access segments.old }
     ensures kept { S.kept segments.new ≡ S.kept segments.old }
 {
+    let mut room = [0; ROOM];
     let mut burst = Burst::none();
     for _turn in 0..most {
         let kept = segments.kept_back();
-        let report = match turn_segments(alloc, core, segments, clock) {
+        let report = match turn_lent(alloc, core, segments, clock, &mut room) {
             Ok(report) => report,
             Err(fault) => return burst.ended_by(fault),
         };

@@ -20,7 +20,7 @@ use crate::sending::send_all;
 use std::alloc::Global;
 
 /// The room that a datagram is received into, and that a packet is given in.
-const ROOM: usize = 1536;
+pub const ROOM: usize = 1536;
 
 fn add(a: Report, b: Report) -> Report
     requires turns { a.turns + b.turns < 2 ^ 128 }
@@ -39,7 +39,7 @@ fn add(a: Report, b: Report) -> Report
 
 /// Takes one turn, in a room that is lent: it reads the clock, asks each port for a datagram, which
 /// the core hears, and sends what the core gives.
-fn turn_in<C: Core, S: Segments, K: Clock>(
+pub fn turn_in<C: Core, S: Segments, K: Clock>(
     alloc: Global,
     core: &mut C,
     segments: &mut S,

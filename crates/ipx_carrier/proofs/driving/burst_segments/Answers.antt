@@ -10,7 +10,7 @@ returns-in-Err-clause-turns g c =
     let l = c.loop-turn in
     let i = l.invariant in
     let again = begins_again i.ports i.segment_ports (i.failures can) can in
-    ends_badly g.C.Core.hears g.C.Core.misses g.C.Core.gives g.C.Core.withholds g.K.Clock.tells (g.C.Core.port_count c.args.core.now) (g.S.Segments.ways c.args.segments.now) (g.C.Core.port_count l.core) l._turn c.args.most (g.S.Segments.ways l.segments) (g.S.Segments.kept_back c.args.segments.now) (g.S.Segments.kept_back l.segments) (g.S.Segments.kept_back c.turn_segments.new.segments) c.args.clock.now l.clock c.turn_segments.new.clock c.args.core.now l.core c.turn_segments.new.core l.burst c.ended_by.result c.in-Err.fault i.ports i.ways (omega (arith, c.loop-turn-test.true)) i.loud c.ended_by.ensures (i.goes can) c.in-Err.ensures.kept_back (ended_untold g.C.Core.hears g.C.Core.misses g.C.Core.gives g.C.Core.withholds g.K.Clock.tells (g.C.Core.port_count l.core) (g.S.Segments.ways l.segments) (g.S.Segments.traffic l.segments) (g.S.Segments.traffic c.turn_segments.new.segments) l.clock c.turn_segments.new.clock c.in-Err.fault l.core c.turn_segments.new.core (c.in-Err.ensures.begins again))
+    ends_badly g.C.Core.hears g.C.Core.misses g.C.Core.gives g.C.Core.withholds g.K.Clock.tells (g.C.Core.port_count c.args.core.now) (g.S.Segments.ways c.args.segments.now) (g.C.Core.port_count l.core) l._turn c.args.most (g.S.Segments.ways l.segments) (g.S.Segments.kept_back c.args.segments.now) (g.S.Segments.kept_back l.segments) (g.S.Segments.kept_back c.turn_lent.new.segments) c.args.clock.now l.clock c.turn_lent.new.clock c.args.core.now l.core c.turn_lent.new.core l.burst c.ended_by.result c.in-Err.fault i.ports i.ways (omega (arith, c.loop-turn-test.true)) i.loud c.ended_by.ensures (i.goes can) c.in-Err.ensures.kept_back (ended_untold g.C.Core.hears g.C.Core.misses g.C.Core.gives g.C.Core.withholds g.K.Clock.tells (g.C.Core.port_count l.core) (g.S.Segments.ways l.segments) (g.S.Segments.traffic l.segments) (g.S.Segments.traffic c.turn_lent.new.segments) l.clock c.turn_lent.new.clock c.in-Err.fault l.core c.turn_lent.new.core (c.in-Err.ensures.begins again))
 
 pub returns-in-Err-clause-refused : goal.returns-in-Err-clause-refused
 returns-in-Err-clause-refused g c =
@@ -33,7 +33,7 @@ returns-then-kept_back-kept-clause-turns g c =
     let i = l.invariant in
     let report = c.in-Ok.report in
     let counted = c.with-burst.ensures in
-    ends_quietly g.C.Core.hears g.C.Core.misses g.C.Core.gives g.C.Core.withholds g.K.Clock.tells (g.C.Core.port_count c.args.core.now) (g.S.Segments.ways c.args.segments.now) (g.C.Core.port_count l.core) l._turn c.args.most (g.S.Segments.ways l.segments) (g.S.Segments.kept_back c.args.segments.now) (g.S.Segments.kept_back l.segments) (g.S.Segments.kept_back c.turn_segments.new.segments) c.args.clock.now l.clock c.turn_segments.new.clock c.args.core.now l.core c.turn_segments.new.core l.burst c.with-burst.result c.quieted.result report i.ports i.ways (omega (arith, c.loop-turn-test.true)) (i.goes can) (sym c.kept_back.ensures ∙ c.if-kept_back-kept.true ∙ c.kept_back-kept.ensures) (ran_untold g.C.Core.hears g.C.Core.misses g.C.Core.gives g.C.Core.withholds g.K.Clock.tells (g.C.Core.port_count l.core) (g.S.Segments.ways l.segments) (g.S.Segments.traffic l.segments) (g.S.Segments.traffic c.turn_segments.new.segments) l.clock c.turn_segments.new.clock l.core c.turn_segments.new.core report c.in-Ok.ensures.turn) (c.is_idle.ensures.0 c.if-is_idle.true) (counted.heard, counted.sent, counted.unmapped) (counted.rest.0 ∙ i.whole) c.quieted.ensures
+    ends_quietly g.C.Core.hears g.C.Core.misses g.C.Core.gives g.C.Core.withholds g.K.Clock.tells (g.C.Core.port_count c.args.core.now) (g.S.Segments.ways c.args.segments.now) (g.C.Core.port_count l.core) l._turn c.args.most (g.S.Segments.ways l.segments) (g.S.Segments.kept_back c.args.segments.now) (g.S.Segments.kept_back l.segments) (g.S.Segments.kept_back c.turn_lent.new.segments) c.args.clock.now l.clock c.turn_lent.new.clock c.args.core.now l.core c.turn_lent.new.core l.burst c.with-burst.result c.quieted.result report i.ports i.ways (omega (arith, c.loop-turn-test.true)) (i.goes can) (sym c.kept_back.ensures ∙ c.if-kept_back-kept.true ∙ c.kept_back-kept.ensures) (ran_untold g.C.Core.hears g.C.Core.misses g.C.Core.gives g.C.Core.withholds g.K.Clock.tells (g.C.Core.port_count l.core) (g.S.Segments.ways l.segments) (g.S.Segments.traffic l.segments) (g.S.Segments.traffic c.turn_lent.new.segments) l.clock c.turn_lent.new.clock l.core c.turn_lent.new.core report c.in-Ok.ensures.turn) (c.is_idle.ensures.0 c.if-is_idle.true) (counted.heard, counted.sent, counted.unmapped) (counted.rest.0 ∙ i.whole) c.quieted.ensures
 
 pub loop-turn-preserved : goal.loop-turn-preserved
 loop-turn-preserved g c =
@@ -43,7 +43,7 @@ loop-turn-preserved g c =
     let counted = c.with-burst.ensures in
     record {
       failures = λ can. c.in-Ok.ensures.failures (begins_again i.ports i.segment_ports (i.failures can) can) ∙ i.failures can;
-      goes = λ can. goes_on g.C.Core.hears g.C.Core.gives g.K.Clock.tells (g.C.Core.port_count c.args.core.now) (g.S.Segments.ways c.args.segments.now) (g.C.Core.port_count l.core) l._turn (g.S.Segments.ways l.segments) (g.S.Segments.kept_back c.args.segments.now) (g.S.Segments.kept_back l.segments) (g.S.Segments.kept_back c.turn_segments.new.segments) c.args.clock.now l.clock c.turn_segments.new.clock c.args.core.now l.core c.turn_segments.new.core l.burst c.with-burst.result report i.ports i.ways (i.goes can) c.in-Ok.ensures.kept_back (ran_untold g.C.Core.hears g.C.Core.misses g.C.Core.gives g.C.Core.withholds g.K.Clock.tells (g.C.Core.port_count l.core) (g.S.Segments.ways l.segments) (g.S.Segments.traffic l.segments) (g.S.Segments.traffic c.turn_segments.new.segments) l.clock c.turn_segments.new.clock l.core c.turn_segments.new.core report c.in-Ok.ensures.turn) (counted.heard, counted.sent, counted.unmapped)
+      goes = λ can. goes_on g.C.Core.hears g.C.Core.gives g.K.Clock.tells (g.C.Core.port_count c.args.core.now) (g.S.Segments.ways c.args.segments.now) (g.C.Core.port_count l.core) l._turn (g.S.Segments.ways l.segments) (g.S.Segments.kept_back c.args.segments.now) (g.S.Segments.kept_back l.segments) (g.S.Segments.kept_back c.turn_lent.new.segments) c.args.clock.now l.clock c.turn_lent.new.clock c.args.core.now l.core c.turn_lent.new.core l.burst c.with-burst.result report i.ports i.ways (i.goes can) c.in-Ok.ensures.kept_back (ran_untold g.C.Core.hears g.C.Core.misses g.C.Core.gives g.C.Core.withholds g.K.Clock.tells (g.C.Core.port_count l.core) (g.S.Segments.ways l.segments) (g.S.Segments.traffic l.segments) (g.S.Segments.traffic c.turn_lent.new.segments) l.clock c.turn_lent.new.clock l.core c.turn_lent.new.core report c.in-Ok.ensures.turn) (counted.heard, counted.sent, counted.unmapped)
           (λ idle. elim c.else-is_idle.branch [ else-is_idle-via-then-is_idle+else-kept_back-kept w ↦ w.if-kept_back-kept.false (w.kept_back.ensures ∙ idle.2 ∙ sym c.kept_back-kept.ensures) | else-is_idle-via-else-is_idle w ↦ is_busy_so c.is_idle.result report c.is_idle.ensures w.if-is_idle.false (idle.0, idle.1) ]);
       nothing = λ cannot.
           let still = i.nothing cannot in
