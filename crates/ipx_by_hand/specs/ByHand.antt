@@ -15,6 +15,10 @@ pub record ByHandView (C : Type 0) : Type 0 where
   -- the moment at which it was heard last
   pub said : Option ℕ
 
+-- the core below asks its neighbours once more
+abbrev pub asking_under : {C : Type 0} → (C → C) → ByHandView C → ByHandView C
+asking_under asking_again s = record s { core = asking_again s.core }
+
 module _ {C : Type 0} (hears : C → ℕ → List ℕ → ℕ → C → Type 0) where
   -- what comes in the core below hears
   abbrev pub HearsUnder : ByHandView C → ℕ → List ℕ → ℕ → ByHandView C → Type 0

@@ -1,16 +1,16 @@
 //! A core that hears what silent neighbours are to have said.
 
-ghost use Rattle.std.specs.Prelude.{◌≡◌, false, None, All, IfOk, OnOk, OnErr};
+ghost use Rattle.std.specs.Prelude.{◌≡◌, None, All, IfOk, OnOk, OnErr};
 ghost use Rattle.ipx_router.specs.Ports.{IsPortNumber};
 ghost use Rattle.ipx_router.specs.Telling.{IsNextTelling};
 ghost use Rattle.ipx_by_hand.specs.ByHand.{HearsIfDue, MissesIfDue};
 ghost use Rattle.ipx_by_hand.specs.HandWords.{AreWordsOf};
 
+use crate::again::AskAgain;
 use crate::hearing::{hear_words, is_time, next_time};
 use crate::neighbour::SilentNeighbour;
 use crate::words::words_of;
 use ipx_carrier::Core;
-use ipx_figures::CountedRouter;
 use ipx_router::Reply;
 use ipx_wire::{Node, OutOfMemory};
 use std::alloc::Global;
@@ -90,11 +90,12 @@ impl<C: Core + Drop> ByHand<C> {
     }
 }
 
-impl ByHand<CountedRouter> {
-    /// The router asks its neighbours once more, as `RouterCore::ask_again` says.
-    pub fn ask_again(&mut self)
-        ensures { self.new ≡ record self.old { core = record self.old.core { started = false } } }
-    {
+impl<C: AskAgain + Drop> AskAgain for ByHand<C> {
+    ghost use Rattle.ipx_by_hand.specs.ByHand.{asking_under};
+
+    ghost asking_again = { asking_under C.asking_again };
+
+    fn ask_again(&mut self) {
         self.core.ask_again();
     }
 }

@@ -5,12 +5,14 @@
 //! they tell is preferred, told on and forgotten as what any neighbour tells.
 #![tactic(auto)]
 
+mod again;
 mod by_hand;
 mod hearing;
 mod laws;
 mod neighbour;
 mod words;
 
+pub use again::AskAgain;
 pub use by_hand::ByHand;
 pub use laws::{
     counts_by_hand_apart, routes_by_hand_are_offers, routes_by_hand_stand,

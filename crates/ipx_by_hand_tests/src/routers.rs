@@ -4,7 +4,7 @@
 ghost use Rattle.std.specs.Prelude.{◌≡◌};
 
 use crate::fixture::{NEXT, ask, backup, silent};
-use ipx_by_hand::ByHand;
+use ipx_by_hand::{AskAgain, ByHand};
 use ipx_carrier::Core;
 use ipx_figures::CountedRouter;
 use ipx_router::{Port, Router};

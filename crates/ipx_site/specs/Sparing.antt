@@ -53,6 +53,10 @@ pub record SparingView (C : Type 0) : Type 0 where
   pub askers : AskersView
   pub kept : Kept
 
+-- the core below asks its neighbours once more
+abbrev pub asking_below : {C : Type 0} → (C → C) → SparingView C → SparingView C
+asking_below asking_again s = record s { core = asking_again s.core }
+
 module _ {C : Type 0} (hears : C → ℕ → List ℕ → ℕ → C → Type 0) where
   -- the core below hears a general query of this asker, which has one turn less then, and so have all
   abbrev pub HearsInTurn : SparingView C → ℕ → List ℕ → ℕ → SparingView C → Asker → Type 0

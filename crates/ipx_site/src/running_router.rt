@@ -33,7 +33,7 @@ use crate::sparing::Sparing;
 use crate::status::write_whole;
 use crate::troubles::Troubles;
 use crate::watch::Known;
-use ipx_by_hand::ByHand;
+use ipx_by_hand::{AskAgain, ByHand};
 use ipx_carrier::{Burst, Clock, burst_segments};
 use ipx_figures::CountedRouter;
 use log::Log;

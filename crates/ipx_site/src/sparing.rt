@@ -1,14 +1,13 @@
 //! A core that answers those who ask for all that it knows in turn.
 
-ghost use Rattle.std.specs.Prelude.{◌≡◌, [], false, IfOk};
+ghost use Rattle.std.specs.Prelude.{◌≡◌, [], IfOk};
 ghost use Rattle.ipx_site.specs.SitePeers.{none_kept};
 
 use crate::asker::asker_of;
 use crate::askers::Askers;
 use crate::peers::Kept;
-use ipx_by_hand::ByHand;
+use ipx_by_hand::AskAgain;
 use ipx_carrier::{Core, ip_of};
-use ipx_figures::CountedRouter;
 use ipx_router::Port;
 use ipx_wire::{Node, OutOfMemory};
 use std::alloc::{AllocError, Global};
@@ -84,15 +83,12 @@ impl<C: Core + Drop> Sparing<C> {
     }
 }
 
-impl Sparing<ByHand<CountedRouter>> {
-    /// The router asks its neighbours once more, as `RouterCore::ask_again` says.
-    pub fn ask_again(&mut self)
-        ensures { self.new ≡ record self.old {
-          core = record self.old.core {
-            core = record self.old.core.core { started = false };
-          };
-        } }
-    {
+impl<C: AskAgain + Drop> AskAgain for Sparing<C> {
+    ghost use Rattle.ipx_site.specs.Sparing.{asking_below};
+
+    ghost asking_again = { asking_below C.asking_again };
+
+    fn ask_again(&mut self) {
         self.core.ask_again();
     }
 }

@@ -1,0 +1,65 @@
+//! Routers below `Sparing` that ask their neighbours once more.
+
+use ipx_by_hand::{AskAgain, ByHand};
+use ipx_carrier::{Core, RouterCore};
+use ipx_figures::CountedRouter;
+use ipx_router::{Port, Router};
+use ipx_site::Sparing;
+use ipx_wire::{Network, Node, OutOfMemory};
+use std::alloc::{AllocError, Global};
+use std::test::Fail;
+
+fn ports(alloc: Global) -> Result<Vec<Port>, AllocError> {
+    let mut ports = Vec::new(alloc);
+    for number in 1..3_u8 {
+        ports.push(Port {
+            network: Network(u32::from(number) * 0x11),
+            node: Node([0, 0, 127, 0, 0, number]),
+            cost: 1,
+        })?;
+    }
+    Ok(ports)
+}
+
+fn router(alloc: Global) -> Result<Router, Fail> {
+    Ok(Router::new(alloc, ports(alloc)?)?)
+}
+
+fn counted(alloc: Global) -> Result<CountedRouter, Fail> {
+    Ok(CountedRouter::new(alloc, router(alloc)?)?)
+}
+
+/// How many packets a core gives at the moment 0.
+fn given<C: Core>(alloc: Global, core: &mut C) -> Result<u32, OutOfMemory> {
+    let mut room = [0; 1536];
+    let mut count = 0;
+    for _ in 0..64_u32 {
+        if core.next(alloc, 0, &mut room)?.is_none() {
+            return Ok(count);
+        }
+        count += 1;
+    }
+    Ok(count)
+}
+
+/// Whether a router of two ports gives its six first packets, then none, and the four of them that
+/// ask once more as it is asked to.
+fn asks_again<C: AskAgain + Drop>(alloc: Global, core: C) -> Result<bool, Fail> {
+    let mut sparing = Sparing::new(alloc, core, ports(alloc)?)?;
+    let first = given(alloc, &mut sparing)?;
+    let none = given(alloc, &mut sparing)?;
+    sparing.ask_again();
+    Ok((first, none, given(alloc, &mut sparing)?) == (6, 0, 4))
+}
+
+#[test]
+fn asks_again_below_turns(rt: HostRuntime) -> Result<(), Fail> {
+    let alloc = rt.alloc();
+    assert!(rt; asks_again(alloc, RouterCore::new(alloc, router(alloc)?))?);
+    assert!(rt; asks_again(alloc, counted(alloc)?)?);
+    let by_hand = ByHand::new(alloc, counted(alloc)?, &[])?;
+    assert!(rt; asks_again(alloc, by_hand)?);
+    let by_hand = ByHand::new(alloc, RouterCore::new(alloc, router(alloc)?), &[])?;
+    assert!(rt; asks_again(alloc, by_hand)?);
+    Ok(())
+}
