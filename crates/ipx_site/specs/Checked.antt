@@ -145,7 +145,7 @@ peer_remark whose address earlier peer =
     then whose ++ (codes "peer " ++ (dotted_text peer ++ codes " stands twice\n"))
     else [])
 
--- the ends of a wire, and joined routers, are elsewhere than the port, and none of them stands twice
+-- the ends of a wire are elsewhere than the port, and none of them stands twice
 abbrev pub wire_end_remark : List ℕ → Place → List Place → Place → List ℕ
 wire_end_remark whose own earlier end =
     if is_same_place own end
@@ -153,6 +153,13 @@ wire_end_remark whose own earlier end =
     else (if list_any (is_same_place end) earlier
     then whose ++ (wire_end_text end ++ codes " stands twice\n")
     else [])
+
+-- a joined router is elsewhere too
+abbrev pub joined_remark : List ℕ → Place → Place → List ℕ
+joined_remark whose own router =
+    if is_same_place own router
+    then whose ++ (codes "joined" ++ (wire_end_text router ++ codes " is its own place\n"))
+    else []
 
 -- two ports are bound at one place
 abbrev pub is_one_place : PortOfKind → PortOfKind → Bool
@@ -181,8 +188,7 @@ abbrev pub reached_remarks : List ℕ → PortOfKind → List ℕ
 reached_remarks whose (Rfc1234 p) = each_behind (peer_remark whose p.address) [] p.peers.items
 reached_remarks whose (Frames p) =
     each_behind (wire_end_remark (whose ++ codes "end") (place_of_kind (Frames p))) [] p.ends.items
-reached_remarks whose (Ipxnet p) =
-    each_behind (wire_end_remark (whose ++ codes "joined") (place_of_kind (Ipxnet p))) [] p.join.items
+reached_remarks whose (Ipxnet p) = flat_map (joined_remark whose (place_of_kind (Ipxnet p))) p.join.items
 
 -- the line of a port behind earlier ones, and what is to be remarked
 abbrev pub port_lines : List PortOfKind → PortOfKind → List ℕ

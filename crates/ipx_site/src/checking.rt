@@ -2,7 +2,8 @@
 
 ghost use Rattle.std.specs.Prelude.{◌≡◌, ◌<◌, ◌≤◌, ℕ, List, [], IfOk, IfSome, IsOkAnd, length, position, string_bytes};
 ghost use Rattle.std.specs.Io.KnownBytes.{Appends};
-ghost use Rattle.ipx_site.specs.Checked.{count_text, each_behind, file_line, is_one_place, peer_remark, place_remark, port_lines, reached_remarks, remark, site_lines, status_text, tables_place_text, wire_end_remark};
+ghost use Rattle.std.specs.List.{flat_map};
+ghost use Rattle.ipx_site.specs.Checked.{count_text, each_behind, file_line, is_one_place, joined_remark, peer_remark, place_remark, port_lines, reached_remarks, remark, site_lines, status_text, tables_place_text, wire_end_remark};
 ghost use Rattle.ipx_site.specs.Loading.{IsFileText};
 ghost use Rattle.ipx_site.specs.Site.{IsSiteText};
 ghost use Rattle.ipx_site.specs.declared.site.SiteFile.{SiteFile as ASiteFile};
@@ -63,7 +64,7 @@ pub fn peers_to_remarks(
     Ok(remarks)
 }
 
-/// What is remarked on an end of a wire, or a joined router, behind the earlier ones.
+/// What is remarked on an end of a wire, behind the earlier ones.
 fn end_to_remark(
     alloc: Global,
     whose: &str,
@@ -83,8 +84,8 @@ fn end_to_remark(
     Ok(String::new(alloc))
 }
 
-/// What is remarked on the ends of a wire, or on joined routers: a line for each that is the place of
-/// the port itself, or stands twice.
+/// What is remarked on the ends of a wire: a line for each that is the place of the port itself, or
+/// stands twice.
 fn ends_to_remarks(
     alloc: Global,
     whose: &str,
@@ -102,6 +103,40 @@ fn ends_to_remarks(
     Ok(remarks)
 }
 
+/// What is remarked on a joined router, of which each stands once.
+fn joined_to_remark(
+    alloc: Global,
+    whose: &str,
+    own: Place,
+    router: Place,
+) -> Result<String, AllocError>
+    ensures { IfOk result (λ t. string_bytes t ≡ joined_remark whose.now own router) }
+{
+    let reached = end_to_text(alloc, router)?;
+    if router == own {
+        return format!(in alloc; "{whose}joined{reached} is its own place\n");
+    }
+    Ok(String::new(alloc))
+}
+
+/// What is remarked on joined routers: a line for each that is the place of the port itself.
+fn join_to_remarks(
+    alloc: Global,
+    whose: &str,
+    own: Place,
+    routers: &[Place],
+) -> Result<String, AllocError>
+    ensures { IfOk result (λ t. string_bytes t
+        ≡ flat_map (joined_remark whose.now own) routers.now) }
+{
+    let mut remarks = String::new(alloc);
+    for router in routers {
+        let line = joined_to_remark(alloc, whose, own, *router)?;
+        remarks.push_str(&line)?;
+    }
+    Ok(remarks)
+}
+
 /// What is remarked on those whom a port sends to.
 fn reached_to_remarks(alloc: Global, whose: &str, port: &PortOfKind) -> Result<String, AllocError>
     ensures { IfOk result (λ t. string_bytes t ≡ reached_remarks whose.now port.now) }
@@ -113,10 +148,7 @@ fn reached_to_remarks(alloc: Global, whose: &str, port: &PortOfKind) -> Result<S
             let end = format!(in alloc; "{whose}end")?;
             ends_to_remarks(alloc, &end, own, &port.ends)
         }
-        PortOfKind::Ipxnet(port) => {
-            let joined = format!(in alloc; "{whose}joined")?;
-            ends_to_remarks(alloc, &joined, own, &port.join)
-        }
+        PortOfKind::Ipxnet(port) => join_to_remarks(alloc, whose, own, &port.join),
     }
 }
 
