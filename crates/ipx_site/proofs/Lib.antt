@@ -14,6 +14,7 @@ pub mod OneDue
 pub mod Addresses
 pub mod Access
 pub mod Printed
+pub mod GuardTexts
 pub mod Taken
 pub mod Hearings
 pub mod WireEnds

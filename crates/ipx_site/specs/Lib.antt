@@ -26,6 +26,7 @@ pub mod Moments
 pub mod Leisure
 pub mod RouterRounds
 pub mod Checked
+pub mod GuardFigures
 pub mod SilentSite
 pub mod DropLines
 pub mod Senders

@@ -1,5 +1,8 @@
 //! A family of figures, in the text form of Prometheus.
 
+ghost use Rattle.std.specs.Prelude.{◌≡◌, ◌++◌, OnOk, string_bytes};
+ghost use Rattle.ipx_site.specs.GuardFigures.{family_text, port_figure};
+
 use std::alloc::AllocError;
 
 /// A family of figures: its name, what it is, and its type.
@@ -10,7 +13,10 @@ pub struct Family {
 }
 
 /// Writes what a family of figures is.
-pub fn put_family(text: &mut String, family: &Family) -> Result<(), AllocError> {
+pub fn put_family(text: &mut String, family: &Family) -> Result<(), AllocError>
+    ensures { OnOk result (string_bytes text.new ≡ string_bytes text.old
+        ++ family_text family.now.name.now family.now.help.now family.now.kind.now) }
+{
     let name = family.name;
     let help = family.help;
     let kind = family.kind;
@@ -45,7 +51,10 @@ pub fn put_of_port(
     family: &Family,
     number: usize,
     value: u64,
-) -> Result<(), AllocError> {
+) -> Result<(), AllocError>
+    ensures { OnOk result (string_bytes text.new
+        ≡ string_bytes text.old ++ port_figure family.now.name.now number value) }
+{
     let name = family.name;
     write!(text, "{name}{{port=\"{number}\"}} {value}\n")
 }

@@ -17,6 +17,8 @@ mod files;
 #[cfg(test)]
 mod fixture;
 #[cfg(test)]
+mod guard_figures;
+#[cfg(test)]
 mod internetworks;
 #[cfg(test)]
 mod lobby_figures;
