@@ -15,6 +15,9 @@ pub mod Addresses
 pub mod Access
 pub mod Printed
 pub mod GuardTexts
+pub mod Among
+pub mod StandingEntries
+pub mod StandingFiles
 pub mod Taken
 pub mod Hearings
 pub mod WireEnds

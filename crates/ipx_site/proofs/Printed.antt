@@ -13,7 +13,7 @@ position_found p xs i e =
       | inr le ↦ (let f : Some i ≡ None = e ∙ rw (le-ltb _ _ le) refl in cc)
     ]
 
-position_missing : {X : Type 0} (p : X → Bool) (xs : List X) → None ≡ position p xs → length xs ≤ position_or_len p xs
+pub position_missing : {X : Type 0} (p : X → Bool) (xs : List X) → None ≡ position p xs → length xs ≤ position_or_len p xs
 position_missing p xs e =
     elim (cases_lt (position_or_len p xs) (length xs)) [
       | inl lt ↦ (let f : None ≡ Some (position_or_len p xs) = e ∙ rw (lt-ltb _ _ lt) refl in cc)

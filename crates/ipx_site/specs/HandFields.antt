@@ -80,7 +80,8 @@ IsNearFault ports ms table f = IsFault (IsCount 16) Key.Port ms table f
 
 -- ---- of which network
 
--- that of the default route: a router tells of it as of any, and sends nothing by it
+-- that of the default route: a router hears and tells of it as of any, and no packet for another network goes
+-- by it
 abbrev pub default_route : ℕ
 default_route = 0xffff_fffe
 

@@ -28,6 +28,7 @@ pub mod RouterRounds
 pub mod Checked
 pub mod GuardFigures
 pub mod SilentSite
+pub mod HandStands
 pub mod DropLines
 pub mod Senders
 pub mod RouterFigures

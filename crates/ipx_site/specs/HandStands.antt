@@ -1,0 +1,85 @@
+-- What each route and service by hand of a router's file meets of what `RoutesByHandStand` and
+-- `ServicesByHandStand` ask for, and so that it stands. All of it is own.
+-- The entry points are `FilesMayStand`, and `RoutesOfFilesStand` and `ServicesOfFilesStand`.
+use Rattle.std.specs.Prelude.{◌≡◌, ◌<◌, ◌≤◌, ◌+◌, ◌^◌, ℕ, true, List, All, Contains, Option, Some}
+use Rattle.ipx_control.specs.declared.rip.packet.RipEntry.{RipEntry}
+use Rattle.ipx_control.specs.declared.sap.packet.ServiceEntry.{ServiceEntry}
+use Rattle.ipx_tables.specs.Content.{is_young}
+use Rattle.ipx_router.specs.declared.port.Port.{Port}
+use Rattle.ipx_router.specs.Hearing.{is_heard, route_metric, service_metric}
+use Rattle.ipx_router.specs.Knowledge.{routes_in, services_in}
+use Rattle.ipx_router.specs.Told.{key_of_service, route_key}
+use Rattle.ipx_carrier.specs.RouterCore.{CoreView}
+use Rattle.ipx_carrier.specs.Turns.{Given}
+use Rattle.ipx_by_hand.specs.declared.neighbour.SilentNeighbour.{SilentNeighbour}
+use Rattle.ipx_by_hand.specs.ByHand.{ByHandView}
+use Rattle.ipx_by_hand.specs.HandOffers.{IsAnotherNode, SaysNoOther, source_by_hand}
+use Rattle.ipx_by_hand.specs.HandRuns.{Asked, DoHandCalls, DoesHandCall, HandCallAt, IsAskedEachMinute, OffersItself, TellsItself, asked_in}
+use Rattle.ipx_site.specs.declared.hand.HandEntry.{HandEntry}
+use Rattle.ipx_site.specs.declared.hand.HandWord.{HandWord}
+use Rattle.ipx_site.specs.declared.hand.HandWord.TheVariants.{Route, Service}
+use Rattle.ipx_site.specs.declared.site.SiteFile.{SiteFile}
+use Rattle.ipx_site.specs.SilentSite.{AreSilent, IsToHear}
+use Rattle.ipx_site.specs.Site.{IsSiteText}
+use Rattle.ipx_site.specs.SitePorts.{router_ports}
+
+-- whoever is heard as this neighbour says nothing else of the key of an entry
+abbrev pub IsSaidAlone : {E K M : Type 0} → (E → K) → (E → M) → (SilentNeighbour → List E)
+    → List SilentNeighbour → SilentNeighbour → E → Type 0
+IsSaidAlone key_of metric_of said_by ns n e = (m : SilentNeighbour) → Contains ns m
+    → source_by_hand m ≡ source_by_hand n → SaysNoOther key_of metric_of (said_by m) e
+
+-- a neighbour is to say a word, it alone, under 16 hops away, and a route of a network that is heard
+abbrev pub MayStand : List Port → List SilentNeighbour → SilentNeighbour → HandWord → Type 0
+MayStand ports ns n (Route e) = Contains n.routes.items e
+    × IsSaidAlone route_key route_metric (λ m. m.routes.items) ns n e
+    × (is_heard ports e ≡ true) × (e.hops < 16)
+MayStand ports ns n (Service e) = Contains n.services.items e
+    × IsSaidAlone key_of_service service_metric (λ m. m.services.items) ns n e × (e.hops < 16)
+
+-- the one that an entry is heard from is to say so
+abbrev pub IsToStand : List Port → List SilentNeighbour → HandEntry → Type 0
+IsToStand ports ns h = (n : SilentNeighbour) × Contains ns n × (source_by_hand n ≡ h.by)
+    × MayStand ports ns n h.word
+
+-- no neighbour of a file is the router itself, and each entry is to stand
+abbrev pub FilesMayStand : Type 0
+FilesMayStand = (text : List ℕ) (s : SiteFile) → IsSiteText text s
+    → (ns : List SilentNeighbour) → AreSilent s.by_hand.items ns
+    → All (IsAnotherNode (router_ports s.ports.items)) ns
+    × All (IsToStand (router_ports s.ports.items) ns) s.by_hand.items
+
+-- a router with the ports of a file, which is to hear by hand what that says, is asked at first, and over all
+-- calls never finds a table full
+pub record RunsByFile (s : SiteFile) (start : ℕ) (calls : List HandCallAt) (old new : ByHandView CoreView) : Type 0 where
+  pub to_hear : IsToHear s.by_hand.items old
+  pub ports : old.core.router.ports ≡ router_ports s.ports.items
+  pub given : Option Given
+  pub first : ByHandView CoreView
+  pub begins : DoesHandCall start (Asked given) old first
+  pub goes_on : DoHandCalls calls first new
+  pub room : new.core.fates.table_full ≡ old.core.fates.table_full
+  pub countable : old.core.fates.table_full + 1 < 2 ^ 64
+
+-- then each route of the file, while it is asked each minute and whoever is heard there tells nothing of that
+-- network itself, is an offer that counts, up to a minute after the last question
+abbrev pub RoutesOfFilesStand : Type 0
+RoutesOfFilesStand = (text : List ℕ) (s : SiteFile) → IsSiteText text s → (start : ℕ) (calls : List HandCallAt)
+    (old new : ByHandView CoreView) → RunsByFile s start calls old new
+    → (h : HandEntry) → Contains s.by_hand.items h → (e : RipEntry) → h.word ≡ Route e
+    → ((n : SilentNeighbour) → source_by_hand n ≡ h.by
+    → IsAskedEachMinute (λ port bytes. TellsItself n e.network port bytes → ⊥) calls start)
+    → (now : ℕ) → now ≤ asked_in calls start + 60000 → (heard : ℕ)
+    × (routes_in new.core.router.routes (e.network, h.by) ≡ Some (route_metric e, heard))
+    × (is_young now heard ≡ true)
+
+-- and so is each service
+abbrev pub ServicesOfFilesStand : Type 0
+ServicesOfFilesStand = (text : List ℕ) (s : SiteFile) → IsSiteText text s → (start : ℕ) (calls : List HandCallAt)
+    (old new : ByHandView CoreView) → RunsByFile s start calls old new
+    → (h : HandEntry) → Contains s.by_hand.items h → (e : ServiceEntry) → h.word ≡ Service e
+    → ((n : SilentNeighbour) → source_by_hand n ≡ h.by
+    → IsAskedEachMinute (λ port bytes. OffersItself n (key_of_service e) port bytes → ⊥) calls start)
+    → (now : ℕ) → now ≤ asked_in calls start + 60000 → (heard : ℕ)
+    × (services_in new.core.router.services (key_of_service e, h.by) ≡ Some (service_metric e, heard))
+    × (is_young now heard ≡ true)

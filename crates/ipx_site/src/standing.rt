@@ -1,0 +1,27 @@
+//! What the entries by hand of a file meet, and so that they stand: laws. They do nothing.
+
+ghost use Rattle.ipx_site.specs.HandStands.{FilesMayStand, RoutesOfFilesStand, ServicesOfFilesStand};
+
+use ipx_by_hand::{routes_by_hand_stand, services_by_hand_stand};
+
+/// Each route and service by hand of a router's file that is read meets what its standing asks of
+/// the file: what else `routes_by_hand_stand` and `services_by_hand_stand` of `ipx_by_hand` ask for
+/// is of the run.
+pub fn entries_of_files_may_stand()
+    ensures { FilesMayStand }
+{}
+
+/// So each of its routes stands: while its router is asked each minute, never finds a table full,
+/// and that neighbour tells nothing of it itself, it is an offer that counts.
+pub fn routes_of_files_stand()
+    ensures { RoutesOfFilesStand }
+{
+    routes_by_hand_stand();
+}
+
+/// And so does each of its services.
+pub fn services_of_files_stand()
+    ensures { ServicesOfFilesStand }
+{
+    services_by_hand_stand();
+}
