@@ -53,6 +53,7 @@ mod router_counts;
 mod router_ports;
 mod routing;
 mod running_router;
+mod sameness;
 mod seldom;
 mod senders;
 mod shown;

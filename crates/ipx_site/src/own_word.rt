@@ -4,6 +4,7 @@ ghost use Rattle.std.specs.Prelude.{◌≡◌};
 ghost use Rattle.ipx_wire.specs.Ipx.{packet_view};
 ghost use Rattle.ipx_site.specs.SitePeers.{is_node_of, is_own_word, is_response, is_straight};
 
+use crate::sameness::is_same_node;
 use byteorder::{BigEndian, ByteOrder};
 use ipx_carrier::node_of;
 use ipx_wire::{IpxHeader, Network, Node, Packet, Socket};
@@ -30,7 +31,7 @@ fn is_node_of(node: Node, ip: Option<[u8; 4]>) -> bool
     ensures { result ≡ is_node_of node ip }
 {
     match ip {
-        Some(ip) => node == node_of(ip),
+        Some(ip) => is_same_node(node, node_of(ip)),
         None => false,
     }
 }
@@ -41,7 +42,8 @@ pub fn is_own_word(network: Network, from: Option<[u8; 4]>, header: &IpxHeader) 
     ensures { result ≡ is_own_word network from header.now }
 {
     let node = header.from.node;
-    node != Node::BROADCAST && (!is_straight(network, header) || is_node_of(node, from))
+    let is_all = is_same_node(node, Node::BROADCAST);
+    !is_all && (!is_straight(network, header) || is_node_of(node, from))
 }
 
 /// Whether a packet is a response, by which routes or services are told.

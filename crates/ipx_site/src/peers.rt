@@ -7,11 +7,12 @@ ghost use Rattle.ipx_carrier.specs.Counting.{raised};
 ghost use Rattle.ipx_carrier.specs.RunFaultNumbers.{device_failures};
 ghost use Rattle.ipx_carrier.specs.Waits.{LeavesPort};
 ghost use Rattle.ipx_site.specs.KeptAtPorts.{CountsStrangerAt, kept_changed_at, nothing_at_port, one_refused};
-ghost use Rattle.ipx_site.specs.SitePeers.{IsWordOn, TakesIn, is_listed, kept_in, may_go, may_say, none_kept, nothing_kept, one_more};
+ghost use Rattle.ipx_site.specs.SitePeers.{IsWordOn, TakesIn, is_listed, is_peer, kept_in, may_go, may_say, none_kept, nothing_kept, one_more};
 ghost use Rattle.ipx_site.specs.SitePorts.{access_by};
 
 use crate::kept_at_ports::{KeptAtPort, count_refused, count_stranger};
 use crate::own_word::{is_own_word, is_response, is_straight};
+use crate::sameness::is_same_ip;
 use crate::senders::Senders;
 use crate::sockets::SiteSockets;
 use ipx_carrier::{Datagrams, DeviceFault, KeepsBack, raise};
@@ -98,13 +99,20 @@ impl KeptBack {
     }
 }
 
+/// Whether an IP address is one of these.
+fn is_peer(peers: &[[u8; 4]], ip: [u8; 4]) -> bool
+    ensures { result ≡ is_peer peers.now ip }
+{
+    peers.iter().any(|peer| is_same_ip(*peer, ip))
+}
+
 /// Whether an IP address is among those that are named, where some are.
 fn is_listed(ips: &Option<Vec<[u8; 4]>>, ip: Option<[u8; 4]>) -> bool
     ensures { result ≡ is_listed ips.now ip }
 {
     match (ips, ip) {
         (None, _) => true,
-        (Some(ips), Some(ip)) => ips.contains(&ip),
+        (Some(ips), Some(ip)) => is_peer(ips, ip),
         (Some(_), None) => false,
     }
 }
