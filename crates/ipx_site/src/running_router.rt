@@ -340,7 +340,7 @@ impl<'a, R: SystemClock> RunningRouter<'a, R> {
         ensures access { map access_by self.new.ports.datagrams.device.guards.items
             ≡ map access_by self.old.ports.datagrams.device.guards.items }
     {
-        let now = self.clock.now();
+        let now = self.clock.stop();
         self.keep(rt, alloc, now);
         self.ports.set_moment(now);
         let burst = burst_segments(
@@ -378,7 +378,7 @@ impl<'a, R: SystemClock> RunningRouter<'a, R> {
         if !burst.quiet {
             return 0;
         }
-        let now = self.clock.now();
+        let now = self.clock.stop();
         let leisure = self.leisure(now);
         if is_any_marked(&self.ports) {
             leisure.min(REST)

@@ -1,6 +1,6 @@
 //! Waiting for sockets of the loopback, and bursts of turns over them.
 
-use ipx_carrier::{Core, Datagrams, DeviceFault, burst};
+use ipx_carrier::{Clock, Core, Datagrams, DeviceFault, burst};
 use ipx_site::{BindFault, Guard, PeersOnly, Readiness, SiteSockets, SteadyClock};
 use ipx_wire::{Network, Node, OutOfMemory};
 use std::alloc::{AllocError, Global};
@@ -101,5 +101,17 @@ fn a_burst_ends_quietly(rt: HostRuntime) -> Result<(), Fail> {
     assert!(rt; burst.quiet && burst.fault.is_none());
     assert_eq!(rt; (burst.heard, burst.sent), (1, 0));
     assert_eq!(rt; device.kept().strangers.count, 1);
+    Ok(())
+}
+
+#[test]
+fn a_clock_stands_until_it_is_stopped_again(rt: HostRuntime) -> Result<(), Fail> {
+    let quiet = socket(&rt, 6)?;
+    let mut ready = Readiness::new(&rt, rt.alloc(), &quiet)?;
+    let mut clock = SteadyClock::new(&rt);
+    let stopped = clock.stop();
+    assert!(rt; !ready.wait(20)?);
+    assert_eq!(rt; clock.now(), stopped);
+    assert!(rt; clock.stop() >= stopped + 19);
     Ok(())
 }
