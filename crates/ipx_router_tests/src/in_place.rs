@@ -43,6 +43,7 @@ fn answer_text(alloc: Global, outcome: &InPlace) -> Result<String, Fail> {
 }
 
 /// The port, the bytes that come in, the answer, and all the bytes behind it.
+#[derive(Clone, Copy)]
 struct Case {
     port: u8,
     before: &'static str,
