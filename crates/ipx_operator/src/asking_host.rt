@@ -76,10 +76,11 @@ impl<'a, R: Net + Clock> AskingHost<'a, R> {
             map access_by h.wire.device.guards.items ≡ guarded_asker file.now ∷ []) }
     {
         let ips = asked_ips(alloc, file)?;
-        let core = core_of(alloc, file, question, &ips)?;
         let guard = guard_of(alloc, file, &ips)?;
         let (wire, readiness) = AskingWire::open(rt, alloc, file, guard)?;
         let times = AnswerTimes::new(rt, alloc, ips.len())?;
+        // (last, since it owns most of what goes where one of these fails)
+        let core = core_of(alloc, file, question, &ips)?;
         Ok(AskingHost {
             core,
             wire,
