@@ -1,9 +1,12 @@
 -- Gaps in front of a place of a ring.
-use Rattle.std.proofs.Common.{Result, Ok, Err, IsOk, OnOk, ◌≡◌, ℕ, ◌+◌, ◌-◌, ◌<◌, ◌≤◌, List, [], ◌∷◌, ◌++◌, length, replicate, ap, refl, ◌∙◌, Option, None, Some, slice_get, slice_set, get_or, ◌⊎◌, inl, inr, arith}
-use Rattle.std.proofs.lemmas.List.{length-append, length-replicate}
+use Rattle.std.proofs.Common.{Result, Ok, Err, IsOk, OnOk, ◌≡◌, ℕ, ◌==◌, Bool, true, false, if◌then◌else◌, sym, take, ◌+◌, ◌-◌, ◌<◌, ◌≤◌, List, [], ◌∷◌, ◌++◌, length, replicate, ap, refl, ◌∙◌, Option, None, Some, slice_get, slice_set, get_or, ◌⊎◌, inl, inr, arith}
+use Rattle.std.proofs.lemmas.List.{length-append, length-replicate, take_all}
 use Rattle.std.proofs.lemmas.Option.{slice_get_cases}
 use Rattle.circular_buffer.specs.Buffer.{buffer}
+use Rattle.ipx_wire.specs.declared.spx.packet.SpxHeader.{SpxHeader}
+use Rattle.spx_link.specs.Limits.{end_stream}
 use Rattle.spx_link.specs.Receive.{put}
+use Rattle.spx_link.specs.Units.{unit_in}
 use Rattle.spx_link.specs.declared.unit.Unit.{Unit}
 use Rattle.spx_link.proofs.Laying.{put_written}
 
@@ -47,3 +50,15 @@ last_written (x ∷ xs) y z = ap (λ (ys : List (Option Unit)). x ∷ ys) (last_
 pub came : {A : Type 0} {E : Type 0} (r : Result A E) (P : Type 0) → IsOk r → OnOk r P → P
 came (Ok a) P ok p = p
 came (Err e) P ok p = cc
+
+-- a unit that is no end, and has all the bytes that there may be
+kept : (items : List ℕ) (ends : Bool) → ends ≡ false → items ≡ (if ends then [] else items)
+kept items true e = cc
+kept items false e = refl
+
+abbrev pub unit_as : SpxHeader → List ℕ → Unit
+unit_as h items = record { body = record { items = items }; stream = h.stream; last = h.last }
+
+pub whole_unit : (h : SpxHeader) (body whole : List ℕ) → whole ≡ take 534 body → length body ≤ 534 → (h.stream == end_stream) ≡ false → unit_as h whole ≡ unit_in h body
+whole_unit h body whole is fits goes =
+    ap (unit_as h) (is ∙ take_all 534 body fits ∙ kept body (h.stream == end_stream) goes)

@@ -10,9 +10,10 @@ ghost use Rattle.spx_link.specs.Receive as R;
 ghost use Rattle.spx_link.specs.Units.{unit_in};
 
 use crate::limits::END_STREAM;
+use crate::place::Place;
 use crate::unit::Unit;
 use circular_buffer::HeapCircularBuffer;
-use ipx_wire::{Fragment, SpxHeader};
+use ipx_wire::{Fragment, SPX_MAX_DATA_SIZE, SpxHeader};
 use std::alloc::{AllocError, Global};
 use std::marker::Model;
 
@@ -22,7 +23,7 @@ use std::marker::Model;
 /// that is missing, with None at a gap.
 #[derive(Drop)]
 pub struct Buffers {
-    ring: HeapCircularBuffer<Option<Unit>>,
+    ring: HeapCircularBuffer<Place>,
     count: u16,
     size: u16,
 }
@@ -126,7 +127,7 @@ impl Buffers {
         ensures { option_copied result ≡ first_of self.now.held }
     {
         match self.ring.front() {
-            Some(Some(unit)) if self.count > 0 => Some(unit),
+            Some(place) if self.count > 0 => place.get(),
             _ => None,
         }
     }
@@ -141,7 +142,7 @@ impl Buffers {
         }
         self.count -= 1;
         match self.ring.pop_front() {
-            Some(unit) => unit,
+            Some(place) => place.into_unit(),
             None => None,
         }
     }
@@ -159,17 +160,17 @@ impl Buffers {
 }
 
 /// The unit at a place.
-fn unit_at(ring: &HeapCircularBuffer<Option<Unit>>, place: usize) -> Option<&Unit>
+fn unit_at(ring: &HeapCircularBuffer<Place>, place: usize) -> Option<&Unit>
     ensures { option_copied result ≡ spec.unit_there (slice_get ring.now.items place) }
 {
     match ring.get(place) {
-        Some(Some(unit)) => Some(unit),
-        _ => None,
+        Some(place) => place.get(),
+        None => None,
     }
 }
 
 /// How many units there are from a place on.
-fn count_from(ring: &HeapCircularBuffer<Option<Unit>>, from: usize) -> usize
+fn count_from(ring: &HeapCircularBuffer<Place>, from: usize) -> usize
     ensures { result ≡ length (there (drop from ring.now.items)) }
 {
     let mut count = 0;
@@ -182,7 +183,7 @@ fn count_from(ring: &HeapCircularBuffer<Option<Unit>>, from: usize) -> usize
 }
 
 /// The units from a place on, up to the first gap or an end.
-fn leading(ring: &HeapCircularBuffer<Option<Unit>>, from: usize) -> Risen
+fn leading(ring: &HeapCircularBuffer<Place>, from: usize) -> Risen
     requires { length ring.now.items < from + 65536 }
     ensures count { result.count ≡ length (R.leading (drop from ring.now.items)) }
     ensures ended { result.ended ≡ R.any_end (R.leading (drop from ring.now.items)) }
@@ -206,64 +207,42 @@ fn leading(ring: &HeapCircularBuffer<Option<Unit>>, from: usize) -> Risen
     }
 }
 
-/// The unit of a packet, without its body.
-#[inline]
-fn blank(header: &SpxHeader) -> Unit
-    ensures { result ≡ unit_in header.now [] }
-{
-    Unit {
-        stream: header.stream,
-        last: header.last,
-        body: Fragment::new(),
-    }
-}
-
-/// Copies the body of a packet to where its unit stands. That of an end is left out.
-#[inline]
-fn copy_body(slot: &mut Option<Unit>, header: &SpxHeader, body: &[u8])
-    requires fits { length body.now ≤ 534 }
-    requires blank { slot.old ≡ Some (unit_in header.now []) }
-    ensures { slot.new ≡ Some (unit_in header.now body.now) }
-{
-    if header.stream == END_STREAM {
-        return;
-    }
-    if let Some(unit) = slot {
-        unit.body.try_extend_from_slice(body).unwrap();
-    }
-}
-
-/// The unit of a packet, built where it stands: its body is copied once, and that of an end not at
-/// all.
-fn fill(slot: &mut Option<Unit>, header: &SpxHeader, body: &[u8])
-    requires { length body.now ≤ 534 }
-    ensures { slot.new ≡ Some (unit_in header.now body.now) }
-{
-    *slot = Some(blank(header));
-    copy_body(slot, header, body);
-}
-
-/// Puts the unit of a packet behind all others.
-fn push_packet(ring: &mut HeapCircularBuffer<Option<Unit>>, header: &SpxHeader, body: &[u8])
+/// Puts the unit of a packet behind all others: zeroes, and its body over them.
+fn push_shorter(ring: &mut HeapCircularBuffer<Place>, header: &SpxHeader, body: &[u8])
     requires room { length ring.old.items < ring.old.capacity }
     requires fits { length body.now ≤ 534 }
     ensures { ring.new
         ≡ buffer (ring.old.items ++ Some (unit_in header.now body.now) ∷ []) ring.old.capacity }
 {
     let place = ring.len();
-    let _full = ring.try_push_back(Some(blank(header)));
+    let _full = ring.try_push_back(Place::blank(header));
     if let Some(slot) = ring.get_mut(place) {
-        copy_body(slot, header, body);
+        slot.copy_body(header, body);
+    }
+}
+
+/// Puts the unit of a packet behind all others. All 534 bytes that there may be are copied over
+/// nothing.
+fn push_packet(ring: &mut HeapCircularBuffer<Place>, header: &SpxHeader, body: &[u8])
+    requires room { length ring.old.items < ring.old.capacity }
+    requires fits { length body.now ≤ 534 }
+    ensures { ring.new
+        ≡ buffer (ring.old.items ++ Some (unit_in header.now body.now) ∷ []) ring.old.capacity }
+{
+    match body.split_first_chunk::<SPX_MAX_DATA_SIZE>() {
+        Some((whole, _)) if header.stream != END_STREAM => {
+            let _full = ring.try_push_back(Place::of(Unit {
+                stream: header.stream,
+                last: header.last,
+                body: Fragment::from_array_in((), *whole),
+            }));
+        }
+        _ => push_shorter(ring, header, body),
     }
 }
 
 /// Puts the unit of a packet at a place, with gaps before it where the ring is too short.
-fn put_packet(
-    ring: &mut HeapCircularBuffer<Option<Unit>>,
-    place: usize,
-    header: &SpxHeader,
-    body: &[u8],
-)
+fn put_packet(ring: &mut HeapCircularBuffer<Place>, place: usize, header: &SpxHeader, body: &[u8])
     requires place { place < ring.old.capacity }
     requires fits { length body.now ≤ 534 }
     ensures { ring.new
@@ -278,7 +257,7 @@ fn put_packet(
 
 /// Puts the unit of a packet at a place that is there, or behind gaps.
 fn put_elsewhere(
-    ring: &mut HeapCircularBuffer<Option<Unit>>,
+    ring: &mut HeapCircularBuffer<Place>,
     place: usize,
     header: &SpxHeader,
     body: &[u8],
@@ -290,9 +269,9 @@ fn put_elsewhere(
 {
     for count in ring.len()..place + 1 {
         let _now = count;
-        let _full = ring.try_push_back(None);
+        let _full = ring.try_push_back(Place::gap());
     }
     if let Some(slot) = ring.get_mut(place) {
-        fill(slot, header, body);
+        slot.fill(header, body);
     }
 }

@@ -21,6 +21,7 @@ pub mod machine;
 mod numbers;
 mod offer;
 mod outgoing;
+mod place;
 mod poll;
 mod queue;
 mod receive;
