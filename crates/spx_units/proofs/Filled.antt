@@ -1,5 +1,7 @@
 -- A unit filled where it stands, at the end of a list.
-use Rattle.std.proofs.Common.{◌≡◌, ◌∙◌, ℕ, Bool, List, [], ◌∷◌, ◌++◌, length, slice_set, get_or, ap, refl, sym}
+use Rattle.std.proofs.Common.{◌≡◌, ◌∙◌, ℕ, Bool, List, [], ◌∷◌, ◌++◌, ◌≤◌, length, take, slice_set, get_or, ap, refl, sym}
+use Rattle.std.proofs.lemmas.List.{take_all}
+use Rattle.ipx_wire.specs.Assigned.{spx_max_data_size}
 use Rattle.std.proofs.Math.Seq.{set-append_seam}
 use Rattle.spx_link.specs.declared.unit.Unit.{Unit}
 use Rattle.spx_units.specs.Cut.{unit_with}
@@ -22,3 +24,7 @@ set_at_end before all empty full place at is =
     ap (λ us. slice_set us place full) is
     ∙ ap (λ n. slice_set (before ++ empty ∷ []) n full) at
     ∙ set-append_seam before empty [] full
+
+-- all the bytes that there may be are the first so many of them
+pub whole_is : (bytes whole : List ℕ) → whole ≡ take 534 bytes → length bytes ≤ spx_max_data_size → whole ≡ bytes
+whole_is bytes whole is fits = is ∙ take_all 534 bytes fits

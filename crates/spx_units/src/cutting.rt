@@ -16,8 +16,14 @@ use std::alloc::{AllocError, Global};
 /// The least datastream type that no message has: that of the end of a connection.
 const END_STREAM: u8 = 0xfe;
 
-/// Adds a unit with these bytes, built where it stands: they are copied once.
-fn push_unit(units: &mut Vec<Unit>, stream: u8, last: bool, bytes: &[u8]) -> Result<(), AllocError>
+/// Adds a unit with these bytes, built where it stands: they are copied once. The room for fewer
+/// than 534 is zeroed before.
+fn push_shorter(
+    units: &mut Vec<Unit>,
+    stream: u8,
+    last: bool,
+    bytes: &[u8],
+) -> Result<(), AllocError>
     requires { length bytes.now ≤ spx_max_data_size }
     ensures { OnOk result
         (units.new.items ≡ units.old.items ++ unit_with stream last bytes.now ∷ []) }
@@ -31,6 +37,24 @@ fn push_unit(units: &mut Vec<Unit>, stream: u8, last: bool, bytes: &[u8]) -> Res
     if let Some(unit) = units.last_mut() {
         unit.body.try_extend_from_slice(bytes).unwrap();
     }
+    Ok(())
+}
+
+/// Adds a unit with these bytes. All 534 that there may be are copied over nothing.
+fn push_unit(units: &mut Vec<Unit>, stream: u8, last: bool, bytes: &[u8]) -> Result<(), AllocError>
+    requires { length bytes.now ≤ spx_max_data_size }
+    ensures { OnOk result
+        (units.new.items ≡ units.old.items ++ unit_with stream last bytes.now ∷ []) }
+{
+    let Some((whole, _)) = bytes.split_first_chunk::<SPX_MAX_DATA_SIZE>() else {
+        return push_shorter(units, stream, last, bytes);
+    };
+    units.reserve(1)?;
+    units.push_reserved(Unit {
+        stream,
+        last,
+        body: Fragment::from_array_in((), *whole),
+    });
     Ok(())
 }
 
