@@ -1,6 +1,6 @@
 //! Marks of the slots in use, in the order of their moments.
 
-ghost use Rattle.std.specs.Prelude.{◌≡◌, ℕ, ◌≤◌, ◌<◌, ◌==◌, ◌∷◌, true, false, not, length, map, take, IfNone, IfSome, slice_index_or};
+ghost use Rattle.std.specs.Prelude.{◌≡◌, ℕ, ◌-◌, ◌≤◌, ◌<◌, ◌==◌, ◌∷◌, nat_le, true, false, not, length, map, take, IfNone, IfSome, slice_index_or};
 ghost use Rattle.std.specs.List.{All, AllWithin, filter, list_any};
 ghost use Rattle.std.specs.List.Sorted.{IsPermutation};
 ghost use Rattle.std.specs.VecDeque.{deque_capacity, deque_len};
@@ -26,8 +26,24 @@ pub fn put_mark(marks: &mut VecDeque<Mark>, mark: Mark)
     ensures put { IsPermutation (mark ∷ marks.old.items) marks.new.items }
     ensures capacity { deque_capacity marks.old ≤ deque_capacity marks.new }
 {
+    if none_later(marks, mark.moment) {
+        marks.push_back_reserved(mark);
+        return;
+    }
     let at = marks.partition_point(|other| other.moment <= mark.moment);
     let _put = marks.insert(at, mark);
+}
+
+/// Whether no mark is later than a moment, as the last one shows.
+fn none_later(marks: &VecDeque<Mark>, moment: u64) -> bool
+    ensures last { (d : Mark) → 0 < length marks.now.items → result
+        ≡ nat_le (slice_index_or marks.now.items (length marks.now.items - 1) d).moment moment }
+    ensures none { length marks.now.items ≡ 0 → result ≡ true }
+{
+    match marks.back() {
+        None => true,
+        Some(last) => last.moment <= moment,
+    }
 }
 
 /// Where the mark of a place stands.

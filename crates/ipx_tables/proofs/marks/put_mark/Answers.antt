@@ -1,10 +1,20 @@
-use Rattle.std.proofs.Common.{◌≡◌, ◌≤◌, length, leb, rules, arith}
+use Rattle.std.proofs.Common.{◌≡◌, ◌≤◌, ◌∙◌, length, leb, sym, rules, arith}
 use Rattle.std.specs.List.{insert}
 use Rattle.std.proofs.lemmas.Bool.{leb-false, leb-true}
-use Rattle.std.proofs.lemmas.List.Sorted.{IsNonDecreasingBy-insert, IsPartitionPoint-from_clause, IsPartitionedBy-leb, IsPermutation-insert}
+use Rattle.std.proofs.lemmas.List.Sorted.{IsNonDecreasingBy-insert, IsNonDecreasingBy-push, IsPartitionPoint-from_clause, IsPartitionedBy-leb, IsPermutation-insert, IsPermutation-sym, IsPermutation-to_front}
 use Rattle.ipx_tables.specs.declared.marks.Mark.{Mark}
 use Rattle.ipx_tables.proofs.Marked.{came}
 use Rattle.ipx_tables.proofs.marks.put_mark.Goals as goal
+
+pub returns-then-none_later-clause-by_moment : goal.returns-then-none_later-clause-by_moment
+returns-then-none_later-clause-by_moment c =
+    let marks = c.args.marks.now.items in
+    rw c.push_back_reserved.ensures.items (IsNonDecreasingBy-push (λ (m : Mark). m.moment) marks c.args.mark c.requires.by_moment (λ d some. leb-true _ _ (sym (c.none_later.ensures.last d some) ∙ c.if-none_later.true)))
+
+pub returns-then-none_later-clause-put : goal.returns-then-none_later-clause-put
+returns-then-none_later-clause-put c =
+    let marks = c.args.marks.now.items in
+    rw c.push_back_reserved.ensures.items (IsPermutation-sym _ _ (IsPermutation-to_front marks c.args.mark))
 
 pub returns-clause-by_moment : goal.returns-clause-by_moment
 returns-clause-by_moment c =
