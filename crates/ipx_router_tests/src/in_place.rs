@@ -165,7 +165,16 @@ fn refused_memory_in_place(rt: HostRuntime) -> Result<(), Fail> {
     for packet in ONWARD {
         let mut bytes = packet;
         let onward = answer_in_place(alloc, &mut router, 1, &mut bytes)?;
-        assert!(rt; matches!(onward, InPlace::Forward { port: 2, count: 30, .. }));
+        assert!(rt;
+            matches!(
+                onward,
+                InPlace::Forward {
+                    port: 2,
+                    count: 30,
+                    ..
+                }
+            )
+        );
         assert_eq!(rt; bytes[4], 1);
     }
     let request = bytes_at_last(alloc, EVERY_ROUTE)?;
