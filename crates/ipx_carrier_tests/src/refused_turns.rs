@@ -146,7 +146,7 @@ fn lost_one(alloc: Global, member: &mut Member, wanted: &[Wanted]) -> Result<boo
     let failed = member.device.failures() == 1;
     turns(alloc, member)?;
     let sent = member.device.sent();
-    let all = are_all_but(sent, wanted, 0, 0);
+    let all = before % 2 == 0 && are_all_but(sent, wanted, 0, 0);
     Ok(failed && (all || are_all_but(sent, wanted, before, 1)))
 }
 
