@@ -103,28 +103,29 @@ fn print(row: &Row, ours: &Side, theirs: &Side) {
     );
 }
 
-/// The longest of the calls of some rounds, in nanoseconds. Of each call the shortest time counts,
-/// since what else runs lengthens one call or another.
-fn longest(calls: &Timed) -> u64 {
-    let mut least = calls(SINGLE_ROUNDS).1;
-    for _ in 1..SINGLE_TIMES {
-        for (least, time) in least.iter_mut().zip(calls(SINGLE_ROUNDS).1) {
-            *least = time.min(*least);
-        }
+/// Puts the shorter one of two times of each call.
+fn shorten(least: &mut [u64], calls: &Timed) {
+    for (least, time) in least.iter_mut().zip(calls(SINGLE_ROUNDS).1) {
+        *least = time.min(*least);
     }
-    least.into_iter().max().unwrap_or(0)
 }
 
-/// Prints the longest call of both sides, whose answers are to be the same.
+/// Prints the longest call of both sides, which run in turn, and whose answers are to be the same.
+/// Of each call the shortest time counts, since what else runs lengthens one call or another.
 fn print_longest(row: &Singles) {
-    let digests = ((row.ours)(2).0, (row.theirs)(2).0);
-    assert!(digests.0 == digests.1, "the digests differ: {}", row.name);
-    let in_us = |calls| longest(calls) as f64 / 1e3;
+    let (digest, mut ours) = (row.ours)(SINGLE_ROUNDS);
+    let (other, mut theirs) = (row.theirs)(SINGLE_ROUNDS);
+    assert!(digest == other, "the digests differ: {}", row.name);
+    for _ in 1..SINGLE_TIMES {
+        shorten(&mut ours, &row.ours);
+        shorten(&mut theirs, &row.theirs);
+    }
+    let longest = |times: &[u64]| times.iter().max().copied().unwrap_or(0) as f64 / 1e3;
     println!(
         "{:<44} {:>10.1} {:>12.1}",
         row.name,
-        in_us(&row.ours),
-        in_us(&row.theirs)
+        longest(&ours),
+        longest(&theirs)
     );
 }
 
