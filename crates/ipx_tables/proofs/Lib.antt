@@ -16,4 +16,3 @@ pub mod Marking
 pub mod Sought
 pub mod Words
 pub mod Inventories
-pub mod Held

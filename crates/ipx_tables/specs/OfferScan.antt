@@ -1,5 +1,5 @@
 -- Words of the private functions that read offers.
-use Rattle.std.specs.Prelude.{◌≡◌, ℕ, ◌<◌, Bool, true, cond, ◌&&◌, List, [], ◌∷◌, Option, Some, None, length, slice_get, slice_index_or}
+use Rattle.std.specs.Prelude.{◌≡◌, ℕ, ◌<◌, Bool, true, cond, ◌&&◌, List, [], ◌∷◌, Option, Some, None, length, slice_index_or}
 use Rattle.std.specs.declared.cmp.Ordering.{Ordering}
 use Rattle.std.specs.Ordering.{is_eq}
 use Rattle.ipx_tables.specs.declared.source.Source.{Source}
@@ -24,11 +24,6 @@ source_and_metric o = (o.source, o.metric)
 -- the first offer of a key is the better one
 abbrev pub offer_beats : {K M : Type 0} → (M → M → Bool) → Offer K M → Offer K M → Bool
 offer_beats before a b = is_better before (source_and_metric a) (source_and_metric b)
-
--- the item that is held by its place
-abbrev pub item_held : {X : Type 0} → List X → Option ℕ → Option X
-item_held xs None = None
-item_held xs (Some place) = slice_get xs place
 
 -- the better of an item and the one that is held, if there is one
 abbrev pub better_of : {X : Type 0} → (X → X → Bool) → Option X → X → X

@@ -8,11 +8,11 @@ ghost use Rattle.ipx_tables.specs.Expiry.{NoneOldBefore};
 use crate::moments::{counts, expiry};
 use crate::shelf::Shelf;
 
-/// How many offers are taken out one by one, before one pass takes out all others that are old.
+/// How many offers are taken out one by one, before all others that are old go together.
 const FEW: u32 = 16;
 
-/// Takes out each offer that counts no more, all together. The result is the moment until which all
-/// others do.
+/// Takes out each offer that counts no more, a few one by one and all others together. The result is
+/// the moment until which all that stay do.
 #[inline(never)] // so that whoever ages a table has only the comparison in line
 pub fn keep_young<K: Ord + Copy, M: Copy>(shelf: &mut Shelf<K, M>, now: u64) -> u64
     ensures young { shelf.new ≡ filter (λ o. is_young now o.heard) shelf.old }
@@ -49,7 +49,7 @@ fn take_old<K: Ord + Copy, M: Copy>(shelf: &mut Shelf<K, M>, now: u64) -> Option
     None
 }
 
-/// Takes out all that counts no more in one pass, and says until when all others count.
+/// Takes out all that counts no more together, and says until when all others count.
 fn keep_all_young<K: Ord + Copy, M: Copy>(shelf: &mut Shelf<K, M>, now: u64) -> u64
     ensures young { shelf.new ≡ filter (λ o. is_young now o.heard) shelf.old }
     ensures until { NoneOldBefore result shelf.new }

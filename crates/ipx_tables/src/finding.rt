@@ -1,9 +1,9 @@
 //! The best offer of a key, and how many offers are read to find it.
 
-ghost use Rattle.std.specs.Prelude.{◌≡◌, ◌≤◌, ◌<◌, ◌+◌, ◌^◌, ℕ, true, false, None, Some, IfSome, length, slice_get, slice_index_or, count_by};
+ghost use Rattle.std.specs.Prelude.{◌≡◌, ◌≤◌, ◌<◌, ◌+◌, ◌^◌, ℕ, true, false, None, length, slice_index_or, count_by, option_copied};
 ghost use Rattle.std.specs.Ordering.{is_eq, is_lt};
 ghost use Rattle.ipx_tables.specs.Best.{rank_cmp};
-ghost use Rattle.ipx_tables.specs.OfferScan.{best_from, better_of, item_held, is_candidate, offer_beats};
+ghost use Rattle.ipx_tables.specs.OfferScan.{best_from, better_of, is_candidate, offer_beats};
 
 use crate::metric::Metric;
 use crate::moments::counts;
@@ -32,58 +32,21 @@ pub fn better<K: Copy, M: Metric + Copy>(a: &Offer<K, M>, b: &Offer<K, M>) -> bo
     rank((a.source, a.metric), (b.source, b.metric)).is_lt()
 }
 
-/// The better of an offer and the one that is held, if there is one.
-pub fn better_one<K: Copy, M: Metric + Copy>(
-    held: Option<Offer<K, M>>,
-    offer: Offer<K, M>,
-) -> Offer<K, M>
-    ensures { result ≡ better_of (offer_beats M.before) held offer }
+/// The better of an offer and the one that is held, if there is one. Both stay where they lie.
+pub fn better_one<'a, K: Copy, M: Metric + Copy>(
+    held: Option<&'a Offer<K, M>>,
+    offer: &'a Offer<K, M>,
+) -> &'a Offer<K, M>
+    ensures { result.now ≡ better_of (offer_beats M.before) (option_copied held.entry) offer.now }
 {
     match held {
         None => offer,
         Some(held) => {
-            if better(&offer, &held) {
+            if better(offer, held) {
                 return offer;
             }
             held
         }
-    }
-}
-
-/// The place of the better one of the offer at a place and the one that is held, if there is one.
-fn better_place<K: Ord + Copy, M: Metric + Copy>(
-    shelf: &Shelf<K, M>,
-    held: Option<usize>,
-    at: usize,
-) -> usize
-    requires place { at < length shelf.now }
-    requires held { IfSome held (λ p. p < length shelf.now) }
-    ensures within { result < length shelf.now }
-    ensures better { (d : Offer K M) → slice_get shelf.now result ≡ Some
-        (better_of (offer_beats M.before) (item_held shelf.now held) (slice_index_or shelf.now at d)) }
-{
-    match held {
-        None => at,
-        Some(held) => {
-            if better(shelf.get(at), shelf.get(held)) {
-                return at;
-            }
-            held
-        }
-    }
-}
-
-/// The offer that is held, by its place.
-fn held_offer<K: Ord + Copy, M: Copy>(
-    shelf: &Shelf<K, M>,
-    held: Option<usize>,
-) -> Option<Offer<K, M>>
-    requires { IfSome held (λ p. p < length shelf.now) }
-    ensures { result ≡ item_held shelf.now held }
-{
-    match held {
-        None => None,
-        Some(place) => Some(*shelf.get(place)),
     }
 }
 
@@ -125,17 +88,17 @@ pub fn best_in<K: Ord + Copy, M: Metric + Copy>(
 {
     let mut steps = 0;
     let mut at = first_of(shelf, key, &mut steps);
-    let mut best: Option<usize> = None;
+    let mut best: Option<&Offer<K, M>> = None;
     let end = shelf.len();
     while at < end {
         let offer = shelf.read(at, &mut steps);
         if !offer.key.cmp(&key).is_eq() {
-            return (held_offer(shelf, best), steps);
+            return (best.copied(), steps);
         }
         if counts(now, offer.heard) {
-            best = Some(better_place(shelf, best, at));
+            best = Some(better_one(best, offer));
         }
         at += 1;
     }
-    (held_offer(shelf, best), steps)
+    (best.copied(), steps)
 }

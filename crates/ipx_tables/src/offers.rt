@@ -27,7 +27,7 @@ use std::marker::Model;
 #[derive(Drop)]
 pub struct Offers<K: Ord + Copy, M: Metric + Copy> {
     most: usize,
-    /// No offer is old before this moment. It may be too early, which costs one pass over them.
+    /// No offer is old before this moment. It may be too early, which costs a search for the oldest.
     none_old_before: u64,
     shelf: Shelf<K, M>,
 }

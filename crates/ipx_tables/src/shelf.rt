@@ -59,17 +59,17 @@ impl<K: Ord + Copy, M: Copy> Shelf<K, M> {
 
     /// Reads an offer, and counts that it was read.
     #[inline]
-    pub fn read(&self, at: usize, steps: &mut usize) -> Offer<K, M>
+    pub fn read(&self, at: usize, steps: &mut usize) -> &Offer<K, M>
         requires within { at < length self.now }
         requires few { steps.old + 1 < 2 ^ 64 }
-        ensures offer { result ≡ slice_index_or self.now at result }
+        ensures offer { result.now ≡ slice_index_or self.now at result.now }
         ensures steps { steps.new ≡ steps.old + 1 }
     {
         *steps += 1;
-        *self.offers.get(at)
+        self.offers.get(at)
     }
 
-    /// An offer, for who looks at no key: what is read so is not counted.
+    /// An offer, for a walk: what is read so is not counted.
     #[inline]
     pub fn get(&self, at: usize) -> &Offer<K, M>
         requires { at < length self.now }

@@ -1,6 +1,6 @@
 //! The best of each key, one after another.
 
-ghost use Rattle.std.specs.Prelude.{◌≡◌, ◌+◌, ◌^◌, ◌<◌, ◌∷◌, [], true, false, not, OnSome, length, slice_index_or, drop, IfSome, IfNone, MatchOption};
+ghost use Rattle.std.specs.Prelude.{◌≡◌, ◌+◌, ◌^◌, ◌<◌, ◌∷◌, [], true, false, not, OnSome, drop, IfSome, IfNone, MatchOption, option_copied};
 ghost use Rattle.std.specs.Ordering.{is_eq};
 ghost use Rattle.ipx_tables.specs.Walk.{IsLone, bests_of, item_of};
 
@@ -58,15 +58,6 @@ impl<'a, K: Ord + Copy, M: Metric + Copy> Iterator for Bests<'a, K, M> {
     }
 }
 
-/// An offer, read for a walk: what a walk reads is not counted.
-fn offer_at<K: Ord + Copy, M: Copy>(shelf: &Shelf<K, M>, at: usize) -> Offer<K, M>
-    requires { at < length shelf.now }
-    ensures { result ≡ slice_index_or shelf.now at result }
-{
-    let mut steps = 0;
-    shelf.read(at, &mut steps)
-}
-
 /// Whether the offer at a place counts, and the next one is of another key.
 #[inline]
 fn is_lone<K: Ord + Copy, M: Copy>(shelf: &Shelf<K, M>, at: usize, now: u64) -> bool
@@ -93,14 +84,14 @@ fn lone_at<K: Ord + Copy, M: Metric + Copy>(
 {
     let _offers = shelf.len();
     if is_lone(shelf, at, now) {
-        return Some(offer_at(shelf, at));
+        return Some(*shelf.get(at));
     }
     None
 }
 
 /// Whether an offer is held, and this key is another than its.
-fn is_past<K: Ord + Copy, M: Copy>(held: Option<Offer<K, M>>, key: K) -> bool
-    ensures { MatchOption held (result ≡ false) (λ h. is_eq (K.cmp h.key key) ≡ not result) }
+fn is_past<K: Ord + Copy, M: Copy>(held: Option<&Offer<K, M>>, key: K) -> bool
+    ensures { MatchOption (option_copied held.entry) (result ≡ false) (λ h. is_eq (K.cmp h.key key) ≡ not result) }
 {
     match held {
         None => false,
@@ -121,18 +112,18 @@ fn next_best<K: Ord + Copy, M: Metric + Copy>(
     ensures none { IfNone result.0 ((bests_of K.cmp M.before now (drop from shelf.now) ≡ [])
         × (bests_of K.cmp M.before now (drop result.1 shelf.now) ≡ [])) }
 {
-    let mut held: Option<Offer<K, M>> = None;
+    let mut held: Option<&Offer<K, M>> = None;
     let mut at = from;
     let end = shelf.len();
     while at < end {
-        let offer = offer_at(shelf, at);
+        let offer = shelf.get(at);
         if is_past(held, offer.key) {
-            return (held, at);
+            return (held.copied(), at);
         }
         if counts(now, offer.heard) {
             held = Some(better_one(held, offer));
         }
         at += 1;
     }
-    (held, at)
+    (held.copied(), at)
 }

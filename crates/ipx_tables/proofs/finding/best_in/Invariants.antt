@@ -1,8 +1,7 @@
-use Rattle.std.proofs.Common.{◌≡◌, ℕ, ◌+◌, ◌-◌, ◌^◌, ◌<◌, ◌≤◌, length, get_or, drop, take, None, false, count_by}
-use Rattle.std.specs.Prelude.{IfSome}
+use Rattle.std.proofs.Common.{◌≡◌, ℕ, ◌+◌, ◌-◌, ◌^◌, ◌<◌, ◌≤◌, length, get_or, drop, take, None, false, count_by, option_copied}
 use Rattle.std.specs.Ordering.{is_lt, is_eq}
 use Rattle.ipx_tables.specs.declared.offer.Offer.{Offer}
-use Rattle.ipx_tables.specs.OfferScan.{best_from, is_candidate, item_held, offer_beats}
+use Rattle.ipx_tables.specs.OfferScan.{best_from, is_candidate, offer_beats}
 use Rattle.ipx_tables.proofs.finding.best_in.Given as goal
 
 -- from the best so far, what is left gives the best of all; what was read is of the key
@@ -12,8 +11,7 @@ invariant-loop-at g l =
     record {
       within : l.at ≤ length l.shelf;
       above : (j : ℕ) (o : Offer g.row.K.Denot g.row.M.Denot) → l.at ≤ j → j < length l.shelf → is_lt (g.K.Ord.cmp (get_or l.shelf j o).key l.key) ≡ false;
-      best : best (item_held l.shelf l.best) (drop l.at l.shelf) ≡ best None l.shelf;
-      held : IfSome l.best (λ p. p < length l.shelf);
+      best : best (option_copied l.best) (drop l.at l.shelf) ≡ best None l.shelf;
       cost : (digits : ℕ) → length l.shelf < 2 ^ digits → l.steps ≤ count_by (λ o. is_eq (g.K.Ord.cmp o.key l.key)) (take l.at l.shelf) + digits;
       all_read : count_by (λ o. is_eq (g.K.Ord.cmp o.key l.key)) (take l.at l.shelf) ≤ l.steps;
     }

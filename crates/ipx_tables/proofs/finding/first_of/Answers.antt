@@ -18,7 +18,7 @@ loop-low-preserved-then-is_lt g c =
     let test : c.loop-low.low < c.loop-low.high = c.loop-low-test.true in
     let within : mid < length os = omega (arith, i.within) in
     let below : (o : Offer g.row.K.Denot g.row.M.Denot) → is_lt (g.K.Ord.cmp (get_or os mid o).key c.args.key) ≡ true = λ o.
-    ap (λ (v : Offer g.row.K.Denot g.row.M.Denot). is_lt (g.K.Ord.cmp v.key c.args.key)) (get_or_default os mid o c.read-offer.result within ∙ sym c.read-offer.ensures.offer) ∙ ap is_lt (sym c.cmp.ensures) ∙ sym c.is_lt.ensures ∙ c.if-is_lt.true in
+    ap (λ (v : Offer g.row.K.Denot g.row.M.Denot). is_lt (g.K.Ord.cmp v.key c.args.key)) (get_or_default os mid o c.read-offer.result.now within ∙ sym c.read-offer.ensures.offer) ∙ ap is_lt (sym c.cmp.ensures) ∙ sym c.is_lt.ensures ∙ c.if-is_lt.true in
     record {
       ordered = omega arith;
       within = i.within;
@@ -36,7 +36,7 @@ loop-low-preserved g c =
     let test : c.loop-low.low < c.loop-low.high = c.loop-low-test.true in
     let within : mid < length os = omega (arith, i.within) in
     let above : (o : Offer g.row.K.Denot g.row.M.Denot) → is_lt (g.K.Ord.cmp (get_or os mid o).key c.args.key) ≡ false = λ o.
-    ap (λ (v : Offer g.row.K.Denot g.row.M.Denot). is_lt (g.K.Ord.cmp v.key c.args.key)) (get_or_default os mid o c.read-offer.result within ∙ sym c.read-offer.ensures.offer) ∙ ap is_lt (sym c.cmp.ensures) ∙ sym c.is_lt.ensures ∙ c.if-is_lt.false in
+    ap (λ (v : Offer g.row.K.Denot g.row.M.Denot). is_lt (g.K.Ord.cmp v.key c.args.key)) (get_or_default os mid o c.read-offer.result.now within ∙ sym c.read-offer.ensures.offer) ∙ ap is_lt (sym c.cmp.ensures) ∙ sym c.is_lt.ensures ∙ c.if-is_lt.false in
     record {
       ordered = omega arith;
       within = omega (arith, i.within);

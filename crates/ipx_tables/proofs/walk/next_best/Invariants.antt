@@ -1,4 +1,4 @@
-use Rattle.std.proofs.Common.{◌≡◌, ◌-◌, length, drop}
+use Rattle.std.proofs.Common.{◌≡◌, ◌-◌, length, drop, option_copied}
 use Rattle.ipx_tables.specs.Walk.{bests_of}
 use Rattle.ipx_tables.proofs.Walks.{IsLow, put_held}
 use Rattle.ipx_tables.proofs.walk.next_best.Given as goal
@@ -8,8 +8,8 @@ abbrev pub invariant-loop-at : goal.invariant-loop-at
 invariant-loop-at g l =
     let bests = bests_of g.K.Ord.cmp g.M.Metric.before l.now in
     record {
-      left : put_held g.K.Ord.cmp g.M.Metric.before l.held (bests (drop l.at l.shelf)) ≡ bests (drop l.from l.shelf);
-      low : IsLow g.K.Ord.cmp l.shelf l.at l.held;
+      left : put_held g.K.Ord.cmp g.M.Metric.before (option_copied l.held) (bests (drop l.at l.shelf)) ≡ bests (drop l.from l.shelf);
+      low : IsLow g.K.Ord.cmp l.shelf l.at (option_copied l.held);
     }
 
 abbrev pub decreases-loop-at : goal.decreases-loop-at
