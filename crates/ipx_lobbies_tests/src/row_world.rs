@@ -166,19 +166,6 @@ fn keep(alloc: Global, came: &mut Vec<Datagram>, who: u8, bytes: &[u8]) -> Resul
 }
 
 impl RowWorld {
-    /// The next packet of the router, asked once more where it pauses.
-    fn next(
-        &mut self,
-        alloc: Global,
-        room: &mut [u8],
-    ) -> Result<Option<(usize, Node, usize)>, Fail> {
-        let given = self.core.next(alloc, self.now, room)?;
-        if given.is_none() && self.core.queued() > 0 {
-            return Ok(self.core.next(alloc, self.now, room)?);
-        }
-        Ok(given)
-    }
-
     /// A datagram comes to the router, and what comes of it goes. What the router tells all nodes
     /// of 00000081 is left aside.
     fn hear(&mut self, alloc: Global, sent: &Datagram) -> Result<(), Fail> {
@@ -193,7 +180,7 @@ impl RowWorld {
                 }
             }
         }
-        while let Some((port, node, size)) = self.next(alloc, &mut room)? {
+        while let Some((port, node, size)) = self.core.next(alloc, self.now, &mut room)? {
             if port < WIRED {
                 self.lobbies.send(port, node, &room[..size])?;
             } else if node != Node::BROADCAST {

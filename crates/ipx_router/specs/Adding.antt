@@ -1,7 +1,12 @@
 -- Words of the private functions that add packets to replies, one after another.
-use Rattle.std.specs.Prelude.{◌≡◌, ◌≤◌, List, ◌++◌, length}
+use Rattle.std.specs.Global.{Global}
+use Rattle.std.specs.Prelude.{Vec, ◌≡◌, ◌<◌, ◌≤◌, ℕ, List, [], ◌∷◌, ◌++◌, length, take, drop, false}
 use Rattle.ipx_router.specs.declared.outcome.Reply.{Reply}
-use Rattle.ipx_router.specs.RouterPackets.{SendingView, sendings}
+use Rattle.ipx_control.specs.declared.sap.packet.ServiceEntry.{ServiceEntry}
+use Rattle.ipx_control.specs.Sap.{IsSap}
+use Rattle.ipx_control.specs.Sap as sap
+use Rattle.ipx_router.specs.declared.packets.Recipient.{Recipient}
+use Rattle.ipx_router.specs.RouterPackets.{AreServicePackets, SendingView, sendings}
 
 -- replies were added at the end: these packets
 abbrev pub AddsPackets : (List SendingView → Type 0) → List Reply → List Reply → Type 0
@@ -23,3 +28,20 @@ pub record ArePacked {E : Type 0} (ArePackets : List E → List SendingView → 
   pub last : length hand ≤ length entries
   pub packed : (rest : List E) (later : List SendingView) → ArePackets (hand ++ rest) later
       → ArePackets (entries ++ rest) (sendings sent ++ later)
+
+-- bodies of packets that tell a list of services, of 7 at most, which are not addressed yet
+abbrev pub AreBodiesOf : List ServiceEntry → List (Vec ℕ Global) → Type 0
+AreBodiesOf services [] = services ≡ []
+AreBodiesOf services (b ∷ bs) = (0 < length services)
+    × IsSap (sap.Response false (take 7 services)) b.items [] × (length b.items ≤ 450)
+    × AreBodiesOf (drop 7 services) bs
+
+-- with whatever bodies the rest makes behind those so far, they are the bodies of all services
+abbrev pub IsLeftToCut : List ServiceEntry → List ServiceEntry → List (Vec ℕ Global) → Type 0
+IsLeftToCut services rest bodies = (later : List (Vec ℕ Global))
+    → AreBodiesOf rest later → AreBodiesOf services (bodies ++ later)
+
+-- whichever services these are the bodies of, their packets are added
+abbrev pub AddsBodies : Recipient → List (Vec ℕ Global) → List Reply → List Reply → Type 0
+AddsBodies to bodies old new = (services : List ServiceEntry) → AreBodiesOf services bodies
+    → AddsPackets (AreServicePackets to false services) old new

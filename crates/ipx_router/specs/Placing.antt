@@ -1,15 +1,18 @@
--- Words of the private functions that make the list of told routes.
-use Rattle.std.specs.Prelude.{◌≡◌, ◌<◌, ◌⊎◌, ℕ, ◌+◌, ◌==◌, ◌&&◌, Bool, true, false, not, List, slice_index_or, Option, Some, None, is_none, Contains, nat_lt}
+-- Words of the private functions that make the lists of told routes and services.
+use Rattle.std.specs.Prelude.{◌≡◌, ◌<◌, ◌⊎◌, ℕ, ◌+◌, ◌==◌, ◌&&◌, Bool, true, false, not, List, filter, map, slice_index_or, Option, Some, None, is_none, Contains, nat_lt}
 use Rattle.ipx_wire.specs.declared.address.Network.{Network}
 use Rattle.ipx_control.specs.declared.rip.packet.RipEntry.{RipEntry}
 use Rattle.ipx_tables.specs.declared.route.RouteMetric.{RouteMetric}
+use Rattle.ipx_control.specs.declared.sap.packet.ServiceEntry.{ServiceEntry}
+use Rattle.ipx_tables.specs.declared.service.ServiceKey.{ServiceKey}
+use Rattle.ipx_tables.specs.declared.service.ServiceMetric.{ServiceMetric}
 use Rattle.ipx_tables.specs.declared.source.Source.{Source}
 use Rattle.ipx_tables.specs.Route.{network_cmp}
 use Rattle.ipx_tables.specs.Sorted.{IsRising}
 use Rattle.ipx_router.specs.declared.port.Port.{Port}
 use Rattle.ipx_router.specs.declared.port.PortNow.{PortNow}
 use Rattle.ipx_router.specs.RouteChoice.{direct_route}
-use Rattle.ipx_router.specs.Told.{route_key, told_route}
+use Rattle.ipx_router.specs.Told.{route_key, told_route, told_service}
 
 -- an entry of the network stands in the list
 abbrev pub HasNetwork : List RipEntry → Network → Type 0
@@ -69,3 +72,7 @@ pub record AddsHeard (ports : List Port) (at : PortNow)
 -- an entry of a lower network
 abbrev pub is_below : Network → RipEntry → Bool
 is_below network entry = nat_lt entry.network.0 network.0
+
+-- the services that came by another port than that of a number, as they are told
+abbrev pub told_of_other_ports : ℕ → List (ServiceKey × Source × ServiceMetric) → List ServiceEntry
+told_of_other_ports number heard = map told_service (filter (λ item. not (item.1.port == number)) heard)

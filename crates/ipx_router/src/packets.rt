@@ -1,10 +1,11 @@
 //! The packets of a router's own.
 
-ghost use Rattle.std.specs.Prelude.{◌≡◌, ◌≤◌, ◌+◌, [], drop, length, OnOk, IfOk};
+ghost use Rattle.std.specs.Prelude.{◌≡◌, ◌≤◌, ◌+◌, [], drop, false, length, OnOk, IfOk};
+ghost use Rattle.ipx_wire.specs.Assigned.{packet_exchange_type, sap_socket};
 ghost use Rattle.ipx_wire.specs.Ipx.{IsBytes, IsIpx, packet_of};
 ghost use Rattle.ipx_control.specs.Rip.{Response as routes_response, rip_entries, rip_view};
-ghost use Rattle.ipx_control.specs.Sap.{IsSapWithinLimit, Response as services_response, sap_view};
-ghost use Rattle.ipx_router.specs.RouterPackets.{AreBytesOf, AreRoutePackets, AreServicePackets, IsRipPacket, IsSapPacket, all_nodes, recipient_at, own_header, sending_of};
+ghost use Rattle.ipx_control.specs.Sap.{IsSap, IsSapWithinLimit, Response as services_response, sap_view};
+ghost use Rattle.ipx_router.specs.RouterPackets.{AreBytesOf, AreRoutePackets, AreServicePackets, IsOwnPacket, IsRipPacket, IsSapPacket, all_nodes, recipient_at, own_header, sending_of};
 ghost use Rattle.ipx_router.specs.Adding.{AddsPackets};
 
 use crate::outcome::Reply;
@@ -198,6 +199,32 @@ pub fn services_packet(
     encode_services_into(nearest, services, &mut bytes[IPX_HEADER_SIZE..]);
     let header = header_to(to, packet_type::PACKET_EXCHANGE, Socket::SAP);
     Ok(closed(to, header, bytes))
+}
+
+/// The body of a response of services that stand in a longer list.
+pub fn services_body(alloc: Global, services: &[ServiceEntry]) -> Result<Vec<u8>, OutOfMemory>
+    requires { length services.now ≤ 7 }
+    ensures says { IfOk result (λ v. IsSap (services_response false services.now) v.items []) }
+    ensures short { IfOk result (λ v. length v.items ≤ 450) }
+{
+    let mut body = vec![in alloc; 0; OPERATION_SIZE + SERVICE_SIZE * services.len()]?;
+    encode_services_into(false, services, &mut body);
+    Ok(body)
+}
+
+/// A packet of services whose body stands elsewhere.
+pub fn services_packet_with(alloc: Global, to: Recipient, body: &[u8]) -> Result<Reply, OutOfMemory>
+    requires { length body.now ≤ 450 }
+    ensures { IfOk result (λ r. IsOwnPacket to packet_exchange_type sap_socket
+        (λ b. b ≡ body.now) (sending_of r)) }
+{
+    let header = header_to(to, packet_type::PACKET_EXCHANGE, Socket::SAP);
+    let bytes = packet_bytes(alloc, header, body)?;
+    Ok(Reply {
+        port: to.number,
+        next: to.node,
+        bytes,
+    })
 }
 
 /// Adds the packets of a list of routes.

@@ -1,6 +1,6 @@
 //! What a router tells its neighbours of itself.
 
-ghost use Rattle.std.specs.Prelude.{◌≡◌, ◌≤◌, true, length, OnErr, OnOk, IfOk};
+ghost use Rattle.std.specs.Prelude.{◌≡◌, ◌≤◌, true, length, map, OnErr, OnOk, IfOk, IfSome};
 ghost use Rattle.ipx_tables.specs.Listing.{IsListing};
 ghost use Rattle.ipx_tables.specs.Route.{network_cmp, route_before};
 ghost use Rattle.ipx_tables.specs.Service.{service_before, service_key_cmp};
@@ -8,13 +8,16 @@ ghost use Rattle.ipx_router.specs.Telling.{AreTellings, AreTold, HasToTell, IsNe
 ghost use Rattle.ipx_router.specs.Knowledge.{HoldsKnown, Routes, Services, known_aged, known_in, routes_in, services_in};
 ghost use Rattle.ipx_router.specs.Ports.{AreOnPorts, IsSound};
 ghost use Rattle.ipx_router.specs.RouterPackets.{sendings};
-ghost use Rattle.ipx_router.specs.Adding.{AddsPackets};
+ghost use Rattle.ipx_router.specs.Told.{told_service};
+ghost use Rattle.ipx_router.specs.Adding.{AddsPackets, AreBodiesOf};
 
 use crate::outcome::Reply;
-use crate::packets::{add_route_packets, add_service_packets, everyone};
+use crate::packets::{add_route_packets, everyone};
 use crate::port::{Port, PortNow};
-use crate::told::{routes_as_told, services_as_told};
-use ipx_tables::{RouteMetric, RouteTable, ServiceKey, ServiceMetric, ServiceTable, Source};
+use crate::told::{add_services_told, bodies_told_alike, routes_as_told};
+use ipx_tables::{
+    RouteMetric, RouteTable, ServiceKey, ServiceMetric, ServiceTable, Source, one_best,
+};
 use ipx_wire::{Network, OutOfMemory, Socket};
 use std::alloc::Global;
 
@@ -48,23 +51,62 @@ fn tell_on(
     ports: &[Port],
     heard_routes: &[(Network, Source, RouteMetric)],
     heard_services: &[(ServiceKey, Source, ServiceMetric)],
+    bodies: &Option<Vec<Vec<u8>>>,
     at: PortNow,
 ) -> Result<(), OutOfMemory>
+    requires { IfSome bodies.now (λ v.
+        AreBodiesOf (map told_service heard_services.now) v.items) }
     ensures { OnOk result ((routes : Routes) (services : Services)
         → IsListing network_cmp route_before routes at.now heard_routes.now
         → IsListing service_key_cmp service_before services at.now heard_services.now
         → AddsPackets (AreTold ports.now routes services at) told.old.items told.new.items) }
 {
     let known_routes = routes_as_told(alloc, ports, heard_routes, at)?;
-    let known_services = services_as_told(alloc, heard_services, at)?;
     let for_routes = everyone(at.number, at.port, Socket::RIP);
     add_route_packets(alloc, told, for_routes, &known_routes)?;
-    let for_services = everyone(at.number, at.port, Socket::SAP);
-    add_service_packets(alloc, told, for_services, false, &known_services)?;
-    Ok(())
+    one_best::<ServiceKey, ServiceMetric>();
+    add_services_told(alloc, told, heard_services, bodies, at)
 }
 
-/// The packets that tell routes and services on each port. Each table is listed once for all ports.
+/// The packets that tell on each port the routes and services that were heard.
+fn tell_heard(
+    alloc: Global,
+    ports: &[Port],
+    heard_routes: &[(Network, Source, RouteMetric)],
+    heard_services: &[(ServiceKey, Source, ServiceMetric)],
+    bodies: &Option<Vec<Vec<u8>>>,
+    now: u64,
+) -> Result<Vec<Reply>, OutOfMemory>
+    requires ports { length ports.now ≤ 16 }
+    requires bodies { IfSome bodies.now (λ v.
+        AreBodiesOf (map told_service heard_services.now) v.items) }
+    ensures { IfOk result (λ v. (routes : Routes) (services : Services)
+        → IsListing network_cmp route_before routes now heard_routes.now
+        → IsListing service_key_cmp service_before services now heard_services.now
+        → AreTellings ports.now routes services now 1 ports.now (sendings v.items)) }
+{
+    let mut told = Vec::new(alloc);
+    for (i, port) in ports.iter().enumerate() {
+        let at = PortNow {
+            number: i as u8 + 1,
+            port: *port,
+            now,
+        };
+        tell_on(
+            alloc,
+            &mut told,
+            ports,
+            heard_routes,
+            heard_services,
+            bodies,
+            at,
+        )?;
+    }
+    Ok(told)
+}
+
+/// The packets that tell routes and services on each port. Each table is listed once for all ports, and
+/// services that several ports tell alike are written once.
 fn tell_each(
     alloc: Global,
     ports: &[Port],
@@ -83,16 +125,8 @@ fn tell_each(
     let Ok(heard_services) = services.list(alloc, now) else {
         return Err(OutOfMemory);
     };
-    let mut told = Vec::new(alloc);
-    for (i, port) in ports.iter().enumerate() {
-        let at = PortNow {
-            number: i as u8 + 1,
-            port: *port,
-            now,
-        };
-        tell_on(alloc, &mut told, ports, &heard_routes, &heard_services, at)?;
-    }
-    Ok(told)
+    let bodies = bodies_told_alike(alloc, ports.len() as u8, &heard_services)?;
+    tell_heard(alloc, ports, &heard_routes, &heard_services, &bodies, now)
 }
 
 /// The packets that tell routes and services on all ports. On a lone port there is nothing to tell:

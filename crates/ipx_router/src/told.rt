@@ -1,22 +1,32 @@
 //! What a router tells on a port.
 
-ghost use Rattle.std.specs.Prelude.{◌≡◌, ◌<◌, ◌≤◌, OnOk, OnErr, IfErr, IfOk, Some, None, length, filter, map, not, ◌==◌};
+ghost use Rattle.std.specs.Prelude.{◌≡◌, ◌<◌, ◌≤◌, OnOk, OnErr, IfErr, IfOk, IfSome, Some, None, false, length, map, ◌==◌};
+ghost use Rattle.std.specs.List.{list_any};
+ghost use Rattle.ipx_wire.specs.Assigned.{sap_socket};
 ghost use Rattle.ipx_tables.specs.Sorted.{IsAtKey, IsGapFor, IsRising};
 ghost use Rattle.ipx_tables.specs.Listing.{IsListing};
 ghost use Rattle.ipx_tables.specs.Route.{network_cmp, route_before};
-ghost use Rattle.ipx_tables.specs.Service.{service_before, service_key_cmp};
-ghost use Rattle.ipx_router.specs.Knowledge.{Routes, Services, routes_in};
-ghost use Rattle.ipx_router.specs.Told.{AreToldRoutes, AreToldServices, IsToldRoute, route_key, told_route, told_service};
-ghost use Rattle.ipx_router.specs.Placing.{AddsHeard, AreToldPorts, IsToldPort, PutsEntry, is_told_item, is_told_port};
+ghost use Rattle.ipx_router.specs.Knowledge.{Routes, routes_in};
+ghost use Rattle.ipx_router.specs.RouterPackets.{AreServicePackets, all_nodes};
+ghost use Rattle.ipx_router.specs.Adding.{AddsPackets, AreBodiesOf};
+ghost use Rattle.ipx_router.specs.Told.{AreToldRoutes, IsToldRoute, route_key, told_route, told_service};
+ghost use Rattle.ipx_router.specs.Placing.{AddsHeard, AreToldPorts, IsToldPort, PutsEntry, is_told_item, is_told_port, told_of_other_ports};
 ghost use Rattle.ipx_router.specs.Picking.{IsToldOf};
 
+use crate::bodies::{add_bodies, service_bodies};
 use crate::networks::direct_port;
+use crate::outcome::Reply;
+use crate::packets::{add_service_packets, everyone};
 use crate::port::{Port, PortNow};
 use crate::route::route_to;
 use ipx_control::{RipEntry, ServiceEntry};
 use ipx_tables::{Metric, RouteMetric, RouteTable, ServiceKey, ServiceMetric, Source, one_best};
-use ipx_wire::{Network, OutOfMemory};
+use ipx_wire::{Network, OutOfMemory, Socket};
 use std::alloc::Global;
+
+/// How many ports are to tell all services before their bodies are written once for all: a copy of one costs
+/// half of what another writing does.
+const FEWEST_ALIKE: u8 = 3;
 
 /// A route as it is told on a port.
 pub fn told_entry(network: Network, metric: RouteMetric, at: PortNow) -> RipEntry
@@ -161,8 +171,7 @@ fn services_by_other_ports(
     heard: &[(ServiceKey, Source, ServiceMetric)],
     at: PortNow,
 ) -> Result<Vec<ServiceEntry>, OutOfMemory>
-    ensures { IfOk result (λ v. v.items
-        ≡ map told_service (filter (λ item. not (item.1.port == at.number)) heard.now)) }
+    ensures { IfOk result (λ v. v.items ≡ told_of_other_ports at.number heard.now) }
 {
     let told = heard
         .iter()
@@ -172,17 +181,78 @@ fn services_by_other_ports(
     Ok(told)
 }
 
-/// What is told on a port of the services that were heard, by kind and name.
-pub fn services_as_told(
+/// All services that were heard, as they are told where none of them came.
+fn all_services_as_told(
     alloc: Global,
     heard: &[(ServiceKey, Source, ServiceMetric)],
-    at: PortNow,
 ) -> Result<Vec<ServiceEntry>, OutOfMemory>
-    ensures { IfOk result (λ v. (services : Services)
-        → IsListing service_key_cmp service_before services at.now heard.now
-        → AreToldServices services at v.items) }
+    ensures { IfOk result (λ v. v.items ≡ map told_service heard.now) }
 {
-    let told = services_by_other_ports(alloc, heard, at)?;
-    one_best::<ServiceKey, ServiceMetric>();
+    let told = heard
+        .iter()
+        .map(told_service_of)
+        .collect::<Vec<ServiceEntry>>(alloc)?;
     Ok(told)
+}
+
+/// Whether one of these services came by a port.
+fn is_heard_at(heard: &[(ServiceKey, Source, ServiceMetric)], number: u8) -> bool
+    ensures { result ≡ list_any (λ item. item.1.port == number) heard.now }
+{
+    heard.iter().any(|item| item.1.port == number)
+}
+
+/// At how many of so many ports none of these services came. It is asked for speed: what is told is the
+/// same, whatever it answers.
+fn count_ports_without(ports: u8, heard: &[(ServiceKey, Source, ServiceMetric)]) -> u8
+    ensures { result ≤ ports }
+{
+    let mut count = 0;
+    for port in 0..ports {
+        if !is_heard_at(heard, port + 1) {
+            count += 1;
+        }
+    }
+    count
+}
+
+/// The bodies of the packets of all services, or nothing where too few of so many ports tell them all for
+/// that to be quicker.
+pub fn bodies_told_alike(
+    alloc: Global,
+    ports: u8,
+    heard: &[(ServiceKey, Source, ServiceMetric)],
+) -> Result<Option<Vec<Vec<u8>>>, OutOfMemory>
+    ensures { IfOk result (λ bodies. IfSome bodies (λ v.
+        AreBodiesOf (map told_service heard.now) v.items)) }
+{
+    if count_ports_without(ports, heard) < FEWEST_ALIKE {
+        return Ok(None);
+    }
+    let services = all_services_as_told(alloc, heard)?;
+    let bodies = service_bodies(alloc, &services)?;
+    Ok(Some(bodies))
+}
+
+/// Adds the packets that tell on a port the services that came by another one: those of the bodies,
+/// where none came by it.
+pub fn add_services_told(
+    alloc: Global,
+    told: &mut Vec<Reply>,
+    heard: &[(ServiceKey, Source, ServiceMetric)],
+    bodies: &Option<Vec<Vec<u8>>>,
+    at: PortNow,
+) -> Result<(), OutOfMemory>
+    requires { IfSome bodies.now (λ v. AreBodiesOf (map told_service heard.now) v.items) }
+    ensures { OnOk result (AddsPackets (AreServicePackets (all_nodes at.number at.port sap_socket)
+        false (told_of_other_ports at.number heard.now)) told.old.items told.new.items) }
+{
+    let to = everyone(at.number, at.port, Socket::SAP);
+    if let Some(bodies) = bodies {
+        if !is_heard_at(heard, at.number) {
+            return add_bodies(alloc, told, to, bodies);
+        }
+    }
+    let services = services_by_other_ports(alloc, heard, at)?;
+    add_service_packets(alloc, told, to, false, &services)
 }
