@@ -5,7 +5,7 @@ use Rattle.ipx_router.specs.Telling.{is_due}
 use Rattle.ipx_carrier.specs.RouterCore.{RouterHears}
 use Rattle.ipx_figures.specs.CountedRouter.{CountedView, CountsHeard, without_counts}
 use Rattle.ipx_by_hand.specs.ByHand.{ByHandView, HearsIfDue, HearsWords}
-use Rattle.ipx_by_hand.specs.HandRuns.{Asked, Comes, CountsByHandApart, uncounted}
+use Rattle.ipx_by_hand.specs.HandRuns.{Asked, AsksOnceMore, Comes, CountsByHandApart, uncounted}
 
 either : (P Q R S : Type 0) (b : Bool) → (P → R) → (Q → S) → MatchBool b P Q → MatchBool b R S
 either P Q R S true f g h = f h
@@ -27,3 +27,4 @@ if_due old new now h = either
 pub counts_apart : CountsByHandApart
 counts_apart now (Comes port bytes) old new h = (h.0.0, ap uncounted h.1)
 counts_apart now (Asked given) old new h = (uncounted h.0, if_due old h.0 now h.1, h.2.0, ap uncounted h.3)
+counts_apart now AsksOnceMore old new h = ap uncounted h

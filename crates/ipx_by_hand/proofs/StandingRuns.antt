@@ -9,10 +9,10 @@ use Rattle.ipx_router.specs.OutcomeView.{OutcomeView}
 use Rattle.ipx_router.specs.RouterPackets.{SendingView}
 use Rattle.ipx_router.specs.RouterView.{RouterView}
 use Rattle.ipx_router.specs.Telling.{is_due}
-use Rattle.ipx_carrier.specs.RouterCore.{CoreView, MakesReady, RouterGives, RouterHears, TellsNow}
+use Rattle.ipx_carrier.specs.RouterCore.{CoreView, RouterGives, RouterHears, TellsNow}
 use Rattle.ipx_carrier.specs.Turns.{Given}
 use Rattle.ipx_by_hand.specs.ByHand.{ByHandView, GivesByHand, HearsIfDue, HearsUnder, HearsWords}
-use Rattle.ipx_by_hand.specs.HandRuns.{Asked, ComesAs, DoHandCalls, DoesHandCall, HandCall, HandCallAt, IsAskedEachMinute, asked_by, asked_in, Comes}
+use Rattle.ipx_by_hand.specs.HandRuns.{Asked, AsksOnceMore, ComesAs, DoHandCalls, DoesHandCall, HandCall, HandCallAt, IsAskedEachMinute, asked_by, asked_in, Comes}
 use Rattle.ipx_by_hand.proofs.RoomForWords.{all_on, full, heard_router, of_false, of_true, one_on}
 
 bool_cases : (b : Bool) → (b ≡ true) ⊎ (b ≡ false)
@@ -26,19 +26,11 @@ words_ports now [] old new is = ap (λ (c : CoreView). c.router.ports) is
 words_ports now (w ∷ ws) old new h =
     words_ports now ws h.0 new h.2 ∙ ap (λ (r : RouterView). r.ports) (heard_router old h.0 (w.port - 1) w.bytes now h.1) ∙ h.1.2.rest.ports
 
-ready_ports : (old new : CoreView) (now : ℕ) → MakesReady old now new → new.router.ports ≡ old.router.ports
-ready_ports old new now (inl h) = ap (λ (c : CoreView). c.router.ports) h.1.5 ∙ h.1.4.2.ports
-ready_ports old new now (inr h) = ap (λ (c : CoreView). c.router.ports) h.1
-
-ready_full : (old new : CoreView) (now : ℕ) → MakesReady old now new → full new ≡ full old
-ready_full old new now (inl h) = ap full h.1.5
-ready_full old new now (inr h) = ap full h.1
-
-gives_router : (old new : CoreView) (now : ℕ) (given : Option Given) (h : RouterGives old now given new) → new.router ≡ h.0.router
-gives_router old new now given h = ap (λ (c : CoreView). c.router) h.2.1
+gives_router : (old new : CoreView) (now : ℕ) (given : Option Given) (h : RouterGives old now given new) → new.router ≡ h.1.2
+gives_router old new now given h = ap (λ (c : CoreView). c.router) h.2.1 ∙ ap (λ (c : CoreView). c.router) h.1.5
 
 gives_full : (old new : CoreView) (now : ℕ) (given : Option Given) → RouterGives old now given new → full new ≡ full old
-gives_full old new now given h = ap full h.2.1 ∙ ready_full old h.0 now h.1
+gives_full old new now given h = ap full h.2.1 ∙ ap full h.1.5
 
 due_full : (old new : ByHandView CoreView) (now : ℕ) → HearsIfDue RouterHears old now new → full old.core < 2 ^ 64 → (full old.core ≤ full new.core) × (full new.core < 2 ^ 64)
 due_full old new now h less = elim (bool_cases (is_due old.said now)) [
@@ -57,6 +49,9 @@ call_full now (Asked given) old new h less =
     let first = due_full old h.0 now h.1 less in
     let same = gives_full h.0.core new.core now given h.2 in
     (omega (arith, first.0, same), omega (arith, first.1, same))
+call_full now AsksOnceMore old new h less =
+    let same : full new.core ≡ full old.core = ap (λ (v : ByHandView CoreView). full v.core) h in
+    (omega (arith, same), omega (arith, same, less))
 
 calls_full : (cs : List HandCallAt) (old new : ByHandView CoreView) → DoHandCalls cs old new → full old.core < 2 ^ 64 → full old.core ≤ full new.core
 calls_full [] old new is less = omega (arith, ap (λ (v : ByHandView CoreView). full v.core) is)
@@ -88,12 +83,6 @@ module _ {M : Type 0} (metric : M) (ports : List Port) (words : List SendingView
   still_there : (now heard : ℕ) (o : Option (M × ℕ)) → o ≡ Some (metric, heard) → is_young now heard ≡ true → still now o ≡ Some (metric, heard)
   still_there now heard o is young = ap (still now) is ∙ ap (λ b. cond b (Some (metric, heard)) None) young
 
-  -- where something that is forwarded waits it stays, and else the router may tell
-  ready_stands : (old new : CoreView) (now heard : ℕ) → value old.router ≡ Some (metric, heard) → is_young now heard ≡ true → MakesReady old now new → value new.router ≡ Some (metric, heard)
-  ready_stands old new now heard stands young (inl h) =
-      ap (λ (c : CoreView). value c.router) h.1.5 ∙ tells old.router h.1.2 now h.1.1 h.1.4 ∙ still_there now heard (value old.router) stands young
-  ready_stands old new now heard stands young (inr h) = ap (λ (c : CoreView). value c.router) h.1 ∙ stands
-
   -- asked behind words, or where none were due
   asked_behind : (v mid : ByHandView CoreView) (now : ℕ) (given : Option Given) → Stays v now → RouterGives v.core now given mid.core → mid ≡ record v { core = mid.core } → Stays mid now
   asked_behind v mid now given s h is =
@@ -105,8 +94,8 @@ module _ {M : Type 0} (metric : M) (ports : List Port) (words : List SendingView
         lately = s.lately;
         heard = s.heard;
         since = s.since;
-        stands = ap value router ∙ ready_stands v.core h.0 now s.heard s.stands young h.1;
-        same_ports = ap (λ (r : RouterView). r.ports) router ∙ ready_ports v.core h.0 now h.1 ∙ s.same_ports;
+        stands = ap value router ∙ tells v.core.router h.1.2 now h.1.1 h.1.4 ∙ still_there now s.heard (value v.core.router) s.stands young;
+        same_ports = ap (λ (r : RouterView). r.ports) router ∙ h.1.4.2.ports ∙ s.same_ports;
         same_words = ap (λ (v : ByHandView CoreView). v.words) is ∙ s.same_words;
       }
 
@@ -168,6 +157,19 @@ module _ {M : Type 0} (metric : M) (ports : List Port) (words : List SendingView
         same_words = ap (λ (v : ByHandView CoreView). v.words) h.1 ∙ s.same_words;
       }
 
+  -- to ask its neighbours once more
+  asks_on : (v mid : ByHandView CoreView) (asked : ℕ) → Stays v asked → mid ≡ record v { core = record v.core { started = false } } → Stays mid asked
+  asks_on v mid asked s is = record {
+    last = s.last;
+    is_last = ap (λ (v : ByHandView CoreView). v.said) is ∙ s.is_last;
+    lately = s.lately;
+    heard = s.heard;
+    since = s.since;
+    stands = ap (λ (v : ByHandView CoreView). value v.core.router) is ∙ s.stands;
+    same_ports = ap (λ (v : ByHandView CoreView). v.core.router.ports) is ∙ s.same_ports;
+    same_words = ap (λ (v : ByHandView CoreView). v.words) is ∙ s.same_words;
+  }
+
   one_call : (now : ℕ) (c : HandCall) (v mid : ByHandView CoreView) (asked : ℕ) → Stays v asked → now ≤ asked + 60000 → ComesAs IsSuch c → DoesHandCall now c v mid
       → full mid.core ≡ full v.core → full v.core + 1 < 2 ^ 64 → Stays mid (asked_by now c asked)
   one_call now (Comes port bytes) v mid asked s within such h same less = comes_in v mid asked now port bytes s within such h
@@ -175,6 +177,7 @@ module _ {M : Type 0} (metric : M) (ports : List Port) (words : List SendingView
     | inl due ↦ asked_due v mid now given s.same_ports s.same_words due h same less
     | inr not_due ↦ asked_early v mid asked now given s not_due h
   ]
+  one_call now AsksOnceMore v mid asked s within such h same less = asks_on v mid asked s h
 
   all_calls : (cs : List HandCallAt) (v new : ByHandView CoreView) (asked : ℕ) → Stays v asked → IsAskedEachMinute IsSuch cs asked → DoHandCalls cs v new
       → full new.core ≡ full v.core → full v.core + 1 < 2 ^ 64 → Stays new (asked_in cs asked)

@@ -1,7 +1,7 @@
 -- A router that hears by hand, over a run of calls.
 -- The entry points are `RoutesByHandStand` and `ServicesByHandStand`, and `CountsByHandApart` of a router
 -- that counts.
-use Rattle.std.specs.Prelude.{◌≡◌, ◌<◌, ◌≤◌, ◌+◌, ◌^◌, ℕ, Bool, true, List, [], ◌∷◌, All, Contains, Option, Some}
+use Rattle.std.specs.Prelude.{◌≡◌, ◌<◌, ◌≤◌, ◌+◌, ◌^◌, ℕ, Bool, false, true, List, [], ◌∷◌, All, Contains, Option, Some}
 use Rattle.ipx_wire.specs.declared.address.Network.{Network}
 use Rattle.ipx_wire.specs.Ipx.{IsIpx, PacketView}
 use Rattle.ipx_control.specs.declared.rip.packet.RipEntry.{RipEntry}
@@ -24,10 +24,12 @@ use Rattle.ipx_by_hand.specs.ByHand.{ByHandView, GivesByHand, HearsUnder}
 use Rattle.ipx_by_hand.specs.HandOffers.{IsAnotherNode, SaysNoOther, source_by_hand}
 use Rattle.ipx_by_hand.specs.HandWords.{AreWordsOf}
 
--- bytes come in on a port; or it is asked for a packet, and gives one or none
+-- bytes come in on a port; or it is asked for a packet, and gives one or none; or it is to ask its
+-- neighbours once more
 pub data HandCall : Type 0 where
   Comes : (port : ℕ) → (bytes : List ℕ) → HandCall
   Asked : (given : Option Given) → HandCall
+  AsksOnceMore : HandCall
 
 pub record HandCallAt : Type 0 where
   pub moment : ℕ
@@ -37,6 +39,7 @@ pub record HandCallAt : Type 0 where
 abbrev pub DoesHandCall : ℕ → HandCall → ByHandView CoreView → ByHandView CoreView → Type 0
 DoesHandCall now (Comes port bytes) old new = HearsUnder RouterHears old port bytes now new
 DoesHandCall now (Asked given) old new = GivesByHand RouterHears RouterGives old now given new
+DoesHandCall now AsksOnceMore old new = new ≡ record old { core = record old.core { started = false } }
 
 abbrev pub DoHandCalls : List HandCallAt → ByHandView CoreView → ByHandView CoreView → Type 0
 DoHandCalls [] old new = new ≡ old
@@ -47,6 +50,7 @@ DoHandCalls (c ∷ cs) old new = (mid : ByHandView CoreView)
 abbrev pub asked_by : ℕ → HandCall → ℕ → ℕ
 asked_by now (Comes port bytes) asked = asked
 asked_by now (Asked given) asked = now
+asked_by now AsksOnceMore asked = asked
 
 abbrev pub asked_in : List HandCallAt → ℕ → ℕ
 asked_in [] asked = asked
@@ -56,6 +60,7 @@ asked_in (c ∷ cs) asked = asked_in cs (asked_by c.moment c.call asked)
 abbrev pub ComesAs : (ℕ → List ℕ → Type 0) → HandCall → Type 0
 ComesAs IsSuch (Comes port bytes) = IsSuch port bytes
 ComesAs IsSuch (Asked given) = Unit {0}
+ComesAs IsSuch AsksOnceMore = Unit {0}
 
 abbrev pub IsAskedEachMinute : (ℕ → List ℕ → Type 0) → List HandCallAt → ℕ → Type 0
 IsAskedEachMinute IsSuch [] asked = Unit {0}
@@ -126,6 +131,7 @@ uncounted s = record { core = without_counts s.core; words = s.words; said = s.s
 abbrev pub DoesCountedCall : ℕ → HandCall → ByHandView CountedView → ByHandView CountedView → Type 0
 DoesCountedCall now (Comes port bytes) old new = HearsUnder CountsHeard old port bytes now new
 DoesCountedCall now (Asked given) old new = GivesByHand CountsHeard CountsAsItGives old now given new
+DoesCountedCall now AsksOnceMore old new = new ≡ record old { core = record old.core { started = false } }
 
 -- that is what the call does to it without its counts: so all of the above is true of it too
 abbrev pub CountsByHandApart : Type 0

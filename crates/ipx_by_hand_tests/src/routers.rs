@@ -34,17 +34,13 @@ pub fn router(alloc: Global, speaks: u32) -> Result<ByHand<CountedRouter>, OutOf
     ByHand::new(alloc, CountedRouter::new(alloc, router)?, &[neighbour])
 }
 
-/// The packets that the router gives at a moment until none waits, in hex behind the device's port, a
-/// line each.
+/// The packets that the router gives at a moment, in hex behind the device's port, a line each.
 fn given(alloc: Global, core: &mut ByHand<CountedRouter>, now: u64) -> Result<String, Fail> {
     let mut room = [0; 1536];
     let mut text = String::new(alloc);
     for _ in 0..64_u32 {
         let Some((port, _, count)) = core.next(alloc, now, &mut room)? else {
-            if core.core().queued() == 0 {
-                return Ok(text);
-            }
-            continue;
+            return Ok(text);
         };
         let bytes = hex::encode(alloc, &room[..count])?;
         text.push_str(&format!(in alloc; "{port} {bytes}\n")?)?;
@@ -106,6 +102,21 @@ fn stands_and_goes(rt: HostRuntime) -> Result<(), Fail> {
     }
     assert!(rt; way(&core, 779_999) == by_hand() && has_service(&core, 779_999));
     assert!(rt; way(&core, 780_000) == None && !has_service(&core, 780_000));
+    Ok(())
+}
+
+/// It stands while the router asks its neighbours again, on both ports for routes and for services.
+#[test]
+fn stands_as_it_asks_again(rt: HostRuntime) -> Result<(), Fail> {
+    let alloc = rt.alloc();
+    let mut core = router(alloc, 1)?;
+    given(alloc, &mut core, 0)?;
+    for now in [1_000, 2_000, 4_000, 8_000, 16_000, 32_000] {
+        core.ask_again();
+        assert!(rt; way(&core, now) == by_hand() && has_service(&core, now));
+        assert_eq!(rt; given(alloc, &mut core, now)?.lines().count(), 4);
+        assert!(rt; way(&core, now) == by_hand() && has_service(&core, now));
+    }
     Ok(())
 }
 

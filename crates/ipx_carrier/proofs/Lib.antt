@@ -7,4 +7,5 @@ pub mod Putting
 pub mod Waiting
 pub mod Draining
 pub mod Bursting
+pub mod Staying
 pub mod Leaving

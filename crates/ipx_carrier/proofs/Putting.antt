@@ -1,16 +1,16 @@
 -- The queues of a router as a core.
-use Rattle.std.proofs.Common.{◌≡◌, ◌<◌, ◌≤◌, ℕ, ◌==◌, ◌+◌, ◌-◌, ◌^◌, Bool, true, false, List, [], ◌∷◌, ◌++◌, length, min, nat_le, Option, Some, None, refl, sym, ap, ◌∙◌, subst, arith, cond, length-append, MatchBool, Result, Ok, Err, inl, inr}
+use Rattle.std.proofs.Common.{◌≡◌, ◌≤◌, ℕ, ◌+◌, ◌-◌, ◌^◌, Bool, true, false, List, ◌∷◌, ◌++◌, length, min, nat_le, Option, Some, None, refl, sym, ap, ◌∙◌, subst, arith, cond, length-append, MatchBool, Result, Ok, Err, inl, inr}
 use Rattle.std.proofs.lemmas.List.Elements.{All-append, All-head, All-tail}
 use Rattle.std.proofs.lemmas.List.{length-map}
 use Rattle.std.specs.Result.{OnErr, OnOk}
-use borrow.Author.Tests.{eqb-true, leb-true}
+use borrow.Author.Tests.{leb-true}
 use Rattle.ipx_router.specs.OutcomeView.{OutcomeView, Forward, Replies, Heard, Dropped}
 use Rattle.ipx_router.specs.RouterView.{RouterView}
 use Rattle.ipx_router.specs.declared.outcome.Reply.{Reply}
 use Rattle.ipx_router.specs.RouterPackets.{SendingView, sending_of, sendings}
 use Rattle.ipx_carrier.specs.declared.outcome_counts.OutcomeCounts.{OutcomeCounts}
 use Rattle.ipx_carrier.specs.Turns.{Given}
-use Rattle.ipx_carrier.specs.RouterCore.{AreGivable, CoreQueues, CoreView, GivesNext, IsGivable, IsNotTold, Leaves, MakesReady, Withholds, dropped_behind, most_queued, one_forwarded, put_answer, put_behind, put_forwarded, put_own}
+use Rattle.ipx_carrier.specs.RouterCore.{AreGivable, CoreQueues, CoreView, GivesNext, RouterGives, IsGivable, IsNotTold, Leaves, TakesFirst, Withholds, dropped_behind, most_queued, one_forwarded, put_answer, put_behind, put_forwarded, put_own}
 use Rattle.ipx_carrier.specs.Queued.{Puts, PutsAnswer, PutsStart, PutsTold, core_queues}
 use Rattle.ipx_carrier.proofs.Givable.{IsGivableAnswer}
 
@@ -140,44 +140,24 @@ same_queues f router w w' q q' row started d d' h =
     ap (λ (xs : List Reply). core_of f router (core_queues xs q' row) started d') h.0 ∙ ap (λ (xs : List Reply). core_of f router (core_queues w xs row) started d') h.1 ∙ ap (λ d. core_of f router (core_queues w q row) started d) h.2
 
 -- its own that are as they were
-same_core : (f : OutcomeCounts) (router : RouterView) (w items items' : List Reply) (row : ℕ) (started started' : Bool) (d d' : ℕ) → (items' ≡ items) × (d' ≡ d) → started' ≡ started → core_of f router (core_queues w items' row) started' d' ≡ core_of f router (core_queues w items row) started d
+pub same_core : (f : OutcomeCounts) (router : RouterView) (w items items' : List Reply) (row : ℕ) (started started' : Bool) (d d' : ℕ) → (items' ≡ items) × (d' ≡ d) → started' ≡ started → core_of f router (core_queues w items' row) started' d' ≡ core_of f router (core_queues w items row) started d
 same_core f router w items items' row started started' d d' h s =
     ap (λ (xs : List Reply). core_of f router (core_queues w xs row) started' d') h.0 ∙ ap (λ d. core_of f router (core_queues w items row) started' d) h.1 ∙ ap (λ s. core_of f router (core_queues w items row) s d) s
 
--- by its length, something waits in a queue, or nothing does
-pub some_waits : (n : ℕ) (items : List Reply) → (n == 0) ≡ false → n ≡ length items → 0 < length (sendings items)
-some_waits n [] e is =
-    let other : true ≡ false = sym (ap (λ n. n == 0) is) ∙ e in
-    absurd (cc)
-some_waits n (r ∷ items) e is = omega arith
-
-pub none_waits : (n : ℕ) (items : List Reply) → (n == 0) ≡ true → n ≡ length items → sendings items ≡ []
-none_waits n [] e is = refl
-none_waits n (r ∷ items) e is =
-    let none : n ≡ 0 = eqb-true n 0 e in
-    absurd (omega (arith, none, is))
-
--- it started and told where nothing that is forwarded waits
-pub made_ready : (f : OutcomeCounts) (router router' : RouterView) (w items items1 items2 : List Reply) (row : ℕ) (started started' : Bool) (d d1 d2 now : ℕ) → sendings w ≡ [] → PutsStart router started (sendings items) d (sendings items1) d1 → PutsTold router now router' (sendings items1) d1 (sendings items2) d2 → started' ≡ true → MakesReady (core_of f router (core_queues w items row) started d) now (core_of f router' (core_queues w items2 row) started' d2)
-made_ready f router router' w items items1 items2 row started started' d d1 d2 now none h k s =
+pub next_gives : (f : OutcomeCounts) (router router' : RouterView) (w w3 items items1 items2 items3 : List Reply) (row row3 : ℕ) (started started' : Bool) (d d1 d2 now : ℕ) (given : Option Given) → PutsStart router started (sendings items) d (sendings items1) d1 → PutsTold router now router' (sendings items1) d1 (sendings items2) d2 → started' ≡ true → GivesNext (core_queues w items2 row) given (core_queues w3 items3 row3) → RouterGives (core_of f router (core_queues w items row) started d) now given (core_of f router' (core_queues w3 items3 row3) started' d2)
+next_gives f router router' w w3 items items1 items2 items3 row row3 started started' d d1 d2 now given h k s g =
+    let new : CoreView = core_of f router' (core_queues w3 items3 row3) started' d2 in
     let x : put_own k.0 (put_own h.0 (core_of f router' (core_queues w items row) true d)) ≡ core_of f router' (core_queues w items2 row) true d2 =
     ap (put_own k.0) (sym (put_own_is f h.0 (sendings w) (sendings items) (sendings items1) row d d1 router' true h.2)) ∙ sym (put_own_is f k.0 (sendings w) (sendings items1) (sendings items2) row d1 d2 router' true k.2) in
-    inl (none, (h.0, k.0, router', h.1, k.1, ap (λ s. core_of f router' (core_queues w items2 row) s d2) s ∙ sym x))
+    let takes : TakesFirst (core_of f router' (core_queues w items2 row) true d2) given new = (g, ap (λ s. core_of f router' (core_queues w3 items3 row3) s d2) s) in
+    (core_of f router' (core_queues w items2 row) true d2, (h.0, k.0, router', h.1, k.1, sym x), takes)
 
--- or was refused memory for its start
-pub start_withheld : (f : OutcomeCounts) (router : RouterView) (w items items' : List Reply) (row : ℕ) (started started' : Bool) (d d' now : ℕ) → sendings w ≡ [] → started ≡ false → (items' ≡ items) × (d' ≡ d) → started' ≡ true → Withholds (core_of f router (core_queues w items row) started d) now (core_of f router (core_queues w items' row) started' d')
-start_withheld f router w items items' row started started' d d' now none once same s =
-    (none, inl (once, same_core f router w items items' row true started' d d' same s))
-
--- or for what it tells
-pub told_withheld : (f : OutcomeCounts) (router router' : RouterView) (w items items1 items2 : List Reply) (row : ℕ) (started started' : Bool) (d d1 d2 now : ℕ) → sendings w ≡ [] → PutsStart router started (sendings items) d (sendings items1) d1 → started' ≡ true → (items2 ≡ items1) × (d2 ≡ d1) → IsNotTold router now (sendings items1) router' → Withholds (core_of f router (core_queues w items row) started d) now (core_of f router' (core_queues w items2 row) started' d2)
-told_withheld f router router' w items items1 items2 row started started' d d1 d2 now none h s same lost = (
-  none,
-  inr (
-    h.0,
-    router',
-    h.1,
-    same_core f router' w items1 items2 row true started' d1 d2 same s ∙ put_own_is f h.0 (sendings w) (sendings items) (sendings items1) row d d1 router' true h.2,
-    subst (λ (xs : List Reply). IsNotTold router now (sendings xs) router') (sym same.0) lost,
-  ),
-)
+pub next_withholds : (f : OutcomeCounts) (router router' : RouterView) (w items items1 items2 : List Reply) (row : ℕ) (started started' : Bool) (d d1 d2 now : ℕ) → PutsStart router started (sendings items) d (sendings items1) d1 → started' ≡ true → (items2 ≡ items1) × (d2 ≡ d1) → IsNotTold router now (sendings items1) router' → Withholds (core_of f router (core_queues w items row) started d) now (core_of f router' (core_queues w items2 row) started' d2)
+next_withholds f router router' w items items1 items2 row started started' d d1 d2 now h s same lost =
+    inr (
+      h.0,
+      router',
+      h.1,
+      same_core f router' w items1 items2 row true started' d1 d2 same s ∙ put_own_is f h.0 (sendings w) (sendings items) (sendings items1) row d d1 router' true h.2,
+      subst (λ (xs : List Reply). IsNotTold router now (sendings xs) router') (sym same.0) lost,
+    )

@@ -1,7 +1,7 @@
 -- A router as a core: it hears datagrams and gives packets by two queues, one of what is forwarded and one
 -- of its own, of which each holds 16,384. Which of them leave is own.
 -- The entry points are `RouterHears` and `RouterGives`, and `Misses` and `Withholds` where memory is refused.
-use Rattle.std.specs.Prelude.{◌≡◌, ◌<◌, ◌≤◌, ◌⊎◌, ℕ, ◌+◌, ◌-◌, Bool, true, false, List, [], ◌∷◌, ◌++◌, All, length, map, nat_le, take, Option, Some, None, option_map, if◌then◌else◌, MatchBool}
+use Rattle.std.specs.Prelude.{◌≡◌, ◌<◌, ◌≤◌, ◌⊎◌, ℕ, ◌+◌, ◌-◌, Bool, true, false, List, [], ◌∷◌, ◌++◌, All, length, map, nat_le, nat_lt, take, drop, Option, Some, None, option_map, if◌then◌else◌, MatchBool}
 use Rattle.ipx_wire.specs.declared.address.Node.{Node}
 use Rattle.ipx_router.specs.RouterView.{RouterView}
 use Rattle.ipx_router.specs.RouterPackets.{SendingView}
@@ -10,7 +10,7 @@ use Rattle.ipx_router.specs.OutcomeView.{OutcomeView, Forward, Replies, Heard, D
 use Rattle.ipx_router.specs.Answer.{Receives}
 use Rattle.ipx_router.specs.WantOfMemory.{WantsMemory}
 use Rattle.ipx_router.specs.Starting.{AreStarts}
-use Rattle.ipx_router.specs.Knowledge.{HoldsKnown, KeepsAllButOffers, known_at, tables}
+use Rattle.ipx_router.specs.Knowledge.{HoldsKnown, KeepsAllButOffers, known_at, known_in, tables}
 use Rattle.ipx_router.specs.Telling as telling
 use Rattle.ipx_carrier.specs.declared.outcome_counts.OutcomeCounts.{OutcomeCounts}
 use Rattle.ipx_carrier.specs.Counting.{counted}
@@ -42,9 +42,17 @@ pub record CoreView : Type 0 where
 abbrev pub most_queued : ℕ
 most_queued = 16384
 
--- so many of the router's own packets leave in a row at most
+-- how many of its own leave in a row at most
 abbrev pub most_in_a_row : ℕ
-most_in_a_row = 2
+most_in_a_row = 8
+
+-- where more of its own than so many wait, fewer leave in a row behind a packet that is forwarded
+abbrev pub few_waiting : ℕ
+few_waiting = 64
+
+-- how many leave in a row then
+abbrev pub least_in_a_row : ℕ
+least_in_a_row = 2
 
 -- packets go behind those that wait, if there is room for all of them; else none of them does
 abbrev pub put_behind : List SendingView → List SendingView → List SendingView
@@ -91,11 +99,17 @@ RouterHears old port bytes now new = (a : OutcomeView) × (router : RouterView)
 abbrev pub given_of : SendingView → Given
 given_of s = record { port = s.port - 1; node = s.next; bytes = s.bytes }
 
+-- how many of its own count as having left in a row once a packet that is forwarded leaves: where more than
+-- few wait, as many as leave room in the row for the least alone; else none
+abbrev pub row_behind : List SendingView → ℕ
+row_behind own = if nat_lt few_waiting (length own) then most_in_a_row - least_in_a_row else 0
+
 -- which packet leaves next, and what waits then: the first of those that are forwarded; where there is none,
--- the first of the router's own, unless the most of these left in a row; else none, and another row begins
+-- the first of the router's own, unless as many of these left in a row as may; else none, and another row
+-- begins
 abbrev pub Leaves : CoreQueues → Option SendingView → CoreQueues → Type 0
 Leaves old (Some s) new = ((old.forwarded ≡ s ∷ new.forwarded)
-    × (new ≡ record old { forwarded = new.forwarded; in_a_row = 0 }))
+    × (new ≡ record old { forwarded = new.forwarded; in_a_row = row_behind old.own }))
     ⊎ ((old.forwarded ≡ []) × (old.own ≡ s ∷ new.own) × (old.in_a_row < most_in_a_row)
     × (new ≡ record old { own = new.own; in_a_row = old.in_a_row + 1 }))
 Leaves old None new = (old.forwarded ≡ []) × ((old.own ≡ []) ⊎ (most_in_a_row ≤ old.in_a_row))
@@ -120,21 +134,16 @@ abbrev pub TellsNow : RouterView → ℕ → List SendingView → RouterView →
 TellsNow old now sent new = telling.TellsIfDue (known_at old now) old.told now sent new.told
     × HoldsKnown (known_at old now) (tables new) × KeepsAllButOffers old new
 
--- it starts and tells: the packets of its start are put behind its own, then those that are told
+-- the packets of the start are put behind its own, and then those that are told
 abbrev pub StartsAndTells : CoreView → ℕ → CoreView → Type 0
 StartsAndTells old now new = (first told : List SendingView) × (router : RouterView)
     × AreFirst old first × TellsNow old.router now told router
     × (new ≡ put_own told (put_own first (record old { router = router; started = true })))
 
--- so it does where nothing that is forwarded waits; else it stays as it is
-abbrev pub MakesReady : CoreView → ℕ → CoreView → Type 0
-MakesReady old now new = ((old.queues.forwarded ≡ []) × StartsAndTells old now new)
-    ⊎ ((0 < length old.queues.forwarded) × (new ≡ old))
-
--- and then the next packet leaves
+-- and the next packet leaves
 abbrev pub RouterGives : CoreView → ℕ → Option Given → CoreView → Type 0
 RouterGives old now given new =
-    (ready : CoreView) × MakesReady old now ready × TakesFirst ready given new
+    (ready : CoreView) × StartsAndTells old now ready × TakesFirst ready given new
 
 -- there are packets to put into a queue, and they would pass no limit of it
 abbrev pub IsRoomFor : List SendingView → List SendingView → Type 0
@@ -177,13 +186,13 @@ abbrev pub IsNotTold : RouterView → ℕ → List SendingView → RouterView �
 IsNotTold old now own new = TellsInVain old now new
     ⊎ ((told : List SendingView) × TellsNow old now told new × IsRoomFor own told)
 
--- nothing that is forwarded waits, and memory is refused for the packets of the start; or these are put
--- behind its own, and memory is refused for those that are told
+-- memory is refused for the packets of the start; or these are put behind its own, and memory is
+-- refused for those that are told
 abbrev pub Withholds : CoreView → ℕ → CoreView → Type 0
-Withholds old now new = (old.queues.forwarded ≡ []) × (StartsInVain old new
+Withholds old now new = StartsInVain old new
     ⊎ ((first : List SendingView) × (router : RouterView) × AreFirst old first
     × (new ≡ put_own first (record old { router = router; started = true }))
-    × IsNotTold old.router now new.queues.own router))
+    × IsNotTold old.router now new.queues.own router)
 
 -- a packet leaves by a port that is there, and fits the room
 abbrev pub IsGivable : ℕ → SendingView → Type 0
@@ -192,16 +201,32 @@ IsGivable ports s = IsPortNumber ports s.port × (length s.bytes ≤ 1500)
 abbrev pub AreGivable : ℕ → List SendingView → Type 0
 AreGivable ports = All (IsGivable ports)
 
--- how many of its own may leave in this row, or, where something is forwarded, in another one behind it
-abbrev pub left_in_a_row : List SendingView → ℕ → ℕ
-left_in_a_row [] in_a_row = most_in_a_row - in_a_row
-left_in_a_row (s ∷ forwarded) in_a_row = most_in_a_row
+-- how many of its own may leave once nothing that is forwarded waits any more
+abbrev pub most_of_own : List SendingView → List SendingView → ℕ → ℕ
+most_of_own [] own in_a_row = most_in_a_row - in_a_row
+most_of_own (s ∷ forwarded) own in_a_row = most_in_a_row - row_behind own
 
--- asked until it gives none, a router gives all that is forwarded, in order, and behind that so many of its
--- own, the first ones of these as it has started and told
+-- all that is forwarded leaves, in order, and behind that the first so many of its own; the others wait
+abbrev pub LeaveInOrder : CoreQueues → List Given → CoreQueues → Type 0
+LeaveInOrder old packets new = (packets ≡ map given_of
+    (old.forwarded ++ take (most_of_own old.forwarded old.own old.in_a_row) old.own))
+    × (new ≡ record nothing_waits
+    { own = drop (most_of_own old.forwarded old.own old.in_a_row) old.own })
+
+-- a router holds just what it held; in which order its tables list that is own
+abbrev pub HoldsTheSame : RouterView → RouterView → Type 0
+HoldsTheSame old new = HoldsKnown (known_in old.ports old.routes old.services) (tables new)
+    × KeepsAllButOffers old new × (new.told ≡ old.told)
+
+-- so does a core's router, and of the core nothing else changes but its queues
+abbrev pub KeepsAllButQueues : CoreView → CoreView → Type 0
+KeepsAllButQueues old new = HoldsTheSame old.router new.router
+    × (new ≡ record old { router = new.router; queues = new.queues })
+
+-- so it is where a router is asked until it gives none, with its own as they are once it has started and
+-- told, and all else stays as it is then
 abbrev pub ForwardedLeaveFirst : Type 0
 ForwardedLeaveFirst = (now : ℕ) (packets : List Given) (old last new : CoreView)
     → GivesEach RouterGives now packets old last → RouterGives last now None new
-    → (ready : CoreView) × StartsAndTells old now ready
-    × (packets ≡ map given_of (old.queues.forwarded
-    ++ take (left_in_a_row old.queues.forwarded old.queues.in_a_row) ready.queues.own))
+    → (ready : CoreView) × StartsAndTells old now ready × LeaveInOrder ready.queues packets new.queues
+    × KeepsAllButQueues ready new

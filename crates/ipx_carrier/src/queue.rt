@@ -4,7 +4,7 @@ ghost use Rattle.std.specs.Prelude.{◌≡◌, ℕ, ◌<◌, ◌≤◌, ◌∷�
 ghost use Rattle.ipx_router.specs.RouterPackets.{sending_of, sendings};
 ghost use Rattle.ipx_carrier.specs.GivenPackets.{given_in};
 ghost use Rattle.ipx_router.specs.OutcomeView.{router_outcome};
-ghost use Rattle.ipx_carrier.specs.RouterCore.{AreGivable, GivesNext, IsGivable, IsNotTold, IsRoomFor, IsRoomForAnswer, Leaves, given_of, most_queued};
+ghost use Rattle.ipx_carrier.specs.RouterCore.{AreGivable, GivesNext, IsGivable, IsNotTold, IsRoomFor, IsRoomForAnswer, Leaves, given_of, most_queued, row_behind};
 ghost use Rattle.ipx_carrier.specs.Queued.{Puts, PutsAnswer, PutsStart, PutsTold, core_queues};
 
 use crate::counting::raise;
@@ -17,7 +17,13 @@ use std::collections::VecDeque;
 const MOST_QUEUED: usize = 16_384;
 
 /// How many packets of its own a router gives in a row.
-const MOST_IN_A_ROW: u32 = 2;
+const MOST_IN_A_ROW: u32 = 8;
+
+/// Where more of its own than so many wait, fewer leave in a row behind a packet that is forwarded.
+const FEW_WAITING: usize = 64;
+
+/// How many leave in a row then.
+const LEAST_IN_A_ROW: u32 = 2;
 
 /// Puts packets behind those that wait, if there is room for all of them, and else counts them.
 pub fn put_all(
@@ -151,6 +157,17 @@ fn take_own(own: &mut VecDeque<Reply>, in_a_row: &mut u32) -> Option<Reply>
     Some(reply)
 }
 
+/// How many of the router's own count as having left in a row once a packet that is forwarded leaves.
+fn row_behind(own: &VecDeque<Reply>) -> u32
+    ensures { result ≡ row_behind (sendings own.now.items) }
+{
+    if own.len() > FEW_WAITING {
+        MOST_IN_A_ROW - LEAST_IN_A_ROW
+    } else {
+        0
+    }
+}
+
 /// Takes the packet that leaves next: the first that is forwarded, and else one of the router's own.
 fn take_next(
     forwarded: &mut VecDeque<Reply>,
@@ -164,7 +181,7 @@ fn take_next(
     let Some(reply) = forwarded.pop_front() else {
         return take_own(own, in_a_row);
     };
-    *in_a_row = 0;
+    *in_a_row = row_behind(own);
     Some(reply)
 }
 

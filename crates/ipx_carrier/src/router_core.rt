@@ -1,8 +1,8 @@
 //! A router as a core.
 
-ghost use Rattle.std.specs.Prelude.{◌≡◌, ◌≤◌, ◌+◌, false, length, OnErr, OnOk};
+ghost use Rattle.std.specs.Prelude.{◌≡◌, ◌≤◌, ◌+◌, false, length};
 ghost use Rattle.ipx_carrier.specs.OutcomeCounts.{none};
-ghost use Rattle.ipx_carrier.specs.RouterCore.{ForwardedLeaveFirst, MakesReady, Withholds, nothing_waits};
+ghost use Rattle.ipx_carrier.specs.RouterCore.{ForwardedLeaveFirst, nothing_waits};
 
 use crate::cores::Core;
 use crate::outcome_counts::OutcomeCounts;
@@ -18,8 +18,8 @@ use std::marker::Model;
 /// What it is to send waits in two queues of at most 16,384 packets each: what it forwards, and its
 /// own, by which it answers, starts and tells. An answer, or the packets by which it starts or tells,
 /// that would pass this is dropped whole, and its packets are counted. What is forwarded is given
-/// first, before it starts or tells, and of its own two in a row: then it gives none once, so that
-/// its ports are heard.
+/// first, and of its own eight in a row, or, behind what is forwarded, two where more than 64 of its
+/// own wait: then it gives none once, so that its ports are heard.
 #[derive(Drop)]
 pub struct RouterCore {
     router: Router,
@@ -112,37 +112,11 @@ impl RouterCore {
     {
         self.started = false;
     }
-
-    /// Puts the packets by which it starts and tells behind its own, unless something that is
-    /// forwarded waits.
-    fn make_ready(&mut self, alloc: Global, now: u64) -> Result<(), OutOfMemory>
-        ensures ready { OnOk result (MakesReady self.old now self.new) }
-        ensures refused { OnErr result (Withholds self.old now self.new) }
-        ensures ports { self.new.router.ports ≡ self.old.router.ports }
-    {
-        if !self.forwarded.is_empty() {
-            return Ok(());
-        }
-        put_start(
-            alloc,
-            &self.router,
-            &mut self.started,
-            &mut self.own,
-            &mut self.dropped,
-        )?;
-        put_told(
-            alloc,
-            &mut self.router,
-            now,
-            &mut self.own,
-            &mut self.dropped,
-        )?;
-        Ok(())
-    }
 }
 
 /// Asked for packets until it gives none, a router gives all that is forwarded, and then the first of
-/// its own, at most two.
+/// its own, once it has started and told: 8 at most, or 2 behind what is forwarded where more than 64
+/// wait. The others wait on, and all else stays as it is then.
 pub fn forwarded_packets_leave_first()
     ensures { ForwardedLeaveFirst }
 {}
@@ -188,7 +162,20 @@ impl Core for RouterCore {
         now: u64,
         room: &mut [u8],
     ) -> Result<Option<(usize, Node, usize)>, OutOfMemory> {
-        self.make_ready(alloc, now)?;
+        put_start(
+            alloc,
+            &self.router,
+            &mut self.started,
+            &mut self.own,
+            &mut self.dropped,
+        )?;
+        put_told(
+            alloc,
+            &mut self.router,
+            now,
+            &mut self.own,
+            &mut self.dropped,
+        )?;
         Ok(take_first(&mut self.forwarded, &mut self.own, &mut self.in_a_row, room))
     }
 }

@@ -73,7 +73,7 @@ fn bursts_that_fail(rt: HostRuntime) -> Result<(), Fail> {
     assert!(rt; failed == Err(RunFault::Device));
     assert_eq!(rt; two.failures(), 1);
     let well = turn_segments(alloc, &mut core, &mut two, &mut clock)?;
-    assert!(rt; well.sent == 2);
+    assert!(rt; well.sent == 6);
     Ok(())
 }
 

@@ -4,6 +4,7 @@ use crate::fixture::{one_peer_each, one_turn, two_ports};
 use ipx_carrier::{Core, Datagrams, MemoryDatagrams, RouterCore};
 use ipx_wire::Node;
 use std::alloc::Global;
+use std::process::Abort;
 use std::test::Fail;
 
 /// A packet from network 11 to node 00007f000005 of network 22, which goes on by port 1.
@@ -46,58 +47,88 @@ fn given(alloc: Global, core: &mut RouterCore, calls: u32) -> Result<String, Fai
     Ok(kinds)
 }
 
-/// Five replies and the six packets of its start leave in order, two in a row, and what is forwarded
-/// meanwhile leaves before them.
+/// Fourteen replies and the six packets of its start leave in order, eight in a row, and what is
+/// forwarded meanwhile leaves before them.
 #[test]
 fn what_is_forwarded_leaves_first(rt: HostRuntime) -> Result<(), Fail> {
     let alloc = rt.alloc();
     let mut core = two_ports(alloc)?;
-    hear(alloc, &mut core, REQUEST, 5)?;
-    assert_eq!(rt; given(alloc, &mut core, 3)?.as_str(), "rr-");
+    hear(alloc, &mut core, REQUEST, 14)?;
+    assert_eq!(rt; given(alloc, &mut core, 9)?.as_str(), "rrrrrrrr-");
     hear(alloc, &mut core, ONWARD, 2)?;
-    assert_eq!(rt; core.queued(), 11);
+    assert_eq!(rt; core.queued(), 14);
     assert_eq!(rt; given(alloc, &mut core, 3)?.as_str(), "ffr");
-    assert_eq!(rt; given(alloc, &mut core, 8)?.as_str(), "r-rs-ss-");
+    assert_eq!(rt; given(alloc, &mut core, 8)?.as_str(), "rrrrrss-");
     hear(alloc, &mut core, ONWARD, 1)?;
-    assert_eq!(rt; given(alloc, &mut core, 6)?.as_str(), "fss-s-");
-    assert_eq!(rt; given(alloc, &mut core, 1)?.as_str(), "-");
+    assert_eq!(rt; given(alloc, &mut core, 7)?.as_str(), "fssss--");
     assert_eq!(rt; core.queued(), 0);
     Ok(())
 }
 
-/// While something that is forwarded waits, it does not start.
-#[test]
-fn it_starts_behind_what_is_forwarded(rt: HostRuntime) -> Result<(), Fail> {
-    let alloc = rt.alloc();
-    let mut core = two_ports(alloc)?;
-    hear(alloc, &mut core, ONWARD, 2)?;
-    assert_eq!(rt; given(alloc, &mut core, 2)?.as_str(), "ff");
-    assert_eq!(rt; core.queued(), 0);
-    assert_eq!(rt; given(alloc, &mut core, 1)?.as_str(), "s");
-    assert_eq!(rt; core.queued(), 5);
-    Ok(())
-}
-
-/// A turn sends what came and two packets of its own, and then the ports are asked again.
-#[test]
-fn a_turn_sends_two_of_its_own(rt: HostRuntime) -> Result<(), Fail> {
-    let alloc = rt.alloc();
-    let mut core = two_ports(alloc)?;
-    hear(alloc, &mut core, REQUEST, 5)?;
+/// How many datagrams turns send, for each of which a packet came that goes on, and is sent first; and
+/// how many another one behind them.
+fn check_turns(
+    rt: &impl Abort,
+    alloc: Global,
+    core: &mut RouterCore,
+    each: &[u128],
+    behind: u128,
+) -> Result<(), Fail> {
     let mut datagrams = MemoryDatagrams::new(alloc, 2)?;
     let peers = one_peer_each(alloc)?;
     let onward = hex::decode(alloc, ONWARD)?;
-    for sent in [3, 3, 3, 3, 3, 2, 1] {
+    for sent in each {
         if datagrams.ports() == 2 {
             datagrams.put(alloc, 0, &onward)?;
         }
         let first = datagrams.sent().len();
-        let report = one_turn(alloc, &mut core, &mut datagrams, &peers)?;
-        assert!(rt; report.sent == sent);
+        let report = one_turn(alloc, core, &mut datagrams, &peers)?;
+        assert!(rt; report.sent == *sent);
         assert!(rt; matches!(datagrams.sent().get(first), Some(d) if d.to == [127, 0, 0, 5]));
     }
-    let report = one_turn(alloc, &mut core, &mut datagrams, &peers)?;
-    assert!(rt; report.sent == 0);
+    let report = one_turn(alloc, core, &mut datagrams, &peers)?;
+    assert!(rt; report.sent == behind);
+    Ok(())
+}
+
+/// A turn sends what came and eight packets of its own, and then the ports are asked again.
+#[test]
+fn a_turn_sends_eight_of_its_own(rt: HostRuntime) -> Result<(), Fail> {
+    let alloc = rt.alloc();
+    let mut core = two_ports(alloc)?;
+    hear(alloc, &mut core, REQUEST, 14)?;
+    check_turns(&rt, alloc, &mut core, &[9, 9, 5], 0)?;
+    Ok(())
+}
+
+/// Behind what is forwarded two of its own leave in a row where 65 wait, and eight where 64 do. Where
+/// nothing is forwarded eight leave also where more wait.
+#[test]
+fn two_of_its_own_leave_where_many_wait(rt: HostRuntime) -> Result<(), Fail> {
+    let alloc = rt.alloc();
+    let mut core = two_ports(alloc)?;
+    hear(alloc, &mut core, REQUEST, 59)?;
+    hear(alloc, &mut core, ONWARD, 2)?;
+    assert_eq!(rt; given(alloc, &mut core, 5)?.as_str(), "ffrr-");
+    assert_eq!(rt; core.queued(), 63);
+    hear(alloc, &mut core, REQUEST, 1)?;
+    hear(alloc, &mut core, ONWARD, 1)?;
+    assert_eq!(rt; given(alloc, &mut core, 10)?.as_str(), "frrrrrrrr-");
+    hear(alloc, &mut core, REQUEST, 10)?;
+    assert_eq!(rt; core.queued(), 66);
+    assert_eq!(rt; given(alloc, &mut core, 9)?.as_str(), "rrrrrrrr-");
+    Ok(())
+}
+
+/// So it is in a turn: where 66 of its own wait it sends what came and two of these, then eight of the
+/// 64 that are left, and eight behind nothing.
+#[test]
+fn a_turn_sends_two_of_its_own_where_many_wait(rt: HostRuntime) -> Result<(), Fail> {
+    let alloc = rt.alloc();
+    let mut core = two_ports(alloc)?;
+    hear(alloc, &mut core, REQUEST, 60)?;
+    check_turns(&rt, alloc, &mut core, &[3, 9], 8)?;
+    assert_eq!(rt; core.queued(), 48);
     Ok(())
 }
 

@@ -89,12 +89,12 @@ fn next_at_last(
 }
 
 /// What comes of bytes that a core hears: this packet, or none where memory was refused. Heard once
-/// more behind the first packet of its own, it comes behind so many more calls.
+/// more behind the first packet of its own, it leaves behind so many others of these.
 fn comes_of(
     alloc: Global,
     text: &[u8],
     packet: (usize, Node, usize),
-    calls: u32,
+    others: u32,
 ) -> Result<bool, Fail> {
     let bytes = bytes_at_last(alloc, text)?;
     let mut core = core_at_last(alloc)?;
@@ -105,7 +105,7 @@ fn comes_of(
     let first = next(alloc, &mut core)?;
     hear(alloc, &mut core, &bytes)?;
     let mut last = None;
-    for _ in 0..=calls {
+    for _ in 0..=others {
         last = next(alloc, &mut core)?;
     }
     Ok(first == Some((0, Node::BROADCAST, 40)) && last == Some(packet))
@@ -121,12 +121,11 @@ fn refused_hear_of_a_packet_to_be_forwarded(rt: HostRuntime) -> Result<(), Fail>
 #[test]
 fn refused_hear_of_a_request_that_is_answered(rt: HostRuntime) -> Result<(), Fail> {
     let packet = (0, Node([0, 0, 0x7f, 0, 0, 3]), 40);
-    // The five others of its own leave first, and none does three times.
-    assert!(rt; comes_of(rt.alloc(), REQUEST, packet, 8)?);
+    assert!(rt; comes_of(rt.alloc(), REQUEST, packet, 5)?);
     Ok(())
 }
 
-/// What is forwarded leaves without memory, before the packets of its start want some.
+/// Where the packets of its start find no memory, what is forwarded still leaves.
 #[test]
 fn refused_next_behind_what_is_forwarded(rt: HostRuntime) -> Result<(), Fail> {
     let alloc = rt.alloc();
@@ -135,6 +134,6 @@ fn refused_next_behind_what_is_forwarded(rt: HostRuntime) -> Result<(), Fail> {
     if hear(alloc, &mut core, &bytes).is_err() {
         hear(alloc, &mut core, &bytes)?;
     }
-    assert!(rt; next(alloc, &mut core)? == Some((1, Node([0, 0, 0x7f, 0, 0, 5]), 30)));
+    assert!(rt; next_at_last(alloc, &mut core)? == Some((1, Node([0, 0, 0x7f, 0, 0, 5]), 30)));
     Ok(())
 }

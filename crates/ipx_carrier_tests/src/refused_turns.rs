@@ -1,5 +1,5 @@
-//! Turns of each of two routers where memory is refused: the usual packets up to there, then which
-//! fault it is, and what the core still sends in its next turns. Run it with each request refused.
+//! A turn of each of two routers where memory is refused: the usual packets up to there, then which
+//! fault it is, and what the core still sends in its next turn. Run it with each request refused.
 //!
 //! The first router has ports on networks 11 and 22, the second on 22 and 33. The second hears the
 //! request for routes that the first one sends.
@@ -128,15 +128,13 @@ fn are_all_but(sent: &[SentDatagram], wanted: &[Wanted], from: usize, count: usi
     rest.next().is_none()
 }
 
-/// Takes turns until one sends nothing and nothing waits, which is at most the eighth.
-fn turns(alloc: Global, member: &mut Member) -> Result<(), RunFault> {
-    for _turn in 0..8 {
-        let report = one_turn(alloc, &mut member.core, &mut member.device, &member.peers)?;
-        if report.sent == 0 && member.core.queued() == 0 {
-            return Ok(());
-        }
+fn turn(alloc: Global, member: &mut Member) -> Result<(), RunFault> {
+    let report = one_turn(alloc, &mut member.core, &mut member.device, &member.peers)?;
+    if report.turns == 1 {
+        Ok(())
+    } else {
+        Err(RunFault::Device)
     }
-    Err(RunFault::Device)
 }
 
 /// Whether the device failed once, and the datagram that it was to send is all that is lost, or the
@@ -144,9 +142,9 @@ fn turns(alloc: Global, member: &mut Member) -> Result<(), RunFault> {
 fn lost_one(alloc: Global, member: &mut Member, wanted: &[Wanted]) -> Result<bool, Fail> {
     let before = member.device.sent().len();
     let failed = member.device.failures() == 1;
-    turns(alloc, member)?;
+    turn(alloc, member)?;
     let sent = member.device.sent();
-    let all = before % 2 == 0 && are_all_but(sent, wanted, 0, 0);
+    let all = before == 0 && are_all_but(sent, wanted, 0, 0);
     Ok(failed && (all || are_all_but(sent, wanted, before, 1)))
 }
 
@@ -159,7 +157,7 @@ fn lost_some(
     lost: &[(usize, usize)],
 ) -> Result<bool, Fail> {
     let quiet = member.device.sent().is_empty() && member.device.failures() == 0;
-    turns(alloc, member)?;
+    turn(alloc, member)?;
     let sent = member.device.sent();
     let known = lost
         .iter()
@@ -181,14 +179,14 @@ fn goes_on(
     }
 }
 
-/// Takes turns, and others where memory was refused.
+/// Takes a turn, and another one where memory was refused.
 fn is_by_the_rules(
     alloc: Global,
     member: &mut Member,
     wanted: &[Wanted],
     lost: &[(usize, usize)],
 ) -> Result<bool, Fail> {
-    match turns(alloc, member) {
+    match turn(alloc, member) {
         Ok(()) => Ok(are_all_but(member.device.sent(), wanted, 0, 0)),
         Err(fault) => goes_on(alloc, member, fault, wanted, lost),
     }

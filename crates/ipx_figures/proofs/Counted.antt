@@ -4,7 +4,7 @@ use Rattle.std.specs.Result.{OnErr, OnOk}
 use Rattle.std.proofs.lemmas.List.{length-take-le}
 use Rattle.ipx_router.specs.OutcomeView.{OutcomeView, Forward, Replies, Heard, Dropped}
 use Rattle.ipx_carrier.specs.OutcomeCounts.{fated}
-use Rattle.ipx_carrier.specs.RouterCore.{CoreView, MakesReady, Misses, RouterGives, RouterHears, Withholds, put_answer}
+use Rattle.ipx_carrier.specs.RouterCore.{CoreView, Misses, RouterGives, RouterHears, Withholds, put_answer}
 use Rattle.ipx_carrier.specs.Turns.{Given}
 use Rattle.ipx_carrier.specs.declared.outcome_counts.OutcomeCounts.{OutcomeCounts}
 use Rattle.ipx_wire.specs.declared.address.Node.{Node}
@@ -81,16 +81,12 @@ fell_by (Ok x) k k' port bytes now few p q = heard_fell k k' port bytes now few 
 fell_by (Err e) k k' port bytes now few p q = missed_fell k k' port bytes now few q
 
 -- nor does any change as it gives
-ready_same : (k k' : CoreView) (now : ℕ) → MakesReady k now k' → k'.fates ≡ k.fates
-ready_same k k' now (inl h) = ap (λ (v : CoreView). v.fates) h.1.5
-ready_same k k' now (inr h) = ap (λ (v : CoreView). v.fates) h.1
-
 pub given_same : (k k' : CoreView) (now : ℕ) (given : Option Given) → RouterGives k now given k' → k'.fates ≡ k.fates
-given_same k k' now given h = ap (λ (v : CoreView). v.fates) h.2.1 ∙ ready_same k h.0 now h.1
+given_same k k' now given h = ap (λ (v : CoreView). v.fates) h.2.1 ∙ ap (λ (v : CoreView). v.fates) h.1.5
 
 pub withheld_same : (k k' : CoreView) (now : ℕ) → Withholds k now k' → k'.fates ≡ k.fates
-withheld_same k k' now (none, inl h) = ap (λ (v : CoreView). v.fates) h.1
-withheld_same k k' now (none, inr h) = ap (λ (v : CoreView). v.fates) h.3
+withheld_same k k' now (inl h) = ap (λ (v : CoreView). v.fates) h.1
+withheld_same k k' now (inr h) = ap (λ (v : CoreView). v.fates) h.3
 
 pub some_is : {X : Type 0} (o : Option X) (x : X) (P : X → Type 0) → o ≡ Some x → IfSome o P → P x
 some_is o x P e h = subst (λ it. IfSome it P) e h

@@ -18,6 +18,7 @@ pub mod GuardTexts
 pub mod Among
 pub mod StandingEntries
 pub mod StandingFiles
+pub mod StandingSites
 pub mod Taken
 pub mod Hearings
 pub mod WireEnds

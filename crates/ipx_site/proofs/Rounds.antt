@@ -15,55 +15,55 @@ pub same_ports : (now times times_after : ℕ) (old mid : SiteCore) → AsksAgai
 same_ports now times times_after old mid (inl h) = ap (λ (v : SiteCore). length v.core.core.router.ports) h.2
 same_ports now times times_after old mid (inr h) = ap (λ (v : SiteCore). length v.core.core.router.ports) h.2
 
-pub is_round : {K A : Type 0} (tells : K → ℕ → K → Type 0) (clock told tick clock_after : K) (ways here : Ways A)
-    (i j n : ℕ) (now moment times times_after : ℕ) (old mid new : SiteCore) (b : Burst) → tells clock now told → tick ≡ told → moment ≡ now
+pub is_round : {K A : Type 0} (stops tells : K → ℕ → K → Type 0) (clock told tick clock_after : K) (ways here : Ways A)
+    (i j n : ℕ) (now moment times times_after : ℕ) (old mid new : SiteCore) (b : Burst) → stops clock now told → tick ≡ told → moment ≡ now
     → AsksAgain now times times_after old mid → here ≡ ways → j ≡ i
     → BurstsBy SiteHears SiteMisses SiteGives SiteWithholds tells (length mid.core.core.router.ports) here 32 b j n tick clock_after mid new
-    → IsRound clock clock_after tells ways i n times times_after old new moment b
-is_round {A = A} tells clock told tick clock_after ways here i j n now moment times times_after old mid new b h e m asks f g bursts =
+    → IsRound clock clock_after stops tells ways i n times times_after old new moment b
+is_round {A = A} stops tells clock told tick clock_after ways here i j n now moment times times_after old mid new b h e m asks f g bursts =
     let at = subst (λ ports. BurstsBy SiteHears SiteMisses SiteGives SiteWithholds tells ports here 32 b j n tick clock_after mid new)
     (same_ports now times times_after old mid asks) bursts in
     let by = subst (λ (it : Ways A). BurstsBy SiteHears SiteMisses SiteGives SiteWithholds tells (length old.core.core.router.ports) it 32 b j n tick clock_after mid new) f at in
     let kept = subst (λ it. BurstsBy SiteHears SiteMisses SiteGives SiteWithholds tells (length old.core.core.router.ports) ways 32 b it n tick clock_after mid new) g by in
-    (now, tick, mid, subst (λ it. tells clock now it) (sym e) h, m, asks, kept)
+    (now, tick, mid, subst (λ it. stops clock now it) (sym e) h, m, asks, kept)
 
 -- how long a router waits, by how its burst ended
-pub rests : {K : Type 0} (todo : ℕ → Type 0) (marked : Bool) (clock clock' : K) (tells : K → ℕ → K → Type 0) (asked : Option ℕ)
+pub rests : {K : Type 0} (todo : ℕ → Type 0) (marked : Bool) (clock clock' : K) (stops : K → ℕ → K → Type 0) (asked : Option ℕ)
     (fault : Option RunFault) (quiet : Bool) → is_some fault ≡ true → asked ≡ Some 100 → clock' ≡ clock
-    → SleepsBehind todo marked clock clock' tells asked fault quiet
-rests todo marked clock clock' tells asked (Some f) quiet e at same = (at, same)
-rests todo marked clock clock' tells asked None quiet e at same = absurd (cc)
+    → SleepsBehind todo marked clock clock' stops asked fault quiet
+rests todo marked clock clock' stops asked (Some f) quiet e at same = (at, same)
+rests todo marked clock clock' stops asked None quiet e at same = absurd (cc)
 
-pub sleeps : {K : Type 0} (todo : ℕ → Type 0) (marked : Bool) (clock clock' : K) (tells : K → ℕ → K → Type 0) (asked : Option ℕ)
-    (fault : Option RunFault) (quiet : Bool) → is_some fault ≡ false → quiet ≡ true → (now time : ℕ) → tells clock now clock'
-    → IsLeisure todo now time → asked ≡ Some (if marked then min time 100 else time) → SleepsBehind todo marked clock clock' tells asked fault quiet
-sleeps todo marked clock clock' tells asked (Some f) quiet e q now time told leisure at = absurd (cc)
-sleeps todo marked clock clock' tells asked None true e q now time told leisure at = (now, time, told, leisure, at)
-sleeps todo marked clock clock' tells asked None false e q now time told leisure at = absurd (cc)
+pub sleeps : {K : Type 0} (todo : ℕ → Type 0) (marked : Bool) (clock clock' : K) (stops : K → ℕ → K → Type 0) (asked : Option ℕ)
+    (fault : Option RunFault) (quiet : Bool) → is_some fault ≡ false → quiet ≡ true → (now time : ℕ) → stops clock now clock'
+    → IsLeisure todo now time → asked ≡ Some (if marked then min time 100 else time) → SleepsBehind todo marked clock clock' stops asked fault quiet
+sleeps todo marked clock clock' stops asked (Some f) quiet e q now time told leisure at = absurd (cc)
+sleeps todo marked clock clock' stops asked None true e q now time told leisure at = (now, time, told, leisure, at)
+sleeps todo marked clock clock' stops asked None false e q now time told leisure at = absurd (cc)
 
-pub goes_on : {K : Type 0} (todo : ℕ → Type 0) (marked : Bool) (clock clock' : K) (tells : K → ℕ → K → Type 0) (asked : Option ℕ)
+pub goes_on : {K : Type 0} (todo : ℕ → Type 0) (marked : Bool) (clock clock' : K) (stops : K → ℕ → K → Type 0) (asked : Option ℕ)
     (fault : Option RunFault) (quiet : Bool) → is_some fault ≡ false → quiet ≡ false → asked ≡ Some 0 → clock' ≡ clock
-    → SleepsBehind todo marked clock clock' tells asked fault quiet
-goes_on todo marked clock clock' tells asked (Some f) quiet e q at same = absurd (cc)
-goes_on todo marked clock clock' tells asked None true e q at same = absurd (cc)
-goes_on todo marked clock clock' tells asked None false e q at same = (at, same)
+    → SleepsBehind todo marked clock clock' stops asked fault quiet
+goes_on todo marked clock clock' stops asked (Some f) quiet e q at same = absurd (cc)
+goes_on todo marked clock clock' stops asked None true e q at same = absurd (cc)
+goes_on todo marked clock clock' stops asked None false e q at same = (at, same)
 
 -- what a round and the wait behind it say does not hang on what is the same behind them
-pub round_then : {K A : Type 0} (tells : K → ℕ → K → Type 0) (clock clock' : K) (ways : Ways A) (kept kept' kept'' asked asked' asked'' : ℕ)
+pub round_then : {K A : Type 0} (stops tells : K → ℕ → K → Type 0) (clock clock' : K) (ways : Ways A) (kept kept' kept'' asked asked' asked'' : ℕ)
     (old new new' : SiteCore) (moment moment' : ℕ) (b : Burst) → kept'' ≡ kept' → asked'' ≡ asked' → new' ≡ new → moment' ≡ moment
-    → IsRound clock clock' tells ways kept kept' asked asked' old new moment b → IsRound clock clock' tells ways kept kept'' asked asked'' old new' moment' b
-round_then tells clock clock' ways kept kept' kept'' asked asked' asked'' old new new' moment moment' b e f g h round =
-    let one = subst (λ it. IsRound clock clock' tells ways kept it asked asked' old new moment b) (sym e) round in
-    let two = subst (λ it. IsRound clock clock' tells ways kept kept'' asked it old new moment b) (sym f) one in
-    let three = subst (λ it. IsRound clock clock' tells ways kept kept'' asked asked'' old it moment b) (sym g) two in
-    subst (λ it. IsRound clock clock' tells ways kept kept'' asked asked'' old new' it b) (sym h) three
+    → IsRound clock clock' stops tells ways kept kept' asked asked' old new moment b → IsRound clock clock' stops tells ways kept kept'' asked asked'' old new' moment' b
+round_then stops tells clock clock' ways kept kept' kept'' asked asked' asked'' old new new' moment moment' b e f g h round =
+    let one = subst (λ it. IsRound clock clock' stops tells ways kept it asked asked' old new moment b) (sym e) round in
+    let two = subst (λ it. IsRound clock clock' stops tells ways kept kept'' asked it old new moment b) (sym f) one in
+    let three = subst (λ it. IsRound clock clock' stops tells ways kept kept'' asked asked'' old it moment b) (sym g) two in
+    subst (λ it. IsRound clock clock' stops tells ways kept kept'' asked asked'' old new' it b) (sym h) three
 
-pub sleeps_then : {K : Type 0} (a b : Agenda) (marked : Bool) (clock clock' : K) (tells : K → ℕ → K → Type 0) (asked asked' : Option ℕ)
-    (fault : Option RunFault) (quiet : Bool) → b ≡ a → asked' ≡ asked → SleepsBehind (IsToDo a) marked clock clock' tells asked fault quiet
-    → SleepsBehind (IsToDo b) marked clock clock' tells asked' fault quiet
-sleeps_then a b marked clock clock' tells asked asked' fault quiet e f h =
-    let one = subst (λ it. SleepsBehind (IsToDo it) marked clock clock' tells asked fault quiet) (sym e) h in
-    subst (λ it. SleepsBehind (IsToDo b) marked clock clock' tells it fault quiet) (sym f) one
+pub sleeps_then : {K : Type 0} (a b : Agenda) (marked : Bool) (clock clock' : K) (stops : K → ℕ → K → Type 0) (asked asked' : Option ℕ)
+    (fault : Option RunFault) (quiet : Bool) → b ≡ a → asked' ≡ asked → SleepsBehind (IsToDo a) marked clock clock' stops asked fault quiet
+    → SleepsBehind (IsToDo b) marked clock clock' stops asked' fault quiet
+sleeps_then a b marked clock clock' stops asked asked' fault quiet e f h =
+    let one = subst (λ it. SleepsBehind (IsToDo it) marked clock clock' stops asked fault quiet) (sym e) h in
+    subst (λ it. SleepsBehind (IsToDo b) marked clock clock' stops it fault quiet) (sym f) one
 
 -- an agenda, part by part
 pub same_agenda : (asked asked' : ℕ) (looked looked' : Option ℕ) (responses responses' : ℕ) (written written' : Option ℕ)

@@ -1,4 +1,4 @@
--- Routes and services by hand of a router's file stand while that router runs.
+-- Routes and services by hand of a router's file stand while a router with its ports runs below `ByHand`.
 use Rattle.std.proofs.Common.{◌≡◌, ℕ, true, List, All, Some, sym, ap, subst}
 use Rattle.std.proofs.lemmas.List.Elements.{All-contains}
 use Rattle.ipx_tables.specs.Content.{is_young}

@@ -1,7 +1,14 @@
--- When a router told what it dropped. All of it is own.
-use Rattle.std.specs.Prelude.{ℕ}
+-- When a router told what it dropped, and of what it warns. All of it is own.
+use Rattle.std.specs.Prelude.{ℕ, Bool, true, false, not, ◌==◌, ◌&&◌, Option, Some, None}
+use Rattle.ipx_wire.specs.Assigned.{rip_socket, sap_socket}
+use Rattle.ipx_wire.specs.declared.address.Address.{Address}
+use Rattle.ipx_router.specs.Classify.{is_node}
+use Rattle.ipx_router.specs.RouterPackets.{broadcast}
+use Rattle.ipx_figures.specs.declared.last_drops.LastDrop.{LastDrop}
 use Rattle.ipx_carrier.specs.declared.outcome_counts.OutcomeCounts.{OutcomeCounts}
 use Rattle.ipx_site.specs.declared.drop_lines.DropLines.{DropLines}
+use Rattle.ipx_site.specs.declared.drop_lines.DropReason.{DropReason}
+use Rattle.ipx_site.specs.declared.drop_lines.DropReason.TheVariants.{Bad, NotOurs, NoRoute, HopLimit, BadControl}
 use Rattle.ipx_site.specs.Moments.{IsToldIfDue, untold}
 
 -- nothing was told yet
@@ -21,3 +28,21 @@ pub record AreDropsTold (fates : OutcomeCounts) (now : ℕ) (old new : DropLines
   pub no_route : IsToldIfDue fates.no_route now old.no_route new.no_route
   pub hop_limit : IsToldIfDue fates.hop_limit now old.hop_limit new.hop_limit
   pub bad_control : IsToldIfDue fates.bad_control now old.bad_control new.bad_control
+
+-- the last datagram of a reason was sent to all nodes of a network, by neither RIP nor SAP, which routers hear
+abbrev pub is_for_all_nodes : Option Address → Bool
+is_for_all_nodes None = false
+is_for_all_nodes (Some a) =
+    is_node a.node broadcast && not (a.socket.0 == rip_socket) && not (a.socket.0 == sap_socket)
+
+abbrev pub is_of_all_nodes : Option LastDrop → Bool
+is_of_all_nodes None = false
+is_of_all_nodes (Some d) = is_for_all_nodes d.to
+
+-- a line of what was dropped warns, but where the last was not the router's and so sent to all nodes
+abbrev pub warns_of : DropReason → Option LastDrop → Bool
+warns_of Bad last = true
+warns_of NotOurs last = not (is_of_all_nodes last)
+warns_of NoRoute last = true
+warns_of HopLimit last = true
+warns_of BadControl last = true

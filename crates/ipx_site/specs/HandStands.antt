@@ -1,7 +1,8 @@
 -- What each route and service by hand of a router's file meets of what `RoutesByHandStand` and
 -- `ServicesByHandStand` ask for, and so that it stands. All of it is own.
--- The entry points are `FilesMayStand`, and `RoutesOfFilesStand` and `ServicesOfFilesStand`.
-use Rattle.std.specs.Prelude.{◌≡◌, ◌<◌, ◌≤◌, ◌+◌, ◌^◌, ℕ, true, List, All, Contains, Option, Some}
+-- The entry points are `FilesMayStand`, `RoutesOfFilesStand` and `ServicesOfFilesStand`, and
+-- `RoutesOfSitesStand` and `ServicesOfSitesStand`.
+use Rattle.std.specs.Prelude.{◌≡◌, ◌<◌, ◌≤◌, ◌+◌, ◌^◌, ℕ, true, List, [], ◌∷◌, All, Contains, Option, Some}
 use Rattle.ipx_control.specs.declared.rip.packet.RipEntry.{RipEntry}
 use Rattle.ipx_control.specs.declared.sap.packet.ServiceEntry.{ServiceEntry}
 use Rattle.ipx_tables.specs.Content.{is_young}
@@ -14,13 +15,14 @@ use Rattle.ipx_carrier.specs.Turns.{Given}
 use Rattle.ipx_by_hand.specs.declared.neighbour.SilentNeighbour.{SilentNeighbour}
 use Rattle.ipx_by_hand.specs.ByHand.{ByHandView}
 use Rattle.ipx_by_hand.specs.HandOffers.{IsAnotherNode, SaysNoOther, source_by_hand}
-use Rattle.ipx_by_hand.specs.HandRuns.{Asked, DoHandCalls, DoesHandCall, HandCallAt, IsAskedEachMinute, OffersItself, TellsItself, asked_in}
+use Rattle.ipx_by_hand.specs.HandRuns.{Asked, AsksOnceMore, Comes, DoHandCalls, DoesHandCall, HandCall, HandCallAt, IsAskedEachMinute, OffersItself, TellsItself, asked_in}
 use Rattle.ipx_site.specs.declared.hand.HandEntry.{HandEntry}
 use Rattle.ipx_site.specs.declared.hand.HandWord.{HandWord}
 use Rattle.ipx_site.specs.declared.hand.HandWord.TheVariants.{Route, Service}
 use Rattle.ipx_site.specs.declared.site.SiteFile.{SiteFile}
 use Rattle.ipx_site.specs.SilentSite.{AreSilent, IsToHear}
 use Rattle.ipx_site.specs.Site.{IsSiteText}
+use Rattle.ipx_site.specs.SiteCore.{SiteAsksAgain, SiteCore, SiteGives, SiteHears}
 use Rattle.ipx_site.specs.SitePorts.{router_ports}
 
 -- whoever is heard as this neighbour says nothing else of the key of an entry
@@ -49,8 +51,8 @@ FilesMayStand = (text : List ℕ) (s : SiteFile) → IsSiteText text s
     → All (IsAnotherNode (router_ports s.ports.items)) ns
     × All (IsToStand (router_ports s.ports.items) ns) s.by_hand.items
 
--- a router with the ports of a file, which is to hear by hand what that says, is asked at first, and over all
--- calls never finds a table full
+-- a router that counts nothing by port and keeps nothing back, with the ports of a file, which is to hear by
+-- hand what that says, is asked at first, and over all calls never finds a table full
 pub record RunsByFile (s : SiteFile) (start : ℕ) (calls : List HandCallAt) (old new : ByHandView CoreView) : Type 0 where
   pub to_hear : IsToHear s.by_hand.items old
   pub ports : old.core.router.ports ≡ router_ports s.ports.items
@@ -82,4 +84,48 @@ ServicesOfFilesStand = (text : List ℕ) (s : SiteFile) → IsSiteText text s �
     → IsAskedEachMinute (λ port bytes. OffersItself n (key_of_service e) port bytes → ⊥) calls start)
     → (now : ℕ) → now ≤ asked_in calls start + 60000 → (heard : ℕ)
     × (services_in new.core.router.services (key_of_service e, h.by) ≡ Some (service_metric e, heard))
+    × (is_young now heard ≡ true)
+
+-- bytes come in to the core of a site's router; or that is asked for a packet; or it is to ask its neighbours
+-- once more; and no memory is refused
+abbrev pub DoesSiteCall : ℕ → HandCall → SiteCore → SiteCore → Type 0
+DoesSiteCall now (Comes port bytes) old new = SiteHears old port bytes now new
+DoesSiteCall now (Asked given) old new = SiteGives old now given new
+DoesSiteCall now AsksOnceMore old new = SiteAsksAgain old new
+
+abbrev pub DoSiteCalls : List HandCallAt → SiteCore → SiteCore → Type 0
+DoSiteCalls [] old new = new ≡ old
+DoSiteCalls (c ∷ cs) old new = (mid : SiteCore)
+    × DoesSiteCall c.moment c.call old mid × DoSiteCalls cs mid new
+
+-- so the router of a file runs, also where it asks its neighbours again
+pub record RunsAsSite (s : SiteFile) (start : ℕ) (calls : List HandCallAt) (old new : SiteCore) : Type 0 where
+  pub to_hear : IsToHear s.by_hand.items old.core
+  pub ports : old.core.core.router.ports ≡ router_ports s.ports.items
+  pub given : Option Given
+  pub first : SiteCore
+  pub begins : DoesSiteCall start (Asked given) old first
+  pub goes_on : DoSiteCalls calls first new
+  pub room : new.core.core.fates.table_full ≡ old.core.core.fates.table_full
+  pub countable : old.core.core.fates.table_full + 1 < 2 ^ 64
+
+-- then each route and each service of the file stands in it as above
+abbrev pub RoutesOfSitesStand : Type 0
+RoutesOfSitesStand = (text : List ℕ) (s : SiteFile) → IsSiteText text s → (start : ℕ) (calls : List HandCallAt)
+    (old new : SiteCore) → RunsAsSite s start calls old new
+    → (h : HandEntry) → Contains s.by_hand.items h → (e : RipEntry) → h.word ≡ Route e
+    → ((n : SilentNeighbour) → source_by_hand n ≡ h.by
+    → IsAskedEachMinute (λ port bytes. TellsItself n e.network port bytes → ⊥) calls start)
+    → (now : ℕ) → now ≤ asked_in calls start + 60000 → (heard : ℕ)
+    × (routes_in new.core.core.router.routes (e.network, h.by) ≡ Some (route_metric e, heard))
+    × (is_young now heard ≡ true)
+
+abbrev pub ServicesOfSitesStand : Type 0
+ServicesOfSitesStand = (text : List ℕ) (s : SiteFile) → IsSiteText text s → (start : ℕ) (calls : List HandCallAt)
+    (old new : SiteCore) → RunsAsSite s start calls old new
+    → (h : HandEntry) → Contains s.by_hand.items h → (e : ServiceEntry) → h.word ≡ Service e
+    → ((n : SilentNeighbour) → source_by_hand n ≡ h.by
+    → IsAskedEachMinute (λ port bytes. OffersItself n (key_of_service e) port bytes → ⊥) calls start)
+    → (now : ℕ) → now ≤ asked_in calls start + 60000 → (heard : ℕ)
+    × (services_in new.core.core.router.services (key_of_service e, h.by) ≡ Some (service_metric e, heard))
     × (is_young now heard ≡ true)

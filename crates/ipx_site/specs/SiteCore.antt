@@ -1,6 +1,6 @@
 -- The core of a site's router: a router that counts, under what it hears by hand, under turns for those
 -- who ask for all that it knows. All of it is own.
-use Rattle.std.specs.Prelude.{ℕ, List, Option}
+use Rattle.std.specs.Prelude.{◌≡◌, ℕ, false, List, Option}
 use Rattle.ipx_carrier.specs.Turns.{Given}
 use Rattle.ipx_figures.specs.CountedRouter.{CountedView, CountsAsItGives, CountsHeard, CountsMissed, CountsWithheld}
 use Rattle.ipx_by_hand.specs.ByHand.{ByHandView, GivesByHand, HearsUnder, MissesUnder, WithholdsByHand}
@@ -15,6 +15,11 @@ SiteHears = HearsSparingly (HearsUnder CountsHeard)
 
 abbrev pub SiteMisses : SiteCore → ℕ → List ℕ → ℕ → SiteCore → Type 0
 SiteMisses = MissesBelow (MissesUnder CountsMissed)
+
+-- told to ask its neighbours once more, its router is to give the packets of its start again
+abbrev pub SiteAsksAgain : SiteCore → SiteCore → Type 0
+SiteAsksAgain old new =
+    new ≡ record old { core = record old.core { core = record old.core.core { started = false } } }
 
 -- asked for a packet it gives one or none, or withholds it where memory is refused
 abbrev pub SiteGives : SiteCore → ℕ → Option Given → SiteCore → Type 0

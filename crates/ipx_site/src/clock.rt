@@ -1,7 +1,7 @@
 //! The system's clock.
 
 ghost use Rattle.std.specs.Prelude.{◌≡◌, false, true};
-ghost use Rattle.ipx_site.specs.Steady.{NeverGoesBack};
+ghost use Rattle.ipx_site.specs.Steady.{StopsThere};
 
 use ipx_carrier::Clock;
 use std::rt::Clock as SystemClock;
@@ -37,8 +37,7 @@ impl<'a, R: SystemClock> SteadyClock<'a, R> {
     ///
     /// Who takes many turns at once stops it before them: each is at this moment, and none asks.
     pub fn stop(&mut self) -> u64
-        ensures told { NeverGoesBack self.old result self.new }
-        ensures stopped { self.new.stopped ≡ true }
+        ensures { StopsThere self.old result self.new }
     {
         self.stopped = false;
         let moment = self.now();
@@ -62,7 +61,6 @@ impl<'a, R: SystemClock> Clock for SteadyClock<'a, R> {
         ensures told { NeverGoesBack self.old result self.new }
         ensures stands { self.old.stopped ≡ true
             → (result ≡ self.old.last) × (self.new ≡ self.old) }
-        ensures stopped { self.new.stopped ≡ self.old.stopped }
     {
         if self.stopped {
             return self.last;

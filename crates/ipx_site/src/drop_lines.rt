@@ -1,13 +1,15 @@
 //! The lines of what a router dropped: one a minute for each reason, with the last one of it.
 
 ghost use Rattle.std.specs.Prelude.{◌≡◌};
-ghost use Rattle.ipx_site.specs.DropLines.{AreDropsTold, no_drops_told};
+ghost use Rattle.ipx_site.specs.DropLines.{AreDropsTold, is_for_all_nodes, is_of_all_nodes, no_drops_told, warns_of};
 ghost use Rattle.ipx_site.specs.Moments.{IsToldIfDue};
 
 use crate::causes::Cause;
+use crate::sameness::is_same_node;
 use ipx_carrier::OutcomeCounts;
 use ipx_figures::{LastDrop, LastDrops};
-use log::{Log, warn};
+use ipx_wire::{Address, Node, Socket};
+use log::{Log, info, warn};
 use std::fmt;
 
 /// Why datagrams were dropped of which a line is told.
@@ -64,6 +66,44 @@ fn write_last<W: fmt::Write>(f: &mut fmt::Formatter<W>, last: LastDrop) -> fmt::
     write!(f, " by port {}", last.port.saturating_add(1))
 }
 
+/// Whether an address is that of all nodes of a network, and of neither RIP nor SAP.
+fn is_for_all_nodes(to: Option<Address>) -> bool
+    ensures { result ≡ is_for_all_nodes to }
+{
+    match to {
+        Some(to) => {
+            is_same_node(to.node, Node::BROADCAST)
+                && to.socket.0 != Socket::RIP.0
+                && to.socket.0 != Socket::SAP.0
+        }
+        None => false,
+    }
+}
+
+/// Whether the last datagram was sent to all nodes of a network, by neither RIP nor SAP.
+fn is_of_all_nodes(last: Option<LastDrop>) -> bool
+    ensures { result ≡ is_of_all_nodes last }
+{
+    match last {
+        Some(last) => is_for_all_nodes(last.to),
+        None => false,
+    }
+}
+
+impl DropWords {
+    /// Whether its line is a warning. What is sent to all nodes of a network comes to its routers
+    /// too. They hear RIP and SAP, and drop all else as not their own, which is no fault.
+    pub fn warns(&self) -> bool
+        ensures { result ≡ warns_of self.now.reason self.now.last }
+    {
+        match self.reason {
+            DropReason::NotOurs => !is_of_all_nodes(self.last),
+            DropReason::Bad | DropReason::NoRoute | DropReason::HopLimit | DropReason::BadControl =>
+                true,
+        }
+    }
+}
+
 impl fmt::Display for DropWords {
     fn fmt<W: fmt::Write>(&self, f: &mut fmt::Formatter<W>) -> fmt::Result {
         write_reason(f, self.reason, self.last)?;
@@ -78,7 +118,11 @@ fn tell<R: Log>(rt: &R, cause: &mut Cause, count: u64, words: DropWords, now: u6
     ensures { IsToldIfDue count now cause.old cause.new }
 {
     if let Some(more) = cause.tell(count, now) {
-        warn!(rt; target: "ipx", "dropped {more} ({count} since the start): {words}");
+        if words.warns() {
+            warn!(rt; target: "ipx", "dropped {more} ({count} since the start): {words}");
+        } else {
+            info!(rt; target: "ipx", "dropped {more} ({count} since the start): {words}");
+        }
     }
 }
 

@@ -1,12 +1,12 @@
 //! What guards keep back at the ports of a router, as a text for Prometheus.
 
-ghost use Rattle.std.specs.Prelude.{◌≡◌, ◌++◌, OnOk, is_some, option_map, string_bytes};
+ghost use Rattle.std.specs.Prelude.{◌≡◌, ◌++◌, IfOk, OnErr, OnOk, is_some, option_map, string_bytes};
 ghost use Rattle.ipx_site.specs.GuardFigures.{figure_if, guard_figures, guard_text, is_any_guarded, kept_at_spot, guard_count, refused_text, strangers_text};
 
 use crate::family::{Family, put_family, put_of_port};
 use crate::kept_at_ports::KeptAtPort;
 use crate::router_ports::Spot;
-use std::alloc::AllocError;
+use std::alloc::{AllocError, Global};
 
 const STRANGERS: Family = Family {
     name: "ipx_port_strangers_total",
@@ -119,19 +119,32 @@ fn put_refused(text: &mut String, spots: &[Spot], kept: &[KeptAtPort]) -> Result
     put_counts(text, &REFUSED, KeptCount::Refused, spots, kept)
 }
 
+/// What the guards of a router's ports kept back, as a text; nothing where no port has one.
+fn guards_to_text(alloc: Global, spots: &[Spot], kept: &[KeptAtPort]) -> Result<String, AllocError>
+    ensures { IfOk result (λ t. string_bytes t ≡ guard_text spots.now kept.now) }
+{
+    let mut text = String::new(alloc);
+    if !is_any_guarded(spots, kept) {
+        return Ok(text);
+    }
+    put_strangers(&mut text, spots, kept)?;
+    put_refused(&mut text, spots, kept)?;
+    Ok(text)
+}
+
 /// Writes what the guards of a router's ports kept back behind its other figures; nothing where no
-/// port has one. Those of guards are in the order of the ports of their kind.
+/// port has one. Those of guards are in the order of the ports of their kind. Where memory is refused
+/// the text is as it was.
 pub fn put_guard_figures(
     text: &mut String,
+    alloc: Global,
     spots: &[Spot],
     kept: &[KeptAtPort],
 ) -> Result<(), AllocError>
-    ensures { OnOk result (string_bytes text.new
+    ensures put { OnOk result (string_bytes text.new
         ≡ string_bytes text.old ++ guard_text spots.now kept.now) }
+    ensures refused { OnErr result (string_bytes text.new ≡ string_bytes text.old) }
 {
-    if !is_any_guarded(spots, kept) {
-        return Ok(());
-    }
-    put_strangers(text, spots, kept)?;
-    put_refused(text, spots, kept)
+    let figures = guards_to_text(alloc, spots, kept)?;
+    text.push_str(&figures)
 }

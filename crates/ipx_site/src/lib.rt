@@ -110,7 +110,10 @@ pub use silent::silent_of;
 pub use site::{Accept, FramesPort, Kind, PortOfKind, SiteFile, SitePort};
 pub use sockets::SiteSockets;
 pub use sparing::Sparing;
-pub use standing::{entries_of_files_may_stand, routes_of_files_stand, services_of_files_stand};
+pub use standing::{
+    entries_of_files_may_stand, routes_of_files_stand, routes_of_sites_stand,
+    services_of_files_stand, services_of_sites_stand,
+};
 pub use start_lines::{dotted, others, reached_to_text};
 pub use stations::{StationFile, load_station, load_tables};
 pub use troubles::{Trouble, tell_each};

@@ -1,6 +1,6 @@
 //! Waiting until something is to be read, or for some time.
 
-ghost use Rattle.std.specs.Prelude.{◌≡◌, ◌+◌, IfOk, None, OnOk, Some, length};
+ghost use Rattle.std.specs.Prelude.{◌≡◌, ◌+◌, IfOk, None, OnOk, Some, is_err, length};
 ghost use Rattle.ipx_carrier.specs.Counting.{counted, raised};
 
 use crate::sockets::SiteSockets;
@@ -36,6 +36,8 @@ pub struct Readiness {
     watched: usize,
     /// How many milliseconds it was asked to wait at most when it waited last.
     asked: Option<u64>,
+    /// Whether the system could not wait then.
+    failed: bool,
 }
 
 impl Drop for Readiness {
@@ -45,6 +47,7 @@ impl Drop for Readiness {
             events: _,
             watched: _,
             asked: _,
+            failed: _,
         } = self;
     }
 }
@@ -66,6 +69,7 @@ impl Readiness {
             events,
             watched: 0,
             asked: None,
+            failed: false,
         };
         readiness.watch_sockets(sockets)?;
         Ok(readiness)
@@ -146,12 +150,15 @@ impl Readiness {
         ensures watched { self.new.watched ≡ self.old.watched }
         // So long the system is asked to wait, whatever comes of it.
         ensures asked { self.new.asked ≡ Some most }
+        // Whether it answered with a fault is kept.
+        ensures failed { self.new.failed ≡ is_err result }
     {
         self.asked = Some(most);
         let timeout = Duration::from_millis(most);
-        match self.poll.poll(&mut self.events, Some(timeout)) {
-            Ok(()) => Ok(!self.events.is_empty()),
-            Err(_) => Err(WaitFault::System),
+        self.failed = self.poll.poll(&mut self.events, Some(timeout)).is_err();
+        if self.failed {
+            return Err(WaitFault::System);
         }
+        Ok(!self.events.is_empty())
     }
 }

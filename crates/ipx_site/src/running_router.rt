@@ -1,6 +1,6 @@
 //! A router with its sockets, and what is to be done besides its turns.
 
-ghost use Rattle.std.specs.Prelude.{◌≡◌, ◌↔◌, ℕ, Bool, List, IfOk, OnOk, Some, length, map, string_bytes};
+ghost use Rattle.std.specs.Prelude.{◌≡◌, ◌↔◌, ℕ, Bool, List, IfOk, OnOk, Some, is_err, length, map, string_bytes};
 ghost use Rattle.ipx_carrier.specs.PortMarks.{AreMarked, is_any_marked};
 ghost use Rattle.ipx_carrier.specs.Turns.{peers_of};
 ghost use Rattle.ipx_site.specs.DropLines.{AreDropsTold};
@@ -11,7 +11,7 @@ ghost use Rattle.ipx_site.specs.SitePorts.{access_by};
 ghost use Rattle.ipx_site.specs.PortsView.{kept_in_ports, ways_in};
 ghost use Rattle.ipx_site.specs.RouterRounds.{AsksAgain, IsRound, SleepsBehind};
 ghost use Rattle.ipx_site.specs.SiteMarks.{marks_in, numbers_come};
-ghost use Rattle.ipx_site.specs.Steady.{NeverGoesBack};
+ghost use Rattle.ipx_site.specs.Steady.{NeverGoesBack, StopsThere};
 
 use crate::asking::asking_moment;
 use crate::client_lines::ToldClients;
@@ -149,7 +149,8 @@ impl<'a, R: SystemClock> RunningRouter<'a, R> {
         let mut text = self.figures(now).text(alloc)?;
         let core = self.core.core().core();
         put_port_figures(&mut text, core)?;
-        put_guard_figures(&mut text, self.ports.spots(), self.ports.device().by_port())?;
+        let kept = self.ports.device().by_port();
+        put_guard_figures(&mut text, alloc, self.ports.spots(), kept)?;
         put_neighbour_figures(&mut text, alloc, core.router(), now)?;
         put_frame_figures(&mut text, &self.ports)?;
         put_ipxnet_figures(&mut text, &self.ports)?;
@@ -325,7 +326,7 @@ impl<'a, R: SystemClock> RunningRouter<'a, R> {
     /// Does what is to be done now, and takes turns as long as there is something to hear or to send.
     fn round<S: Log + Files>(&mut self, rt: &S, alloc: Global) -> Burst
         ensures core { IsRound self.old.clock self.new.clock
-            NeverGoesBack (ways_in self.old.ports)
+            StopsThere NeverGoesBack (ways_in self.old.ports)
             (kept_in_ports self.old.ports) (kept_in_ports self.new.ports)
             self.old.asked self.new.asked self.old.core self.new.core
             self.new.ports.wires.moment result }
@@ -362,7 +363,7 @@ impl<'a, R: SystemClock> RunningRouter<'a, R> {
             self.old.written self.old.core self.old.troubles
             (happened self.old.tally self.old.core self.old.ports)))
             (is_any_marked (marks_in self.old.ports))
-            self.old.clock self.new.clock NeverGoesBack (Some result) burst.fault burst.quiet }
+            self.old.clock self.new.clock StopsThere (Some result) burst.fault burst.quiet }
         ensures core { self.new.core ≡ self.old.core }
         ensures ports { self.new.ports ≡ self.old.ports }
         ensures ready { self.new.ready ≡ self.old.ready }
@@ -378,8 +379,8 @@ impl<'a, R: SystemClock> RunningRouter<'a, R> {
         if !burst.quiet {
             return 0;
         }
-        let now = self.clock.stop();
-        let leisure = self.leisure(now);
+        let moment = self.clock.stop();
+        let leisure = self.leisure(moment);
         if is_any_marked(&self.ports) {
             leisure.min(REST)
         } else {
@@ -390,10 +391,10 @@ impl<'a, R: SystemClock> RunningRouter<'a, R> {
     /// Does what is to be done now, takes turns as long as there is something to hear or to send,
     /// waits, and marks the ports at which something came.
     pub fn step<S: Log + Files>(&mut self, rt: &S, alloc: Global) -> Result<(), WaitFault>
-        // A round, and behind it a wait, as long as there is nothing to do. Then the ports are marked
-        // at which something came.
+        // A round, which stops the clock before its turns, and behind it a wait, as long as there is nothing
+        // to do. Then the ports are marked at which something came.
         ensures core { (between : SteadyClock R) × (burst : Burst) × (marks : List Bool)
-            × IsRound self.old.clock between NeverGoesBack (ways_in self.old.ports)
+            × IsRound self.old.clock between StopsThere NeverGoesBack (ways_in self.old.ports)
             (kept_in_ports self.old.ports) (kept_in_ports self.new.ports)
             self.old.asked self.new.asked self.old.core self.new.core
             self.new.ports.wires.moment burst
@@ -401,9 +402,11 @@ impl<'a, R: SystemClock> RunningRouter<'a, R> {
             self.new.written self.new.core self.new.troubles
             (happened self.new.tally self.new.core self.new.ports)))
             (is_any_marked marks)
-            between self.new.clock NeverGoesBack
+            between self.new.clock StopsThere
             self.new.ready.asked burst.fault burst.quiet
             × OnOk result (AreMarked (numbers_come self.new.ready) marks (marks_in self.new.ports)) }
+        // It ends just where the wait did.
+        ensures fault { is_err result ≡ self.new.ready.failed }
         ensures moments { self.new.ports.lobbies.moment ≡ self.new.ports.wires.moment }
         ensures ways { ways_in self.new.ports ≡ ways_in self.old.ports }
         ensures peers { peers_of self.new.ports.datagrams.peers.items

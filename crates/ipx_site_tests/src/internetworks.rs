@@ -315,13 +315,7 @@ impl Internetwork {
             return Ok(());
         };
         let mut clock = SteppedClock::new(now, 0);
-        // A turn of two packets to networks where nobody is ends a burst, though more wait.
-        for _time in 0..1000 {
-            let _burst = burst(alloc, core, &mut device, &peers, &mut clock, 10_000);
-            if core.queued() == 0 {
-                break;
-            }
-        }
+        let _burst = burst(alloc, core, &mut device, &peers, &mut clock, 10_000);
         self.count(&device);
         for letter in &device.device().sent {
             let network = self.stands[me].networks[letter.port];

@@ -51,7 +51,7 @@ fn hear_all(alloc: Global, core: &mut CountedRouter) -> Result<(), Fail> {
     core.hear(alloc, 1, &datagram(0, 4, 0x11, 0x4002, 0x22), 0)?;
     core.hear(alloc, 1, &datagram(0, 4, 0x11, 0x4002, 0x22), 0)?;
     let mut room = [0; 1536];
-    while core.next(alloc, 0, &mut room)?.is_some() || core.queued() > 0 {}
+    while core.next(alloc, 0, &mut room)?.is_some() {}
     Ok(())
 }
 
@@ -139,6 +139,37 @@ fn lines_of_what_was_dropped(rt: HostRuntime) -> Result<(), Fail> {
         "bad control, the last from 00000011 00000a010014 4003 by port 1"
     );
     assert_eq!(rt; said(alloc, DropReason::Bad, None)?.as_str(), "bad");
+    Ok(())
+}
+
+fn warns(reason: DropReason, last: Option<LastDrop>) -> bool {
+    DropWords { reason, last }.warns()
+}
+
+/// What is for all nodes of a network comes to its router too, and is no fault. All else is one: so is
+/// a neighbour's word by RIP or SAP that has another number for the network.
+#[test]
+fn warns_of_faults(rt: HostRuntime) -> Result<(), Fail> {
+    let alloc = rt.alloc();
+    let mut core = two_ports(alloc)?;
+    hear_all(alloc, &mut core)?;
+    let last = core.last();
+    assert!(rt; !warns(DropReason::NotOurs, last.not_ours));
+    assert!(rt; warns(DropReason::Bad, last.bad));
+    assert!(rt; warns(DropReason::NoRoute, last.no_route));
+    assert!(rt; warns(DropReason::HopLimit, last.hop_limit));
+    assert!(rt; warns(DropReason::BadControl, last.bad_control));
+    for socket in [0x0453, 0x0452] {
+        core.hear(alloc, 0, &datagram(0, 4, 0x11, 0x4002, 0x11), 0)?;
+        assert!(rt; !warns(DropReason::NotOurs, core.last().not_ours));
+        core.hear(alloc, 0, &datagram(0, 1, 0x11, socket, 0x33), 0)?;
+        assert!(rt; warns(DropReason::NotOurs, core.last().not_ours));
+    }
+    let mut to_a_node = datagram(0, 4, 0x11, 0x4002, 0x11);
+    to_a_node[10..16].copy_from_slice(&[0, 0, 0, 0, 0, 9]);
+    core.hear(alloc, 0, &to_a_node, 0)?;
+    assert!(rt; warns(DropReason::NotOurs, core.last().not_ours));
+    assert!(rt; warns(DropReason::NotOurs, None));
     Ok(())
 }
 

@@ -1,4 +1,4 @@
-use Rattle.std.proofs.Common.{◌∙◌, ◌++◌, ap, refl}
+use Rattle.std.proofs.Common.{◌∙◌, ◌++◌, ap}
 use Rattle.std.specs.Option.{option_to_list}
 use Rattle.ipx_carrier.proofs.Leaving.{behind_none, forwarded_leaves}
 use Rattle.ipx_carrier.proofs.queue.take_next.Goals as goal
@@ -12,5 +12,5 @@ returns-in_default c =
 pub returns : goal.returns
 returns c =
     let left = c.pop_front.new.self.items in
-    forwarded_leaves c.args.forwarded.now.items left c.args.own.now.items c.args.in_a_row.now 0 c.in-Some.reply
-    (c.pop_front.ensures.items ∙ ap (λ o. option_to_list o ++ left) c.in-Some.is) refl
+    forwarded_leaves c.args.forwarded.now.items left c.args.own.now.items c.args.in_a_row.now c.row_behind.result c.in-Some.reply
+    (c.pop_front.ensures.items ∙ ap (λ o. option_to_list o ++ left) c.in-Some.is) c.row_behind.ensures

@@ -4,7 +4,7 @@ use Rattle.ipx_site.specs.Leisure.{IsToDo, agenda, happened}
 use Rattle.ipx_site.specs.PortsView.{kept_in_ports, ways_in}
 use Rattle.ipx_site.specs.RouterRounds.{SleepsBehind}
 use Rattle.ipx_site.specs.SiteMarks.{marks_in}
-use Rattle.ipx_site.specs.Steady.{NeverGoesBack}
+use Rattle.ipx_site.specs.Steady.{NeverGoesBack, StopsThere}
 use Rattle.ipx_site.proofs.MarksApart.{happened_apart, kept_apart}
 use Rattle.ipx_site.proofs.Rounds.{round_then, same_agenda, sleeps_then}
 use Rattle.ipx_site.proofs.running_router.RunningRouter.step.Goals as goal
@@ -22,10 +22,10 @@ returns-in_err-wait-clause-core g c =
       s.clock,
       b,
       marks_in s.ports,
-      round_then NeverGoesBack old.clock s.clock (ways_in old.ports) (kept_in_ports old.ports) (kept_in_ports s.ports) (kept_in_ports t.ports) old.asked s.asked t.asked
+      round_then StopsThere NeverGoesBack old.clock s.clock (ways_in old.ports) (kept_in_ports old.ports) (kept_in_ports s.ports) (kept_in_ports t.ports) old.asked s.asked t.asked
           old.core s.core t.core s.ports.wires.moment t.ports.wires.moment b (ap kept_in_ports e.ports) e.asked e.core (ap (λ it. it.wires.moment) e.ports) c.round-burst.ensures.core,
       sleeps_then (agenda s.asked s.looked s.responses s.written s.core s.troubles (happened s.tally s.core s.ports))
-          (agenda t.asked t.looked t.responses t.written t.core t.troubles (happened t.tally t.core t.ports)) (is_any_marked (marks_in s.ports)) s.clock t.clock NeverGoesBack
+          (agenda t.asked t.looked t.responses t.written t.core t.troubles (happened t.tally t.core t.ports)) (is_any_marked (marks_in s.ports)) s.clock t.clock StopsThere
           (Some c.rest-time.result) c.wait.new.self.asked b.fault b.quiet same c.wait.ensures.asked e.rests,
       search rules,
     )
@@ -46,13 +46,13 @@ returns-clause-core g c =
       s.clock,
       b,
       marks_in t.ports,
-      round_then NeverGoesBack old.clock s.clock (ways_in old.ports) (kept_in_ports old.ports) (kept_in_ports s.ports) (kept_in_ports ports) old.asked s.asked t.asked
+      round_then StopsThere NeverGoesBack old.clock s.clock (ways_in old.ports) (kept_in_ports old.ports) (kept_in_ports s.ports) (kept_in_ports ports) old.asked s.asked t.asked
           old.core s.core t.core s.ports.wires.moment ports.wires.moment b (kept_apart t.ports ports m ∙ ap kept_in_ports e.ports) e.asked e.core
           (ap (λ it. it.moment) m.wires ∙ ap (λ it. it.wires.moment) e.ports) c.round-burst.ensures.core,
       subst (λ it. SleepsBehind (IsToDo (agenda t.asked t.looked t.responses t.written t.core t.troubles (happened t.tally t.core ports)))
-          (is_any_marked (marks_in it)) s.clock t.clock NeverGoesBack c.wait.new.self.asked b.fault b.quiet) (sym e.ports)
+          (is_any_marked (marks_in it)) s.clock t.clock StopsThere c.wait.new.self.asked b.fault b.quiet) (sym e.ports)
           (sleeps_then (agenda s.asked s.looked s.responses s.written s.core s.troubles (happened s.tally s.core s.ports))
-          (agenda t.asked t.looked t.responses t.written t.core t.troubles (happened t.tally t.core ports)) (is_any_marked (marks_in s.ports)) s.clock t.clock NeverGoesBack
+          (agenda t.asked t.looked t.responses t.written t.core t.troubles (happened t.tally t.core ports)) (is_any_marked (marks_in s.ports)) s.clock t.clock StopsThere
           (Some c.rest-time.result) c.wait.new.self.asked b.fault b.quiet same c.wait.ensures.asked e.rests),
       c.mark_ready.ensures.marks,
     )
