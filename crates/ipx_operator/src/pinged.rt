@@ -3,45 +3,18 @@
 ghost use Rattle.std.specs.Prelude.{◌≡◌, IfOk};
 ghost use Rattle.ipx_carrier.specs.Mapping.{ip_at};
 ghost use Rattle.ipx_site.specs.SitePorts.{access_by};
-ghost use Rattle.ipx_operator.specs.WhoIsPinged.{guarded_pinger, ips_of_node, is_pinged_nowhere, is_pinged_straight, ping_carriers, ping_way, pinged_address};
+ghost use Rattle.ipx_operator.specs.WhoIsPinged.{guarded_pinger, ips_of_node, ping_carriers, ping_way};
 
 use crate::whom::asked_ips;
 use ipx_carrier::ip_of;
 use ipx_site::{Guard, HostFile};
-use ipx_wire::{Address, Network, Node};
+use ipx_transfer::is_on_own_network;
+use ipx_wire::{Address, Node};
 use std::alloc::{AllocError, Global};
 
 /// The id of each request of each run, so that a listener answers all of them from one connection: of a
 /// new id each, four runs would take all that it holds for a host of which it has heard nothing.
 pub const PING_ID: u16 = 65_534;
-
-/// The address that is pinged: network 0 is the host's own.
-pub fn pinged_address(file: &HostFile, to: Address) -> Address
-    ensures { result ≡ pinged_address file.now to }
-{
-    if to.network == Network::LOCAL {
-        Address {
-            network: file.network,
-            ..to
-        }
-    } else {
-        to
-    }
-}
-
-/// Whether a listener is on the host's own network.
-fn is_straight(file: &HostFile, to: Address) -> bool
-    ensures { result ≡ is_pinged_straight file.now to }
-{
-    to.network == file.network || to.network == Network::LOCAL
-}
-
-/// Whether nothing goes to an address: on the host's own network to a node that no IP address has.
-pub fn is_nowhere(file: &HostFile, to: Address) -> bool
-    ensures { result ≡ is_pinged_nowhere file.now to }
-{
-    is_straight(file, to) && ip_of(to.node).is_err()
-}
 
 /// The IP address of a node, if it has one.
 fn ips_of(alloc: Global, node: Node) -> Result<Vec<[u8; 4]>, AllocError>
@@ -57,7 +30,7 @@ fn ips_of(alloc: Global, node: Node) -> Result<Vec<[u8; 4]>, AllocError>
 fn way_of(alloc: Global, file: &HostFile, to: Address) -> Result<Vec<[u8; 4]>, AllocError>
     ensures { IfOk result (λ v. v.items ≡ ping_way file.now to) }
 {
-    if is_straight(file, to) {
+    if is_on_own_network(file, to) {
         ips_of(alloc, to.node)
     } else {
         Ok(vec![in alloc; file.router]?)
@@ -68,7 +41,7 @@ fn way_of(alloc: Global, file: &HostFile, to: Address) -> Result<Vec<[u8; 4]>, A
 fn carriers_of(alloc: Global, file: &HostFile, to: Address) -> Result<Vec<[u8; 4]>, AllocError>
     ensures { IfOk result (λ v. v.items ≡ ping_carriers file.now to) }
 {
-    if is_straight(file, to) {
+    if is_on_own_network(file, to) {
         ips_of(alloc, to.node)
     } else {
         asked_ips(alloc, file)

@@ -1,22 +1,21 @@
 //! The command `ping`: whether a listener of SPX is there, and how far.
 
-ghost use Rattle.std.specs.Prelude.{◌≡◌, ◌≤◌, ℕ, List, IfOk};
+ghost use Rattle.std.specs.Prelude.{◌≡◌, ◌≤◌, ℕ, List, IfOk, false};
 ghost use Rattle.std.specs.Io.KnownBytes.{Appends};
 ghost use Rattle.ipx_asking.specs.PingEnds.{ping_status};
 ghost use Rattle.ipx_asking.specs.declared.ping_core.PingCore.{PingCore as APingCore};
 ghost use Rattle.ipx_operator.specs.PingRuns.{HasPinged, PingTurn, pinged_lines};
-ghost use Rattle.ipx_operator.specs.WhoIsPinged.{pinged_address};
 ghost use Rattle.ipx_site.specs.Host.{IsHostText};
 ghost use Rattle.ipx_site.specs.Loading.{IsFileText};
 ghost use Rattle.ipx_site.specs.declared.host.HostFile.{HostFile as AHostFile};
+ghost use Rattle.ipx_transfer.specs.Company.{far_address, is_nowhere};
 ghost use Rattle.ipx_transfer.specs.Target.{NamesAddress};
 ghost use Rattle.ipx_wire.specs.declared.address.Address.{Address as AnAddress};
 
 use crate::fault::{AskFault, tell_fault};
-use crate::pinged::{is_nowhere, pinged_address};
 use crate::pinging_host::PingingHost;
 use ipx_site::{HostFile, load_host};
-use ipx_transfer::Target;
+use ipx_transfer::{Target, far_address, is_nowhere, tell_nowhere};
 use ipx_wire::Address;
 use std::alloc::Global;
 use std::io::Write;
@@ -57,20 +56,19 @@ fn ping_at<R: Net + Files + Clock + Eprint, W: Write>(
     ensures pinged { result ≡ 0 → (text : List ℕ) × (file : AHostFile)
         × (turns : List PingTurn) × (ping : APingCore) × (now : ℕ)
         × IsFileText text × IsHostText text file
-        × HasPinged file (pinged_address file to) count turns ping now × (ping_status ping ≡ 0)
+        × (is_nowhere file (far_address file to) ≡ false)
+        × HasPinged file (far_address file to) count turns ping now × (ping_status ping ≡ 0)
         × Appends (W.contents writer.old) (W.contents writer.new)
-        (pinged_lines (pinged_address file to) turns ping) }
+        (pinged_lines (far_address file to) turns ping) }
     ensures untouched { result ≡ 2 → writer.new ≡ writer.old }
 {
     let file = match load_host(rt, alloc, path) {
         Ok(file) => file,
         Err(status) => return status,
     };
-    let to = pinged_address(&file, to);
+    let to = far_address(&file, to);
     if is_nowhere(&file, to) {
-        let node = to.node;
-        let _ = eprintln!(rt; "{path}: node {node} has no IP address, and is none of its network");
-        return 2;
+        return tell_nowhere(rt, path, to.node);
     }
     match ping_by(rt, alloc, &file, to, count, writer) {
         Ok(status) => status,
@@ -84,7 +82,7 @@ fn ping_at<R: Net + Files + Clock + Eprint, W: Write>(
 ///
 /// The answer is the status: 0 where one was answered, and all is written; 1 where none was, the
 /// writer fails, the socket can't be had or memory is refused; 2 for a fault of the words or the
-/// file. What is wrong is a line on standard error.
+/// file, or where nothing goes to the address. What is wrong is a line on standard error.
 pub fn do_ping<R: Net + Files + Clock + Eprint, W: Write>(
     rt: &R,
     alloc: Global,
@@ -98,13 +96,15 @@ pub fn do_ping<R: Net + Files + Clock + Eprint, W: Write>(
         → (result ≡ 2) × (writer.new ≡ writer.old) }
     ensures few { result ≤ 2 }
     // Where it ends well, the host of some text of a file has pinged the address that the words
-    // name, one request was answered, and what is written is what came of them, line by line.
+    // name, to which something goes, one request was answered, and what is written is what came of
+    // them, line by line.
     ensures pinged { result ≡ 0 → (text : List ℕ) × (file : AHostFile) × (to : AnAddress)
         × (turns : List PingTurn) × (ping : APingCore) × (now : ℕ)
         × IsFileText text × IsHostText text file × NamesAddress target.entry to
-        × HasPinged file (pinged_address file to) count turns ping now × (ping_status ping ≡ 0)
+        × (is_nowhere file (far_address file to) ≡ false)
+        × HasPinged file (far_address file to) count turns ping now × (ping_status ping ≡ 0)
         × Appends (W.contents writer.old) (W.contents writer.new)
-        (pinged_lines (pinged_address file to) turns ping) }
+        (pinged_lines (far_address file to) turns ping) }
     // For a fault of the words or of the file nothing is written.
     ensures untouched { result ≡ 2 → writer.new ≡ writer.old }
 {

@@ -217,17 +217,17 @@ pub const SEND: &str = "\
 A host that asks for a connection, sends its input, and ends the connection
 
 Reads the file HOST as listen does, and dials from its socket to NET NODE SOCKET, which are eight,
-twelve and four hex digits. What one read of standard input gives, at most 65535 bytes, is a
-message. The input may pause for as long as it likes. A node of its own network that it dials is
-heard, as the router and the peers are. Where standard error is a terminal, a line there tells how
-far it is.";
+twelve and four hex digits; NET 00000000 is the host's own network. What one read of standard input
+gives, at most 65535 bytes, is a message. The input may pause for as long as it likes. A node of its
+own network that it dials is heard, as the router and the peers are. Where standard error is a
+terminal, a line there tells how far it is.";
 
 pub const SEND_STATUSES: &str = "\
 Status 0: the other host has acknowledged all of the input, and the end behind it; its program may
 not have taken the last of it. 1: nobody answers, or the connection is lost or ended by the other
 end, and a line on standard error tells how much was acknowledged; the input can't be read, the
-socket can't be had, or memory ran out. 2: a word or the file has a fault, which one line tells, and
-nothing was bound.
+socket can't be had, or memory ran out. 2: a word or the file has a fault, or NODE is on the host's
+own network and has no IP address, which one line tells, and nothing was bound.
 
 A connection is lost five to thirty seconds after the last word of a host that acknowledges nothing.
 There is no limit while one that is there has no room, and no wait once all is acknowledged.
@@ -301,7 +301,8 @@ No listen or send of the same address may run meanwhile.";
 pub const PING_STATUSES: &str = "\
 It is over where the last request is answered, or two seconds after it.
 Status 0: one was answered. 1: none was, writing failed, the socket can't be had, or memory ran out.
-2: a word or the file has a fault, which one line tells, and nothing was bound.
+2: a word or the file has a fault, or NODE is on the host's own network and has no IP address, which
+one line tells, and nothing was bound.
 
 Example:
   $ ipx ping -c 1 /etc/ipx/host.toml 00000022 00000a02001e 4002";

@@ -365,13 +365,20 @@ fn usage_of(alloc: Global, words: &[String]) -> Result<Error, Error> {
             ErrorKind::UnknownArgument,
             "a word too many: '--' has no place here",
         )?
-    } else if words.iter().any(|word| word.as_bytes().starts_with(b"-c")) {
-        command.error(ErrorKind::ValueValidation, "-c and N are to be two words")?
-    } else {
+    } else if words
+        .iter()
+        .any(|word| word.as_bytes().starts_with(b"--frame"))
+    {
         command.error(
             ErrorKind::ValueValidation,
             "NODE is to be twelve hex digits",
         )?
+    } else if words.iter().any(|word| word.as_str() == "-") {
+        command.error(ErrorKind::UnknownArgument, "'-' has no place here")?
+    } else if words.iter().any(|word| word.as_bytes().starts_with(b"-c")) {
+        command.error(ErrorKind::ValueValidation, "-c and N are to be two words")?
+    } else {
+        command.error(ErrorKind::UnknownArgument, "these words ask for no command")?
     };
     Ok(error)
 }

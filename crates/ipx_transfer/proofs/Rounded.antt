@@ -1,5 +1,5 @@
 -- The rounds of a host that sends, one after another.
-use Rattle.std.proofs.Common.{◌≡◌, ◌∙◌, ◌+◌, ℕ, true, List, [], ◌∷◌, ◌++◌, Option, Some, None, Result, Ok, Err, inl, inr, refl, sym, ap, subst, append_assoc, arith, length, length-append}
+use Rattle.std.proofs.Common.{◌≡◌, ◌∙◌, ◌+◌, ℕ, true, false, List, [], ◌∷◌, ◌++◌, Option, Some, None, Result, Ok, Err, inl, inr, refl, sym, ap, subst, append_assoc, arith, length, length-append}
 use Rattle.std.specs.List.{concat}
 use Rattle.std.specs.Io.KnownBytes.{Consumes, IsAtEnd}
 use Rattle.std.specs.Prelude.{IfOk, OnErr}
@@ -9,6 +9,7 @@ use Rattle.ipx_wire.specs.declared.address.Address.{Address}
 use Rattle.spx_link.specs.declared.state.State.{State}
 use Rattle.spx_messages.specs.EndpointView.{EndpointView, held_at}
 use Rattle.ipx_transfer.specs.Books.{EntersAcknowledged}
+use Rattle.ipx_transfer.specs.Company.{is_nowhere}
 use Rattle.ipx_transfer.specs.Feeding.{Feeds, FeedState}
 use Rattle.ipx_transfer.specs.SendRounds.{IsSendStep, LastRound, SendState, Round, Rounds, Transfers, feeding_of}
 use Rattle.ipx_transfer.specs.Sent.{IsDialing, SendsWholeInput}
@@ -145,14 +146,15 @@ transfers_end old new tells peers id t was =
 
 -- what was opened and ran well is a transfer of the host of a file
 pub sends : {S E K : Type 0} (X : Type 0) (opened : Result S E) (r : ℕ) (file : HostFile) (to : Address) (known left : Option (List ℕ)) (tells : K → ℕ → K → Type 0) (at : S → Option (List ℕ) → SendState K) (among : S → Peers) (id : S → ℕ)
-    → ((s : S) (k : Option (List ℕ)) → (at s k).known ≡ k)
+    → is_nowhere file to ≡ false → ((s : S) (k : Option (List ℕ)) → (at s k).known ≡ k)
     → IfOk opened (λ s. (k : Option (List ℕ)) → IsDialing file to (at s k) (among s) (id s))
     → IfOk opened (λ s. r ≡ 0 → (last : SendState K) × Transfers (at s known) last tells (among s) (id s) × (last.known ≡ left))
     → OnErr opened ((r ≡ 1) × X) → r ≡ 0 → SendsWholeInput file to known left tells
-sends X (Ok s) r file to known left tells at among id begins dials ran failed zero =
+sends X (Ok s) r file to known left tells at among id goes begins dials ran failed zero =
     let run = ran zero in
     let dial = dials known in
     record {
+      goes = goes;
       id = id s;
       peers = among s;
       start = at s known;
@@ -164,7 +166,7 @@ sends X (Ok s) r file to known left tells at among id begins dials ran failed ze
       all = subst (λ k. IsAtEnd k) run.2 (transfers_end (at s known) run.0 tells (among s) (id s) run.1 (λ read. absurd (let no = sym dial.unread ∙ read in cc)));
       whole = run.1.whole;
     }
-sends X (Err e) r file to known left tells at among id begins dials ran failed zero = absurd (omega (arith, failed.0, zero))
+sends X (Err e) r file to known left tells at among id goes begins dials ran failed zero = absurd (omega (arith, failed.0, zero))
 
 -- what is so of a value that succeeded
 pub on_ok : {S E : Type 0} (P : S → Type 0) (o : Result S E) (s : S) → o ≡ Ok s → P s → IfOk o P

@@ -10,6 +10,7 @@ use Rattle.spx_link.specs.Offer.{dialed}
 use Rattle.spx_messages.specs.EndpointView.{buffers_at, held_at}
 use Rattle.spx_pace.specs.Pacing.{made_pacer}
 use Rattle.ipx_transfer.specs.Books.{IsUnused}
+use Rattle.ipx_transfer.specs.Company.{is_nowhere}
 use Rattle.ipx_transfer.specs.SendRounds.{SendState, Transfers}
 use Rattle.ipx_transfer.specs.SendSteps.{noted}
 use Rattle.ipx_transfer.specs.Transfer.{IsWholeAt}
@@ -32,10 +33,12 @@ pub record IsDialing {K : Type 0} (file : HostFile) (to : Address) (p : SendStat
   pub unended : p.closed ≡ false
   pub unused : IsUnused p.ledger
 
--- such a host has run a transfer that ended well, from what a reader had to what it has left, which is
--- nothing. Its link is there, its end is queued, and all that was queued on it is acknowledged
+-- such a host has run a transfer to an address to which something goes. It ended well, from what a
+-- reader had to what it has left, which is nothing. Its link is there, its end is queued, and all that was
+-- queued on it is acknowledged
 pub record SendsWholeInput {K : Type 0} (file : HostFile) (to : Address) (known left : Option (List ℕ))
     (tells : K → ℕ → K → Type 0) : Type 0 where
+  pub goes : is_nowhere file to ≡ false
   pub id : ℕ
   pub peers : Peers
   pub start : SendState K

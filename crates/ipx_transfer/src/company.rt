@@ -2,20 +2,57 @@
 
 ghost use Rattle.std.specs.Prelude.{◌≡◌, ◌∷◌, ◌++◌, [], IfOk};
 ghost use Rattle.ipx_site.specs.SitePorts.{access_by, heard_at_port, named};
-ghost use Rattle.ipx_transfer.specs.Company.{dialed_ip, guarded_host, known_ips};
+ghost use Rattle.ipx_transfer.specs.Company.{dialed_ip, far_address, guarded_host, is_nowhere, is_on_own_network, known_ips};
 
 use crate::start::StartFault;
 use ipx_carrier::ip_of;
 use ipx_site::{Accept, Guard, HostFile};
-use ipx_wire::{Address, Network};
+use ipx_wire::{Address, Network, Node};
 use std::alloc::Global;
+
+/// The address that the host of a file speaks to: network 0 is the host's own, which answers have as
+/// their source.
+pub fn far_address(file: &HostFile, to: Address) -> Address
+    ensures { result ≡ far_address file.now to }
+{
+    if to.network == Network::LOCAL {
+        Address {
+            network: file.network,
+            ..to
+        }
+    } else {
+        to
+    }
+}
+
+/// Whether an address is on the host's own network, whose nodes are reached without a router.
+pub fn is_on_own_network(file: &HostFile, to: Address) -> bool
+    ensures { result ≡ is_on_own_network file.now to }
+{
+    to.network == file.network || to.network == Network::LOCAL
+}
+
+/// Whether nothing goes to an address: on the host's own network to a node that no IP address has.
+pub fn is_nowhere(file: &HostFile, to: Address) -> bool
+    ensures { result ≡ is_nowhere file.now to }
+{
+    is_on_own_network(file, to) && ip_of(to.node).is_err()
+}
+
+/// Prints that nothing goes to a node of the network of a file's host, and answers the status 2.
+pub fn tell_nowhere<R: Eprint>(rt: &R, path: &str, node: Node) -> u8
+    ensures { result ≡ 2 }
+{
+    let _ = eprintln!(rt; "{path}: node {node} has no IP address, and is none of its network");
+    2
+}
 
 /// The IP address of a node of its own network that a host dials. None where it dials another
 /// network, or a node that has none.
 pub fn dialed_ip(file: &HostFile, to: Address) -> Option<[u8; 4]>
     ensures { result ≡ dialed_ip file.now to }
 {
-    if to.network != file.network && to.network != Network::LOCAL {
+    if !is_on_own_network(file, to) {
         return None;
     }
     ip_of(to.node).ok()

@@ -34,6 +34,7 @@ mod telling;
 mod tending;
 
 pub use checking::check_host;
+pub use company::{far_address, is_nowhere, is_on_own_network, tell_nowhere};
 pub use listen::do_listen;
 pub use send::do_send;
 pub use target::{Target, TargetFault};

@@ -1,6 +1,6 @@
 //! The command `send`: a host that asks for a connection, and sends what it reads.
 
-ghost use Rattle.std.specs.Prelude.{◌≡◌, ◌<◌, ◌≤◌, ◌+◌, ℕ, List, false, IfErr, IfOk, OnErr, OnOk, Err, Ok};
+ghost use Rattle.std.specs.Prelude.{◌≡◌, ◌<◌, ◌≤◌, ◌+◌, ℕ, List, false, true, IfErr, IfOk, OnErr, Err, Ok};
 ghost use Rattle.std.specs.Io.KnownBytes.{IsAtEnd};
 ghost use Rattle.ipx_carrier.specs.Turns.{peers_of};
 ghost use Rattle.ipx_site.specs.Host.{IsHostText};
@@ -8,11 +8,13 @@ ghost use Rattle.ipx_site.specs.Loading.{IsFileText};
 ghost use Rattle.ipx_site.specs.Steady.{NeverGoesBack};
 ghost use Rattle.ipx_site.specs.declared.clock.SteadyClock.{SteadyClock};
 ghost use Rattle.ipx_wire.specs.declared.address.Address.{Address};
+ghost use Rattle.ipx_transfer.specs.Company.{far_address, is_nowhere};
 ghost use Rattle.ipx_transfer.specs.Midway.{sending_at};
 ghost use Rattle.ipx_transfer.specs.SendRounds.{SendState, Transfers};
 ghost use Rattle.ipx_transfer.specs.Sent.{SendsWholeInput};
 ghost use Rattle.ipx_transfer.specs.Target.{NamesAddress};
 
+use crate::company::{far_address, is_nowhere, tell_nowhere};
 use crate::sending::SendingHost;
 use crate::start::{StartFault, tell_start};
 use crate::target::Target;
@@ -62,9 +64,14 @@ fn send_loaded<R: Net + Log + Clock + Eprint, I: Read>(
     reader: &mut I,
     shows: bool,
 ) -> u8
-    ensures status { OnOk loaded (result < 2) }
+    // Where nothing goes to the address from its host, that is told, and nothing is read.
+    ensures nowhere { IfOk loaded (λ file. is_nowhere file (far_address file to) ≡ true
+        → (result ≡ 2) × (reader.new ≡ reader.old)) }
+    ensures status { IfOk loaded (λ file. is_nowhere file (far_address file to) ≡ false
+        → result < 2) }
     // Where it ends well, the host of the file sent to the address all that the reader had.
-    ensures sent { IfOk loaded (λ file. result ≡ 0 → SendsWholeInput {K = SteadyClock R} file to
+    ensures sent { IfOk loaded (λ file. result ≡ 0
+        → SendsWholeInput {K = SteadyClock R} file (far_address file to)
         (I.remaining reader.old) (I.remaining reader.new) NeverGoesBack) }
     ensures unloaded { IfErr loaded (λ status. (result ≡ status) × (reader.new ≡ reader.old)) }
 {
@@ -72,19 +79,23 @@ fn send_loaded<R: Net + Log + Clock + Eprint, I: Read>(
         Ok(file) => file,
         Err(status) => return status,
     };
+    let to = far_address(&file, to);
+    if is_nowhere(&file, to) {
+        return tell_nowhere(rt, path, to.node);
+    }
     let opened = SendingHost::open(rt, alloc, &file, to, shows);
     send_opened(rt, alloc, path, opened, to, reader)
 }
 
 /// The command `send`: runs the host of a file, asks for a connection to an address, sends what it
 /// reads, and ends the connection behind it. What one read gives, at most 65,535 bytes, is one
-/// message. Where the input pauses, the connection stays.
+/// message. Where the input pauses, the connection stays. Network 0 is the host's own.
 ///
 /// The answer is the status: 0 where the other end has acknowledged all, the end too, which stands
 /// behind all that was read; 1 where nobody answers, the connection is lost or ended by the other
 /// end, the input fails, the socket can't be had or memory is refused; 2 for a fault of the words or
-/// the file. What is wrong is a line on standard error. With `shows` a line there tells how far it
-/// is.
+/// the file, or where nothing goes to the address. What is wrong is a line on standard error. With
+/// `shows` a line there tells how far it is.
 pub fn do_send<R: Net + Log + Files + Clock + Eprint, I: Read>(
     rt: &R,
     alloc: Global,
@@ -97,7 +108,7 @@ pub fn do_send<R: Net + Log + Files + Clock + Eprint, I: Read>(
     ensures words { ((a : Address) → NamesAddress target.entry a → ⊥)
         → (result ≡ 2) × (reader.new ≡ reader.old) }
     ensures few { result ≤ 2 }
-    // For a fault of the words or of the file nothing is read.
+    // For a fault of the words or of the file, or where nothing goes to the address, nothing is read.
     ensures untouched { result ≡ 2 → reader.new ≡ reader.old }
     // Where it ends well, the reader has nothing left.
     ensures all { result ≡ 0 → IsAtEnd (I.remaining reader.new) }
@@ -105,7 +116,7 @@ pub fn do_send<R: Net + Log + Files + Clock + Eprint, I: Read>(
     // that the reader had, by rounds of which the last one saw all of it acknowledged, the end too.
     ensures sent { result ≡ 0 → (text : List ℕ) × (file : HostFile) × (to : Address)
         × IsFileText text × IsHostText text file × NamesAddress target.entry to
-        × SendsWholeInput {K = SteadyClock R} file to
+        × SendsWholeInput {K = SteadyClock R} file (far_address file to)
         (I.remaining reader.old) (I.remaining reader.new) NeverGoesBack }
 {
     let to = match target.address() {
