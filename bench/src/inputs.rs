@@ -3,8 +3,13 @@
 /// How many bytes stand before a datagram in a record. The first is the port that it comes in on.
 pub const LEAD: usize = 16;
 
-/// The networks of ports 1, 2 and 3. The node of port N ends in N.
-pub const PORT_NETWORKS: [u32; 3] = [0x11, 0x22, 0x33];
+/// The network of port N, 11 (hexadecimal) times N. The node of port N ends in N.
+pub const fn port_network(port: u8) -> u32 {
+    0x11 * port as u32
+}
+
+/// The networks of ports 1, 2 and 3, which are all that datagrams come in on.
+pub const PORT_NETWORKS: [u32; 3] = [port_network(1), port_network(2), port_network(3)];
 
 /// The first of the networks that are learned. The others follow it.
 pub const FIRST_LEARNED: u32 = 0x1000;

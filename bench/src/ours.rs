@@ -43,6 +43,8 @@ unsafe extern "C" {
 
     fn ipx_bench_tell(heard: *const u8, count: usize, size: usize, rounds: u32) -> u64;
 
+    fn ipx_bench_tell_sixteen(heard: *const u8, count: usize, size: usize, rounds: u32) -> u64;
+
     fn ipx_bench_known(heard: *const u8, count: usize, size: usize, rounds: u32) -> u64;
 
     fn ipx_bench_answers(
@@ -159,6 +161,12 @@ pub fn in_place(heard: &Records, records: &Records, rounds: u32) -> u64 {
 pub fn tell(heard: &Records, rounds: u32) -> u64 {
     // SAFETY: the pointer and the length are one slice, which is only read.
     unsafe { ipx_bench_tell(heard.bytes.as_ptr(), heard.bytes.len(), heard.size, rounds) }
+}
+
+/// The same by a router of sixteen ports.
+pub fn tell_sixteen(heard: &Records, rounds: u32) -> u64 {
+    // SAFETY: the pointer and the length are one slice, which is only read.
+    unsafe { ipx_bench_tell_sixteen(heard.bytes.as_ptr(), heard.bytes.len(), heard.size, rounds) }
 }
 
 pub fn known(heard: &Records, rounds: u32) -> u64 {

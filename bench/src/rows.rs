@@ -301,15 +301,23 @@ fn forward_with_all_held() -> Row {
     )
 }
 
-fn tell() -> Row {
+/// All routes and services, told by a router of three ports and by one of sixteen, which both heard
+/// them at their first three.
+fn tell() -> [Row; 2] {
     let heard = Rc::new(routes_and_services(ROUTES, SERVICES));
-    let same = Rc::clone(&heard);
-    Row {
-        name: format!("tell {ROUTES} routes, {SERVICES} services"),
-        calls: 1,
-        ours: Box::new(move |rounds| ours::tell(&heard, rounds)),
-        theirs: Box::new(move |rounds| theirs::tell(&same, rounds)),
-    }
+    let row = |ports: &str, ours: fn(&Records, u32) -> u64, theirs: fn(&Records, u32) -> u64| {
+        let (heard, same) = (Rc::clone(&heard), Rc::clone(&heard));
+        Row {
+            name: format!("tell {ROUTES} routes, {SERVICES} services{ports}"),
+            calls: 1,
+            ours: Box::new(move |rounds| ours(&heard, rounds)),
+            theirs: Box::new(move |rounds| theirs(&same, rounds)),
+        }
+    };
+    [
+        row("", ours::tell, theirs::tell),
+        row(" to 16 ports", ours::tell_sixteen, theirs::tell_sixteen),
+    ]
 }
 
 /// The text of what a router knows whose tables are full.
@@ -383,7 +391,8 @@ pub fn all() -> Vec<Row> {
         .chain(hear_all().map(round_by_round))
         .chain(learn_all().map(round_by_round))
         .chain(ask_all())
-        .chain([tell(), known()])
+        .chain(tell())
+        .chain([known()])
         .chain(PASSES.map(pass))
         .chain([deliver()])
         .collect()

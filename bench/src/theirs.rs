@@ -1,6 +1,6 @@
 //! The plain router, in the loops that `crates/ipx_bench` has for the proved one.
 
-use crate::inputs::{LEAD, PORT_NETWORKS, Pace, Records};
+use crate::inputs::{LEAD, Pace, Records, port_network};
 use crate::plain::control::ControlFault;
 use crate::plain::router::{InPlace, Outcome, Port, Reason, Reply, Router};
 use crate::plain::wire::{
@@ -68,13 +68,17 @@ fn in_place_digest(outcome: &InPlace, room: &[u8]) -> u64 {
     }
 }
 
-fn router_of_three() -> Router {
-    let ports = (1..).zip(PORT_NETWORKS).map(|(number, network)| Port {
-        network: Network(network),
+fn router_of(count: u8) -> Router {
+    let ports = (1..=count).map(|number| Port {
+        network: Network(port_network(number)),
         node: Node([0, 0, 0x7f, 0, 0, number]),
         cost: 1,
     });
     Router::new(ports.collect())
+}
+
+fn router_of_three() -> Router {
+    router_of(3)
 }
 
 fn feed(router: &mut Router, record: &[u8], now: u64) -> Option<Outcome> {
@@ -184,9 +188,7 @@ pub fn in_place(heard: &Records, records: &Records, rounds: u32) -> u64 {
     digest
 }
 
-#[inline(never)]
-pub fn tell(heard: &Records, rounds: u32) -> u64 {
-    let mut router = router_of_three();
+fn told_digests(mut router: Router, heard: &Records, rounds: u32) -> u64 {
     fed_digests(&mut router, heard, MOMENT, 0);
     let mut digest = 0;
     for round in 0..rounds {
@@ -194,6 +196,17 @@ pub fn tell(heard: &Records, rounds: u32) -> u64 {
         digest = mixed(digest, replies_digest(&told));
     }
     digest
+}
+
+#[inline(never)]
+pub fn tell(heard: &Records, rounds: u32) -> u64 {
+    told_digests(router_of_three(), heard, rounds)
+}
+
+/// The same by a router of sixteen ports.
+#[inline(never)]
+pub fn tell_sixteen(heard: &Records, rounds: u32) -> u64 {
+    told_digests(router_of(16), heard, rounds)
 }
 
 /// The digest of a text: how long it is, and bytes of it.

@@ -27,6 +27,8 @@ const BETWEEN: Duration = Duration::from_millis(200);
 /// Before a telling packets begin to pass, and this long behind its moment they end at the latest.
 const BEFORE: Duration = Duration::from_secs(2);
 const AFTER: Duration = Duration::from_secs(5);
+/// From the first packet of a telling on, what passes counts for so long.
+const SECOND: Duration = Duration::from_secs(1);
 /// A telling is over after so long without a packet of it.
 const SILENCE: Duration = Duration::from_millis(500);
 const LOOK: Duration = Duration::from_micros(100);
@@ -39,34 +41,39 @@ pub type Span = (Instant, Instant);
 /// What an event answers, which goes on while packets pass: the spans that count.
 type Spans = io::Result<Vec<Span>>;
 
-/// Has packets pass by an address and a process, while an event goes on. It prints their row: how
-/// long those took that were sent in the event's spans, how many of all were lost, and for which
-/// part of the time the process ran, and could have run and had no processor.
-fn print_row(
-    name: &str,
+/// Has packets pass by an address and a process, while an event goes on, which answers for each row
+/// the spans that count. It prints the rows: how long those took that were sent in these spans, how
+/// many of all were lost, and for which part of the time the process ran, and could have run and had
+/// no processor.
+fn print_rows<const ROWS: usize>(
+    names: [&str; ROWS],
     by: (&Process, &str),
     way: &Way,
-    event: impl FnOnce() -> Spans,
+    event: impl FnOnce() -> io::Result<[Vec<Span>; ROWS]>,
 ) -> io::Result<()> {
     let (process, address) = by;
     let (lost_before, before) = (way.lost_by_the_host()?, process.taken()?);
     let start = Instant::now();
-    let (passages, spans) = during(way, address, event)?;
+    let (passages, rows) = during(way, address, event)?;
     let (after, time) = (process.taken()?, start.elapsed().as_nanos());
     let percent = |after: u64, before: u64| 100.0 * (after - before) as f64 / time as f64;
     let by_the_host = way.lost_by_the_host()? - lost_before;
-    let times = Spread::new(times_of(&passages, &spans));
-    if times.count() == 0 {
-        return Err(io::Error::other("no packet came of those that count"));
+    let lost = passages
+        .iter()
+        .filter(|passage| passage.came.is_none())
+        .count();
+    for (name, spans) in names.iter().zip(rows) {
+        let times = Spread::new(times_of(&passages, &spans));
+        if times.count() == 0 {
+            return Err(io::Error::other("no packet came of those that count"));
+        }
+        println!(
+            "{name:<36}{times} {:>9} {lost:>9} {by_the_host:>9} {:>7.1} {:>7.1}",
+            times.count(),
+            percent(after.ran, before.ran),
+            percent(after.held, before.held)
+        );
     }
-    let lost = passages.iter().filter(|passage| passage.came.is_none());
-    println!(
-        "{name:<36}{times} {:>9} {:>9} {by_the_host:>9} {:>7.1} {:>7.1}",
-        times.count(),
-        lost.count(),
-        percent(after.ran, before.ran),
-        percent(after.held, before.held)
-    );
     Ok(())
 }
 
@@ -83,7 +90,8 @@ fn times_of(passages: &[Passage], spans: &[Span]) -> Vec<Duration> {
 
 /// The row of a router of sixteen ports.
 fn row(name: &str, one: &Sixteen, event: impl FnOnce() -> Spans) -> io::Result<()> {
-    print_row(name, (&one.router, &one.area.router(2)), &one.way, event)
+    let by = (&one.router, one.area.router(2));
+    print_rows([name], (by.0, &by.1), &one.way, || Ok([event()?]))
 }
 
 /// Nothing else happens for a while.
@@ -103,7 +111,9 @@ fn print_plain(world: &World, number: u8) -> io::Result<()> {
     let plain = plain_loop(world, &area, 2)?;
     let way = Way::new(world, &area, 1, 2)?;
     way.wait(&area.plain(1))?;
-    print_row("the plain loop", (&plain, &area.plain(1)), &way, calm)
+    print_rows(["the plain loop"], (&plain, &area.plain(1)), &way, || {
+        Ok([calm()?])
+    })
 }
 
 /// The services are told, and taken back, again and again. What counts is when they are told. They
@@ -177,8 +187,9 @@ pub fn other_hosts(one: &Sixteen) -> &[UdpSocket] {
     &one.hosts[2..]
 }
 
-/// The next telling of a router whose tables are full.
-fn tell(world: &World, one: &Sixteen) -> Spans {
+/// The next telling of a router whose tables are full: from its first packet to its last, and the
+/// second that begins with its first.
+fn tell(world: &World, one: &Sixteen) -> io::Result<[Vec<Span>; 2]> {
     other_hosts(one)
         .iter()
         .try_for_each(|host| host.set_nonblocking(true))?;
@@ -192,7 +203,9 @@ fn tell(world: &World, one: &Sixteen) -> Spans {
             "{count} datagrams were told, fewer than {least}"
         )));
     }
-    Ok(vec![span])
+    let second = (span.0, span.0 + SECOND);
+    thread::sleep((second.1 + BEHIND).saturating_duration_since(Instant::now()));
+    Ok([vec![span], vec![second]])
 }
 
 /// Prints the heads of the columns.
@@ -213,8 +226,13 @@ pub fn print(world: &World) {
 /// Waits until a router whose tables are full tells, and prints the row of that.
 pub fn print_telling(world: &World, full: &Sixteen) {
     thread::sleep(full.until_telling().saturating_sub(BEFORE));
-    let name = "they are told to 15 ports";
-    or_say(name, row(name, full, || tell(world, full)));
+    let names = ["they are told to 15 ports", "the second of that"];
+    let address = full.area.router(2);
+    let by = (&full.router, address.as_str());
+    or_say(
+        names[0],
+        print_rows(names, by, &full.way, || tell(world, full)),
+    );
 }
 
 /// Waits until what was told in a span grows old, and prints the row of that.

@@ -109,7 +109,7 @@ fn main() {
     }
     println!("no memory: poll, receive and take of links\n");
     println!(
-        "{:<36} {:>12} {:>12} {:>12} {:>12}",
+        "{:<44} {:>12} {:>12} {:>12} {:>12}",
         "memory a call", "ours", "plain Rust", "ours bytes", "plain bytes"
     );
     for row in all() {
@@ -117,7 +117,7 @@ fn main() {
         let ours = a_call(&*row.ours, row.calls);
         let theirs = a_call(&*row.theirs, row.calls);
         println!(
-            "{:<36} {:>12.2} {:>12.2} {:>12.1} {:>12.1}",
+            "{:<44} {:>12.2} {:>12.2} {:>12.1} {:>12.1}",
             row.name, ours.0, theirs.0, ours.1, theirs.1
         );
     }

@@ -93,7 +93,7 @@ fn print(row: &Row, ours: &Side, theirs: &Side) {
     let calls = f64::from(row.calls);
     let (ours, theirs) = (ours.seconds() / calls, theirs.seconds() / calls);
     println!(
-        "{:<36} {:>12} {:>12} {:>12.1} {:>12.1} {:>8.3}",
+        "{:<44} {:>12} {:>12} {:>12.1} {:>12.1} {:>8.3}",
         row.name,
         in_words(1.0 / ours),
         in_words(1.0 / theirs),
@@ -149,7 +149,7 @@ fn main() {
         .collect::<Vec<_>>();
     (0..TIMES).for_each(|_| repeat_all(&mut sides));
     println!(
-        "{:<36} {:>12} {:>12} {:>12} {:>12} {:>8}",
+        "{:<44} {:>12} {:>12} {:>12} {:>12} {:>8}",
         "calls a second", "ours", "plain Rust", "ours ns", "plain ns", "ratio"
     );
     for (row, (ours, theirs)) in rows.iter().zip(&sides) {

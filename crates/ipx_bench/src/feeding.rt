@@ -1,6 +1,7 @@
-//! A router of three ports, and datagrams that are handed to it.
+//! Routers of three and of sixteen ports, and datagrams that are handed to them.
 
-ghost use Rattle.std.specs.Prelude.{◌≡◌, length, IfOk};
+ghost use Rattle.std.specs.Prelude.{◌≡◌, ◌≤◌, length, IfOk};
+ghost use Rattle.ipx_router.specs.NewRouter.{IsOwnNetwork};
 
 use ipx_router::{Outcome, Port, Router};
 use ipx_wire::{Network, Node, OutOfMemory};
@@ -13,42 +14,57 @@ pub const LEAD: usize = 16;
 /// what was heard then does not get old.
 pub const MOMENT: u64 = 1 << 60;
 
-/// A router with ports on the networks 11, 22 and 33 (hexadecimal).
-pub fn router_of_three(alloc: Global) -> Result<Router, OutOfMemory>
-    ensures { IfOk result (λ r. length r.ports ≡ 3) }
+/// The port of a number, whose node ends in that number: port 1 is on the network 11 (hexadecimal),
+/// port 2 on 22, and so on.
+fn port_of(number: u8) -> Port
+    requires { 1 ≤ number }
+    ensures { IsOwnNetwork result }
 {
-    let first = Port {
-        network: Network(0x11),
-        node: Node([0, 0, 0x7f, 0, 0, 1]),
+    Port {
+        network: Network(0x11 * u32::from(number)),
+        node: Node([0, 0, 0x7f, 0, 0, number]),
         cost: 1,
-    };
-    let second = Port {
-        network: Network(0x22),
-        node: Node([0, 0, 0x7f, 0, 0, 2]),
-        cost: 1,
-    };
-    let third = Port {
-        network: Network(0x33),
-        node: Node([0, 0, 0x7f, 0, 0, 3]),
-        cost: 1,
-    };
-    let ports = vec![in alloc; first, second, third]?;
+    }
+}
+
+/// A router with that many ports, of which there are to be 1 to 16.
+fn router_of(alloc: Global, count: u8) -> Result<Router, OutOfMemory>
+    ensures { IfOk result (λ r. length r.ports ≡ count) }
+{
+    let mut ports = Vec::new(alloc);
+    for place in 0..count {
+        ports.push(port_of(place + 1))?;
+    }
     match Router::new(alloc, ports) {
         Ok(router) => Ok(router),
         Err(_) => Err(OutOfMemory),
     }
 }
 
-/// Hands the datagram of a record to the router at a moment. A record that names no port is no
-/// datagram.
+/// A router with ports on the networks 11, 22 and 33 (hexadecimal).
+pub fn router_of_three(alloc: Global) -> Result<Router, OutOfMemory>
+    ensures { IfOk result (λ r. length r.ports ≡ 3) }
+{
+    router_of(alloc, 3)
+}
+
+/// A router with these three ports and 13 more, the last on the network 110 (hexadecimal).
+pub fn router_of_sixteen(alloc: Global) -> Result<Router, OutOfMemory>
+    ensures { IfOk result (λ r. length r.ports ≡ 16) }
+{
+    router_of(alloc, 16)
+}
+
+/// Hands the datagram of a record to the router at a moment. A record that names none of the first
+/// three ports is no datagram.
 pub fn feed(
     alloc: Global,
     router: &mut Router,
     record: &[u8],
     now: u64,
 ) -> Result<Option<Outcome>, OutOfMemory>
-    requires { length router.old.ports ≡ 3 }
-    ensures { length router.new.ports ≡ 3 }
+    requires { 3 ≤ length router.old.ports }
+    ensures { length router.new.ports ≡ length router.old.ports }
 {
     if record.len() < LEAD {
         return Ok(None);

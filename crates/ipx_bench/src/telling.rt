@@ -1,9 +1,9 @@
 //! Telling neighbours what is known.
 
-ghost use Rattle.std.specs.Prelude.{◌≡◌, length};
+ghost use Rattle.std.specs.Prelude.{◌≡◌, ◌≤◌, length};
 
 use crate::digest::{mixed, replies_digest};
-use crate::feeding::{MOMENT, router_of_three};
+use crate::feeding::{MOMENT, router_of_sixteen, router_of_three};
 use crate::receiving::fed_digests;
 use ipx_router::Router;
 use std::alloc::Global;
@@ -18,8 +18,23 @@ fn told_digest(alloc: Global, router: &mut Router, now: u64) -> u64 {
     }
 }
 
-/// Hands each heard record to a new router, which then tells again and again, each time when it is
+/// Hands each heard record to the router, which then tells again and again, each time when it is
 /// due. Answers the digest of what it told.
+fn told_digests(alloc: Global, router: &mut Router, heard: &[u8], size: usize, rounds: u32) -> u64
+    requires router { 3 ≤ length router.old.ports }
+    requires size { 1 ≤ size }
+{
+    let _ = fed_digests(alloc, router, heard, size, MOMENT, 0);
+    let mut digest = 0;
+    for round in 0..rounds {
+        let now = u64::from(round) * PERIOD;
+        digest = mixed(digest, told_digest(alloc, router, now));
+    }
+    digest
+}
+
+/// Hands each heard record to a new router of three ports, which then tells again and again, each
+/// time when it is due. Answers the digest of what it told.
 #[unsafe(no_mangle)]
 pub extern "C" fn ipx_bench_tell(alloc: Global, heard: &[u8], size: usize, rounds: u32) -> u64 {
     if size == 0 {
@@ -28,11 +43,22 @@ pub extern "C" fn ipx_bench_tell(alloc: Global, heard: &[u8], size: usize, round
     let Ok(mut router) = router_of_three(alloc) else {
         return 0;
     };
-    let _ = fed_digests(alloc, &mut router, heard, size, MOMENT, 0);
-    let mut digest = 0;
-    for round in 0..rounds {
-        let now = u64::from(round) * PERIOD;
-        digest = mixed(digest, told_digest(alloc, &mut router, now));
+    told_digests(alloc, &mut router, heard, size, rounds)
+}
+
+/// The same with a router of sixteen ports. All records come in on the first three.
+#[unsafe(no_mangle)]
+pub extern "C" fn ipx_bench_tell_sixteen(
+    alloc: Global,
+    heard: &[u8],
+    size: usize,
+    rounds: u32,
+) -> u64 {
+    if size == 0 {
+        return 0;
     }
-    digest
+    let Ok(mut router) = router_of_sixteen(alloc) else {
+        return 0;
+    };
+    told_digests(alloc, &mut router, heard, size, rounds)
 }
