@@ -1,8 +1,10 @@
-//! Tests of `sim` that the built program cannot show, a reader or a writer that fails, and a loop
-//! of routers. The other rows that it can show are data: tests/rows.
+//! Tests of `sim` that are no rows: a reader or a writer that fails, a loop of routers, and what
+//! takes too many packets. The rows are data: tests/rows.
 #![tactic(auto)]
 
 #[cfg(test)]
 mod faults;
+#[cfg(test)]
+mod full;
 #[cfg(test)]
 mod loop_row;

@@ -2,7 +2,7 @@
 
 use ipx_carrier::UdpDatagrams;
 use ipx_udp::do_udp;
-use log::Log;
+use log::{Log, warn};
 use std::alloc::Global;
 use std::net::Net;
 use std::process::Abort;
@@ -39,12 +39,41 @@ fn prints<R: Net + Log + Abort>(
     Ok(())
 }
 
+/// A port of UDP that is free at each address of the two routers and hosts: this one, or, as it says,
+/// one behind those that other rows take.
+fn free_port<R: Net + Log + Abort>(rt: &R, alloc: Global, first: u16) -> u16 {
+    let addresses = [1, 2, 3, 4, 6, 7].map(|last| [127, 0, 0, last]);
+    let mut port = first;
+    for next in first + 27..first + 127 {
+        if UdpDatagrams::bind(rt, alloc, &addresses, port).is_ok() {
+            return port;
+        }
+        warn!(rt; "port {} of UDP is taken on this machine: the test takes another", port);
+        port = next;
+    }
+    panic!(rt;
+        "a hundred ports of UDP from {} on are taken on this machine",
+        first
+    )
+}
+
 #[test]
 fn udp_row(rt: HostRuntime) -> Result<(), Fail> {
     let alloc = rt.alloc();
     let script = format!(in alloc; "{SITE}{MESSAGE}")?;
     let ends = "end 0 a Live in 1 out 0 next 0001\nend 1 b Live in 0 out 1 next 0000\n";
-    prints(&rt, alloc, &script, 20_213, (Ok(0), ends))
+    let port = free_port(&rt, alloc, 20_213);
+    prints(&rt, alloc, &script, port, (Ok(0), ends))
+}
+
+#[test]
+fn where_a_port_is_taken_another_is(rt: HostRuntime) -> Result<(), Fail> {
+    let alloc = rt.alloc();
+    let port = free_port(&rt, alloc, 20_320);
+    let taken = UdpDatagrams::bind(&rt, alloc, &[[127, 0, 0, 7]], port)?;
+    assert!(rt; free_port(&rt, alloc, port) > port);
+    std::mem::drop(taken);
+    Ok(())
 }
 
 #[test]
