@@ -15,8 +15,8 @@ BUSY = {NAME: [("00000061", "127.0.1.221", [FLOODER]), ("00000062", "127.0.1.222
                ("00000063", "127.0.1.223", [SENDER]), ("00000064", "127.0.1.224", [RECEIVER])]}
 BUSY_ADDRESSES = [address for ports in BUSY.values() for _, address, _ in ports] + [FLOODER, FLOODED, SENDER, RECEIVER]
 # So many packets go while the port is busy, and half of them come within so many milliseconds: the others may wait for
-# the machine, which has other work.
-PACKETS, MOST_MS = 100, 5
+# the machine, which has other work. It gets so many tries.
+PACKETS, MOST_MS, TRIES = 100, 5, 3
 
 
 def packet(number, to, source):
@@ -45,6 +45,18 @@ def passed_in(sender, receiver, number, udp_port):
     return None
 
 
+def came_of(ends, udp_port, first):
+    """What the packets took that came, of those numbered from the first on, the quickest first. None is sent behind one that
+    did not come."""
+    took = []
+    for number in range(first, first + PACKETS):
+        took.append(passed_in(ends[SENDER], ends[RECEIVER], number, udp_port))
+        if took[-1] is None:
+            return sorted(took[:-1])
+        time.sleep(0.005)
+    return sorted(took)
+
+
 def check_busy(sites):
     """The packets of one port, while another is flooded."""
     sites.start_router(NAME)
@@ -53,14 +65,11 @@ def check_busy(sites):
     flooding = [sys.executable, __file__, str(sites.port)]
     with subprocess.Popen(flooding, preexec_fn=die_with_the_parent) as flooder:
         time.sleep(0.5)
-        took = []
-        for number in range(PACKETS):
-            took.append(passed_in(ends[SENDER], ends[RECEIVER], number, sites.port))
-            if took[-1] is None:
+        for attempt in range(TRIES):
+            came = came_of(ends, sites.port, PACKETS * attempt)
+            if len(came) == PACKETS and came[PACKETS // 2] <= MOST_MS:
                 break
-            time.sleep(0.005)
         flooder.kill()
-    came = sorted(it for it in took if it is not None)
     sites.check(f"{PACKETS} packets of one port pass while another is flooded", len(came) == PACKETS, f"{len(came)} came")
     if came:
         sites.check(f"half of them within {MOST_MS} ms", came[len(came) // 2] <= MOST_MS,

@@ -1,4 +1,4 @@
-"""A router with two ports that drops datagrams for each reason, for tests/sites."""
+"""A router with two ports that drops datagrams for each reason, and one that drops what is usual, for tests/sites."""
 import glob
 import os
 import re
@@ -12,8 +12,10 @@ from site_world import bound, node, port_table, until
 # What the peer of a port sends comes to its address: the network, the address, the peer.
 PORTS = [("000000d1", "127.0.1.100", "127.0.1.101"), ("000000d2", "127.0.1.102", "127.0.1.103")]
 STRANGER = "127.0.1.104"
-DROPPING = [address for _, *ends in PORTS for address in ends] + [STRANGER]
 NAME = "drops"
+# What another router drops is for all nodes of its network, and so no fault.
+USUAL, USUAL_PORT = "usual", ("000000d3", "127.0.1.105", "127.0.1.106")
+DROPPING = [address for _, *ends in [*PORTS, USUAL_PORT] for address in ends] + [STRANGER]
 # So many datagrams for each reason come by the first port, and a moment later so many by the second.
 FIRST, MORE = 1, 11
 # So many come by each from one that is no peer, and are to go by each to it.
@@ -62,13 +64,24 @@ def lines_of(place, count, whole):
     return [line_of(place, reason, count, whole) for reason in REASONS]
 
 
-def told(sites):
+def told(sites, name=NAME):
     """What was told of drops so far."""
-    return [it for it in sites.routers[NAME].said() if re.search(r"\] dropped \d", it)]
+    return [it for it in sites.routers[name].said() if re.search(r"\] dropped \d", it)]
+
+
+def start_usual(sites):
+    """Sends the other router a packet for all nodes of its network, of a socket that no router has."""
+    network, address, peer = USUAL_PORT
+    sites.world.write(f"{USUAL}.toml", port_table(network, address, sites.port, [peer]))
+    sites.start_router(USUAL)
+    until(sites.routers[USUAL].said, 10)
+    with bound(peer, sites.port) as it:
+        it.sendto(ipx(4, (network, "f" * 12, "4002"), (network, node(peer), "4003"), b"for all"), (address, sites.port))
 
 
 def start_drops(sites):
-    """Sends the router what it drops, and answers when it did so."""
+    """Sends the routers what they drop, and answers when it did so."""
+    start_usual(sites)
     text = f'status = "{sites.world.path(NAME + ".prom")}"\n'
     for network, address, peer in PORTS:
         text += port_table(network, address, sites.port, [peer])
@@ -100,6 +113,11 @@ def check_drops(sites, sent):
     got, wanted = told(sites), [*lines_of(0, FIRST, FIRST), *lines_of(1, MORE, FIRST + MORE)]
     sites.check("a router tells what it dropped last for each reason, once a minute", got == wanted,
                 f"{len(got)} lines" if got == wanted else str(got))
+    (network, _, peer), usual = USUAL_PORT, told(sites, USUAL)
+    wanted = ["[INFO  ipx] dropped 1 (1 since the start): not ours, "
+              f"the last from {network} {node(peer)} 4003 by port 1"]
+    sites.check("what is for all nodes of a network is told without a warning", usual == wanted, str(usual))
+    sites.routers[USUAL].end()
 
 
 def check_drops_figures(sites, figures):

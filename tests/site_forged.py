@@ -99,9 +99,12 @@ def ask(sites, ends):
 
 
 def is_answered(ends, port):
-    """Whether a true request is answered within a second."""
-    ends[FORGER].sendto(request(node(FORGER)), port)
-    return until(lambda: came_to(ends[FORGER], FORGER), 1)
+    """Whether a true request is answered within a second, the first or, where its socket has no room yet, one of two more."""
+    for _ in range(3):
+        ends[FORGER].sendto(request(node(FORGER)), port)
+        if until(lambda: came_to(ends[FORGER], FORGER), 1):
+            return True
+    return False
 
 
 def burst(sites, ends):

@@ -13,12 +13,12 @@ PAIRS = {"slow": ("127.0.1.80", "127.0.1.81"), "gone": ("127.0.1.82", "127.0.1.8
 
 
 def start_pairs(sites):
-    """A listener that nobody reads for now, with a sender to it that has much to send; one that is ended
-    in mid-stream; and one whose standard output is closed."""
+    """A listener that nobody reads for now, with a sender to it that has much to send, by network 0, its own;
+    one that is ended in mid-stream; and one whose standard output is closed."""
     data = some_bytes(sites.seed + 5, max(sites.size // 5, 1_000_000))
     slow = sites.start_listener("--once", name="slow-listener")
     slow.reading.clear()
-    pair = slow, sites.start_sender("slow-sender", [data], "00000044", PAIRS["slow"][0]), data
+    pair = slow, sites.start_sender("slow-sender", [data], "00000000", PAIRS["slow"][0]), data
     gone, ended = sites.start_listener(name="gone-listener"), threading.Event()
     lost = sites.start_sender("gone-sender", [data, ended, data], "00000044", PAIRS["gone"][0])
     until(lambda: len(gone.out) > sites.size // 20 or lost.is_over(), 20)
@@ -39,7 +39,7 @@ def check_pairs(sites, pair, lost, shut):
     slow, sender, data = pair
     sites.check("a sender waits while its listener is not read", not sender.is_over(), str(sender.said()))
     slow.reading.set()
-    sites.check_transfer("what it sent comes once it is read", slow, sender, data)
+    sites.check_transfer("what it sent, to network 0, comes once it is read", slow, sender, data)
     # Some thirty seconds after the last word of its listener.
     status, said = lost.status(50), lost.said()
     found = len(said) == 1 and re.fullmatch(

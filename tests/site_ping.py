@@ -157,12 +157,14 @@ def check_places(sites):
 
 
 def check_nowhere(sites):
-    """What no IP address has, nothing can be sent to on the host's own network."""
-    process = ping(sites, "pinger", NEAR, "020000000022", "4002")
-    wanted = [f"{sites.world.path('pinger.toml')}: node 020000000022 has no IP address, and is none of its network"]
-    status = process.status(6)
-    sites.check("a ping of a node that no IP address has is refused", (status, process.out, process.said()) == (2, b"", wanted),
-                f"{status}, {process.said()}, {process.out.decode()}")
+    """What no IP address has, nothing can be sent to on the host's own network, which 0 is too."""
+    file = sites.world.path("pinger.toml")
+    wanted = [f"{file}: node 020000000022 has no IP address, and is none of its network"]
+    for command, network in ((command, network) for command in ("ping", "send") for network in (NEAR, "00000000")):
+        process = sites.world.start(f"nowhere-{command}", command, file, network, "020000000022", "4002")
+        status = process.status(3)
+        sites.check(f"ipx {command} refuses a node of network {network} that no IP address has",
+                    (status, process.out, process.said()) == (2, b"", wanted), f"{status}, {process.said()}, {process.out.decode()}")
 
 
 def check_runs(sites):

@@ -205,6 +205,38 @@ def bound(ip, port):
     return one
 
 
+# A process that wants hardly anything, each thousandth of a second: how late it was at most, once it is ended.
+SLEEPER = """import signal, sys, time
+late = 0.0
+signal.signal(signal.SIGTERM, lambda *_: sys.exit(print(late, flush=True)))
+print("ready", flush=True)
+while True:
+    due = time.monotonic() + 0.001
+    time.sleep(0.001)
+    late = max(late, time.monotonic() - due)
+"""
+
+
+def waited(pid):
+    """For how many seconds a process was ready so far, and had no processor."""
+    with open(f"/proc/{pid}/schedstat", encoding="ascii") as file:
+        return int(file.read().split()[1]) / 1e9
+
+
+class Sleeper:
+    """Says of a machine how long it keeps a process waiting that wants a processor."""
+
+    def __init__(self):
+        self.popen = subprocess.Popen([sys.executable, "-c", SLEEPER], stdout=subprocess.PIPE, text=True,
+                                      preexec_fn=die_with_the_parent)
+        self.popen.stdout.readline()
+
+    def ended(self):
+        """How late it was at most, in seconds."""
+        self.popen.terminate()
+        return float(self.popen.communicate(timeout=10)[0])
+
+
 def broken_pipe():
     """A descriptor to write to, of a pipe that nobody reads."""
     read, write = os.pipe()
