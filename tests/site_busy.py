@@ -6,7 +6,7 @@ import sys
 import time
 
 from site_packets import ipx
-from site_world import bound, die_with_the_parent, node, until
+from site_world import Sleeper, bound, die_with_the_parent, node, until
 
 # A router with four ports: all that the first peer sends goes to the second, and what the third sends to the fourth.
 FLOODER, FLOODED, SENDER, RECEIVER = "127.0.1.225", "127.0.1.226", "127.0.1.227", "127.0.1.228"
@@ -15,8 +15,9 @@ BUSY = {NAME: [("00000061", "127.0.1.221", [FLOODER]), ("00000062", "127.0.1.222
                ("00000063", "127.0.1.223", [SENDER]), ("00000064", "127.0.1.224", [RECEIVER])]}
 BUSY_ADDRESSES = [address for ports in BUSY.values() for _, address, _ in ports] + [FLOODER, FLOODED, SENDER, RECEIVER]
 # So many packets go while the port is busy, and half of them come within so many milliseconds: the others may wait for
-# the machine, which has other work. It gets so many tries.
-PACKETS, MOST_MS, TRIES = 100, 5, 3
+# the machine, which has other work. It gets so many tries; where a process that only sleeps woke late by so many seconds in
+# each, half of them are to come within MOST_MS_LATE.
+PACKETS, MOST_MS, MOST_MS_LATE, TRIES, LATE = 100, 5, 50, 4, 0.005
 
 
 def packet(number, to, source):
@@ -65,15 +66,19 @@ def check_busy(sites):
     flooding = [sys.executable, __file__, str(sites.port)]
     with subprocess.Popen(flooding, preexec_fn=die_with_the_parent) as flooder:
         time.sleep(0.5)
-        for attempt in range(TRIES):
-            came = came_of(ends, sites.port, PACKETS * attempt)
+        late = []
+        while len(late) < TRIES:
+            sleeper = Sleeper()
+            came = came_of(ends, sites.port, PACKETS * len(late))
+            late.append(sleeper.ended() > LATE)
             if len(came) == PACKETS and came[PACKETS // 2] <= MOST_MS:
                 break
         flooder.kill()
     sites.check(f"{PACKETS} packets of one port pass while another is flooded", len(came) == PACKETS, f"{len(came)} came")
+    most = MOST_MS_LATE if all(late) else MOST_MS
     if came:
-        sites.check(f"half of them within {MOST_MS} ms", came[len(came) // 2] <= MOST_MS,
-                    f"half in {came[len(came) // 2]:.2f} ms, all in {came[-1]:.2f} ms")
+        sites.check(f"half of them within {most} ms", came[len(came) // 2] <= most,
+                    f"half in {came[len(came) // 2]:.2f} ms, all in {came[-1]:.2f} ms, try {len(late)}, {sum(late)} of them on a busy machine")
 
 
 if __name__ == "__main__":

@@ -18,7 +18,7 @@ FLOODER_STATION, STATIONS = "02000000f100", ["02000000f101", "02000000f102"]
 PER_SECOND, SECONDS, BEFORE = 10_000, 10, 4
 # How many packets of others are sent a second, at most so many at once, and how many tries a machine that is loaded gets.
 OFFERED, AT_ONCE, TRIES = 10_000, 64, 5
-SHARE, SHARE_LATE = 0.9, 0.3
+SHARE, SHARE_LATE = 0.9, 0.1
 # How many of the frames the router reads at least, by whether the machine kept processes waiting: for longer than LATE, in
 # seconds, or the router for WAITED of its time. What it has no time for, the kernel drops, and counts.
 READ, READ_LATE, LATE, WAITED = 0.9, 0.1, 0.005, 0.02
