@@ -69,7 +69,7 @@ TYPE = 'four hex digits, neither all 0 nor all f, as "0640"'
 NAME = '1 to 47 characters of ASCII that print, without blanks, as "BACKUP"'
 AT = 'a network, a node and a socket, as "00000011 00000a010014 4002"'
 STATUS = 'the name of a file, as "/run/ipx/hq/hq.prom"'
-TABLES = 'the name of a file, as "/run/ipx/hq/hq.tables"'
+TABLES = 'the name of a file, not that of status, as "/run/ipx/hq/hq.tables"'
 
 
 # A route and a service by hand, behind a port with the peers .20 and .1, which is itself.
@@ -120,7 +120,11 @@ ROUTER_FILES = [
     ("port = [1]\n", f"port 1: port is to be {PORTS}"),
     ("".join(PORT.replace("11", f"{number:02x}") for number in range(1, 18)), f"port is to be {PORTS}"),
     ("status = 1\n" + PORT, f"status is to be {STATUS}"),
+    ('status = ""\n' + PORT, f"status is to be {STATUS}"),
+    ('status = "/run/ipx/h\\u0000q"\n' + PORT, f"status is to be {STATUS}"),
     ("tables = []\nport = 1", f"tables is to be {TABLES}"),
+    ('tables = ""\n' + PORT, f"tables is to be {TABLES}"),
+    ('status = "hq"\ntables = "hq"\n' + PORT, f"tables is to be {TABLES}"),
     ("peers = []\n" + PORT, f"peers is no key here: {KEYS}"),
     (PORT + "peer = []\n", f"port 1: peer is no key here: {PORT_KEYS}"),
     (PORT + SECOND + "Accept = \"any\"\n", f"port 2: Accept is no key here: {PORT_KEYS}"),
@@ -453,6 +457,13 @@ CHECKED = [
     ("listen", HOST + 'peers = ["127.0.1.30", "127.0.1.20", "127.0.1.30", "127.0.1.31"]\n',
      ["socket 4002 network 00000011 node 00007f000114 udp 127.0.1.20:20999", "peer 127.0.1.20 is its own address",
       "peer 127.0.1.30 stands twice", "it.toml: router 127.0.1.1, buffers 1024"]),
+    ("listen", HOST + 'peers = ["0.1.2.3", "1.2.3.4", "223.1.2.3", "224.0.0.1", "255.255.255.255", "224.0.0.1"]\n',
+     ["socket 4002 network 00000011 node 00007f000114 udp 127.0.1.20:20999", "peer 0.1.2.3 is no address of a machine",
+      "peer 224.0.0.1 is no address of a machine", "peer 255.255.255.255 is no address of a machine",
+      "peer 224.0.0.1 stands twice", "it.toml: router 127.0.1.1, buffers 1024"]),
+    ("route", PORT.replace('["127.0.1.20"]', '["239.1.2.3"]'),
+     ["port 1 network 00000011 node 00007f000101 udp 127.0.1.1:20999 cost 1 peers 1",
+      "port 1: peer 239.1.2.3 is no address of a machine", "it.toml: 1 port, no status file"]),
 ]
 
 

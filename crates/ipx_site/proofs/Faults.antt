@@ -1,8 +1,6 @@
 -- how a fault of one part is the first fault of the whole
-use Rattle.std.proofs.Common.{String, ◌≡◌, ◌⊎◌, ℕ, suc, ◌+◌, List, [], ◌∷◌, ◌++◌, length, Option, Some, None, inl, inr, refl, ap, subst, ◌∙◌}
-use Rattle.std.specs.Prelude.{MatchOption}
-use Rattle.std.specs.Global.{Global}
-use Rattle.toml.specs.Data.{Data, Items, item, Members, get_member}
+use Rattle.std.proofs.Common.{◌≡◌, ◌⊎◌, ℕ, suc, ◌+◌, List, [], ◌∷◌, ◌++◌, length, Option, Some, None, inl, inr, refl, ap, subst, ◌∙◌}
+use Rattle.toml.specs.Data.{Data, Items, item, Members}
 use Rattle.toml.specs.View.{items_view}
 use Rattle.toml.specs.declared.value.Value.{Value}
 use Rattle.ipx_site.specs.declared.fault.FileFault.{FileFault}
@@ -10,10 +8,9 @@ use Rattle.ipx_site.specs.declared.fault.FileFault.TheVariants.{Again, Missing, 
 use Rattle.ipx_site.specs.declared.key.Key.{Key}
 use Rattle.ipx_site.specs.declared.site.PortOfKind.{PortOfKind}
 use Rattle.ipx_site.specs.declared.key.Key.{Key}
-use Rattle.ipx_site.specs.Keys.{key_text}
-use Rattle.ipx_site.specs.Values.{IsText, item_count}
+use Rattle.ipx_site.specs.Values.{item_count}
 use Rattle.ipx_site.specs.Loading.{IsStatus, fault_status}
-use Rattle.ipx_site.specs.Fields.{Holds, HoldsIf, HoldsOr, IsRightOr}
+use Rattle.ipx_site.specs.Fields.{HoldsIf, HoldsOr, IsRightOr}
 use Rattle.ipx_site.specs.Site.{ArePorts, IsFirstFault, IsPortItem, IsPortItemFault, IsTwin, twin_place}
 
 -- a fault of the whole comes of one of a part, or of want of memory
@@ -63,13 +60,6 @@ one_more_port earlier seen new same p more ds d left is port alone rest are =
     let behind = rw more at are in
     let first = rw same at alone in
     rw is (p, rest, refl, port, first, behind)
-
--- a text that was read, or that is not there, has no fault
-pub text_right : (key : Key) (ms : Members) (found : Option (String Global))
-    → MatchOption found (get_member (key_text key) ms ≡ None) (Holds IsText key ms)
-    → IsRightOr IsText key ms
-text_right key ms None absent = inl absent
-text_right key ms (Some text) holds = inr (text, holds)
 
 pub count_is : (vs : List Value) → item_count (items_view vs) ≡ length vs
 count_is [] = refl

@@ -1,5 +1,5 @@
 -- What the program prints of a port as a router starts, and of a file that it checks. All of it is own.
-use Rattle.std.specs.Prelude.{Vec, ℕ, ◌+◌, List, [], ◌∷◌, ◌++◌, Bool, ◌&&◌, ◌==◌, Option, Some, None, codes, if◌then◌else◌, length, nat_eq, nat_le, position, slice_index, string_bytes, String}
+use Rattle.std.specs.Prelude.{Vec, ℕ, ◌+◌, List, [], ◌∷◌, ◌++◌, Bool, false, ◌&&◌, ◌||◌, ◌==◌, Option, Some, None, codes, if◌then◌else◌, length, nat_eq, nat_le, position, slice_index, string_bytes, String}
 use Rattle.std.specs.Global.{Global}
 use Rattle.std.specs.Cmp.Lexicographic.{pointwise}
 use Rattle.std.specs.Fmt.{decimal}
@@ -136,14 +136,23 @@ remark number text = codes "port " ++ (decimal number ++ (codes ": " ++ (text ++
 abbrev pub port_words : ℕ → List ℕ
 port_words number = codes "port " ++ (decimal number ++ codes ": ")
 
--- the own address is none of the peers, and none of these stands twice. The first words say whose they are
+-- no machine has this IP address: its first number is 0, of the network at hand, or 224 and more, of groups and
+-- of all
+abbrev pub is_of_no_machine : List ℕ → Bool
+is_of_no_machine [] = false
+is_of_no_machine (first ∷ rest) = (first == 0) || nat_le 224 first
+
+-- the own address is none of the peers, none of these stands twice, and each is that of a machine. The first words
+-- say whose they are
 abbrev pub peer_remark : List ℕ → List ℕ → List (List ℕ) → List ℕ → List ℕ
 peer_remark whose address earlier peer =
     if pointwise nat_eq peer address
     then whose ++ (codes "peer " ++ (dotted_text peer ++ codes " is its own address\n"))
     else (if is_peer earlier peer
     then whose ++ (codes "peer " ++ (dotted_text peer ++ codes " stands twice\n"))
-    else [])
+    else (if is_of_no_machine peer
+    then whose ++ (codes "peer " ++ (dotted_text peer ++ codes " is no address of a machine\n"))
+    else []))
 
 -- the ends of a wire are elsewhere than the port, and none of them stands twice
 abbrev pub wire_end_remark : List ℕ → Place → List Place → Place → List ℕ

@@ -1,6 +1,7 @@
 -- The file of a router. All of it is own.
-use Rattle.std.specs.Prelude.{◌≡◌, ◌⊎◌, ℕ, ◌+◌, ◌==◌, ◌&&◌, Bool, true, not, nat_le, List, [], ◌∷◌, ◌++◌, Option, Some, None, position, MatchOption}
-use Rattle.toml.specs.Data.{Data, Items, no_items, item, Members, as_array, as_table, get_member}
+use Rattle.std.specs.Prelude.{◌≡◌, ◌⊎◌, String, ℕ, ◌+◌, ◌==◌, ◌&&◌, Bool, true, not, nat_le, List, [], ◌∷◌, ◌++◌, Option, Some, None, position}
+use Rattle.std.specs.Global.{Global}
+use Rattle.toml.specs.Data.{Data, Items, no_items, item, Members, as_array, as_table}
 use Rattle.toml.specs.Parse.{parse_document}
 use Rattle.ipx_site.specs.declared.fault.FileFault.{FileFault}
 use Rattle.ipx_site.specs.declared.fault.FileFault.TheVariants.{Twin, Wrong}
@@ -8,11 +9,11 @@ use Rattle.ipx_site.specs.declared.key.Key.TheVariants as Key
 use Rattle.ipx_site.specs.declared.site.SiteFile.{SiteFile}
 use Rattle.ipx_site.specs.declared.site.PortOfKind.{PortOfKind}
 use Rattle.ipx_site.specs.HandLists.{AreByHand, IsByHandFault}
-use Rattle.ipx_site.specs.Keys.{first_unknown, key_text, site_keys}
-use Rattle.ipx_site.specs.Values.{IsText, item_count}
+use Rattle.ipx_site.specs.Keys.{first_unknown, site_keys}
+use Rattle.ipx_site.specs.Values.{IsFileName, IsOtherFileName, item_count}
 use Rattle.ipx_site.specs.FramesTable.{IsKindFault, IsPortOfKind}
 use Rattle.ipx_site.specs.PortKinds.{network_of_kind}
-use Rattle.ipx_site.specs.Fields.{Holds, IsFault, IsNoToml, IsRightOr, IsUnknown, IsWrong}
+use Rattle.ipx_site.specs.Fields.{Holds, HoldsIf, IsFault, IsNoToml, IsRightOr, IsUnknown, IsWrong}
 
 -- one to sixteen of them
 abbrev pub is_few : Items → Bool
@@ -55,21 +56,20 @@ IsFirstFault earlier table (item d ds) f = IsPortItemFault table d f
 -- a table is that of a router
 pub record IsSite (ms : Members) (s : SiteFile) : Type 0 where
   pub known : first_unknown site_keys ms ≡ None
-  pub status : MatchOption s.status (get_member (key_text Key.Status) ms ≡ None)
-      (Holds IsText Key.Status ms)
-  pub tables : MatchOption s.tables (get_member (key_text Key.Tables) ms ≡ None)
-      (Holds IsText Key.Tables ms)
+  pub status : HoldsIf IsFileName Key.Status ms s.status
+  pub tables : HoldsIf (IsOtherFileName s.status) Key.Tables ms s.tables
   pub ports : (ds : Items) × Holds IsPortList Key.Port ms ds × ArePorts [] ds s.ports.items
   pub by_hand : AreByHand s.ports.items ms s.by_hand.items
 
--- its first fault: a name that is no key, the status file, the file of tables, the ports in order, and then
--- what it is to hear by hand
+-- its first fault: a name that is no key, the status file, the file of tables, which is another one, the ports in
+-- order, and then what it is to hear by hand
 abbrev pub IsSiteFault : Members → FileFault → Type 0
 IsSiteFault ms f =
     IsUnknown site_keys ms 0 f
-    ⊎ ((first_unknown site_keys ms ≡ None) × (IsWrong IsText Key.Status ms 0 f
-    ⊎ (IsRightOr IsText Key.Status ms × (IsWrong IsText Key.Tables ms 0 f
-    ⊎ (IsRightOr IsText Key.Tables ms × (IsFault IsPortList Key.Port ms 0 f
+    ⊎ ((first_unknown site_keys ms ≡ None) × (IsWrong IsFileName Key.Status ms 0 f
+    ⊎ ((status : Option (String Global)) × HoldsIf IsFileName Key.Status ms status
+    × (IsWrong (IsOtherFileName status) Key.Tables ms 0 f
+    ⊎ (IsRightOr (IsOtherFileName status) Key.Tables ms × (IsFault IsPortList Key.Port ms 0 f
     ⊎ ((ds : Items) × Holds IsPortList Key.Port ms ds × (IsFirstFault [] 1 ds f
     ⊎ ((ps : List PortOfKind) × ArePorts [] ds ps × IsByHandFault ps ms f)))))))))
 

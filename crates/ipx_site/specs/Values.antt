@@ -1,7 +1,7 @@
 -- What the value of a key means: a number of a network, an address, and so on.
-use Rattle.std.specs.Prelude.{String, Vec, string_bytes, ◌≡◌, ◌≢◌, ℕ, suc, ◌≤◌, pos, List, [], ◌∷◌, true, Option, Some, codes, MatchOption}
+use Rattle.std.specs.Prelude.{String, Vec, string_bytes, ◌≡◌, ◌≢◌, ⊤, ℕ, suc, ◌==◌, ◌≤◌, pos, Bool, true, not, ◌&&◌, List, [], ◌∷◌, length, Option, Some, codes, MatchOption}
 use Rattle.std.specs.Global.{Global}
-use Rattle.std.specs.List.{list_all}
+use Rattle.std.specs.List.{list_all, list_any}
 use Rattle.std.specs.Net.Grammar.{IsDotted}
 use Rattle.toml.specs.Data.{Data, Items, no_items, item, as_str, as_integer, as_array}
 use Rattle.ipx_wire.specs.declared.address.Network.{Network}
@@ -37,9 +37,18 @@ IsIpAddress d ip = (text : List ℕ) × (as_str d ≡ Some text) × IsDotted tex
 abbrev pub IsCount : ℕ → Data → ℕ → Type 0
 IsCount most d n = (as_integer d ≡ Some (pos n)) × (1 ≤ n) × (n ≤ most)
 
--- any string
-abbrev pub IsText : Data → String Global → Type 0
-IsText d text = as_str d ≡ Some (string_bytes text)
+-- a text can name a file: it is not empty, and no byte of it is 0
+abbrev pub can_name_file : List ℕ → Bool
+can_name_file text = not (length text == 0) && not (list_any (λ b. b == 0) text)
+
+-- a string that can
+abbrev pub IsFileName : Data → String Global → Type 0
+IsFileName d name = (as_str d ≡ Some (string_bytes name)) × (can_name_file (string_bytes name) ≡ true)
+
+-- so it is, and names another file than this name does, if there is one
+abbrev pub IsOtherFileName : Option (String Global) → Data → String Global → Type 0
+IsOtherFileName other d name = IsFileName d name
+    × MatchOption other ⊤ (λ it. string_bytes it ≢ string_bytes name)
 
 abbrev pub accept_text : Accept → List ℕ
 accept_text Peers = codes "peers"

@@ -3,7 +3,7 @@
 ghost use Rattle.std.specs.Prelude.{◌≡◌, ◌<◌, ◌≤◌, ℕ, List, [], IfOk, IfSome, IsOkAnd, length, position, string_bytes};
 ghost use Rattle.std.specs.Io.KnownBytes.{Appends};
 ghost use Rattle.std.specs.List.{flat_map};
-ghost use Rattle.ipx_site.specs.Checked.{count_text, each_behind, file_line, is_one_place, joined_remark, peer_remark, place_remark, port_lines, reached_remarks, remark, site_lines, status_text, tables_place_text, wire_end_remark};
+ghost use Rattle.ipx_site.specs.Checked.{count_text, each_behind, file_line, is_of_no_machine, is_one_place, joined_remark, peer_remark, place_remark, port_lines, reached_remarks, remark, site_lines, status_text, tables_place_text, wire_end_remark};
 ghost use Rattle.ipx_site.specs.Loading.{IsFileText};
 ghost use Rattle.ipx_site.specs.Site.{IsSiteText};
 ghost use Rattle.ipx_site.specs.declared.site.SiteFile.{SiteFile as ASiteFile};
@@ -25,6 +25,13 @@ fn remark_on(alloc: Global, number: usize, text: &str) -> Result<String, AllocEr
     format!(in alloc; "port {number}: {text}\n")
 }
 
+/// Whether no machine has an IP address: it is of the network at hand, of a group, or of all.
+fn is_of_no_machine(ip: [u8; 4]) -> bool
+    ensures { result ≡ is_of_no_machine ip }
+{
+    ip[0] == 0 || ip[0] >= 224
+}
+
 /// What is remarked on a peer, behind the earlier ones.
 fn peer_to_remark(
     alloc: Global,
@@ -42,11 +49,14 @@ fn peer_to_remark(
     if earlier.contains(&peer) {
         return format!(in alloc; "{whose}peer {ip} stands twice\n");
     }
+    if is_of_no_machine(peer) {
+        return format!(in alloc; "{whose}peer {ip} is no address of a machine\n");
+    }
     Ok(String::new(alloc))
 }
 
 /// What is remarked on the peers of an address: a line, behind the words that say whose they are, for
-/// each that is that address itself, or stands twice.
+/// each that is that address itself, stands twice, or is that of no machine.
 pub fn peers_to_remarks(
     alloc: Global,
     whose: &str,

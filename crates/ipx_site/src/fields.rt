@@ -7,7 +7,7 @@ ghost use Rattle.toml.specs.View.{table_view, view};
 ghost use Rattle.ipx_site.specs.Keys.{first_unknown, key_text, keys_of_kind};
 ghost use Rattle.ipx_site.specs.Neighbours.{AreAmong, AreNeighbours};
 ghost use Rattle.ipx_site.specs.Origins.{AreOrigins};
-ghost use Rattle.ipx_site.specs.Values.{AreAddressesOf, AreRouterPeers, IsAccept, IsIpAddress, IsCount, IsKind, IsNetwork, IsSocket, IsText};
+ghost use Rattle.ipx_site.specs.Values.{AreAddressesOf, AreRouterPeers, IsAccept, IsIpAddress, IsCount, IsKind, IsNetwork, IsSocket, IsFileName, IsOtherFileName};
 ghost use Rattle.ipx_site.specs.Fields.{Gives, GivesIf, GivesOr, Holds, HoldsOr, IsMissing, IsStray, IsStrayName, IsUnknown, IsWrong};
 
 use crate::fault::FileFault;
@@ -16,8 +16,8 @@ use crate::neighbours::{among, neighbours_of};
 use crate::origin::{Origin, origins_of};
 use crate::site::{Accept, Kind};
 use crate::values::{
-    accept_of, count_of, kind_of, parse_address, parse_network, parse_peers, parse_socket,
-    routers_of, text_of,
+    accept_of, count_of, file_name_of, kind_of, parse_address, parse_network, parse_peers,
+    parse_socket, routers_of,
 };
 use ipx_wire::{Network, OutOfMemory, Socket};
 use std::alloc::Global;
@@ -210,19 +210,32 @@ pub fn socket_in(table: &Table, number: usize) -> Result<Socket, FileFault>
     }
 }
 
-/// The text of a key, if it is there.
-pub fn text_in(alloc: Global, table: &Table, key: Key) -> Result<Option<String>, FileFault>
-    ensures { MatchResult result
-        (λ found. MatchOption found (get_member (key_text key) (table_view table.now) ≡ None)
-        (Holds IsText key (table_view table.now)))
-        (λ f. (f ≡ FileFault.OutOfMemory) ⊎ IsWrong IsText key (table_view table.now) 0 f) }
+/// The name of a file of a key, if it is there.
+pub fn file_name_in(alloc: Global, table: &Table, key: Key) -> Result<Option<String>, FileFault>
+    ensures { GivesIf IsFileName key (table_view table.now) 0 result }
 {
     let Some(value) = held(table, key) else {
         return Ok(None);
     };
-    match text_of(alloc, value)? {
-        Some(text) => Ok(Some(text)),
+    match file_name_of(alloc, value)? {
+        Some(name) => Ok(Some(name)),
         None => Err(FileFault::Wrong(0, key)),
+    }
+}
+
+/// The name of a file of a key, if it is there. It is another than this one.
+pub fn other_file_name_in(
+    alloc: Global,
+    table: &Table,
+    key: Key,
+    other: &Option<String>,
+) -> Result<Option<String>, FileFault>
+    ensures { GivesIf (IsOtherFileName other.now) key (table_view table.now) 0 result }
+{
+    let name = file_name_in(alloc, table, key)?;
+    match (&name, other) {
+        (Some(one), Some(two)) if one.as_str() == two.as_str() => Err(FileFault::Wrong(0, key)),
+        _ => Ok(name),
     }
 }
 

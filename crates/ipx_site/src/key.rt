@@ -81,7 +81,7 @@ impl Key {
     pub(crate) fn right(&self) -> &'static str {
         match self {
             Key::Status => "the name of a file, as \"/run/ipx/hq/hq.prom\"",
-            Key::Tables => "the name of a file, as \"/run/ipx/hq/hq.tables\"",
+            Key::Tables => "the name of a file, not that of status, as \"/run/ipx/hq/hq.tables\"",
             Key::Port => "one to sixteen tables, each begun by [[port]]",
             Key::Network => "eight hex digits, neither all 0 nor all f, as \"00000011\"",
             Key::Address => "an IP address of this machine, as \"192.0.2.10\"",

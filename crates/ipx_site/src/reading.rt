@@ -10,7 +10,7 @@ ghost use Rattle.ipx_site.specs.SitePorts.{router_ports};
 ghost use Rattle.ipx_site.specs.Site.{ArePorts, IsFirstFault, IsPortItem, IsPortItemFault, IsPortList, IsSite, IsSiteFault, IsSiteText, IsSiteTextFault, IsTwin, is_few, twin_place};
 
 use crate::fault::FileFault;
-use crate::fields::{refuse_unknown, required, text_in};
+use crate::fields::{file_name_in, other_file_name_in, refuse_unknown, required};
 use crate::hand_lists::by_hand_in;
 use crate::key::Key;
 use crate::port::port_of;
@@ -115,8 +115,8 @@ fn site_of(alloc: Global, table: &Table) -> Result<SiteFile, FileFault>
         (f ≡ FileFault.OutOfMemory) ⊎ IsSiteFault (table_view table.now) f) }
 {
     refuse_unknown(alloc, table, 0, &KEYS)?;
-    let status = text_in(alloc, table, Key::Status)?;
-    let tables = text_in(alloc, table, Key::Tables)?;
+    let status = file_name_in(alloc, table, Key::Status)?;
+    let tables = other_file_name_in(alloc, table, Key::Tables, &status)?;
     let values = port_values(table)?;
     let ports = ports_of(alloc, values)?;
     let by_hand = by_hand_in(alloc, table, &ports)?;

@@ -3,7 +3,7 @@
 ghost use Rattle.std.specs.Prelude.{◌≡◌, IfOk};
 ghost use Rattle.std.specs.List.{list_all};
 ghost use Rattle.toml.specs.View.{items_view, view};
-ghost use Rattle.ipx_site.specs.Values.{AreAddresses, AreAddressesOf, AreRouterPeers, IsAccept, IsIpAddress, IsCount, IsKind, IsNetwork, IsSocket, IsText, ReadsAddresses, ReadsNetwork};
+ghost use Rattle.ipx_site.specs.Values.{AreAddresses, AreAddressesOf, AreRouterPeers, IsAccept, IsIpAddress, IsCount, IsKind, IsNetwork, IsSocket, IsFileName, ReadsAddresses, ReadsNetwork, can_name_file};
 ghost use Rattle.ipx_site.specs.Fields.{Reads};
 ghost use Rattle.ipx_site.specs.SitePeers.{is_peer};
 
@@ -90,13 +90,20 @@ pub fn parse_socket(value: &Value) -> Option<Socket>
     Some(socket)
 }
 
-/// A copy of the text that a value is.
-pub fn text_of(alloc: Global, value: &Value) -> Result<Option<String>, OutOfMemory>
-    ensures { IfOk result (Reads IsText (view value.now)) }
+/// Whether a text can name a file: it is not empty, and no byte of it is 0.
+fn can_name_file(text: &str) -> bool
+    ensures { result ≡ can_name_file text.now }
+{
+    !text.is_empty() && !text.as_bytes().contains(&0)
+}
+
+/// A copy of the name of a file that a value is.
+pub fn file_name_of(alloc: Global, value: &Value) -> Result<Option<String>, OutOfMemory>
+    ensures { IfOk result (Reads IsFileName (view value.now)) }
 {
     match value.as_str() {
-        Some(text) => Ok(Some(String::from_str(alloc, text)?)),
-        None => Ok(None),
+        Some(name) if can_name_file(name) => Ok(Some(String::from_str(alloc, name)?)),
+        _ => Ok(None),
     }
 }
 

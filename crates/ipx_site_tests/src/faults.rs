@@ -16,7 +16,7 @@ peers = []
 ";
 
 /// Files of routers with what is printed of them.
-const SITES: [(&str, &str); 10] = [
+const SITES: [(&str, &str); 15] = [
     (TWIN, "port 2: network 00000001 is already that of port 1"),
     (
         "",
@@ -39,8 +39,28 @@ const SITES: [(&str, &str); 10] = [
         "status is to be the name of a file, as \"/run/ipx/hq/hq.prom\"",
     ),
     (
+        "status = \"\"",
+        "status is to be the name of a file, as \"/run/ipx/hq/hq.prom\"",
+    ),
+    (
+        "status = \"/run/ipx/h\\u0000q\"",
+        "status is to be the name of a file, as \"/run/ipx/hq/hq.prom\"",
+    ),
+    (
         "tables = 1\nport = 1",
-        "tables is to be the name of a file, as \"/run/ipx/hq/hq.tables\"",
+        "tables is to be the name of a file, not that of status, as \"/run/ipx/hq/hq.tables\"",
+    ),
+    (
+        "tables = \"\"\nport = 1",
+        "tables is to be the name of a file, not that of status, as \"/run/ipx/hq/hq.tables\"",
+    ),
+    (
+        "status = \"/run/ipx/hq\"\ntables = \"/run/ipx/hq\"\nport = 1",
+        "tables is to be the name of a file, not that of status, as \"/run/ipx/hq/hq.tables\"",
+    ),
+    (
+        "status = \"/run/ipx/hq\"\ntables = \"/run/ipx/hq.\"\nport = 1",
+        "port is to be one to sixteen tables, each begun by [[port]]",
     ),
     (
         "[[port]]\npeer = []",

@@ -1,7 +1,6 @@
-use Rattle.std.proofs.Common.{◌≡◌, ◌∙◌, ◌+◌, [], ◌∷◌, ◌++◌, drop, inr, ap, arith, refl}
+use Rattle.std.proofs.Common.{◌≡◌, [], ◌∷◌, ◌++◌, drop, inr, arith, refl}
 use Rattle.std.proofs.lemmas.List.{append-nil, append_assoc, drop_all}
 use Rattle.std.proofs.lemmas.Result.{err_from_is_err_and}
-use Rattle.ipx_site.specs.HandLists.{first_table, entry_number}
 use Rattle.ipx_site.proofs.Each.{item_left}
 use Rattle.ipx_site.proofs.Faults.{or_memory}
 use Rattle.ipx_site.proofs.ByHand.{again_fault, entry_fault, later_entry_fault, one_more_entry}

@@ -4,16 +4,16 @@ use Rattle.toml.specs.View.{items_view, table_view}
 use Rattle.ipx_site.specs.declared.key.Key.TheVariants as Key
 use Rattle.ipx_site.specs.declared.site.PortOfKind.{PortOfKind}
 use Rattle.ipx_site.specs.Site.{ArePorts}
-use Rattle.ipx_site.proofs.Faults.{or_memory, text_right}
+use Rattle.ipx_site.specs.Values.{IsOtherFileName}
+use Rattle.ipx_site.proofs.Faults.{or_memory, right_if}
 use Rattle.ipx_site.proofs.Own.{own_of}
 use Rattle.ipx_site.proofs.reading.site_of.Goals as goal
 
 pub returns-in_err-tables-clause-fault : goal.returns-in_err-tables-clause-fault
 returns-in_err-tables-clause-fault c =
     let p = err_from_is_err_and c.from_residual-in_err-tables.result c.from_residual-in_err-tables.ensures.1 in
-    let ms = table_view c.args.table.now in
     rw (p.1, p.2)
-    (or_memory _ (λ fault. inr (c.in_ok-refuse_unknown.ensures.known, inr (text_right Key.Status ms c.in_ok-status.status c.in_ok-status.ensures, inl fault)))
+    (or_memory _ (λ fault. inr (c.in_ok-refuse_unknown.ensures.known, inr (c.in_ok-status.status, c.in_ok-status.ensures, inl fault)))
     c.in_err-tables.ensures)
 
 pub returns-in_err-values-clause-fault : goal.returns-in_err-values-clause-fault
@@ -24,8 +24,9 @@ returns-in_err-values-clause-fault c =
     (inr (inr (
       c.in_ok-refuse_unknown.ensures.known,
       inr (
-        text_right Key.Status ms c.in_ok-status.status c.in_ok-status.ensures,
-        inr (text_right Key.Tables ms c.in_ok-tables.tables c.in_ok-tables.ensures, inl c.in_err-values.ensures),
+        c.in_ok-status.status,
+        c.in_ok-status.ensures,
+        inr (right_if (IsOtherFileName c.in_ok-status.status) Key.Tables ms c.in_ok-tables.tables c.in_ok-tables.ensures, inl c.in_err-values.ensures),
       ),
     )))
 
@@ -37,8 +38,9 @@ returns-in_err-ports-clause-fault c =
     (or_memory _ (λ fault. inr (
       c.in_ok-refuse_unknown.ensures.known,
       inr (
-        text_right Key.Status ms c.in_ok-status.status c.in_ok-status.ensures,
-        inr (text_right Key.Tables ms c.in_ok-tables.tables c.in_ok-tables.ensures, inr (items_view c.in_ok-values.values.now, c.in_ok-values.ensures, inl fault)),
+        c.in_ok-status.status,
+        c.in_ok-status.ensures,
+        inr (right_if (IsOtherFileName c.in_ok-status.status) Key.Tables ms c.in_ok-tables.tables c.in_ok-tables.ensures, inr (items_view c.in_ok-values.values.now, c.in_ok-values.ensures, inl fault)),
       ),
     ))
     c.in_err-ports.ensures.fault)
@@ -56,8 +58,9 @@ returns-in_err-by_hand-clause-fault c =
     (or_memory _ (λ fault. inr (
       c.in_ok-refuse_unknown.ensures.known,
       inr (
-        text_right Key.Status ms c.in_ok-status.status c.in_ok-status.ensures,
-        inr (text_right Key.Tables ms c.in_ok-tables.tables c.in_ok-tables.ensures, inr (items_view c.in_ok-values.values.now, c.in_ok-values.ensures, inr (c.deref.result.now, ports, fault))),
+        c.in_ok-status.status,
+        c.in_ok-status.ensures,
+        inr (right_if (IsOtherFileName c.in_ok-status.status) Key.Tables ms c.in_ok-tables.tables c.in_ok-tables.ensures, inr (items_view c.in_ok-values.values.now, c.in_ok-values.ensures, inr (c.deref.result.now, ports, fault))),
       ),
     ))
     c.in_err-by_hand.ensures.fault)
