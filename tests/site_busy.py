@@ -78,7 +78,8 @@ def check_busy(sites):
     most = MOST_MS_LATE if all(late) else MOST_MS
     if came:
         sites.check(f"half of them within {most} ms", came[len(came) // 2] <= most,
-                    f"half in {came[len(came) // 2]:.2f} ms, all in {came[-1]:.2f} ms, try {len(late)}, {sum(late)} of them on a busy machine")
+                    f"half in {came[len(came) // 2]:.2f} ms, all in {came[-1]:.2f} ms, try {len(late)}, "
+                    f"{sum(late)} of them on a busy machine")
 
 
 if __name__ == "__main__":

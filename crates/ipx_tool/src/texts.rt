@@ -155,7 +155,7 @@ or for clients of DOSBox, which connect by ipxnet,
             on the same network, whose players are in one game with those here
 and before the first port, if figures are wanted, or what it knows,
   status    the name of a file of figures, which it writes anew every ten seconds
-  tables    the name of a file of what it knows, which it writes so too: networks and
+  tables    the name of another, of what it knows, which it writes so too: networks and
             services read it
 and behind the ports, of what speaks no RIP or SAP, up to 256 tables [[route]] with
   port      the number of a port, the first of which is 1
