@@ -136,8 +136,8 @@ remark number text = codes "port " ++ (decimal number ++ (codes ": " ++ (text ++
 abbrev pub port_words : ℕ → List ℕ
 port_words number = codes "port " ++ (decimal number ++ codes ": ")
 
--- no machine has this IP address: its first number is 0, of the network at hand, or 224 and more, of groups and
--- of all
+-- no machine has this IP address: its first number is 0, of the network at hand, or 224 and more, of groups,
+-- reserved, and of all
 abbrev pub is_of_no_machine : List ℕ → Bool
 is_of_no_machine [] = false
 is_of_no_machine (first ∷ rest) = (first == 0) || nat_le 224 first

@@ -45,7 +45,7 @@ can_name_file text = not (length text == 0) && not (list_any (λ b. b == 0) text
 abbrev pub IsFileName : Data → String Global → Type 0
 IsFileName d name = (as_str d ≡ Some (string_bytes name)) × (can_name_file (string_bytes name) ≡ true)
 
--- so it is, and names another file than this name does, if there is one
+-- so it is, and another name than this one, if there is one
 abbrev pub IsOtherFileName : Option (String Global) → Data → String Global → Type 0
 IsOtherFileName other d name = IsFileName d name
     × MatchOption other ⊤ (λ it. string_bytes it ≢ string_bytes name)

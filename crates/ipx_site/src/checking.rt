@@ -25,7 +25,8 @@ fn remark_on(alloc: Global, number: usize, text: &str) -> Result<String, AllocEr
     format!(in alloc; "port {number}: {text}\n")
 }
 
-/// Whether no machine has an IP address: it is of the network at hand, of a group, or of all.
+/// Whether no machine has an IP address: it is of the network at hand, of a group, reserved, or of
+/// all.
 fn is_of_no_machine(ip: [u8; 4]) -> bool
     ensures { result ≡ is_of_no_machine ip }
 {

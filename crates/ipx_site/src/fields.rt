@@ -223,7 +223,7 @@ pub fn file_name_in(alloc: Global, table: &Table, key: Key) -> Result<Option<Str
     }
 }
 
-/// The name of a file of a key, if it is there. It is another than this one.
+/// The name of a file of a key, if it is there. It is to be another than this one.
 pub fn other_file_name_in(
     alloc: Global,
     table: &Table,
