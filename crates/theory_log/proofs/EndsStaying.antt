@@ -75,21 +75,21 @@ abbrev IsStill : List Stand → ℕ → Stand → Type 0
 IsStill ends who e = (f : Stand) × (slice_get ends who ≡ Some f) × StaysAtHost e f
 
 stays_same : (ends : List Stand) (who : ℕ) (e : Stand) → slice_get ends who ≡ Some e → IsStill ends who e
-stays_same ends who e at = (e, at, record { host = refl; gone = λ is. refl })
+stays_same ends who e at = (e, at, record { host = refl; own = refl; gone = λ is. refl })
 
 stays_before : (ends : List Stand) (new : Stand) (who : ℕ) (e : Stand) → slice_get ends who ≡ Some e → IsStill (ends ++ new ∷ []) who e
-stays_before ends new who e at = (e, get_before ends (new ∷ []) e who at, record { host = refl; gone = λ is. refl })
+stays_before ends new who e at = (e, get_before ends (new ∷ []) e who at, record { host = refl; own = refl; gone = λ is. refl })
 
-stays_set : (s : Scene) (j : ℕ) (old new : Stand) (l : LinkView) → Stands s j old l → new.host ≡ old.host → (who : ℕ) (e : Stand) → slice_get s.ends who ≡ Some e → IsStill (set s.ends j new) who e
-stays_set s j old new l stands host who e at =
+stays_set : (s : Scene) (j : ℕ) (old new : Stand) (l : LinkView) → Stands s j old l → new.host ≡ old.host → new.own ≡ old.own → (who : ℕ) (e : Stand) → slice_get s.ends who ≡ Some e → IsStill (set s.ends j new) who e
+stays_set s j old new l stands host own who e at =
     elim (cases_eq j who) [
       | inl same ↦
           let is : old ≡ e = cc (sym stands.there ∙ ap (slice_get s.ends) same ∙ at) in (
             new,
             ap (slice_get (set s.ends j new)) (sym same) ∙ set_here s.ends j new old stands.there,
-            record { host = host ∙ ap (λ (x : Stand). x.host) is; gone = λ gone. absurd (cc (sym stands.link ∙ ap (λ (x : Stand). x.link) is ∙ gone)) },
+            record { host = host ∙ ap (λ (x : Stand). x.host) is; own = own ∙ ap (λ (x : Stand). x.own) is; gone = λ gone. absurd (cc (sym stands.link ∙ ap (λ (x : Stand). x.link) is ∙ gone)) },
           )
-      | inr other ↦ (e, set_other s.ends j who new e other at, record { host = refl; gone = λ is. refl })
+      | inr other ↦ (e, set_other s.ends j who new e other at, record { host = refl; own = refl; gone = λ is. refl })
     ]
 
 abbrev IsStillIn : ℕ → Stand → Scene → Type 0
@@ -98,17 +98,17 @@ IsStillIn who e z = IsStill z.ends who e
 pub ends_stay : (s s' : Scene) (deed : Deed) → DoesDeed deed s s' → (who : ℕ) (e : Stand) → slice_get s.ends who ≡ Some e → (f : Stand) × (slice_get s'.ends who ≡ Some f) × StaysAtHost e f
 ends_stay s s' (Dials host id socket to buffers now) does j e at = subst (IsStillIn j e) (sym does.after) (stays_before s.ends _ j e at)
 ends_stay s s' (Accepts host id socket parcel buffers now) does j e at = subst (IsStillIn j e) (sym does.after) (stays_before s.ends _ j e at)
-ends_stay s s' (Reads who parcel) does j e at = subst (IsStillIn j e) (sym does.after) (stays_set s who does.stand _ does.link does.stands refl j e at)
-ends_stay s s' (OwesReply who) does j e at = subst (IsStillIn j e) (sym does.after) (stays_set s who does.stand _ does.link does.stands refl j e at)
-ends_stay s s' (Paces who window by_hand) does j e at = subst (IsStillIn j e) (sym does.after) (stays_set s who does.stand _ does.link does.stands refl j e at)
-ends_stay s s' (AsksAgain who place) does j e at = subst (IsStillIn j e) (sym does.after) (stays_set s who does.stand _ does.link does.stands refl j e at)
-ends_stay s s' (Gives who now segment bytes) does j e at = subst (IsStillIn j e) (sym does.after) (stays_set s who does.stand _ does.link does.stands refl j e at)
-ends_stay s s' (Rests who now) does j e at = subst (IsStillIn j e) (sym does.after) (stays_set s who does.stand _ does.link does.stands refl j e at)
-ends_stay s s' (Sends who m) does j e at = subst (IsStillIn j e) (sym does.after) (stays_set s who does.stand _ does.link does.stands refl j e at)
-ends_stay s s' (Takes who u) does j e at = subst (IsStillIn j e) (sym does.after) (stays_set s who does.stand _ does.link does.stands refl j e at)
-ends_stay s s' (Overruns who u) does j e at = subst (IsStillIn j e) (sym does.after) (stays_set s who does.stand _ does.link does.stands refl j e at)
-ends_stay s s' (Closes who) does j e at = subst (IsStillIn j e) (sym does.after) (stays_set s who does.stand _ does.link does.stands refl j e at)
-ends_stay s s' (Releases who) does j e at = subst (IsStillIn j e) (sym does.after) (stays_set s who does.stand _ does.link does.stands refl j e at)
+ends_stay s s' (Reads who parcel) does j e at = subst (IsStillIn j e) (sym does.after) (stays_set s who does.stand _ does.link does.stands refl refl j e at)
+ends_stay s s' (OwesReply who) does j e at = subst (IsStillIn j e) (sym does.after) (stays_set s who does.stand _ does.link does.stands refl refl j e at)
+ends_stay s s' (Paces who window by_hand) does j e at = subst (IsStillIn j e) (sym does.after) (stays_set s who does.stand _ does.link does.stands refl refl j e at)
+ends_stay s s' (AsksAgain who place) does j e at = subst (IsStillIn j e) (sym does.after) (stays_set s who does.stand _ does.link does.stands refl refl j e at)
+ends_stay s s' (Gives who now segment bytes) does j e at = subst (IsStillIn j e) (sym does.after) (stays_set s who does.stand _ does.link does.stands refl refl j e at)
+ends_stay s s' (Rests who now) does j e at = subst (IsStillIn j e) (sym does.after) (stays_set s who does.stand _ does.link does.stands refl refl j e at)
+ends_stay s s' (Sends who m) does j e at = subst (IsStillIn j e) (sym does.after) (stays_set s who does.stand _ does.link does.stands refl refl j e at)
+ends_stay s s' (Takes who u) does j e at = subst (IsStillIn j e) (sym does.after) (stays_set s who does.stand _ does.link does.stands refl refl j e at)
+ends_stay s s' (Overruns who u) does j e at = subst (IsStillIn j e) (sym does.after) (stays_set s who does.stand _ does.link does.stands refl refl j e at)
+ends_stay s s' (Closes who) does j e at = subst (IsStillIn j e) (sym does.after) (stays_set s who does.stand _ does.link does.stands refl refl j e at)
+ends_stay s s' (Releases who) does j e at = subst (IsStillIn j e) (sym does.after) (stays_set s who does.stand _ does.link does.stands refl refl j e at)
 ends_stay s s' (Carries from network segment bytes) does j e at = subst (IsStillIn j e) (sym does.after) (stays_same s.ends j e at)
 ends_stay s s' (Tells router segment bytes) does j e at = subst (IsStillIn j e) (sym does.after) (stays_same s.ends j e at)
 ends_stay s s' (Injects segment bytes) does j e at = subst (IsStillIn j e) (sym does) (stays_same s.ends j e at)

@@ -260,7 +260,7 @@ next_told laws s s' (Takes who u) does a =
     (nothing_sent who (scan s.log) _ (ap (λ (t : Scan). t.sent) out) (ap (λ (t : Scan). t.roles) out)) a))
 next_told laws s s' (Overruns who u) does a =
     let k : LinkView = lose_link (take_link does.link).1 in
-    let w : Stand = record { host = does.stand.host; link = Some k; rest = None; overlong = true } in
+    let w : Stand = record { host = does.stand.host; own = does.stand.own; link = Some k; rest = None; overlong = true } in
     subst AreToldAt (sym does.after)
     (told_set s.ends (scan s.log) (scan s.log) who [] does.stand w does.stands.there
     (same_link who does.stand does.link w k does.stands.link refl (laws.lasting.takes does.link)) (nothing_sent who (scan s.log) (scan s.log) refl refl) a)

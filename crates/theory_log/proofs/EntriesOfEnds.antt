@@ -310,7 +310,7 @@ said_along laws {s} (begun is) =
 said_along laws {s} (happened old deed reached does) = next_said laws old s deed does (said_along laws reached)
 
 nobody_there : Stand
-nobody_there = record { host = 0; link = None; rest = None; overlong = false }
+nobody_there = record { host = 0; own = 0; link = None; rest = None; overlong = false }
 
 pub entries_tell_ends : (laws : LawsBelow) (s : Scene) → Reached s → EntriesTellEnds s
 entries_tell_ends laws s reached =

@@ -126,10 +126,10 @@ module _ (c d a b : ℕ) (differ : c ≢ d) (ends : List Stand) (parcels : List 
   pub dials_held : (host id : ℕ) (socket : Socket) (to : Address) (buffers now : ℕ) → length s.roles ≡ length ends → buffers ≤ most_units
       → AreRoles c d a b (seen s (Opened (length ends) host buffers))
       → Held c d a b ends parcels s p
-      → Held c d a b (ends ++ record { host = host; link = Some (dialed id socket to buffers now); rest = None; overlong = false } ∷ []) parcels
+      → Held c d a b (ends ++ record { host = host; own = id; link = Some (dialed id socket to buffers now); rest = None; overlong = false } ∷ []) parcels
       (seen s (Opened (length ends) host buffers)) p
   dials_held host id socket to buffers now count small roles h =
-      let e : Stand = record { host = host; link = Some (dialed id socket to buffers now); rest = None; overlong = false } in
+      let e : Stand = record { host = host; own = id; link = Some (dialed id socket to buffers now); rest = None; overlong = false } in
       let r : Role = record { buffers = buffers; called = true; joined = false; partner = None } in
       let t : Scan = seen s (Opened (length ends) host buffers) in
       elim (cases_eq (length ends) c) [
@@ -196,11 +196,11 @@ module _ (c d a b : ℕ) (differ : c ≢ d) (ends : List Stand) (parcels : List 
       → length s.roles ≡ length ends → buffers ≤ most_units → slice_get parcels k ≡ Some bytes → IsConnectionPacket g h body bytes → IsRequestFor h
       → AreRoles c d a b (seen_all s (Accepted (length ends) k buffers ∷ Got (length ends) k ∷ []))
       → Held c d a b ends parcels s p
-      → Held c d a b (ends ++ record { host = host; link = Some (accepted_from id socket from h buffers now); rest = None; overlong = false } ∷ []) parcels
+      → Held c d a b (ends ++ record { host = host; own = id; link = Some (accepted_from id socket from h buffers now); rest = None; overlong = false } ∷ []) parcels
       (seen_all s (Accepted (length ends) k buffers ∷ Got (length ends) k ∷ [])) (pair_from parcels c d p (Accepted (length ends) k buffers ∷ Got (length ends) k ∷ []))
   accepts_held laws host id socket from k buffers now bytes g h body count small comes reads request roles held =
       let l : LinkView = accepted_from id socket from h buffers now in
-      let e : Stand = record { host = host; link = Some l; rest = None; overlong = false } in
+      let e : Stand = record { host = host; own = id; link = Some l; rest = None; overlong = false } in
       let r : Role = record { buffers = buffers; called = false; joined = true; partner = asker (mark_of s k).maker } in
       let t : Scan = seen_all s (Accepted (length ends) k buffers ∷ Got (length ends) k ∷ []) in
       let ends' : List Stand = ends ++ e ∷ [] in

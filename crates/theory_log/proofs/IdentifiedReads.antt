@@ -23,7 +23,7 @@ use Rattle.theory_log.proofs.NextFacts.{FactsAt}
 use Rattle.theory_log.proofs.HeldReads.{notes_cases}
 use Rattle.theory_log.proofs.Speaking.{eqb_same}
 use Rattle.theory_pairs.specs.Names.{Names, names}
-use Rattle.theory_log.proofs.Identities.{Identity, Shows, IdentityIs, IsFrom, IsFromOrOutside, IsTold, IdentityLater, HomesDiffer, HaveNetworks, ComesTo, answers, told_by}
+use Rattle.theory_log.proofs.Identities.{Identity, IdentityIs, IsFrom, IsFromOrOutside, IsTold, IdentityLater, OneEnd, HaveNetworks, ComesTo, answers, told_by}
 use Rattle.theory_log.proofs.Identified.{Identified, IdentityOf, identity_of, identified_put, identified_got, identified_first, identified_new, identified_joined}
 use Rattle.spx_link.specs.declared.received.Received.TheVariants as Rs
 use Rattle.theory_log.specs.Below.{LawsBelow}
@@ -54,6 +54,7 @@ accepted_identity homes identities k host n buffers m p h g home home_is below b
       home = (home, home_is);
       range = below;
       idle = λ e. absurd (cc e);
+      nobody = λ e. absurd (cc e);
       partner = λ e. (
         omega (arith, peer, request.below),
         record {
@@ -81,6 +82,7 @@ joined_identity homes identities k x n m p h g identity called own peer below re
       home = identity.home;
       range = omega (arith, own, identity.range);
       idle = λ e. absurd (cc e);
+      nobody = λ e. absurd (cc e);
       partner = λ e. (
         omega (arith, peer, below),
         record {
@@ -102,7 +104,7 @@ callee_is : (b : Bool) (x y : Identity) → y.role.called ≡ b → x.role.calle
 callee_is true x y is called not = absurd (cc (sym called ∙ not is))
 callee_is false x y is called not = is
 
-module _ (laws : LawsBelow) (homes : List Home) (differ : HomesDiffer homes) (networks : HaveNetworks homes) where
+module _ (laws : LawsBelow) (homes : List Home) (networks : HaveNetworks homes) where
   not_joined : (s : Scene) → FactsAt s → (f : IdentifiedAt homes s) → (who : ℕ) (e : Stand) (l : LinkView) → Stands s who e l → (c : IdentityOf f.identities (scan s.log).roles who e l) → l.state ≡ Opening → c.identity.role.joined ≡ false
   not_joined s facts f who e l stands c opens = facts.opening who e l c.identity.role stands.there stands.link opens c.role
 
@@ -127,20 +129,18 @@ module _ (laws : LawsBelow) (homes : List Home) (differ : HomesDiffer homes) (ne
       inside homes f.identities m does.packet does.header out (f.from parcel does.bytes does.comes does.packet does.header does.body does.reads) in
       let by : m ≡ BySystem g.who = g.system does.request.system in
       let l : LinkView = accepted_from id socket does.packet.header.from does.header buffers now in
-      let e : Stand = record { host = host; link = Some l; rest = None; overlong = false } in
+      let e : Stand = record { host = host; own = id; link = Some l; rest = None; overlong = false } in
       let role : Role = record { buffers = buffers; called = false; joined = true; partner = asker m } in
       let home : slice_get homes host ≡ Some does.there.0 = ap (λ hs. slice_get hs host) (sym same) ∙ does.there.1 in
       let identity : IdentityIs homes f.identities (length s.ends) (record { host = host; names = names l; role = role }) =
       accepted_identity homes f.identities (length s.ends) host (names l) buffers m does.packet does.header g does.there.0 home does.below by refl refl does.request in
-      let come = identified_new homes s.ends s.parcels (scan s.log).marks (scan s.log).roles (scan s.log).readings f e l role facts.roles refl
-      (λ k c at at_host own. let w : Shows s.ends (scan s.log).roles k c = f.shows k c at in
-      does.free k w.stand w.link (record { there = w.there; link = w.stands }) (sym w.host ∙ at_host) (ap (λ (n : Names). n.own) (sym w.named) ∙ own)) identity in
+      let come = identified_new homes s.ends s.parcels (scan s.log).marks (scan s.log).roles (scan s.log).readings f e l role facts.roles refl refl identity in
       subst (IdentifiedAt homes) (sym does.after)
       (identified_at homes (s.ends ++ e ∷ []) s.parcels s.log ns
       (identified_first homes (s.ends ++ e ∷ []) s.parcels (scan s.log).marks ((scan s.log).roles ++ role ∷ []) (scan s.log).readings come r (eqb_same (length s.ends))))
 
   -- ---- a packet is read
-  module _ (s s' : Scene) (who parcel : ℕ) (same : s.homes ≡ homes) (does : DoesRead who parcel s s') (facts : FactsAt s) (nothing : NothingInjected s'.log) (f : IdentifiedAt homes s) where
+  module _ (s s' : Scene) (who parcel : ℕ) (same : s.homes ≡ homes) (does : DoesRead who parcel s s') (facts : FactsAt s) (nothing : NothingInjected s'.log) (f : IdentifiedAt homes s) (one : OneEnd homes f.identities) where
     abbrev maker_now : Maker
     maker_now = (mark_of (scan s.log) parcel).maker
 
@@ -180,12 +180,12 @@ module _ (laws : LawsBelow) (homes : List Home) (differ : HomesDiffer homes) (ne
         let n = (laws.names.reads does.link does.header does.body).reads not does.read in
         let identity : IdentityIs homes f.identities who c.identity = f.are who c.identity c.at in
         let told : IsTold f.identities (reading_of first) =
-        told_by homes differ networks f.identities f.are f.differ who c.identity identity.home.0 (reading_of first) does.packet does.header c.at identity.home.1
+        told_by homes networks f.identities f.are one who c.identity identity.home.0 (reading_of first) does.packet does.header c.at identity.home.1
         (comes_to c identity.home.0 identity.home.1 n.0.to) (n.0.from ∙ ap (λ (x : Names). x.peer) (sym c.named)) refl g in
         let k : Identified homes s.ends s.parcels (scan s.log).marks (scan s.log).roles ((scan s.log).readings ++ reading_of first ∷ []) =
         identified_got homes s.ends s.parcels (scan s.log).marks (scan s.log).roles (scan s.log).readings f (reading_of first) (λ e. told) in
         identified_put homes s.ends s.parcels (scan s.log).marks (scan s.log).roles ((scan s.log).readings ++ reading_of first ∷ []) k who does.stand (linked does.stand link_now) does.link link_now
-        does.stands.there does.stands.link refl refl n.1
+        does.stands.there does.stands.link refl refl refl n.1
 
     -- ---- which joins
     joined : (receive_link does.link does.header does.body).0 ≡ Rs.Joined → IsFrom homes f.identities maker_now does.packet does.header
@@ -196,7 +196,7 @@ module _ (laws : LawsBelow) (homes : List Home) (differ : HomesDiffer homes) (ne
         let identity : IdentityIs homes f.identities who c.identity = f.are who c.identity c.at in
         let unjoined : c.identity.role.joined ≡ false = not_joined s facts f who does.stand does.link does.stands c (laws.states.joins does.link does.header does.body is) in
         let called : c.identity.role.called ≡ true = (identity.idle unjoined).0 in
-        let a = answers homes differ networks f.identities f.are f.differ who c.identity identity.home.0 maker_now does.packet does.header c.at identity.home.1 (comes_to c identity.home.0 identity.home.1 n.0.to) g in
+        let a = answers homes networks f.identities f.are one who c.identity identity.home.0 maker_now does.packet does.header c.at identity.home.1 (comes_to c identity.home.0 identity.home.1 n.0.to) g in
         let by : maker_now ≡ BySystem g.who = g.system n.0.system in
         let role : Role = record c.identity.role { joined = true; partner = asker maker_now } in
         let y : Identity = record { host = c.identity.host; names = names link_now; role = role } in
@@ -217,7 +217,7 @@ module _ (laws : LawsBelow) (homes : List Home) (differ : HomesDiffer homes) (ne
         joined_identity homes f.identities who c.identity (names link_now) maker_now does.packet does.header g identity called changed.own peer n.0.from (changed.remote ∙ sym comes.from) by callee a.joined a.partner in
         let after : Identified homes ends_now s.parcels (scan s.log).marks (set (scan s.log).roles who role) (scan s.log).readings =
         identified_joined homes s.ends s.parcels (scan s.log).marks (scan s.log).roles (scan s.log).readings f who does.stand (linked does.stand link_now) c.identity y link_now
-        does.stands.there refl c.at (sym c.host) refl changed new in
+        does.stands.there refl c.at (sym c.host) (changed.own ∙ c.own) refl changed new in
         subst (λ r. Identified homes ends_now s.parcels (scan s.log).marks (set (scan s.log).roles who r) ((scan s.log).readings ++ reading_of (who == who) ∷ [])) (sym same_role)
         (identified_first homes ends_now s.parcels (scan s.log).marks (set (scan s.log).roles who role) (scan s.log).readings after (reading_of (who == who)) (eqb_same who))
 

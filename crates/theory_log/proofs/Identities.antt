@@ -1,5 +1,5 @@
 -- What of each end tells it from all others, and its peer.
-use Rattle.std.proofs.Common.{ℕ, ◌≡◌, ◌≢◌, ◌⊎◌, ◌<◌, Bool, true, false, List, [], ◌∷◌, ◌++◌, set, Some, refl, sym, ◌∙◌, ap, subst, inl, inr, arith}
+use Rattle.std.proofs.Common.{ℕ, ◌≡◌, ◌≢◌, ◌⊎◌, ◌<◌, Bool, true, false, List, [], ◌∷◌, ◌++◌, set, None, Some, refl, sym, ◌∙◌, ap, subst, inl, inr, arith}
 use Rattle.std.specs.Prelude.{slice_get}
 use Rattle.std.proofs.lemmas.Bool.{cases_eq}
 use Rattle.ipx_wire.specs.declared.address.Network.{Network}
@@ -29,15 +29,14 @@ pub record Identity : Type 0 where
 abbrev pub address_at : Home → Names → Address
 address_at h n = record { network = h.network; node = h.node; socket = n.local }
 
--- an end that stands has this identity
+-- an end has this identity; its link, while it has one, has these names
 pub record Shows (ends : List Stand) (roles : List Role) (k : ℕ) (c : Identity) : Type 0 where
   pub stand : Stand
-  pub link : LinkView
   pub there : slice_get ends k ≡ Some stand
-  pub stands : stand.link ≡ Some link
   pub role : slice_get roles k ≡ Some c.role
   pub host : c.host ≡ stand.host
-  pub named : c.names ≡ names link
+  pub own : c.names.own ≡ stand.own
+  pub named : (l : LinkView) → stand.link ≡ Some l → c.names ≡ names l
 
 -- the end that made or joined it, whose id and address it has
 pub record HasPartner (homes : List Home) (identities : List Identity) (k : ℕ) (x : Identity) : Type 0 where
@@ -56,14 +55,11 @@ pub record IdentityIs (homes : List Home) (identities : List Identity) (k : ℕ)
   pub home : (h : Home) × (slice_get homes x.host ≡ Some h)
   pub range : x.names.own < no_id
   pub idle : x.role.joined ≡ false → (x.role.called ≡ true) × (x.names.peer ≡ no_id)
+  pub nobody : x.role.joined ≡ false → x.role.partner ≡ None
   pub partner : x.role.joined ≡ true → (x.names.peer < no_id) × HasPartner homes identities k x
 
 abbrev pub AreIdentities : List Home → List Identity → Type 0
 AreIdentities homes identities = (k : ℕ) (x : Identity) → slice_get identities k ≡ Some x → IdentityIs homes identities k x
-
--- no two ends of one host have the same id
-abbrev pub DifferIn : List Identity → Type 0
-DifferIn identities = (j k : ℕ) (x y : Identity) → slice_get identities j ≡ Some x → slice_get identities k ≡ Some y → x.host ≡ y.host → x.names.own ≡ y.names.own → j ≡ k
 
 -- an end made the packet
 pub record IsFrom (homes : List Home) (identities : List Identity) (m : Maker) (p : PacketView) (h : SpxHeader) : Type 0 where
@@ -198,16 +194,17 @@ partner_later homes old new later k x p =
 
 pub identity_is_later : (homes : List Home) (old new : List Identity) → IdentitiesLater old new → (k : ℕ) (x : Identity) → IdentityIs homes old k x → IdentityIs homes new k x
 identity_is_later homes old new later k x c =
-    record { home = c.home; range = c.range; idle = c.idle; partner = λ e. let p = c.partner e in (p.0, partner_later homes old new later k x p.1) }
+    record { home = c.home; range = c.range; idle = c.idle; nobody = c.nobody; partner = λ e. let p = c.partner e in (p.0, partner_later homes old new later k x p.1) }
 
 -- ---- an address and an id are one end
-abbrev pub HomesDiffer : List Home → Type 0
-HomesDiffer homes = (j k : ℕ) (x y : Home) → slice_get homes j ≡ Some x → slice_get homes k ≡ Some y → j ≢ k → x ≢ y
+abbrev pub OneEnd : List Home → List Identity → Type 0
+OneEnd homes identities = (j k : ℕ) (x y : Identity) (g h : Home) → slice_get identities j ≡ Some x → slice_get identities k ≡ Some y → slice_get homes x.host ≡ Some g → slice_get homes y.host ≡ Some h
+    → g.network ≡ h.network → g.node ≡ h.node → x.names.own ≡ y.names.own → j ≡ k
 
 abbrev pub HaveNetworks : List Home → Type 0
 HaveNetworks homes = (k : ℕ) (h : Home) → slice_get homes k ≡ Some h → h.network.0 ≢ 0
 
-same_home : (x y : Home) → x.network ≡ y.network → x.node ≡ y.node → x ≡ y
+pub same_home : (x y : Home) → x.network ≡ y.network → x.node ≡ y.node → x ≡ y
 same_home x y network node = ap (λ (n : Network). record { network = n; node = x.node }) network ∙ ap (λ (n : Node). record { network = y.network; node = n }) node
 
 -- what a packet must have to be read by a joined end
@@ -217,15 +214,7 @@ pub record ComesTo (home : Home) (n : Names) (p : PacketView) (h : SpxHeader) : 
   pub from : p.header.from ≡ n.remote
   pub to : h.to_id ≡ n.own
 
-module _ (homes : List Home) (differ : HomesDiffer homes) (networks : HaveNetworks homes) (identities : List Identity) (are : AreIdentities homes identities) (one : DifferIn identities) where
-  same_end : (j k : ℕ) (x y : Identity) (g h : Home) → slice_get identities j ≡ Some x → slice_get identities k ≡ Some y → slice_get homes x.host ≡ Some g → slice_get homes y.host ≡ Some h
-      → g.network ≡ h.network → g.node ≡ h.node → x.names.own ≡ y.names.own → j ≡ k
-  same_end j k x y g h at at' here here' network node own =
-      elim (cases_eq x.host y.host) [
-        | inl same ↦ one j k x y at at' same own
-        | inr ne ↦ absurd (differ x.host y.host g h here here' ne (same_home g h network node))
-      ]
-
+module _ (homes : List Home) (networks : HaveNetworks homes) (identities : List Identity) (are : AreIdentities homes identities) (same_end : OneEnd homes identities) where
   -- the end that sends to an id other than FFFF is joined, and its partner is who reads
   pub record Answers (who : ℕ) (x : Identity) (m : Maker) (f : ℕ) (y : Identity) : Type 0 where
     pub at : slice_get identities f ≡ Some y

@@ -230,16 +230,16 @@ next_called laws s s' (Dials host id socket to buffers now) does f c =
     let l : LinkView = dialed id socket to buffers now in
     let ns : List Note = Opened (length s.ends) host buffers ∷ [] in
     subst CalledAt (sym does.after)
-    (called_at (s.ends ++ record { host = host; link = Some l; rest = None; overlong = false } ∷ []) s.parcels s.log ns
-    (called_new s.ends s.parcels (scan s.log) c (record { host = host; link = Some l; rest = None; overlong = false }) l (record { buffers = buffers; called = true; joined = false; partner = None })
+    (called_at (s.ends ++ record { host = host; own = id; link = Some l; rest = None; overlong = false } ∷ []) s.parcels s.log ns
+    (called_new s.ends s.parcels (scan s.log) c (record { host = host; own = id; link = Some l; rest = None; overlong = false }) l (record { buffers = buffers; called = true; joined = false; partner = None })
     (seen_all (scan s.log) ns) f.roles refl refl refl (λ d partner. absurd (cc partner))))
 next_called laws s s' (Accepts host id socket parcel buffers now) does f c =
     let l : LinkView = accepted_from id socket does.packet.header.from does.header buffers now in
     let maker : Maker = (mark_of (scan s.log) parcel).maker in
     let ns : List Note = Accepted (length s.ends) parcel buffers ∷ Got (length s.ends) parcel ∷ [] in
     subst CalledAt (sym does.after)
-    (called_at (s.ends ++ record { host = host; link = Some l; rest = None; overlong = false } ∷ []) s.parcels s.log ns
-    (called_new s.ends s.parcels (scan s.log) c (record { host = host; link = Some l; rest = None; overlong = false }) l
+    (called_at (s.ends ++ record { host = host; own = id; link = Some l; rest = None; overlong = false } ∷ []) s.parcels s.log ns
+    (called_new s.ends s.parcels (scan s.log) c (record { host = host; own = id; link = Some l; rest = None; overlong = false }) l
     (record { buffers = buffers; called = false; joined = true; partner = asker maker }) (seen_all (scan s.log) ns) f.roles refl refl refl
     (λ d partner. c.1.says parcel does.bytes does.comes does.packet does.header does.body d does.reads (asker_end maker d partner))))
 next_called laws s s' (Reads who parcel) does f c = reads laws s s' who parcel does f c

@@ -1,8 +1,7 @@
 -- Each deed keeps what is identified of the identities.
 use Rattle.std.proofs.Common.{ℕ, ◌≡◌, ◌⊎◌, ◌<◌, ◌==◌, Bool, true, false, List, [], ◌∷◌, ◌++◌, length, set, Some, None, refl, sym, ◌∙◌, ap, subst, inl, inr, arith, ne_eqb}
-use Rattle.std.specs.Prelude.{slice_get, Contains}
+use Rattle.std.specs.Prelude.{slice_get}
 use Rattle.std.proofs.lemmas.Bool.{cond-false}
-use Rattle.std.proofs.lemmas.List.Elements.{Contains-push}
 use Rattle.ipx_wire.specs.declared.address.Network.{Network}
 use Rattle.ipx_wire.specs.declared.address.Socket.{Socket}
 use Rattle.ipx_wire.specs.declared.address.Address.{Address}
@@ -20,7 +19,6 @@ use Rattle.ipx_wire.specs.Connection.{IsConnectionPacket}
 use Rattle.theory_log.specs.Note.{Note, Opened, HandsIn, AsksEnd, TakesUnit, Released, Told, Carried, Injected}
 use Rattle.theory_log.specs.Scan.{Scan, Mark, Maker, Role, seen, seen_all, scan, mark_of, one_further, BySystem, ByRouter, FromOutside}
 use Rattle.theory_log.specs.Peers.{end_of, NothingInjected}
-use Rattle.theory_log.specs.Addresses.{NothingReleased}
 use Rattle.theory_log.specs.Scene.{Scene, Stand, Stands, linked}
 use Rattle.spx_units.specs.WrittenPackets.{Home}
 use Rattle.theory_log.specs.PacketsOnWay.{IsOneOn, one_on, note_of, out_notes}
@@ -29,8 +27,8 @@ use Rattle.theory_log.proofs.Bytes.{written_says}
 use Rattle.theory_log.proofs.NextFacts.{FactsAt, given_mark}
 use Rattle.theory_log.proofs.Held.{calmed, outs_seen, set_here}
 use Rattle.theory_pairs.specs.Names.{Names, names, GaveNames, is_plain}
-use Rattle.theory_log.proofs.Identities.{Identity, Shows, IdentityIs, IsFrom, IsFromOrOutside, HomesDiffer, HaveNetworks, address_at}
-use Rattle.theory_log.proofs.Identified.{Identified, IdentityOf, identity_of, identified_put, identified_sent, identified_new}
+use Rattle.theory_log.proofs.Identities.{Identity, IdentityIs, IsFrom, IsFromOrOutside, OneEnd, HaveNetworks, address_at}
+use Rattle.theory_log.proofs.Identified.{Identified, IdentityOf, identity_of, identified_gone, identified_put, identified_sent, identified_new}
 use Rattle.theory_log.proofs.IdentifiedReads.{IdentifiedIn, IdentifiedAt, identified_at, opening_called, accepts, reads}
 use Rattle.spx_link.specs.declared.outgoing.Sent.TheVariants as Sents
 use Rattle.theory_log.specs.Below.{LawsBelow}
@@ -109,29 +107,28 @@ carried_from homes networks identities network m p q h is f =
       named = f.named;
     }
 
-module _ (laws : LawsBelow) (homes : List Home) (differ : HomesDiffer homes) (networks : HaveNetworks homes) where
+module _ (laws : LawsBelow) (homes : List Home) (networks : HaveNetworks homes) where
   -- ---- an end dials
   dials : (s s' : Scene) (host id : ℕ) (socket : Socket) (to : Address) (buffers now : ℕ) → s.homes ≡ homes → DoesDial host id socket to buffers now s s' → FactsAt s → IdentifiedAt homes s → IdentifiedAt homes s'
   dials s s' host id socket to buffers now same does facts f =
       let l : LinkView = dialed id socket to buffers now in
-      let e : Stand = record { host = host; link = Some l; rest = None; overlong = false } in
+      let e : Stand = record { host = host; own = id; link = Some l; rest = None; overlong = false } in
       let role : Role = record { buffers = buffers; called = true; joined = false; partner = None } in
       let identity : IdentityIs homes f.identities (length s.ends) (record { host = host; names = names l; role = role }) = record {
         home = (does.there.0, ap (λ hs. slice_get hs host) (sym same) ∙ does.there.1);
         range = does.below;
         idle = λ e. (refl, refl);
+        nobody = λ e. refl;
         partner = λ e. absurd (cc e);
       } in
       subst (IdentifiedAt homes) (sym does.after)
       (identified_at homes (s.ends ++ e ∷ []) s.parcels s.log (Opened (length s.ends) host buffers ∷ [])
-      (identified_new homes s.ends s.parcels (scan s.log).marks (scan s.log).roles (scan s.log).readings f e l role facts.roles refl
-      (λ k c at at_host own. let w : Shows s.ends (scan s.log).roles k c = f.shows k c at in
-      does.free k w.stand w.link (record { there = w.there; link = w.stands }) (sym w.host ∙ at_host) (ap (λ (n : Names). n.own) (sym w.named) ∙ own)) identity))
+      (identified_new homes s.ends s.parcels (scan s.log).marks (scan s.log).roles (scan s.log).readings f e l role facts.roles refl refl identity))
 
   -- ---- a link changes and keeps its names
-  keeps : (s : Scene) (who : ℕ) (e w : Stand) (l k : LinkView) → Stands s who e l → w.link ≡ Some k → w.host ≡ e.host → names k ≡ names l → IdentifiedAt homes s → IdentifiedIn homes (set s.ends who w) s.parcels (scan s.log)
-  keeps s who e w l k stands is host same f =
-      identified_put homes s.ends s.parcels (scan s.log).marks (scan s.log).roles (scan s.log).readings f who e w l k stands.there stands.link is host same
+  keeps : (s : Scene) (who : ℕ) (e w : Stand) (l k : LinkView) → Stands s who e l → w.link ≡ Some k → w.host ≡ e.host → w.own ≡ e.own → names k ≡ names l → IdentifiedAt homes s → IdentifiedIn homes (set s.ends who w) s.parcels (scan s.log)
+  keeps s who e w l k stands is host own same f =
+      identified_put homes s.ends s.parcels (scan s.log).marks (scan s.log).roles (scan s.log).readings f who e w l k stands.there stands.link is host own same
 
   -- entries that nothing is read off from
   noted_known : (ends : List Stand) (parcels : List (List ℕ)) (log ns : List Note) → (seen_all (scan log) ns).marks ≡ (scan log).marks → (seen_all (scan log) ns).roles ≡ (scan log).roles → (seen_all (scan log) ns).readings ≡ (scan log).readings
@@ -165,7 +162,7 @@ module _ (laws : LawsBelow) (homes : List Home) (differ : HomesDiffer homes) (ne
       identity_of homes s.ends s.parcels (scan s.log).marks (scan s.log).roles (scan s.log).readings f who does.stand does.link does.stands.there does.stands.link in
       let identity : IdentityIs homes f.identities who c.identity = f.are who c.identity c.at in
       let home : slice_get homes c.identity.host ≡ Some does.home = ap (slice_get homes) c.host ∙ ap (λ hs. slice_get hs does.stand.host) (sym same) ∙ does.home_is in
-      let after : IdentifiedIn homes (set s.ends who (linked does.stand k)) s.parcels (scan s.log) = keeps s who does.stand (linked does.stand k) does.link k does.stands refl refl n.keeps f in
+      let after : IdentifiedIn homes (set s.ends who (linked does.stand k)) s.parcels (scan s.log) = keeps s who does.stand (linked does.stand k) does.link k does.stands refl refl refl n.keeps f in
       let c' : IdentityOf after.identities (scan s.log).roles who (linked does.stand k) k =
       identity_of homes (set s.ends who (linked does.stand k)) s.parcels (scan s.log).marks (scan s.log).roles (scan s.log).readings after who (linked does.stand k) k
       (set_here s.ends who (linked does.stand k) does.stand does.stands.there) refl in
@@ -178,7 +175,7 @@ module _ (laws : LawsBelow) (homes : List Home) (differ : HomesDiffer homes) (ne
       subst (IsFromOrOutside homes after.identities m.maker p) (sym header)
       (inr (given_from homes after.identities who c'.identity does.home does.link does.given m.maker p c'.at
       (ap (slice_get homes) c'.host ∙ ap (slice_get homes) (sym c.host) ∙ home) (after.are who c'.identity c'.at) (c'.named ∙ n.keeps) g.maker g.system
-      (λ opens. ap (λ (r : Role). r.called) role ∙ opening_called laws homes differ networks s facts f who does.stand does.link does.stands c opens) (n.gave does.given does.gives)
+      (λ opens. ap (λ (r : Role). r.called) role ∙ opening_called laws homes networks s facts f who does.stand does.link does.stands c opens) (n.gave does.given does.gives)
       (ap (λ (d : PacketView). d.header.from) packet ∙ does.written.from) (ap (λ (d : PacketView). d.header.to) packet ∙ does.written.to)))))
 
   carries : (s s' : Scene) (from : ℕ) (network segment : Network) (bytes : List ℕ) → DoesCarry from network segment bytes s s' → FactsAt s → IdentifiedAt homes s → IdentifiedAt homes s'
@@ -210,37 +207,39 @@ module _ (laws : LawsBelow) (homes : List Home) (differ : HomesDiffer homes) (ne
       absurd (does.kind (ap (λ (d : PacketView). d.header.kind) (sym is) ∙ reads.kind))))
 
   -- ---- every deed
-  pub next_identified : (s s' : Scene) (deed : Deed) → DoesDeed deed s s' → s.homes ≡ homes → FactsAt s → NothingReleased s'.log → NothingInjected s'.log → IdentifiedAt homes s → IdentifiedAt homes s'
-  next_identified s s' (Dials host id socket to buffers now) does same facts stay nothing f = dials s s' host id socket to buffers now same does facts f
-  next_identified s s' (Accepts host id socket parcel buffers now) does same facts stay nothing f = accepts laws homes differ networks s s' host id socket parcel buffers now same does facts nothing f
-  next_identified s s' (Reads who parcel) does same facts stay nothing f = reads laws homes differ networks s s' who parcel same does facts nothing f
-  next_identified s s' (OwesReply who) does same facts stay nothing f =
-      subst (IdentifiedAt homes) (sym does.after) (keeps s who does.stand _ does.link (owe_reply_link does.link) does.stands refl refl refl f)
-  next_identified s s' (Paces who window by_hand) does same facts stay nothing f =
-      subst (IdentifiedAt homes) (sym does.after) (keeps s who does.stand _ does.link (pace_link does.link window by_hand) does.stands refl refl refl f)
-  next_identified s s' (AsksAgain who place) does same facts stay nothing f =
-      subst (IdentifiedAt homes) (sym does.after) (keeps s who does.stand _ does.link (again_link does.link place) does.stands refl refl refl f)
-  next_identified s s' (Gives who now segment bytes) does same facts stay nothing f = gives s s' who now segment bytes same does facts f
-  next_identified s s' (Rests who now) does same facts stay nothing f =
-      subst (IdentifiedAt homes) (sym does.after) (keeps s who does.stand _ does.link (poll_link does.link now).1 does.stands refl refl (laws.names.polls does.link now).keeps f)
-  next_identified s s' (Sends who m) does same facts stay nothing f =
+  pub next_identified : (s s' : Scene) (deed : Deed) → DoesDeed deed s s' → s.homes ≡ homes → FactsAt s → NothingInjected s'.log → (f : IdentifiedAt homes s) → OneEnd homes f.identities → IdentifiedAt homes s'
+  next_identified s s' (Dials host id socket to buffers now) does same facts nothing f one = dials s s' host id socket to buffers now same does facts f
+  next_identified s s' (Accepts host id socket parcel buffers now) does same facts nothing f one = accepts laws homes networks s s' host id socket parcel buffers now same does facts nothing f
+  next_identified s s' (Reads who parcel) does same facts nothing f one = reads laws homes networks s s' who parcel same does facts nothing f one
+  next_identified s s' (OwesReply who) does same facts nothing f one =
+      subst (IdentifiedAt homes) (sym does.after) (keeps s who does.stand _ does.link (owe_reply_link does.link) does.stands refl refl refl refl f)
+  next_identified s s' (Paces who window by_hand) does same facts nothing f one =
+      subst (IdentifiedAt homes) (sym does.after) (keeps s who does.stand _ does.link (pace_link does.link window by_hand) does.stands refl refl refl refl f)
+  next_identified s s' (AsksAgain who place) does same facts nothing f one =
+      subst (IdentifiedAt homes) (sym does.after) (keeps s who does.stand _ does.link (again_link does.link place) does.stands refl refl refl refl f)
+  next_identified s s' (Gives who now segment bytes) does same facts nothing f one = gives s s' who now segment bytes same does facts f
+  next_identified s s' (Rests who now) does same facts nothing f one =
+      subst (IdentifiedAt homes) (sym does.after) (keeps s who does.stand _ does.link (poll_link does.link now).1 does.stands refl refl refl (laws.names.polls does.link now).keeps f)
+  next_identified s s' (Sends who m) does same facts nothing f one =
       subst (IdentifiedAt homes) (sym does.after)
-      (noted_known _ s.parcels s.log (HandsIn who m ∷ []) refl refl refl (keeps s who does.stand _ does.link (offer_link does.link (cut_of m)) does.stands refl refl refl f))
-  next_identified s s' (Takes who u) does same facts stay nothing f =
+      (noted_known _ s.parcels s.log (HandsIn who m ∷ []) refl refl refl (keeps s who does.stand _ does.link (offer_link does.link (cut_of m)) does.stands refl refl refl refl f))
+  next_identified s s' (Takes who u) does same facts nothing f one =
       let out : seen_all (scan s.log) (TakesUnit who u ∷ out_notes who does.joins.messages) ≡ calmed (scan s.log) = outs_seen (scan s.log) who does.joins.messages in
       subst (IdentifiedAt homes) (sym does.after)
       (noted_known _ s.parcels s.log (TakesUnit who u ∷ out_notes who does.joins.messages) (ap (λ (t : Scan). t.marks) out) (ap (λ (t : Scan). t.roles) out) (ap (λ (t : Scan). t.readings) out)
-      (keeps s who does.stand _ does.link (take_link does.link).1 does.stands refl refl (laws.names.takes does.link) f))
-  next_identified s s' (Overruns who u) does same facts stay nothing f =
-      subst (IdentifiedAt homes) (sym does.after) (keeps s who does.stand _ does.link (lose_link (take_link does.link).1) does.stands refl refl (laws.names.takes does.link) f)
-  next_identified s s' (Closes who) does same facts stay nothing f =
+      (keeps s who does.stand _ does.link (take_link does.link).1 does.stands refl refl refl (laws.names.takes does.link) f))
+  next_identified s s' (Overruns who u) does same facts nothing f one =
+      subst (IdentifiedAt homes) (sym does.after) (keeps s who does.stand _ does.link (lose_link (take_link does.link).1) does.stands refl refl refl (laws.names.takes does.link) f)
+  next_identified s s' (Closes who) does same facts nothing f one =
       subst (IdentifiedAt homes) (sym does.after)
-      (noted_known _ s.parcels s.log (AsksEnd who ∷ []) refl refl refl (keeps s who does.stand _ does.link (end_link does.link) does.stands refl refl refl f))
-  next_identified s s' (Releases who) does same facts stay nothing f =
-      absurd (stay who (subst (λ log. Contains log (Released who)) (sym (ap (λ (z : Scene). z.log) does.after)) (Contains-push s.log (Released who))))
-  next_identified s s' (Carries from network segment bytes) does same facts stay nothing f = carries s s' from network segment bytes does facts f
-  next_identified s s' (Tells router segment bytes) does same facts stay nothing f = tells s s' router segment bytes does facts f
-  next_identified s s' (Injects segment bytes) does same facts stay nothing f =
+      (noted_known _ s.parcels s.log (AsksEnd who ∷ []) refl refl refl (keeps s who does.stand _ does.link (end_link does.link) does.stands refl refl refl refl f))
+  next_identified s s' (Releases who) does same facts nothing f one =
+      subst (IdentifiedAt homes) (sym does.after)
+      (noted_known _ s.parcels s.log (Released who ∷ []) refl refl refl
+      (identified_gone homes s.ends s.parcels (scan s.log).marks (scan s.log).roles (scan s.log).readings f who does.stand (record does.stand { link = None; rest = None }) does.stands.there refl refl refl))
+  next_identified s s' (Carries from network segment bytes) does same facts nothing f one = carries s s' from network segment bytes does facts f
+  next_identified s s' (Tells router segment bytes) does same facts nothing f one = tells s s' router segment bytes does facts f
+  next_identified s s' (Injects segment bytes) does same facts nothing f one =
       subst (IdentifiedAt homes) (sym does)
       (sent_known s.ends s.parcels bytes s.log (Injected (length s.parcels)) (record { origin = length (scan s.log).marks; maker = FromOutside; passed = 0; units = length (scan s.log).sent })
       facts.count refl refl refl f (λ p h body reads. inl refl))

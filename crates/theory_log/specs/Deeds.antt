@@ -58,6 +58,7 @@ pub record DoesDial (host id : ℕ) (socket : Socket) (to : Address) (buffers no
   pub after : s' ≡ record s {
     ends = s.ends ++ record {
       host = host;
+      own = id;
       link = Some (dialed id socket to buffers now);
       rest = None;
       overlong = false;
@@ -84,6 +85,7 @@ pub record DoesAccept (host id : ℕ) (socket : Socket) (parcel buffers now : �
   pub after : s' ≡ record s {
     ends = s.ends ++ record {
       host = host;
+      own = id;
       link = Some (accepted_from id socket packet.header.from header buffers now);
       rest = None;
       overlong = false;
@@ -181,6 +183,7 @@ pub record DoesOverrun (who : ℕ) (u : Unit) (s s' : Scene) : Type 0 where
   pub long : most_bytes < length (added stand.rest u).body
   pub after : s' ≡ put_end s who (record {
     host = stand.host;
+    own = stand.own;
     link = Some (lose_link (take_link link).1);
     rest = None;
     overlong = true;

@@ -27,9 +27,10 @@ GoneSendsNothing =
     → slice_get s'.ends who ≡ Some e → e.link ≡ None
     → sent_by who s'.log ≡ sent_by who s.log
 
--- an end stays at its host, and one without a link stays as it is
+-- an end stays at its host and keeps its id, and one without a link stays as it is
 pub record StaysAtHost (e f : Stand) : Type 0 where
   pub host : f.host ≡ e.host
+  pub own : f.own ≡ e.own
   pub gone : e.link ≡ None → f ≡ e
 
 abbrev pub EndsStay : Type 0

@@ -12,6 +12,7 @@ pub mod InStep
 pub mod Named
 pub mod Note
 pub mod Numbered
+pub mod Outside
 pub mod PacketsOnWay
 pub mod PairLog
 pub mod Peers

@@ -6,10 +6,11 @@ use Rattle.spx_units.specs.Message.{MessageView}
 use Rattle.spx_units.specs.WrittenPackets.{Home}
 use Rattle.theory_log.specs.Note.{Note}
 
--- an end: its host, its link until it is released, the message that it has in part, and whether a
--- take of it answered that the message grew too long
+-- an end: its host, its id there, its link until it is released, the message that it has in part, and
+-- whether a take of it answered that the message grew too long. The id stays when the link is gone
 pub record Stand : Type 0 where
   pub host : ℕ
+  pub own : ℕ
   pub link : Option LinkView
   pub rest : Option MessageView
   pub overlong : Bool

@@ -5,6 +5,7 @@ ghost use Rattle.theory_log.specs.Deeds.{Reached};
 ghost use Rattle.theory_log.specs.EntriesOfEnds.{EntriesTellEnds};
 ghost use Rattle.theory_log.specs.EndsTold.{EndsAreTold, EndsStay, GoneSendsNothing, PeerIsFound};
 ghost use Rattle.theory_log.specs.Numbered.{NumbersAreInOrder};
+ghost use Rattle.theory_log.specs.Outside.{OutsideWasInjected};
 ghost use Rattle.theory_log.specs.Scan.{Scan};
 ghost use Rattle.theory_log.specs.Scene.{Scene};
 ghost use Rattle.theory_log.specs.UnitsOfEnds.{UnitsAreCuts};
@@ -40,6 +41,13 @@ pub fn numbers_are_in_order()
     ensures { (s : Scene) → Reached s → NumbersAreInOrder s }
 {
     laws_below();
+}
+
+/// Where no parcel was injected, none that an end read was.
+pub fn outside_was_injected()
+    ensures { (s : Scene) → Reached s → OutsideWasInjected s }
+{
+    numbers_are_in_order();
 }
 
 /// The units of an end are those of its messages, cut, one after another, and then one end of the

@@ -1,6 +1,6 @@
 //! The theorems, each over every scene that is reached.
 
-ghost use Rattle.theory_log.specs.Addresses.{AddressesTellPeers};
+ghost use Rattle.theory_log.specs.Addresses.{AddressesTellPeers, IdsTellPeers};
 ghost use Rattle.theory_log.specs.Allocation.{AloneReadsNothing, WithinAllocation};
 ghost use Rattle.theory_log.specs.Carried.{RoutersAlterHopsAlone};
 ghost use Rattle.theory_log.specs.Close.{AcknowledgedIsRead, ConfirmedIsRead, EndTakenIsWhole};
@@ -8,7 +8,7 @@ ghost use Rattle.theory_log.specs.Deeds.{Reached};
 ghost use Rattle.theory_log.specs.HandedOut.{HandsOutWhatItTook};
 ghost use Rattle.theory_log.specs.InStep.{PeersAreInStep, PeersFollow};
 ghost use Rattle.theory_log.specs.InSteps.{PairsTakeSteps};
-ghost use Rattle.theory_log.specs.Named.{PeersAreNamed};
+ghost use Rattle.theory_log.specs.Named.{PeersAreNamed, PeersAreThere};
 ghost use Rattle.theory_log.specs.Scene.{Scene};
 ghost use Rattle.theory_log.specs.SentUnits.{LinksSendInOrder, PositionsAreGreatest, UnitsAreSentInOrder};
 
@@ -76,6 +76,14 @@ pub fn end_taken_is_whole()
     laws_below();
 }
 
+/// Where no id is given twice at one network and node, and no packet from outside was read, each end
+/// reads its own peer alone, but for the packet that made or joined it.
+pub fn ids_tell_peers()
+    ensures { (s : Scene) → Reached s → IdsTellPeers s }
+{
+    laws_below();
+}
+
 /// Where no two hosts share network and node, nothing was released and no packet from outside was
 /// read, each end reads its own peer alone, but for the packet that made or joined it.
 pub fn addresses_tell_peers()
@@ -88,6 +96,14 @@ pub fn addresses_tell_peers()
 /// its peer.
 pub fn peers_are_named()
     ensures { (s : Scene) → Reached s → PeersAreNamed s }
+{
+    laws_below();
+}
+
+/// Where no id is given twice at one network and node, and no packet from outside was read, the link of
+/// an end goes to the network and node of its peer's host, and to its id.
+pub fn peers_are_there()
+    ensures { (s : Scene) → Reached s → PeersAreThere s }
 {
     laws_below();
 }

@@ -57,9 +57,9 @@ abbrev pub held_of : List HostState → EndNow → Option Held
 held_of hosts e = if e.released then None else held_in (slice_get hosts e.host) e.id
 
 abbrev pub stand_with : EndNow → Option Held → Stand
-stand_with e None = record { host = e.host; link = None; rest = None; overlong = e.overlong }
+stand_with e None = record { host = e.host; own = e.id; link = None; rest = None; overlong = e.overlong }
 stand_with e (Some h) =
-    record { host = e.host; link = Some h.link; rest = h.rest; overlong = e.overlong }
+    record { host = e.host; own = e.id; link = Some h.link; rest = h.rest; overlong = e.overlong }
 
 abbrev pub stand_of : List HostState → EndNow → Stand
 stand_of hosts e = stand_with e (held_of hosts e)
